@@ -9,7 +9,8 @@ ghost use Rattle.pc_ann.specs.Annotations.{atom, named_type, built_type, applied
 ghost use Rattle.pc_ann.specs.Listed.{anns_of_list};
 ghost use Rattle.pc_ann.specs.Internal.TypesRead.{AreRead, IsReadAny};
 
-use crate::reading::{Reading, Readings, Setting, read_as};
+use crate::outline::ModuleOutline;
+use crate::reading::{Reading, Readings, read_as};
 use pc_scope::{Builtin, Res};
 use pc_source::OutOfMemory;
 use pc_tree::Ann;
@@ -83,18 +84,18 @@ pub(crate) fn empty_tuple<S: TypeStore>(
 
 /// `list[T]`, of one argument.
 fn list_of<S: TypeStore>(
-    setting: &Setting,
+    outline: &ModuleOutline,
     store: &mut S,
     alloc: Global,
     parts: &[Ann],
     arguments: &Readings<S::Ty>,
 ) -> Result<Option<Reading<S::Ty>>, OutOfMemory>
     requires { AreRead S.has S.tree store.old arguments.now.heads.items arguments.now.types
-        (readings (module_of setting.now.tree.now) setting.now.parents.now (anns_of_list parts.now)) }
+        (readings (module_of outline.now.tree.now) outline.now.parents.now (anns_of_list parts.now)) }
     ensures value { IfOk result
         (λ r. IsReadAny S.has S.tree store.new (option_map (λ x. (x.head, x.ty)) r)
         (built_type builtin.List
-        (readings (module_of setting.now.tree.now) setting.now.parents.now (anns_of_list parts.now)))) }
+        (readings (module_of outline.now.tree.now) outline.now.parents.now (anns_of_list parts.now)))) }
     ensures kept { KeepsTypes S.has store.old store.new }
 {
     if arguments.heads.len() != 1 {
@@ -112,18 +113,18 @@ fn list_of<S: TypeStore>(
 
 /// `dict[K, V]`, of two arguments, the first of which is just `int` or `str`.
 fn dict_of<S: TypeStore>(
-    setting: &Setting,
+    outline: &ModuleOutline,
     store: &mut S,
     alloc: Global,
     parts: &[Ann],
     arguments: &Readings<S::Ty>,
 ) -> Result<Option<Reading<S::Ty>>, OutOfMemory>
     requires { AreRead S.has S.tree store.old arguments.now.heads.items arguments.now.types
-        (readings (module_of setting.now.tree.now) setting.now.parents.now (anns_of_list parts.now)) }
+        (readings (module_of outline.now.tree.now) outline.now.parents.now (anns_of_list parts.now)) }
     ensures value { IfOk result
         (λ r. IsReadAny S.has S.tree store.new (option_map (λ x. (x.head, x.ty)) r)
         (built_type builtin.Dict
-        (readings (module_of setting.now.tree.now) setting.now.parents.now (anns_of_list parts.now)))) }
+        (readings (module_of outline.now.tree.now) outline.now.parents.now (anns_of_list parts.now)))) }
     ensures kept { KeepsTypes S.has store.old store.new }
 {
     if arguments.heads.len() != 2 {
@@ -144,18 +145,18 @@ fn dict_of<S: TypeStore>(
 
 /// `tuple[T1, ..]`, of one argument or more.
 fn tuple_of<S: TypeStore>(
-    setting: &Setting,
+    outline: &ModuleOutline,
     store: &mut S,
     alloc: Global,
     parts: &[Ann],
     arguments: &Readings<S::Ty>,
 ) -> Result<Option<Reading<S::Ty>>, OutOfMemory>
     requires { AreRead S.has S.tree store.old arguments.now.heads.items arguments.now.types
-        (readings (module_of setting.now.tree.now) setting.now.parents.now (anns_of_list parts.now)) }
+        (readings (module_of outline.now.tree.now) outline.now.parents.now (anns_of_list parts.now)) }
     ensures value { IfOk result
         (λ r. IsReadAny S.has S.tree store.new (option_map (λ x. (x.head, x.ty)) r)
         (built_type builtin.Tuple
-        (readings (module_of setting.now.tree.now) setting.now.parents.now (anns_of_list parts.now)))) }
+        (readings (module_of outline.now.tree.now) outline.now.parents.now (anns_of_list parts.now)))) }
     ensures kept { KeepsTypes S.has store.old store.new }
 {
     let count = arguments.heads.len();
@@ -175,7 +176,7 @@ fn tuple_of<S: TypeStore>(
 /// What a name makes of its arguments: a type where it means a built-in that takes them.
 /// Typing specification, "Type annotations".
 pub(crate) fn apply<S: TypeStore>(
-    setting: &Setting,
+    outline: &ModuleOutline,
     store: &mut S,
     alloc: Global,
     meaning: Res,
@@ -183,17 +184,17 @@ pub(crate) fn apply<S: TypeStore>(
     arguments: &Readings<S::Ty>,
 ) -> Result<Option<Reading<S::Ty>>, OutOfMemory>
     requires { AreRead S.has S.tree store.old arguments.now.heads.items arguments.now.types
-        (readings (module_of setting.now.tree.now) setting.now.parents.now (anns_of_list parts.now)) }
+        (readings (module_of outline.now.tree.now) outline.now.parents.now (anns_of_list parts.now)) }
     ensures value { IfOk result
         (λ r. IsReadAny S.has S.tree store.new (option_map (λ x. (x.head, x.ty)) r)
-        (applied_type meaning (readings (module_of setting.now.tree.now) setting.now.parents.now
+        (applied_type meaning (readings (module_of outline.now.tree.now) outline.now.parents.now
         (anns_of_list parts.now)))) }
     ensures kept { KeepsTypes S.has store.old store.new }
 {
     match meaning {
-        Res::Builtin(Builtin::List) => list_of(setting, store, alloc, parts, arguments),
-        Res::Builtin(Builtin::Dict) => dict_of(setting, store, alloc, parts, arguments),
-        Res::Builtin(Builtin::Tuple) => tuple_of(setting, store, alloc, parts, arguments),
+        Res::Builtin(Builtin::List) => list_of(outline, store, alloc, parts, arguments),
+        Res::Builtin(Builtin::Dict) => dict_of(outline, store, alloc, parts, arguments),
+        Res::Builtin(Builtin::Tuple) => tuple_of(outline, store, alloc, parts, arguments),
         _ => Ok(None),
     }
 }

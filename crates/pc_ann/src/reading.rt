@@ -14,11 +14,12 @@ ghost use Rattle.pc_ann.specs.Internal.TypesRead.{IsRead, AreRead, with_one};
 ghost use Rattle.std.specs.Option.{option_map};
 
 use crate::built::{apply, empty_tuple, named_type};
+use crate::outline::ModuleOutline;
 use crate::union::unite;
-use pc_scope::{Owner, Res, Scopes};
+use pc_scope::{Owner, Res};
 use pc_source::{OutOfMemory, Place};
-use pc_tree::{Ann, Code, Finding, Findings, Module, Name};
-use pc_types::{Head, Parents, TypeStore};
+use pc_tree::{Ann, Code, Finding, Findings, Name};
+use pc_types::{Head, TypeStore};
 use std::alloc::Global;
 
 /// What a part of an annotation is read as: the head of its type, and the type, none where it has over
@@ -37,20 +38,12 @@ pub(crate) struct Readings<Ty: Drop> {
     pub types: Option<Vec<Ty>>,
 }
 
-/// Where the names of an annotation are looked up.
-#[derive(Drop)]
-pub(crate) struct Setting<'a> {
-    pub tree: &'a Module,
-    pub scopes: &'a Scopes,
-    pub parents: &'a Parents,
-}
-
 /// What a name of an annotation means.
-fn meaning(setting: &Setting, name: &Name) -> Res
-    requires { AreScopes (module_of setting.now.tree.now) setting.now.scopes.now }
-    ensures { result ≡ resolve_in_module (module_of setting.now.tree.now) (name_of name.now).text }
+fn meaning(outline: &ModuleOutline, name: &Name) -> Res
+    requires { AreScopes (module_of outline.now.tree.now) outline.now.scopes.now }
+    ensures { result ≡ resolve_in_module (module_of outline.now.tree.now) (name_of name.now).text }
 {
-    setting.scopes.resolve(Owner::Module, name.text.as_str())
+    outline.scopes.resolve(Owner::Module, name.text.as_str())
 }
 
 /// A type that was read.
@@ -84,25 +77,25 @@ fn fault<S: TypeStore>(
 /// What a part of an annotation is read as, with its findings.
 #[cycle(read)]
 pub(crate) fn read<S: TypeStore>(
-    setting: &Setting,
+    outline: &ModuleOutline,
     store: &mut S,
     alloc: Global,
     found: &mut Findings,
     ann: &Ann,
 ) -> Result<Reading<S::Ty>, OutOfMemory>
-    requires { AreScopes (module_of setting.now.tree.now) setting.now.scopes.now }
+    requires { AreScopes (module_of outline.now.tree.now) outline.now.scopes.now }
     ensures typed { IfOk result
         (λ r. IsRead S.has S.tree store.new r.head r.ty
-        (reading (module_of setting.now.tree.now) setting.now.parents.now (ann_of ann.now))) }
+        (reading (module_of outline.now.tree.now) outline.now.parents.now (ann_of ann.now))) }
     ensures pushed { OnOk result
         (found.new.items ≡ found.old.items
-        ++ part_findings (module_of setting.now.tree.now) setting.now.parents.now (ann_of ann.now)) }
+        ++ part_findings (module_of outline.now.tree.now) outline.now.parents.now (ann_of ann.now)) }
     ensures kept { KeepsTypes S.has store.old store.new }
 {
     match ann {
         Ann::Name(name) => {
-            let meaning = meaning(setting, name);
-            match named_type(store, alloc, setting.tree.imports_any, meaning)? {
+            let meaning = meaning(outline, name);
+            match named_type(store, alloc, outline.tree.imports_any, meaning)? {
                 Some(ty) => Ok(read_as(store, ty)),
                 None => fault(store, alloc, found, name.place, Code::E09),
             }
@@ -113,9 +106,9 @@ pub(crate) fn read<S: TypeStore>(
         }
         Ann::Apply(place, head, arguments) => {
             let before = found.len();
-            let types = read_each(setting, store, alloc, found, arguments)?;
-            let meaning = meaning(setting, head);
-            match apply(setting, store, alloc, meaning, arguments, &types)? {
+            let types = read_each(outline, store, alloc, found, arguments)?;
+            let meaning = meaning(outline, head);
+            match apply(outline, store, alloc, meaning, arguments, &types)? {
                 Some(reading) => Ok(reading),
                 None => {
                     // An annotation of another form is one fault as a whole: what its parts had is taken back.
@@ -125,15 +118,15 @@ pub(crate) fn read<S: TypeStore>(
             }
         }
         Ann::ApplyEmpty(place, head) => {
-            let meaning = meaning(setting, head);
+            let meaning = meaning(outline, head);
             match empty_tuple(store, alloc, meaning)? {
                 Some(reading) => Ok(reading),
                 None => fault(store, alloc, found, *place, Code::E09),
             }
         }
         Ann::Union(place, parts) => {
-            let types = read_each(setting, store, alloc, found, parts)?;
-            match unite(setting, store, alloc, parts, types)? {
+            let types = read_each(outline, store, alloc, found, parts)?;
+            match unite(outline, store, alloc, parts, types)? {
                 Some(reading) => Ok(reading),
                 None => fault(store, alloc, found, *place, Code::E10),
             }
@@ -144,25 +137,25 @@ pub(crate) fn read<S: TypeStore>(
 /// What several parts are read as, with their findings in order.
 #[cycle(read)]
 fn read_each<S: TypeStore>(
-    setting: &Setting,
+    outline: &ModuleOutline,
     store: &mut S,
     alloc: Global,
     found: &mut Findings,
     parts: &[Ann],
 ) -> Result<Readings<S::Ty>, OutOfMemory>
-    requires { AreScopes (module_of setting.now.tree.now) setting.now.scopes.now }
+    requires { AreScopes (module_of outline.now.tree.now) outline.now.scopes.now }
     ensures typed { IfOk result
         (λ r. AreRead S.has S.tree store.new r.heads.items r.types
-        (readings (module_of setting.now.tree.now) setting.now.parents.now (anns_of_list parts.now))) }
+        (readings (module_of outline.now.tree.now) outline.now.parents.now (anns_of_list parts.now))) }
     ensures pushed { OnOk result
         (found.new.items ≡ found.old.items
-        ++ parts_findings (module_of setting.now.tree.now) setting.now.parents.now (anns_of_list parts.now)) }
+        ++ parts_findings (module_of outline.now.tree.now) outline.now.parents.now (anns_of_list parts.now)) }
     ensures kept { KeepsTypes S.has store.old store.new }
 {
     let mut heads = Vec::new(alloc);
     let mut types = Some(Vec::new(alloc));
     for part in parts {
-        let reading = read(setting, store, alloc, found, part)?;
+        let reading = read(outline, store, alloc, found, part)?;
         heads.push(reading.head)?;
         types = with_type(types, reading.ty)?;
     }

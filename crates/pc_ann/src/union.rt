@@ -11,7 +11,8 @@ ghost use Rattle.pc_ann.specs.Internal.TypesRead.{AreRead, IsReadAny, is_member_
 ghost use Rattle.pc_ann.specs.Internal.TypesRead.{heads_make_union, united_head};
 
 use crate::ordered::{in_order, rank};
-use crate::reading::{Reading, Readings, Setting};
+use crate::outline::ModuleOutline;
+use crate::reading::{Reading, Readings};
 use pc_source::OutOfMemory;
 use pc_tree::Ann;
 use pc_types::{Head, Parents, TypeStore};
@@ -86,23 +87,23 @@ fn united_head(heads: &[Head]) -> Head
 /// The union of the types that parts of an annotation are read as, if they make one.
 /// Typing specification, "Union types"; own rules of the profile.
 pub(crate) fn unite<S: TypeStore>(
-    setting: &Setting,
+    outline: &ModuleOutline,
     store: &mut S,
     alloc: Global,
     parts: &[Ann],
     types: Readings<S::Ty>,
 ) -> Result<Option<Reading<S::Ty>>, OutOfMemory>
     requires { AreRead S.has S.tree store.old types.heads.items types.types
-        (readings (module_of setting.now.tree.now) setting.now.parents.now (anns_of_list parts.now)) }
+        (readings (module_of outline.now.tree.now) outline.now.parents.now (anns_of_list parts.now)) }
     ensures value { IfOk result
         (λ r. IsReadAny S.has S.tree store.new (option_map (λ x. (x.head, x.ty)) r)
-        (union_type setting.now.parents.now
-        (readings (module_of setting.now.tree.now) setting.now.parents.now (anns_of_list parts.now)))) }
+        (union_type outline.now.parents.now
+        (readings (module_of outline.now.tree.now) outline.now.parents.now (anns_of_list parts.now)))) }
     ensures kept { KeepsTypes S.has store.old store.new }
 {
-    setting.parents.ordered();
+    outline.parents.ordered();
     let Readings { heads, types } = types;
-    if !make_union(setting.parents, &heads) {
+    if !make_union(outline.parents, &heads) {
         return Ok(None);
     }
     let head = united_head(&heads);

@@ -2,37 +2,38 @@
 
 ghost use Rattle.std.specs.Prelude.{◌≡◌, ◌↔◌, ◌⊎◌, ◌++◌, Contains, IfOk, OnOk};
 ghost use Rattle.pc_tree.specs.declared.code.Finding.{Finding as FindingOf};
-ghost use Rattle.pc_tree.specs.Tree.{module_of, ann_of, option_ann_of};
+ghost use Rattle.pc_tree.specs.Tree.{ann_of, option_ann_of};
 ghost use Rattle.pc_scope.specs.ModuleScopes.{AreScopes};
 ghost use Rattle.pc_types.specs.Store.{Means, KeepsTypes};
 ghost use Rattle.pc_ann.specs.Annotations.{read_ann, read_option, AnnFinds, OptionAnnFinds};
+ghost use Rattle.pc_ann.specs.ModuleOutlines.{module_in};
 ghost use Rattle.pc_ann.specs.Listed.{ann_findings, option_findings};
 
-use crate::reading::{Setting, read};
-use pc_scope::Scopes;
+use crate::outline::ModuleOutline;
+use crate::reading::read;
 use pc_source::OutOfMemory;
-use pc_tree::{Ann, Code, Finding, Findings, Module};
-use pc_types::{Parents, TypeStore};
+use pc_tree::{Ann, Code, Finding, Findings};
+use pc_types::TypeStore;
 use std::alloc::Global;
 
 /// The type of an annotation, with its findings appended to `found`.
 fn read_whole<S: TypeStore>(
-    setting: &Setting,
+    outline: &ModuleOutline,
     store: &mut S,
     alloc: Global,
     found: &mut Findings,
     ann: &Ann,
 ) -> Result<S::Ty, OutOfMemory>
-    requires { AreScopes (module_of setting.now.tree.now) setting.now.scopes.now }
+    requires { AreScopes (module_in outline.now) outline.now.scopes.now }
     ensures typed { IfOk result
         (λ t. Means S.has S.tree store.new t
-        (read_ann (module_of setting.now.tree.now) setting.now.parents.now (ann_of ann.now))) }
+        (read_ann (module_in outline.now) outline.now.parents.now (ann_of ann.now))) }
     ensures pushed { OnOk result
         (found.new.items ≡ found.old.items
-        ++ ann_findings (module_of setting.now.tree.now) setting.now.parents.now (ann_of ann.now)) }
+        ++ ann_findings (module_in outline.now) outline.now.parents.now (ann_of ann.now)) }
     ensures kept { KeepsTypes S.has store.old store.new }
 {
-    let reading = read(setting, store, alloc, found, ann)?;
+    let reading = read(outline, store, alloc, found, ann)?;
     match reading.ty {
         Some(ty) => Ok(ty),
         None => {
@@ -52,28 +53,21 @@ fn read_whole<S: TypeStore>(
 pub fn read_ann<S: TypeStore>(
     store: &mut S,
     alloc: Global,
-    parents: &Parents,
-    tree: &Module,
-    scopes: &Scopes,
+    outline: &ModuleOutline,
     found: &mut Findings,
     ann: &Ann,
 ) -> Result<S::Ty, OutOfMemory>
-    requires { AreScopes (module_of tree.now) scopes.now }
+    requires { AreScopes (module_in outline.now) outline.now.scopes.now }
     ensures typed { IfOk result
-        (λ t. Means S.has S.tree store.new t (read_ann (module_of tree.now) parents.now (ann_of ann.now))) }
+        (λ t. Means S.has S.tree store.new t (read_ann (module_in outline.now) outline.now.parents.now (ann_of ann.now))) }
     ensures pushed { OnOk result
-        (found.new.items ≡ found.old.items ++ ann_findings (module_of tree.now) parents.now (ann_of ann.now)) }
+        (found.new.items ≡ found.old.items ++ ann_findings (module_in outline.now) outline.now.parents.now (ann_of ann.now)) }
     ensures found { OnOk result
         ((f : FindingOf) → Contains found.new.items f
-        ↔ (Contains found.old.items f ⊎ AnnFinds (module_of tree.now) parents.now (ann_of ann.now) f)) }
+        ↔ (Contains found.old.items f ⊎ AnnFinds (module_in outline.now) outline.now.parents.now (ann_of ann.now) f)) }
     ensures kept { KeepsTypes S.has store.old store.new }
 {
-    let setting = Setting {
-        tree,
-        scopes,
-        parents,
-    };
-    read_whole(&setting, store, alloc, found, ann)
+    read_whole(outline, store, alloc, found, ann)
 }
 
 /// The type that an annotation is read as where there is one, and else `Any`, with what is found in it
@@ -81,25 +75,23 @@ pub fn read_ann<S: TypeStore>(
 pub fn read_option<S: TypeStore>(
     store: &mut S,
     alloc: Global,
-    parents: &Parents,
-    tree: &Module,
-    scopes: &Scopes,
+    outline: &ModuleOutline,
     found: &mut Findings,
     ann: &Option<Ann>,
 ) -> Result<S::Ty, OutOfMemory>
-    requires { AreScopes (module_of tree.now) scopes.now }
+    requires { AreScopes (module_in outline.now) outline.now.scopes.now }
     ensures typed { IfOk result
-        (λ t. Means S.has S.tree store.new t (read_option (module_of tree.now) parents.now (option_ann_of ann.now))) }
+        (λ t. Means S.has S.tree store.new t (read_option (module_in outline.now) outline.now.parents.now (option_ann_of ann.now))) }
     ensures pushed { OnOk result
         (found.new.items ≡ found.old.items
-        ++ option_findings (module_of tree.now) parents.now (option_ann_of ann.now)) }
+        ++ option_findings (module_in outline.now) outline.now.parents.now (option_ann_of ann.now)) }
     ensures found { OnOk result
         ((f : FindingOf) → Contains found.new.items f
-        ↔ (Contains found.old.items f ⊎ OptionAnnFinds (module_of tree.now) parents.now (option_ann_of ann.now) f)) }
+        ↔ (Contains found.old.items f ⊎ OptionAnnFinds (module_in outline.now) outline.now.parents.now (option_ann_of ann.now) f)) }
     ensures kept { KeepsTypes S.has store.old store.new }
 {
     match ann {
-        Some(ann) => read_ann(store, alloc, parents, tree, scopes, found, ann),
+        Some(ann) => read_ann(store, alloc, outline, found, ann),
         None => store.any(alloc),
     }
 }

@@ -10,8 +10,8 @@ use Rattle.pc_scope.specs.Bindings.{classes_in, functions_in, methods_in}
 use Rattle.pc_scope.specs.declared.resolution.Owner.TheVariants as owners
 use Rattle.pc_types.specs.Tree.{Tree}
 use Rattle.pc_notes.specs.Notes.{Note}
-use Rattle.pc_labels.specs.ComputedStatements.{function_finds}
-use Rattle.pc_labels.specs.ComputedModules.{methods_find, bodies_find}
+use Rattle.pc_module_rules.specs.Computed.Statements.{function_finds}
+use Rattle.pc_module_rules.specs.Computed.Modules.{methods_find, bodies_find}
 
 -- these stand among all from a number on
 abbrev pub StandsFrom : {X : Type 0} → (all : List X) → ℕ → (rest : List X) → Type 0

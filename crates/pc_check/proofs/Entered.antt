@@ -23,11 +23,11 @@ use Rattle.pc_flow.specs.WellFormed.{IsWellFormedEnv}
 use Rattle.pc_flow.specs.Stored.{HasOne, env_of}
 use Rattle.pc_flow.proofs.Assigned.{local_current}
 use Rattle.pc_notes.specs.Notes.{Note}
-use Rattle.pc_labels.specs.ComputedStatements.{BodyFrame, Table, Walk, enter_parameters, enter_local, enter_name}
-use Rattle.pc_labels.specs.ComputedStatements.{end_finds, body_frame_of, function_finds, walk_suite}
-use Rattle.pc_labels.specs.Modules.{entry_parameters, receiver_parameter}
-use Rattle.pc_frames.specs.StatementsHeld.{HoldsType, HoldsTypes}
-use Rattle.pc_frames.proofs.Bound.{set_gives, bound_is}
+use Rattle.pc_module_rules.specs.Computed.Statements.{BodyContext, Table, Walk, enter_parameters, enter_local, enter_name}
+use Rattle.pc_module_rules.specs.Computed.Statements.{end_finds, body_context_of, function_finds, walk_suite}
+use Rattle.pc_module_rules.specs.Modules.{entry_parameters, receiver_parameter}
+use Rattle.pc_walk.specs.StatementsHeld.{HoldsType, HoldsTypes}
+use Rattle.pc_walk.proofs.Bound.{set_gives, bound_is}
 
 -- what is borrowed is none where there is none
 pub none_copied : {Ty : Type 0} (o : Option (Bor Ty)) → is_some o ≡ false → option_copied o ≡ None
@@ -130,33 +130,33 @@ enter_both resolve table env (p ∷ ps) qs = let r = enter_name table env
     (resolve p.name) p.type in enter_both resolve r.0 r.1 ps qs
 
 -- a walk from this entry
-abbrev walk_from : BodyFrame → FuncDef → List Note → Table × Env → Walk
-walk_from frame f found start = walk_suite frame (record
+abbrev walk_from : BodyContext → FuncDef → List Note → Table × Env → Walk
+walk_from context f found start = walk_suite context (record
     { table = start.0; env = Some start.1; broken = None; found = found }) f.body
 
 -- what is found in a function of so many locals that is entered with these parameters
-abbrev found_from : BodyFrame → FuncDef → List Note → ℕ → List TypedParameter → List Note
-found_from frame f found n ps =
-    let body = walk_from frame f found (enter_parameters frame.context.resolve (none_assigned n) (none_assigned n) ps)
+abbrev found_from : BodyContext → FuncDef → List Note → ℕ → List TypedParameter → List Note
+found_from context f found n ps =
+    let body = walk_from context f found (enter_parameters context.context.resolve (none_assigned n) (none_assigned n) ps)
     in
-    body.found ++ end_finds frame.context.bases frame.returned f.name.place body.env
+    body.found ++ end_finds context.context.bases context.returned f.name.place body.env
 
 -- what is found in a function, by what its receiver, its parameters and its body come to
-pub function_found : (m : Module) (constants : List Tree) (owner : Owner) (f : FuncDef) (frame : BodyFrame)
+pub function_found : (m : Module) (constants : List Tree) (owner : Owner) (f : FuncDef) (context : BodyContext)
     (found : List Note) (n : ℕ) (middle start : Table × Env) (body : Walk) →
-    frame ≡ body_frame_of m constants owner f →
+    context ≡ body_context_of m constants owner f →
     n ≡ length (locals owner f) →
-    middle ≡ enter_parameters frame.context.resolve (none_assigned n) (none_assigned n) (receiver_parameter owner) →
-    start ≡ enter_parameters frame.context.resolve middle.0 middle.1 (parameters_of m f.params) →
-    body ≡ walk_from frame f found start →
-    body.found ++ end_finds frame.context.bases frame.returned f.name.place body.env
+    middle ≡ enter_parameters context.context.resolve (none_assigned n) (none_assigned n) (receiver_parameter owner) →
+    start ≡ enter_parameters context.context.resolve middle.0 middle.1 (parameters_of m f.params) →
+    body ≡ walk_from context f found start →
+    body.found ++ end_finds context.context.bases context.returned f.name.place body.env
     ≡ function_finds m constants owner f found
-function_found m constants owner f frame found n middle start body ef en em es eb =
-    let resolve = frame.context.resolve in
+function_found m constants owner f context found n middle start body ef en em es eb =
+    let resolve = context.context.resolve in
     let entered = es ∙ ap (λ (r : Table × Env). enter_parameters resolve r.0 r.1 (parameters_of m f.params)) em
     ∙ sym (enter_both resolve (none_assigned n) (none_assigned n) (receiver_parameter owner)
     (parameters_of m f.params)) in
-    ap (λ (w : Walk). w.found ++ end_finds frame.context.bases frame.returned f.name.place w.env)
-    (eb ∙ ap (walk_from frame f found) entered)
-    ∙ ap (λ k. found_from frame f found k (entry_parameters m owner f)) en
+    ap (λ (w : Walk). w.found ++ end_finds context.context.bases context.returned f.name.place w.env)
+    (eb ∙ ap (walk_from context f found) entered)
+    ∙ ap (λ k. found_from context f found k (entry_parameters m owner f)) en
     ∙ ap (λ k. found_from k f found (length (locals owner f)) (entry_parameters m owner f)) ef

@@ -1,5 +1,5 @@
 pub mod Agreed
 pub mod CheckedModules
 pub mod Entered
-pub mod ModuleSettings
+pub mod ModuleBodies
 pub mod Walked

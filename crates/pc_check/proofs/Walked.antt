@@ -11,13 +11,13 @@ use Rattle.pc_types.specs.declared.store.TypeStore.{Ghosts as StoreOf}
 use Rattle.pc_flow.specs.Environment.{Env}
 use Rattle.pc_flow.specs.Stored.{env_of}
 use Rattle.pc_notes.specs.Notes.{Note, notes_of}
-use Rattle.pc_rules.specs.Standing.{Standing, finds_in}
-use Rattle.pc_labels.specs.ComputedStatements.{BodyFrame, Table, Walk as Reached, BranchesResult, at, narrowed_at}
-use Rattle.pc_labels.specs.ComputedStatements.{with_way, behind_branches, walk_suite, walk_branches}
-use Rattle.pc_frames.specs.StatementsHeld.{frame_with}
-use Rattle.pc_frames.specs.declared.walk.Walk.{Walk}
-use Rattle.pc_frames.specs.Walks.{HoldsEnv, HoldsWay, GoesOn, IsQuiet, Found, frame_in, standing_in}
-use Rattle.pc_frames.proofs.Walks.{frame_on, env_kept, way_kept}
+use Rattle.pc_rules.specs.Computed.Standing.{Standing, finds_in}
+use Rattle.pc_module_rules.specs.Computed.Statements.{BodyContext, Table, Walk as Reached, BranchesResult, at, narrowed_at}
+use Rattle.pc_module_rules.specs.Computed.Statements.{with_way, behind_branches, walk_suite, walk_branches}
+use Rattle.pc_walk.specs.StatementsHeld.{body_context_with}
+use Rattle.pc_walk.specs.declared.walk.Walk.{Walk}
+use Rattle.pc_walk.specs.Walks.{HoldsEnv, HoldsWay, GoesOn, IsQuiet, Found, body_context_in, standing_in}
+use Rattle.pc_walk.proofs.Walks.{context_on, env_kept, way_kept}
 use Rattle.pc_check.specs.Internal.Walked.{StandsIn, Walked, reached}
 
 -- nothing is left of a suite, and of branches
@@ -35,54 +35,54 @@ in_turn old first second new e = e ∙ sym (append_assoc old first second)
 abbrev pub reached_by : Table → (env broken : Option Env) → List Note → Reached
 reached_by table env broken found = record { table = table; env = env; broken = broken; found = found }
 
-module _ (frame : BodyFrame) where
+module _ (context : BodyContext) where
   -- one branch more
   pub branch_walked : (table : Table) (last : Env) (ways broken : Option Env) (found : List Note) (c : Expr) (b : Stmts)
       (start body : Reached) (last' : Env) (ways' : Option Env)
       → start ≡ record {
         table = table;
-        env = Some (narrowed_at frame table true c last);
+        env = Some (narrowed_at context table true c last);
         broken = broken;
-        found = found ++ finds_in (at frame table last) None c;
+        found = found ++ finds_in (at context table last) None c;
       }
-      → body ≡ walk_suite frame start b
-      → last' ≡ narrowed_at frame table false c last
-      → ways' ≡ with_way frame.context.bases body.table ways body.env
-      → walk_branches frame
+      → body ≡ walk_suite context start b
+      → last' ≡ narrowed_at context table false c last
+      → ways' ≡ with_way context.context.bases body.table ways body.env
+      → walk_branches context
       (record { table = body.table; last = last'; ways = ways'; broken = body.broken; found = body.found }) no_branches
-      ≡ walk_branches frame
+      ≡ walk_branches context
       (record { table = table; last = last; ways = ways; broken = broken; found = found }) (more_branches c b no_branches)
   branch_walked table last ways broken found c b start body last' ways' es eb el ew =
-      let e = eb ∙ ap (λ w. walk_suite frame w b) es in
-      let joined = ew ∙ ap (λ (w : Reached). with_way frame.context.bases w.table ways w.env) e in
+      let e = eb ∙ ap (λ w. walk_suite context w b) es in
+      let joined = ew ∙ ap (λ (w : Reached). with_way context.context.bases w.table ways w.env) e in
       λ i. record { table = (e i).table; last = el i; ways = joined i; broken = (e i).broken; found = (e i).found }
 
   -- after an `if`, by what its branches come to
   pub branches_from : (fork result : BranchesResult) (o : Stmts) → fork ≡ result
-      → behind_branches frame fork.ways
-      (walk_suite frame (reached_by fork.table (Some fork.last) fork.broken fork.found) o)
-      ≡ behind_branches frame result.ways
-      (walk_suite frame (reached_by result.table (Some result.last) result.broken result.found) o)
-  branches_from fork result o e = λ i. behind_branches frame (e i).ways
-      (walk_suite frame (reached_by (e i).table (Some (e i).last) (e i).broken (e i).found) o)
+      → behind_branches context fork.ways
+      (walk_suite context (reached_by fork.table (Some fork.last) fork.broken fork.found) o)
+      ≡ behind_branches context result.ways
+      (walk_suite context (reached_by result.table (Some result.last) result.broken result.found) o)
+  branches_from fork result o e = λ i. behind_branches context (e i).ways
+      (walk_suite context (reached_by (e i).table (Some (e i).last) (e i).broken (e i).found) o)
 
   -- after the suite of `else`
   pub otherwise_walked : (ways : Option Env) (out result : Reached) (joined : Option Env) → out ≡ result
-      → joined ≡ with_way frame.context.bases out.table ways out.env
-      → reached_by out.table joined out.broken out.found ≡ behind_branches frame ways result
+      → joined ≡ with_way context.context.bases out.table ways out.env
+      → reached_by out.table joined out.broken out.found ≡ behind_branches context ways result
   otherwise_walked ways out result joined eo ej =
-      let first : reached_by out.table joined out.broken out.found ≡ behind_branches frame ways out =
+      let first : reached_by out.table joined out.broken out.found ≡ behind_branches context ways out =
       λ i. record { table = out.table; env = ej i; broken = out.broken; found = out.found } in
-      first ∙ ap (behind_branches frame ways) eo
+      first ∙ ap (behind_branches context ways) eo
 
 module _ {Store Ty : Type 0} (S : StoreOf Store Ty) where
-  module _ (old new : Walk Store Ty) (env : List (Option Ty)) (finds : BodyFrame → Standing → List Note)
+  module _ (old new : Walk Store Ty) (env : List (Option Ty)) (finds : BodyContext → Standing → List Note)
       (g : GoesOn S old new) (a : Found S old env new finds) where
     -- what a walk has come to after a step that found something
     pub found_reached : (behind way : Option (List (Option Ty)))
         → reached S new behind way
         ≡ reached_by (env_of S.tree old.declared.now) (option_map (env_of S.tree) behind)
-        (option_map (env_of S.tree) way) (notes_of old.found.now ++ finds (frame_in S old) (standing_in S old env))
+        (option_map (env_of S.tree) way) (notes_of old.found.now ++ finds (body_context_in S old) (standing_in S old env))
     found_reached behind way = λ i. record {
       table = env_of S.tree (a.declared i);
       env = option_map (env_of S.tree) behind;
@@ -94,7 +94,7 @@ module _ {Store Ty : Type 0} (S : StoreOf Store Ty) where
     pub found_stands : (behind way : Option (List (Option Ty))) → HoldsWay S new behind → HoldsWay S old way
         → StandsIn S new behind way
     found_stands behind way h k = record {
-      frame = a.stands.frame;
+      context = a.stands.context;
       declared = a.stands.declared;
       current = h;
       out = way_kept S old new way g k;
@@ -102,16 +102,16 @@ module _ {Store Ty : Type 0} (S : StoreOf Store Ty) where
 
     -- what a condition tells there is what it told before
     pub same_narrowed : (holds : Test) (c : Expr)
-        → narrowed_at (frame_in S new) (env_of S.tree new.declared.now) holds c (env_of S.tree env)
-        ≡ narrowed_at (frame_in S old) (env_of S.tree old.declared.now) holds c (env_of S.tree env)
-    same_narrowed holds c = λ i. narrowed_at (frame_with S.tree (g.frame i))
+        → narrowed_at (body_context_in S new) (env_of S.tree new.declared.now) holds c (env_of S.tree env)
+        ≡ narrowed_at (body_context_in S old) (env_of S.tree old.declared.now) holds c (env_of S.tree env)
+    same_narrowed holds c = λ i. narrowed_at (body_context_with S.tree (g.context i))
         (env_of S.tree (a.declared i)) holds c (env_of S.tree env)
 
   module _ (old new : Walk Store Ty) (g : GoesOn S old new) (q : IsQuiet S old new) where
     -- after a quiet step a walk stands as before it
     pub quiet_stands : (env way : Option (List (Option Ty))) → StandsIn S old env way → StandsIn S new env way
     quiet_stands env way h = record {
-      frame = frame_on S old new h.frame g;
+      context = context_on S old new h.context g;
       declared = subst (λ (ds : List (Option Ty)). HoldsEnv S new ds) (sym q.declared)
           (env_kept S old new old.declared.now g h.declared);
       current = way_kept S old new env g h.current;
@@ -129,22 +129,22 @@ module _ {Store Ty : Type 0} (S : StoreOf Store Ty) where
 
     -- what a condition tells in an environment that means this one
     pub narrowed_from : (env : List (Option Ty)) (first : Env) → env_of S.tree env ≡ first → (holds : Test) (c : Expr)
-        → narrowed_at (frame_in S new) (env_of S.tree new.declared.now) holds c (env_of S.tree env)
-        ≡ narrowed_at (frame_in S old) (env_of S.tree old.declared.now) holds c first
-    narrowed_from env first e holds c = λ i. narrowed_at (frame_with S.tree (g.frame i))
+        → narrowed_at (body_context_in S new) (env_of S.tree new.declared.now) holds c (env_of S.tree env)
+        ≡ narrowed_at (body_context_in S old) (env_of S.tree old.declared.now) holds c first
+    narrowed_from env first e holds c = λ i. narrowed_at (body_context_with S.tree (g.context i))
         (env_of S.tree (q.declared i)) holds c (e i)
 
     -- what is found in it
     pub finds_from : (env : List (Option Ty)) (first : Env) → env_of S.tree env ≡ first → (c : Expr)
         → notes_of new.found.now ++ finds_in (standing_in S new env) None c
-        ≡ notes_of old.found.now ++ finds_in (at (frame_in S old) (env_of S.tree old.declared.now) first) None c
-    finds_from env first e c = λ i. q.found i ++ finds_in (at (frame_with S.tree (g.frame i))
+        ≡ notes_of old.found.now ++ finds_in (at (body_context_in S old) (env_of S.tree old.declared.now) first) None c
+    finds_from env first e c = λ i. q.found i ++ finds_in (at (body_context_with S.tree (g.context i))
         (env_of S.tree (q.declared i)) (e i)) None c
 
   -- what a walk comes to that began after other steps
   pub walks_on : (old mid new : Walk Store Ty) (env way behind later : Option (List (Option Ty)))
-      (walks : BodyFrame → Reached → Reached)
+      (walks : BodyContext → Reached → Reached)
       → GoesOn S old mid → Walked S mid env way new behind later walks
-      → reached S new behind later ≡ walks (frame_in S old) (reached S mid env way)
+      → reached S new behind later ≡ walks (body_context_in S old) (reached S mid env way)
   walks_on old mid new env way behind later walks g w =
-      w.is ∙ (λ i. walks (frame_with S.tree (g.frame i)) (reached S mid env way))
+      w.is ∙ (λ i. walks (body_context_with S.tree (g.context i)) (reached S mid env way))

@@ -6,32 +6,27 @@ ghost use Rattle.std.specs.Option.{option_copied};
 ghost use Rattle.pc_tree.specs.Tree.{func_of};
 ghost use Rattle.pc_scope.specs.Resolution.{function_of};
 ghost use Rattle.pc_notes.specs.Notes.{notes_of};
-ghost use Rattle.pc_rules.specs.Checkers.{GoesOn};
-ghost use Rattle.pc_rules.specs.SignaturesFound.{constants_of};
-ghost use Rattle.pc_labels.specs.ComputedStatements.{function_finds};
-ghost use Rattle.pc_check.specs.Internal.ModuleWalk.{module_in, signature_for, IsModuleSetting};
+ghost use Rattle.pc_rules.specs.Computed.Checkers.{GoesOn};
+ghost use Rattle.pc_rules.specs.Computed.Signatures.{constants_of};
+ghost use Rattle.pc_module_rules.specs.Computed.Statements.{function_finds};
+ghost use Rattle.pc_check.specs.Internal.ModuleWalk.{module_in, signature_for, IsModuleBodies};
 
 use crate::entering::check_function;
-use pc_class::ClassTable;
 use pc_flow::OwnerNames;
-use pc_frames::Frame;
-use pc_rules::{Checker, Signature};
-use pc_scope::{Owner, Scopes};
+use pc_rules::{Checker, ModuleContext, Signature};
+use pc_scope::Owner;
 use pc_signatures::Sigs;
 use pc_source::OutOfMemory;
-use pc_tree::{FuncDef, Module};
-use pc_types::{Parents, TypeStore};
+use pc_tree::FuncDef;
+use pc_types::TypeStore;
+use pc_walk::BodyContext;
 
-/// What the bodies of a module stand in: the module with its scopes, the bases of its classes, its classes and how many
-/// they are, the types of its constants, and what its functions and methods take and return.
+/// What the bodies of a module stand in: what they may name, and what the functions and methods of the module take and
+/// return.
 #[derive(Drop)]
-pub struct ModuleSetting<'m, Ty: Drop> {
-    pub tree: &'m Module,
-    pub scopes: &'m Scopes,
-    pub parents: &'m Parents,
-    pub classes: &'m ClassTable<Ty>,
+pub struct ModuleBodies<'m, Ty: Drop> {
+    pub globals: &'m ModuleContext<'m, Ty>,
     pub signatures: &'m Sigs<Ty>,
-    pub known: usize,
 }
 
 /// What the function or method that an owner is takes and returns, if there is one.
@@ -49,38 +44,32 @@ fn signature_for<Ty: Drop>(signatures: &Sigs<Ty>, owner: Owner) -> Option<&Signa
 /// Language Reference 3.12, 8.7 "Function definitions".
 pub(crate) fn check_owned<S: TypeStore>(
     checker: &mut Checker<'_, S>,
-    setting: &ModuleSetting<'_, S::Ty>,
+    bodies: &ModuleBodies<'_, S::Ty>,
     owner: Owner,
     def: &FuncDef,
 ) -> Result<(), OutOfMemory>
-    requires setting { IsModuleSetting (S.has checker.old.store.now) S.tree setting.now }
-    requires owner { function_of (module_in setting.now) owner ≡ Some (func_of def.now) }
+    requires bodies { IsModuleBodies (S.has checker.old.store.now) S.tree bodies.now }
+    requires owner { function_of (module_in bodies.now) owner ≡ Some (func_of def.now) }
     ensures found { OnOk result
-        (notes_of checker.new.found.now ≡ function_finds (module_in setting.now) (constants_of (module_in setting.now)) owner
+        (notes_of checker.new.found.now ≡ function_finds (module_in bodies.now) (constants_of (module_in bodies.now)) owner
         (func_of def.now) (notes_of checker.old.found.now)) }
     ensures goes_on { GoesOn S.TypeStore checker.old checker.new }
 {
-    match signature_for(setting.signatures, owner) {
+    match signature_for(bodies.signatures, owner) {
         None => Ok(()),
         Some(signature) => {
             let names = OwnerNames {
-                scopes: setting.scopes,
+                scopes: bodies.globals.outline.scopes,
                 owner,
             };
-            let frame = Frame {
-                parents: setting.parents,
-                classes: setting.classes,
-                functions: setting.signatures.functions(),
-                constants: setting.signatures.constants(),
-                known: setting.known,
+            let context = BodyContext {
+                globals: bodies.globals,
                 names: &names,
-                tree: setting.tree,
-                scopes: setting.scopes,
                 returned: &signature.ret,
             };
-            let count = setting.scopes.count_locals(owner);
+            let count = bodies.globals.outline.scopes.count_locals(owner);
             let params = &signature.params;
-            check_function(checker, frame, owner, count, params, def)
+            check_function(checker, context, owner, count, params, def)
         }
     }
 }

@@ -1,6 +1,6 @@
 //! The walk over the body of a function, from its entry.
 
-#![tactic(auto, using(pc_frames::proofs::Walks::goes_further))]
+#![tactic(auto, using(pc_walk::proofs::Walks::goes_further))]
 
 ghost use Rattle.std.specs.Prelude.{◌≡◌, ◌++◌, All, None, map, length, replicate, OnOk};
 ghost use Rattle.std.specs.Option.{option_map};
@@ -10,23 +10,23 @@ ghost use Rattle.pc_class.specs.Tables.{HasParameter, parameters_with};
 ghost use Rattle.pc_class.specs.Facts.{parameters_of};
 ghost use Rattle.pc_flow.specs.Stored.{env_of};
 ghost use Rattle.pc_notes.specs.Notes.{notes_of};
-ghost use Rattle.pc_rules.specs.Checkers.{GoesOn as CheckerGoesOn};
-ghost use Rattle.pc_labels.specs.Modules.{receiver_parameter};
-ghost use Rattle.pc_labels.specs.ComputedStatements.{body_frame_of, function_finds, enter_parameters, enter_name};
-ghost use Rattle.pc_labels.specs.ComputedStatements.{end_finds};
-ghost use Rattle.pc_frames.specs.StatementsHeld.{frame_with, HoldsFrame};
-ghost use Rattle.pc_frames.specs.Walks.{Stands, HoldsOne, GoesOn, Bound, frame_in};
+ghost use Rattle.pc_rules.specs.Computed.Checkers.{GoesOn as CheckerGoesOn};
+ghost use Rattle.pc_module_rules.specs.Modules.{receiver_parameter};
+ghost use Rattle.pc_module_rules.specs.Computed.Statements.{body_context_of, function_finds, enter_parameters, enter_name};
+ghost use Rattle.pc_module_rules.specs.Computed.Statements.{end_finds};
+ghost use Rattle.pc_walk.specs.StatementsHeld.{body_context_with, HoldsContext};
+ghost use Rattle.pc_walk.specs.Walks.{Stands, HoldsOne, GoesOn, Bound, body_context_in};
 ghost use Rattle.pc_check.specs.Internal.Entry.{HoldsParameters, entered};
 
 use crate::statements::check_suite;
 use pc_class::Parameter;
 use pc_flow::{DeclaredTypes, Env};
-use pc_frames::{Frame, Walk};
 use pc_rules::Checker;
 use pc_scope::{Owner, Res};
 use pc_source::{OutOfMemory, Place};
 use pc_tree::{Code, FuncDef};
 use pc_types::TypeStore;
+use pc_walk::{BodyContext, Walk};
 
 /// Declares and assigns what a name means at the entry of a function, with this type. A name that is bound already, or
 /// reserved, binds nothing.
@@ -42,7 +42,7 @@ fn enter_name<S: TypeStore>(
         (λ f t k. entered (enter_name t k (f.context.resolve name.now) (S.tree ty.now)))) }
     ensures goes_on { GoesOn S.TypeStore walk.old walk.new }
 {
-    let Res::Local(local) = walk.frame.names.resolve(name) else {
+    let Res::Local(local) = walk.context.names.resolve(name) else {
         return Ok(());
     };
     if walk.declared.declared(local).is_some() {
@@ -102,18 +102,21 @@ fn find_end<S: TypeStore>(
     name: Place,
     out: &Option<Env<S::Ty>>,
 ) -> Result<(), OutOfMemory>
-    requires { S.has walk.old.store.now walk.old.frame.returned.now }
+    requires { S.has walk.old.store.now walk.old.context.returned.now }
     ensures pushed { OnOk result (notes_of walk.new.found.now ≡ notes_of walk.old.found.now
-        ++ end_finds walk.old.frame.parents.now (S.tree walk.old.frame.returned.now) name
+        ++ end_finds walk.old.context.globals.now.outline.now.parents.now (S.tree walk.old.context.returned.now) name
         (option_map (env_of S.tree) out.now)) }
     ensures goes_on { GoesOn S.TypeStore walk.old walk.new }
 {
     if out.is_none() {
         return Ok(());
     }
-    let returned = walk.frame.returned;
+    let returned = walk.context.returned;
     let none = walk.store.none(walk.alloc)?;
-    if walk.store.is_static(walk.frame.parents, &none, returned) {
+    if walk
+        .store
+        .is_static(walk.context.globals.outline.parents, &none, returned)
+    {
         return Ok(());
     }
     walk.found.put(name, Code::E21)?;
@@ -130,17 +133,17 @@ fn walk_function<S: TypeStore>(
     params: &[Parameter<S::Ty>],
     def: &FuncDef,
 ) -> Result<(), OutOfMemory>
-    requires frame { HoldsFrame (S.has walk.old.store.now) S.tree walk.old.frame }
-    requires body { frame_in S.TypeStore walk.old ≡ body_frame_of (module_of walk.old.frame.tree.now)
-        (map S.tree walk.old.frame.constants.now) owner (func_of def.now) }
+    requires context { HoldsContext (S.has walk.old.store.now) S.tree walk.old.context }
+    requires body { body_context_in S.TypeStore walk.old ≡ body_context_of (module_of walk.old.context.globals.now.outline.now.tree.now)
+        (map S.tree walk.old.context.globals.now.constants.now) owner (func_of def.now) }
     requires count { count ≡ length (locals owner (func_of def.now)) }
     requires declared { walk.old.declared.now ≡ replicate count None }
     requires given { All (HasParameter (S.has walk.old.store.now)) params.now }
     requires params { parameters_with S.tree params.now
-        ≡ parameters_of (module_of walk.old.frame.tree.now) (func_of def.now).params }
+        ≡ parameters_of (module_of walk.old.context.globals.now.outline.now.tree.now) (func_of def.now).params }
     ensures pushed { OnOk result
-        (notes_of walk.new.found.now ≡ function_finds (module_of walk.old.frame.tree.now)
-        (map S.tree walk.old.frame.constants.now) owner (func_of def.now) (notes_of walk.old.found.now)) }
+        (notes_of walk.new.found.now ≡ function_finds (module_of walk.old.context.globals.now.outline.now.tree.now)
+        (map S.tree walk.old.context.globals.now.constants.now) owner (func_of def.now) (notes_of walk.old.found.now)) }
     ensures goes_on { GoesOn S.TypeStore walk.old walk.new }
 {
     let mut env = Env::new(walk.alloc, count)?;
@@ -156,21 +159,21 @@ fn walk_function<S: TypeStore>(
 /// doesn't return `None`: a walk of its own. Language Reference 8.7 "Function definitions"; own rules of the profile.
 pub(crate) fn check_function<S: TypeStore>(
     checker: &mut Checker<'_, S>,
-    frame: Frame<'_, S::Ty>,
+    context: BodyContext<'_, S::Ty>,
     owner: Owner,
     count: usize,
     params: &[Parameter<S::Ty>],
     def: &FuncDef,
 ) -> Result<(), OutOfMemory>
-    requires frame { HoldsFrame (S.has checker.old.store.now) S.tree frame }
-    requires body { frame_with S.tree frame
-        ≡ body_frame_of (module_of frame.tree.now) (map S.tree frame.constants.now) owner (func_of def.now) }
+    requires context { HoldsContext (S.has checker.old.store.now) S.tree context }
+    requires body { body_context_with S.tree context
+        ≡ body_context_of (module_of context.globals.now.outline.now.tree.now) (map S.tree context.globals.now.constants.now) owner (func_of def.now) }
     requires count { count ≡ length (locals owner (func_of def.now)) }
     requires given { All (HasParameter (S.has checker.old.store.now)) params.now }
     requires params { parameters_with S.tree params.now
-        ≡ parameters_of (module_of frame.tree.now) (func_of def.now).params }
+        ≡ parameters_of (module_of context.globals.now.outline.now.tree.now) (func_of def.now).params }
     ensures found { OnOk result
-        (notes_of checker.new.found.now ≡ function_finds (module_of frame.entry.tree.now) (map S.tree frame.entry.constants.now) owner
+        (notes_of checker.new.found.now ≡ function_finds (module_of context.entry.tree.now) (map S.tree context.entry.constants.now) owner
         (func_of def.now) (notes_of checker.old.found.now)) }
     ensures goes_on { CheckerGoesOn S.TypeStore checker.old checker.new }
 {
@@ -178,7 +181,7 @@ pub(crate) fn check_function<S: TypeStore>(
     let mut walk = Walk {
         store: checker.store,
         alloc: checker.alloc,
-        frame,
+        context,
         declared: &mut declared,
         found: checker.found,
     };

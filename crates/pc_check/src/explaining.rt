@@ -6,7 +6,7 @@ ghost use Rattle.pc_scope.specs.ModuleScopes.{AreScopes};
 ghost use Rattle.pc_types.specs.Store.{KeepsTypes};
 ghost use Rattle.pc_class.specs.Facts.{classes_of};
 ghost use Rattle.pc_class.specs.Tables.{HasEntries, classes_with};
-ghost use Rattle.pc_dynamic.specs.FlowLaw.{ExplainsPlace};
+ghost use Rattle.pc_module_rules.specs.Laws.Flows.{ExplainsPlace};
 
 use crate::modules::check_module;
 use pc_class::ClassTable;
@@ -26,7 +26,7 @@ use std::alloc::Global;
 /// # Errors
 ///
 /// `OutOfMemory` only when an allocation failed.
-#[tactic(auto, using(pc_dynamic::proofs::StandingFlows::explains))]
+#[tactic(auto, using(pc_module_rules::proofs::StandingFlows::explains))]
 pub fn explain_flow<S: TypeStore>(
     store: &mut S,
     alloc: Global,

@@ -9,15 +9,16 @@ ghost use Rattle.pc_types.specs.Store.{KeepsTypes};
 ghost use Rattle.pc_class.specs.Facts.{classes_of};
 ghost use Rattle.pc_class.specs.Tables.{HasEntries, classes_with};
 ghost use Rattle.pc_notes.specs.Notes.{notes_of};
-ghost use Rattle.pc_rules.specs.Checkers.{GoesOn};
-ghost use Rattle.pc_rules.specs.SignaturesFound.{constants_of};
-ghost use Rattle.pc_labels.specs.ComputedModules.{methods_find, bodies_find, module_finds};
-ghost use Rattle.pc_check.specs.Internal.ModuleWalk.{module_in, IsModuleSetting};
+ghost use Rattle.pc_rules.specs.Computed.Checkers.{GoesOn};
+ghost use Rattle.pc_rules.specs.Computed.Signatures.{constants_of};
+ghost use Rattle.pc_module_rules.specs.Computed.Modules.{methods_find, bodies_find, module_finds};
+ghost use Rattle.pc_check.specs.Internal.ModuleWalk.{module_in, IsModuleBodies};
 
-use crate::bodies::{ModuleSetting, check_owned};
+use crate::bodies::{ModuleBodies, check_owned};
+use pc_ann::ModuleOutline;
 use pc_class::ClassTable;
 use pc_notes::Notes;
-use pc_rules::Checker;
+use pc_rules::{Checker, ModuleContext};
 use pc_scope::{Owner, Scopes};
 use pc_signatures::read_signatures;
 use pc_source::OutOfMemory;
@@ -44,14 +45,14 @@ fn count_classes(items: &[Item]) -> usize
 /// Language Reference 3.12, 8.8 "Class definitions".
 fn check_methods<S: TypeStore>(
     checker: &mut Checker<'_, S>,
-    setting: &ModuleSetting<'_, S::Ty>,
+    bodies: &ModuleBodies<'_, S::Ty>,
     class: usize,
     def: &ClassDef,
 ) -> Result<(), OutOfMemory>
-    requires setting { IsModuleSetting (S.has checker.old.store.now) S.tree setting.now }
-    requires class { slice_get (classes_in (module_in setting.now).items) class ≡ Some (class_of def.now) }
+    requires bodies { IsModuleBodies (S.has checker.old.store.now) S.tree bodies.now }
+    requires class { slice_get (classes_in (module_in bodies.now).items) class ≡ Some (class_of def.now) }
     ensures found { OnOk result
-        (notes_of checker.new.found.now ≡ methods_find (module_in setting.now) (constants_of (module_in setting.now)) class 0
+        (notes_of checker.new.found.now ≡ methods_find (module_in bodies.now) (constants_of (module_in bodies.now)) class 0
         (class_of def.now).members (notes_of checker.old.found.now)) }
     ensures goes_on { GoesOn S.TypeStore checker.old checker.new }
 {
@@ -62,7 +63,7 @@ fn check_methods<S: TypeStore>(
             Member::Field(_) => {}
             Member::Method(method) => {
                 let owner = Owner::Method(class, methods);
-                check_owned(checker, setting, owner, method)?;
+                check_owned(checker, bodies, owner, method)?;
                 methods += 1;
             }
         }
@@ -73,26 +74,26 @@ fn check_methods<S: TypeStore>(
 /// Finds what stands in the bodies of the functions and methods of a module, in text order.
 fn check_bodies<S: TypeStore>(
     checker: &mut Checker<'_, S>,
-    setting: &ModuleSetting<'_, S::Ty>,
+    bodies: &ModuleBodies<'_, S::Ty>,
 ) -> Result<(), OutOfMemory>
-    requires { IsModuleSetting (S.has checker.old.store.now) S.tree setting.now }
+    requires { IsModuleBodies (S.has checker.old.store.now) S.tree bodies.now }
     ensures found { OnOk result
-        (notes_of checker.new.found.now ≡ bodies_find (module_in setting.now) (constants_of (module_in setting.now)) 0 0
-        (module_in setting.now).items (notes_of checker.old.found.now)) }
+        (notes_of checker.new.found.now ≡ bodies_find (module_in bodies.now) (constants_of (module_in bodies.now)) 0 0
+        (module_in bodies.now).items (notes_of checker.old.found.now)) }
     ensures goes_on { GoesOn S.TypeStore checker.old checker.new }
 {
     let mut classes = 0;
     let mut functions = 0;
-    let items = setting.tree.items.as_slice();
+    let items = bodies.globals.outline.tree.items.as_slice();
     for item in items {
         match &item.kind {
             ItemKind::Constant(_) => {}
             ItemKind::Class(class) => {
-                check_methods(checker, setting, classes, class)?;
+                check_methods(checker, bodies, classes, class)?;
                 classes += 1;
             }
             ItemKind::Def(def) => {
-                check_owned(checker, setting, Owner::Func(functions), def)?;
+                check_owned(checker, bodies, Owner::Func(functions), def)?;
                 functions += 1;
             }
         }
@@ -104,7 +105,7 @@ fn check_bodies<S: TypeStore>(
 /// constants, then in the bodies of its functions and methods, in text order.
 ///
 /// Language Reference 3.12, 7 "Simple statements" and 8 "Compound statements"; the codes are own rules of the profile.
-#[tactic(auto, unfolding(pc_labels::specs::ComputedModules::module_finds))]
+#[tactic(auto, unfolding(pc_module_rules::specs::Computed::Modules::module_finds))]
 pub fn check_module<S: TypeStore>(
     store: &mut S,
     alloc: Global,
@@ -125,15 +126,23 @@ pub fn check_module<S: TypeStore>(
         found,
     };
     let parents = classes.parents();
-    let signatures = read_signatures(&mut checker, parents, tree, scopes, classes)?;
-    let known = count_classes(tree.items.as_slice());
-    let setting = ModuleSetting {
+    let outline = ModuleOutline {
         tree,
         scopes,
         parents,
+    };
+    let signatures = read_signatures(&mut checker, &outline, classes)?;
+    let known = count_classes(tree.items.as_slice());
+    let globals = ModuleContext {
+        outline: &outline,
         classes,
-        signatures: &signatures,
+        functions: signatures.functions(),
+        constants: signatures.constants(),
         known,
     };
-    check_bodies(&mut checker, &setting)
+    let bodies = ModuleBodies {
+        globals: &globals,
+        signatures: &signatures,
+    };
+    check_bodies(&mut checker, &bodies)
 }

@@ -1,6 +1,6 @@
 //! The walk over statements.
 
-#![tactic(auto, using(pc_frames::proofs::Walks::goes_further))]
+#![tactic(auto, using(pc_walk::proofs::Walks::goes_further))]
 
 ghost use Rattle.std.specs.Prelude.{IfOk, List, Option, None, Some};
 ghost use Rattle.pc_source.specs.declared.place.Place.{Place as PlaceOf};
@@ -8,25 +8,25 @@ ghost use Rattle.pc_tree.specs.Tree.{expr_of, name_of, stmt_of, stmt_of_kind, st
 ghost use Rattle.pc_tree.specs.Tree.{no_branches};
 ghost use Rattle.pc_tree.specs.Lists.{branches_of_list, with_branch};
 ghost use Rattle.pc_flow.specs.Stored.{env_of};
-ghost use Rattle.pc_labels.specs.ComputedStatements.{step, walk_suite, walk_branches, behind_branches};
-ghost use Rattle.pc_frames.specs.Touched.{touched_by, touched_by_branches, touched_by_stmt};
-ghost use Rattle.pc_frames.specs.Untouched.{AreAmong};
-ghost use Rattle.pc_frames.specs.Walks.{Stands, HoldsWay, GoesOn};
+ghost use Rattle.pc_module_rules.specs.Computed.Statements.{step, walk_suite, walk_branches, behind_branches};
+ghost use Rattle.pc_walk.specs.Touched.{touched_by, touched_by_branches, touched_by_stmt};
+ghost use Rattle.pc_walk.specs.Untouched.{AreAmong};
+ghost use Rattle.pc_walk.specs.Walks.{Stands, HoldsWay, GoesOn};
 ghost use Rattle.pc_check.specs.Internal.StatementWalk.{IsLong, IsAsLong, ForkAgrees};
 ghost use Rattle.pc_check.specs.Internal.Walked.{StandsIn, Breaks, Walked, Forked, reached, forked};
 ghost use Rattle.pc_flow.specs.Naming.{meanings};
 
 use pc_flow::{BothWays, Env, copy_env};
-use pc_frames::{
-    Walk, bind_item, break_out, declare_unreached, for_start, meet, touched_by, touched_by_for,
-    touched_by_while, while_start,
-};
 use pc_source::{OutOfMemory, Place};
 use pc_statements::{
     assign_target, bind_annotated, check_assert, find_return, item_type, type_condition, type_in,
 };
 use pc_tree::{Branch, Expr, Name, Stmt, StmtKind};
 use pc_types::TypeStore;
+use pc_walk::{
+    Walk, bind_item, break_out, declare_unreached, for_start, meet, touched_by, touched_by_for,
+    touched_by_while, while_start,
+};
 
 /// Where a walk over the branches of an `if` stands: the environment where all conditions so far are false, and the
 /// ways out of their suites joined, if a run comes out of one.
@@ -146,7 +146,7 @@ fn check_stmt<S: TypeStore>(
             Ok(out)
         }
         StmtKind::If(branches, suite) => {
-            let locals = touched_by(walk.alloc, walk.frame.names, branches, suite)?;
+            let locals = touched_by(walk.alloc, walk.context.names, branches, suite)?;
             let fork = check_branches(walk, &locals, env, breaking, broken, branches)?;
             let out = check_otherwise(walk, &locals, fork, breaking, broken, suite)?;
             Ok(out)
@@ -175,7 +175,7 @@ fn check_while<S: TypeStore>(
         where_true,
         where_false,
     } = type_condition(walk, &head, condition)?;
-    let breaking = touched_by_while(walk.alloc, walk.frame.names, condition, body)?;
+    let breaking = touched_by_while(walk.alloc, walk.context.names, condition, body)?;
     let mut way = Some(where_false);
     check_suite(walk, Some(where_true), &breaking, &mut way, body)?;
     Ok(way)
@@ -199,7 +199,7 @@ fn check_for<S: TypeStore>(
         (for_loop p (name_of name.now) (expr_of iterable.now) (stmts_of_list body.now)))) }
     ensures goes_on { GoesOn S.TypeStore walk.old walk.new }
 {
-    let breaking = touched_by_for(walk.alloc, walk.frame.names, name, body)?;
+    let breaking = touched_by_for(walk.alloc, walk.context.names, name, body)?;
     let item = item_type(walk, env, iterable)?;
     let head = for_start(walk, env, name, body)?;
     let mut way = Some(copy_env(walk.store, walk.alloc, &head)?);
@@ -224,7 +224,7 @@ fn check_otherwise<S: TypeStore>(
     requires agree { ForkAgrees locals.now (forked S.TypeStore walk.old fork.last fork.ways broken.old) }
     requires breaks { Breaks S.TypeStore walk.old breaking.now (Some fork.last) broken.old
         (λ resolve. touched_by resolve (stmts_of_list otherwise.now)) }
-    requires touched { AreAmong locals.now (touched_by (meanings walk.old.frame.names.now) (stmts_of_list otherwise.now)) }
+    requires touched { AreAmong locals.now (touched_by (meanings walk.old.context.names.now) (stmts_of_list otherwise.now)) }
     ensures walked { IfOk result (λ out. Walked S.TypeStore walk.old (Some fork.last) broken.old walk.new out broken.new
         (λ f w. behind_branches f (forked S.TypeStore walk.old fork.last fork.ways broken.old).ways
         (walk_suite f w (stmts_of_list otherwise.now)))) }
@@ -251,7 +251,7 @@ fn check_branches<S: TypeStore>(
     requires long { IsLong (reached S.TypeStore walk.old (Some env) broken.old) }
     requires breaks { Breaks S.TypeStore walk.old breaking.now (Some env) broken.old
         (λ resolve. touched_by_branches resolve (branches_of_list branches.now)) }
-    requires touched { AreAmong locals.now (touched_by_branches (meanings walk.old.frame.names.now)
+    requires touched { AreAmong locals.now (touched_by_branches (meanings walk.old.context.names.now)
         (branches_of_list branches.now)) }
     ensures walked { IfOk result (λ k. Forked S.TypeStore walk.old env None broken.old walk.new k.last k.ways broken.new
         (λ f b. walk_branches f b (branches_of_list branches.now))) }
@@ -282,7 +282,7 @@ fn check_branch<S: TypeStore>(
     requires agree { ForkAgrees locals.now (forked S.TypeStore walk.old fork.last fork.ways broken.old) }
     requires breaks { Breaks S.TypeStore walk.old breaking.now (Some fork.last) broken.old
         (λ resolve. touched_by_branches resolve (with_branch branch.now no_branches)) }
-    requires touched { AreAmong locals.now (touched_by_branches (meanings walk.old.frame.names.now)
+    requires touched { AreAmong locals.now (touched_by_branches (meanings walk.old.context.names.now)
         (with_branch branch.now no_branches)) }
     ensures walked { IfOk result (λ k. Forked S.TypeStore walk.old fork.last fork.ways broken.old walk.new k.last
         k.ways broken.new (λ f b. walk_branches f b (with_branch branch.now no_branches))) }

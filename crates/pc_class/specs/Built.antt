@@ -6,22 +6,11 @@ use Rattle.pc_tree.specs.declared.code.Code.TheVariants.{E07}
 use Rattle.pc_tree.specs.declared.code.Finding.{Finding}
 use Rattle.pc_scope.specs.Bindings.{classes_in}
 use Rattle.pc_tree.specs.Code.{at_code}
-use Rattle.pc_scope.specs.ModuleScopes.{AreScopes}
 use Rattle.pc_ann.specs.Bases.{bases_of, base_named}
-use Rattle.pc_class.specs.declared.reading.Setting.{Setting}
 use Rattle.pc_class.specs.NameMaps.{NameMaps}
 use Rattle.pc_class.specs.Facts.{ClassFacts, base_facts, class_facts_behind}
 use Rattle.pc_class.specs.Entries.{missing_bases}
 use Rattle.pc_class.specs.Outlines.{IsMapOf, found_over, classes_found}
-
--- the module of a setting
-abbrev pub module_in : Setting → Module
-module_in s = module_of s.tree.now
-
--- the scopes and the parents are those of the module
-pub record IsSetting (s : Setting) : Type 0 where
-  pub scopes : AreScopes (module_in s) s.scopes.now
-  pub parents : s.parents.now ≡ bases_of (module_in s)
 
 -- what was added to a list means these, each with what is asked of it; a map tells it by names, between what it told in
 -- front and after

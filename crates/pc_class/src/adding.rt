@@ -15,13 +15,15 @@ ghost use Rattle.pc_class.specs.Outlines.{found_over};
 ghost use Rattle.pc_class.specs.Tables.{HasParameter, HasMethod, parameter_with, method_with, classes_with};
 ghost use Rattle.pc_class.specs.Parts.{parameter_name, stored_method_name, inherited_node, entries_in, IsClassTable};
 ghost use Rattle.pc_class.specs.Parts.{HasParts};
-ghost use Rattle.pc_class.specs.Built.{IsSetting, module_in, Added, IsClassAt};
+ghost use Rattle.pc_ann.specs.ModuleOutlines.{IsModuleOutline, module_in};
+ghost use Rattle.pc_class.specs.Built.{Added, IsClassAt};
 
 use crate::entries::{Entry, Held, entries, find_clashes, find_late_fields};
 use crate::named::NamedMaps;
 use crate::parts::{ClassNode, Span, TableParts};
-use crate::reading::{Setting, read_field, read_method};
+use crate::reading::{read_field, read_method};
 use crate::table::{Method, Parameter};
+use pc_ann::ModuleOutline;
 use pc_source::OutOfMemory;
 use pc_tree::{ClassDef, Field, Findings, FuncDef, Member};
 use pc_types::TypeStore;
@@ -103,7 +105,7 @@ fn add_method<Ty: Drop>(
 
 /// Adds the entry's field, if it declares one.
 fn add_own_field<S: TypeStore>(
-    setting: &Setting,
+    outline: &ModuleOutline,
     store: &mut S,
     alloc: Allocator,
     named: &mut NamedMaps,
@@ -112,21 +114,21 @@ fn add_own_field<S: TypeStore>(
     entry: &Entry,
 ) -> Result<usize, OutOfMemory>
     requires map { IsMap named.old at }
-    requires setting { IsSetting setting.now }
+    requires outline { IsModuleOutline outline.now }
     ensures within { IfOk result (λ new. IsMap named.new new) }
     ensures kept { OnOk result (KeepsNamed named.old named.new) }
     ensures store { KeepsTypes S.has store.old store.new }
     ensures added { (front back : List (ParameterOf S.Ty))
         → IsMapOf parameter_name named.old fields.old.items at (front ++ back)
         → AreOther field_name (map (parameter_with S.tree) front)
-        (own_field (module_in setting.now) (entry_seen entry.now))
+        (own_field (module_in outline.now) (entry_seen entry.now))
         → IfOk result (λ new. Added parameter_name (HasParameter (S.has store.new))
         (parameter_with S.tree) named.new fields.old.items fields.new.items new front back
-        (own_field (module_in setting.now) (entry_seen entry.now))) }
+        (own_field (module_in outline.now) (entry_seen entry.now))) }
 {
     match own_field(entry) {
         Some(field) => {
-            let parameter = read_field(setting, store, alloc, field)?;
+            let parameter = read_field(outline, store, alloc, field)?;
             let new = add_field(named, alloc, fields, at, parameter)?;
             Ok(new)
         }
@@ -136,7 +138,7 @@ fn add_own_field<S: TypeStore>(
 
 /// Adds the entry's method, if it declares one.
 fn add_own_method<S: TypeStore>(
-    setting: &Setting,
+    outline: &ModuleOutline,
     store: &mut S,
     alloc: Allocator,
     named: &mut NamedMaps,
@@ -146,21 +148,21 @@ fn add_own_method<S: TypeStore>(
     entry: &Entry,
 ) -> Result<usize, OutOfMemory>
     requires map { IsMap named.old at }
-    requires setting { IsSetting setting.now }
+    requires outline { IsModuleOutline outline.now }
     ensures within { IfOk result (λ new. IsMap named.new new) }
     ensures kept { OnOk result (KeepsNamed named.old named.new) }
     ensures store { KeepsTypes S.has store.old store.new }
     ensures added { (front back : List (MethodOf S.Ty))
         → IsMapOf stored_method_name named.old methods.old.items at (front ++ back)
         → AreOther class_method_name (map (method_with S.tree) front)
-        (own_method (module_in setting.now) class (entry_seen entry.now))
+        (own_method (module_in outline.now) class (entry_seen entry.now))
         → IfOk result (λ new. Added stored_method_name (HasMethod (S.has store.new))
         (method_with S.tree) named.new methods.old.items methods.new.items new front back
-        (own_method (module_in setting.now) class (entry_seen entry.now))) }
+        (own_method (module_in outline.now) class (entry_seen entry.now))) }
 {
     match own_method(entry) {
         Some(def) => {
-            let method = read_method(setting, store, alloc, class, entry.number, def)?;
+            let method = read_method(outline, store, alloc, class, entry.number, def)?;
             let new = add_method(named, alloc, methods, at, method)?;
             Ok(new)
         }
@@ -170,7 +172,7 @@ fn add_own_method<S: TypeStore>(
 
 /// Adds the fields that the entries of a class bind, after those that it inherits; the map that tells them all.
 fn add_fields<S: TypeStore>(
-    setting: &Setting,
+    outline: &ModuleOutline,
     store: &mut S,
     alloc: Allocator,
     named: &mut NamedMaps,
@@ -179,28 +181,28 @@ fn add_fields<S: TypeStore>(
     entries: &[Entry],
 ) -> Result<usize, OutOfMemory>
     requires map { IsMap named.old inherited }
-    requires setting { IsSetting setting.now }
+    requires outline { IsModuleOutline outline.now }
     ensures within { IfOk result (λ new. IsMap named.new new) }
     ensures kept { OnOk result (KeepsNamed named.old named.new) }
     ensures store { KeepsTypes S.has store.old store.new }
     ensures added { (front back : List (ParameterOf S.Ty))
         → IsMapOf parameter_name named.old fields.old.items inherited (front ++ back)
-        → AreNew field_name (own_field (module_in setting.now)) (map (parameter_with S.tree) front)
+        → AreNew field_name (own_field (module_in outline.now)) (map (parameter_with S.tree) front)
         (map entry_seen entries.now)
         → IfOk result (λ new. Added parameter_name (HasParameter (S.has store.new))
         (parameter_with S.tree) named.new fields.old.items fields.new.items new front back
-        (all_own (own_field (module_in setting.now)) (map entry_seen entries.now))) }
+        (all_own (own_field (module_in outline.now)) (map entry_seen entries.now))) }
 {
     let mut at = inherited;
     for entry in entries {
-        at = add_own_field(setting, store, alloc, named, fields, at, entry)?;
+        at = add_own_field(outline, store, alloc, named, fields, at, entry)?;
     }
     Ok(at)
 }
 
 /// Adds the methods that the entries of a class bind, ahead of those that it inherits; the map that tells them all.
 fn add_methods<S: TypeStore>(
-    setting: &Setting,
+    outline: &ModuleOutline,
     store: &mut S,
     alloc: Allocator,
     named: &mut NamedMaps,
@@ -210,21 +212,21 @@ fn add_methods<S: TypeStore>(
     entries: &[Entry],
 ) -> Result<usize, OutOfMemory>
     requires map { IsMap named.old inherited }
-    requires setting { IsSetting setting.now }
+    requires outline { IsModuleOutline outline.now }
     ensures within { IfOk result (λ new. IsMap named.new new) }
     ensures kept { OnOk result (KeepsNamed named.old named.new) }
     ensures store { KeepsTypes S.has store.old store.new }
     ensures added { (front back : List (MethodOf S.Ty))
         → IsMapOf stored_method_name named.old methods.old.items inherited (front ++ back)
-        → AreNew class_method_name (own_method (module_in setting.now) class) (map (method_with S.tree) front)
+        → AreNew class_method_name (own_method (module_in outline.now) class) (map (method_with S.tree) front)
         (map entry_seen entries.now)
         → IfOk result (λ new. Added stored_method_name (HasMethod (S.has store.new))
         (method_with S.tree) named.new methods.old.items methods.new.items new front back
-        (all_own (own_method (module_in setting.now) class) (map entry_seen entries.now))) }
+        (all_own (own_method (module_in outline.now) class) (map entry_seen entries.now))) }
 {
     let mut at = inherited;
     for entry in entries {
-        at = add_own_method(setting, store, alloc, named, methods, class, at, entry)?;
+        at = add_own_method(outline, store, alloc, named, methods, class, at, entry)?;
     }
     Ok(at)
 }
@@ -268,17 +270,17 @@ fn places_between(start: usize, end: usize) -> Span
 /// Adds a class, over its base among those before it; finds what its members' names tell: E06, E08. Library
 /// reference, `dataclasses`; own rules of the profile.
 pub(crate) fn add_class<S: TypeStore>(
-    setting: &Setting,
+    outline: &ModuleOutline,
     store: &mut S,
     alloc: Allocator,
     parts: &mut TableParts<S::Ty>,
     found: &mut Findings,
     definition: &ClassDef,
 ) -> Result<(), OutOfMemory>
-    requires setting { IsSetting setting.now }
+    requires outline { IsModuleOutline outline.now }
     requires table { IsClassTable parts.old }
     requires given { HasParts (S.has store.old) parts.old }
-    requires class { IsClassAt (module_in setting.now) (length parts.old.classes.items) (class_of definition.now) }
+    requires class { IsClassAt (module_in outline.now) (length parts.old.classes.items) (class_of definition.now) }
     ensures store { KeepsTypes S.has store.old store.new }
     ensures table { OnOk result (IsClassTable parts.new) }
     ensures given { OnOk result (HasParts (S.has store.new) parts.new) }
@@ -286,23 +288,23 @@ pub(crate) fn add_class<S: TypeStore>(
     ensures classes { OnOk result
         (classes_with S.tree (entries_in parts.new)
         ≡ classes_with S.tree (entries_in parts.old)
-        ++ class_facts_behind (module_in setting.now) (classes_with S.tree (entries_in parts.old))
+        ++ class_facts_behind (module_in outline.now) (classes_with S.tree (entries_in parts.old))
         (length parts.old.classes.items) (class_of definition.now) ∷ []) }
     ensures found { OnOk result
         (found.new.items ≡ found.old.items
         ++ found_over (base_facts (classes_with S.tree (entries_in parts.old))
-        (base_named (module_in setting.now) (length parts.old.classes.items) (class_of definition.now).base))
+        (base_named (module_in outline.now) (length parts.old.classes.items) (class_of definition.now).base))
         (class_of definition.now)) }
 {
     let class = parts.classes.len();
-    let base = setting.parents.base(class);
+    let base = outline.parents.base(class);
     let inherited = inherited(&parts.classes, base);
     let members = entries(alloc, &parts.named, inherited.held, &definition.members)?;
     find_clashes(found, &members)?;
     let defaulted = find_late_fields(found, inherited.defaulted, &members)?;
     let fields_start = parts.fields.len();
     let fields = add_fields(
-        setting,
+        outline,
         store,
         alloc,
         &mut parts.named,
@@ -313,7 +315,7 @@ pub(crate) fn add_class<S: TypeStore>(
     let fields_end = parts.fields.len();
     let methods_start = parts.methods.len();
     let methods = add_methods(
-        setting,
+        outline,
         store,
         alloc,
         &mut parts.named,

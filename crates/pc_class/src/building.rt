@@ -10,19 +10,19 @@ ghost use Rattle.pc_class.specs.Facts.{classes_behind, classes_of};
 ghost use Rattle.pc_class.specs.Outlines.{IsClassNumbered};
 ghost use Rattle.pc_class.specs.Tables.{classes_with, HasEntries};
 ghost use Rattle.pc_class.specs.Parts.{entries_in, IsClassTable, HasParts};
-ghost use Rattle.pc_class.specs.Built.{IsSetting, module_in, found_behind, class_findings};
+ghost use Rattle.pc_ann.specs.ModuleOutlines.{IsModuleOutline, module_in};
+ghost use Rattle.pc_class.specs.Built.{found_behind, class_findings};
 
 use crate::adding::add_class;
 use crate::bases::find_missing_bases;
 use crate::named::NamedMaps;
 use crate::parts::TableParts;
-use crate::reading::Setting;
 use crate::table::ClassTable;
-use pc_ann::parents_of;
+use pc_ann::{ModuleOutline, parents_of};
 use pc_scope::Scopes;
 use pc_source::OutOfMemory;
 use pc_tree::{Findings, Item, ItemKind, Module};
-use pc_types::{Parents, TypeStore};
+use pc_types::TypeStore;
 use std::alloc::Global as Allocator;
 
 /// What a table without classes is made of.
@@ -43,17 +43,17 @@ fn no_classes<Ty: Drop>(alloc: Allocator) -> Result<TableParts<Ty>, OutOfMemory>
 
 /// Adds an item of the module: the class, if it is one, and what is found of its members by their names.
 fn add_item<S: TypeStore>(
-    setting: &Setting,
+    outline: &ModuleOutline,
     store: &mut S,
     alloc: Allocator,
     parts: &mut TableParts<S::Ty>,
     found: &mut Findings,
     item: &Item,
 ) -> Result<(), OutOfMemory>
-    requires setting { IsSetting setting.now }
+    requires outline { IsModuleOutline outline.now }
     requires table { IsClassTable parts.old }
     requires given { HasParts (S.has store.old) parts.old }
-    requires class { IsClassNumbered (module_in setting.now) (length parts.old.classes.items) (item_of item.now) }
+    requires class { IsClassNumbered (module_in outline.now) (length parts.old.classes.items) (item_of item.now) }
     ensures store { KeepsTypes S.has store.old store.new }
     ensures table { OnOk result (IsClassTable parts.new) }
     ensures given { OnOk result (HasParts (S.has store.new) parts.new) }
@@ -61,17 +61,17 @@ fn add_item<S: TypeStore>(
         (length parts.new.classes.items ≡ length parts.old.classes.items + length (classes_in (item_of item.now ∷ []))) }
     ensures classes { OnOk result
         (classes_with S.tree (entries_in parts.new)
-        ≡ classes_behind (module_in setting.now) (classes_with S.tree (entries_in parts.old))
+        ≡ classes_behind (module_in outline.now) (classes_with S.tree (entries_in parts.old))
         (length parts.old.classes.items) (classes_in (item_of item.now ∷ []))) }
     ensures found { OnOk result
         (found.new.items ≡ found.old.items
-        ++ found_behind (module_in setting.now) (classes_with S.tree (entries_in parts.old))
+        ++ found_behind (module_in outline.now) (classes_with S.tree (entries_in parts.old))
         (length parts.old.classes.items) (classes_in (item_of item.now ∷ []))) }
 {
     match &item.kind {
         ItemKind::Constant(_) => Ok(()),
         ItemKind::Class(definition) => {
-            add_class(setting, store, alloc, parts, found, definition)?;
+            add_class(outline, store, alloc, parts, found, definition)?;
             Ok(())
         }
         ItemKind::Def(_) => Ok(()),
@@ -80,24 +80,24 @@ fn add_item<S: TypeStore>(
 
 /// What the table of all classes of the module is made of.
 fn all_classes<S: TypeStore>(
-    setting: &Setting,
+    outline: &ModuleOutline,
     store: &mut S,
     alloc: Allocator,
     found: &mut Findings,
 ) -> Result<TableParts<S::Ty>, OutOfMemory>
-    requires { IsSetting setting.now }
+    requires { IsModuleOutline outline.now }
     ensures store { KeepsTypes S.has store.old store.new }
     ensures table { IfOk result IsClassTable }
     ensures given { IfOk result (HasParts (S.has store.new)) }
-    ensures classes { IfOk result (λ p. classes_with S.tree (entries_in p) ≡ classes_of (module_in setting.now)) }
+    ensures classes { IfOk result (λ p. classes_with S.tree (entries_in p) ≡ classes_of (module_in outline.now)) }
     ensures found { OnOk result
         (found.new.items ≡ found.old.items
-        ++ found_behind (module_in setting.now) [] 0 (classes_in (module_in setting.now).items)) }
+        ++ found_behind (module_in outline.now) [] 0 (classes_in (module_in outline.now).items)) }
 {
-    let items = setting.tree.items.as_slice();
+    let items = outline.tree.items.as_slice();
     let mut parts = no_classes(alloc)?;
     for item in items {
-        add_item(setting, store, alloc, &mut parts, found, item)?;
+        add_item(outline, store, alloc, &mut parts, found, item)?;
     }
     Ok(parts)
 }
@@ -110,25 +110,23 @@ fn all_classes<S: TypeStore>(
 pub fn class_table<S: TypeStore>(
     store: &mut S,
     alloc: Allocator,
-    parents: &Parents,
     tree: &Module,
     scopes: &Scopes,
     found: &mut Findings,
 ) -> Result<ClassTable<S::Ty>, OutOfMemory>
-    requires scopes { AreScopes (module_of tree.now) scopes.now }
-    requires parents { parents.now ≡ bases_of (module_of tree.now) }
+    requires { AreScopes (module_of tree.now) scopes.now }
     ensures classes { IfOk result (λ t. classes_with S.tree t ≡ classes_of (module_of tree.now)) }
     ensures given { IfOk result (HasEntries (S.has store.new)) }
     ensures kept { KeepsTypes S.has store.old store.new }
     ensures found { OnOk result (found.new.items ≡ found.old.items ++ class_findings (module_of tree.now)) }
 {
-    find_missing_bases(found, parents, &tree.items)?;
-    let setting = Setting {
+    let parents = parents_of(alloc, tree, scopes)?;
+    find_missing_bases(found, &parents, &tree.items)?;
+    let outline = ModuleOutline {
         tree,
         scopes,
-        parents,
+        parents: &parents,
     };
-    let parts = all_classes(&setting, store, alloc, found)?;
-    let own_parents = parents_of(alloc, tree, scopes)?;
-    Ok(ClassTable::of(parts, own_parents))
+    let parts = all_classes(&outline, store, alloc, found)?;
+    Ok(ClassTable::of(parts, parents))
 }

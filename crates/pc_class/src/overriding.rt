@@ -278,17 +278,16 @@ fn find_class_overrides<S: TypeStore>(
 /// Typing specification, "Type system concepts", assignability of callables; the codes are own rules of the profile.
 pub fn override_findings<S: TypeStore>(
     store: &mut S,
-    parents: &Parents,
     tree: &Module,
     classes: &ClassTable<S::Ty>,
     found: &mut Findings,
 ) -> Result<(), OutOfMemory>
-    requires parents { parents.now ≡ bases_of (module_of tree.now) }
     requires classes { classes_with S.tree classes.now ≡ classes_of (module_of tree.now) }
     requires given { HasEntries (S.has store.old) classes.now }
     ensures found { OnOk result (found.new.items ≡ found.old.items ++ override_findings (module_of tree.now)) }
     ensures kept { KeepsTypes S.has store.old store.new }
 {
+    let parents = classes.parents();
     let judging = Judging {
         tree,
         parents,

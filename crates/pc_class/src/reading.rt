@@ -6,48 +6,31 @@ ghost use Rattle.pc_tree.specs.Tree.{param_of, func_of, field_of};
 ghost use Rattle.pc_types.specs.Store.{KeepsTypes};
 ghost use Rattle.pc_class.specs.Facts.{typed_parameter, parameters_of, method_made};
 ghost use Rattle.pc_class.specs.Entries.{parameter_made};
-ghost use Rattle.pc_class.specs.Built.{IsSetting, module_in};
+ghost use Rattle.pc_ann.specs.ModuleOutlines.{IsModuleOutline, module_in};
 ghost use Rattle.pc_class.specs.Tables.{HasParameter, HasMethod, parameter_with, parameters_with, method_with};
 
 use crate::table::{Method, Parameter};
-use pc_ann::{read_ann, read_option};
-use pc_scope::Scopes;
+use pc_ann::{ModuleOutline, read_ann, read_option};
 use pc_source::OutOfMemory;
-use pc_tree::{Field, FuncDef, Module, Param};
-use pc_types::{Parents, TypeStore};
+use pc_tree::{Field, FuncDef, Param};
+use pc_types::TypeStore;
 use std::alloc::Global;
-
-/// What annotations are read in: a module, its scopes, and the parents of its classes.
-#[derive(Drop)]
-pub(crate) struct Setting<'a> {
-    pub tree: &'a Module,
-    pub scopes: &'a Scopes,
-    pub parents: &'a Parents,
-}
 
 /// A parameter with the type that its annotation says, `Any` without one. Typing specification, "Type annotations".
 fn read_param<S: TypeStore>(
-    setting: &Setting,
+    outline: &ModuleOutline,
     store: &mut S,
     alloc: Global,
     param: &Param,
 ) -> Result<Parameter<S::Ty>, OutOfMemory>
-    requires { IsSetting setting.now }
+    requires { IsModuleOutline outline.now }
     ensures given { IfOk result (λ p. HasParameter (S.has store.new) p) }
     ensures means { IfOk result
-        (λ p. parameter_with S.tree p ≡ typed_parameter (module_in setting.now) (param_of param.now)) }
+        (λ p. parameter_with S.tree p ≡ typed_parameter (module_in outline.now) (param_of param.now)) }
     ensures kept { KeepsTypes S.has store.old store.new }
 {
     let mut aside = Vec::new(alloc);
-    let ty = read_option(
-        store,
-        alloc,
-        setting.parents,
-        setting.tree,
-        setting.scopes,
-        &mut aside,
-        &param.annotation,
-    )?;
+    let ty = read_option(store, alloc, outline, &mut aside, &param.annotation)?;
     let name = String::from_str(alloc, param.name.text.as_str())?;
     Ok(Parameter {
         name,
@@ -58,20 +41,20 @@ fn read_param<S: TypeStore>(
 
 /// Parameters with the types that their annotations say, one after another.
 fn read_params<S: TypeStore>(
-    setting: &Setting,
+    outline: &ModuleOutline,
     store: &mut S,
     alloc: Global,
     params: &[Param],
 ) -> Result<Vec<Parameter<S::Ty>>, OutOfMemory>
-    requires { IsSetting setting.now }
+    requires { IsModuleOutline outline.now }
     ensures given { IfOk result (λ ps. All (HasParameter (S.has store.new)) ps.items) }
     ensures means { IfOk result
-        (λ ps. parameters_with S.tree ps.items ≡ parameters_of (module_in setting.now) (map param_of params.now)) }
+        (λ ps. parameters_with S.tree ps.items ≡ parameters_of (module_in outline.now) (map param_of params.now)) }
     ensures kept { KeepsTypes S.has store.old store.new }
 {
     let mut all = Vec::new(alloc);
     for param in params {
-        let parameter = read_param(setting, store, alloc, param)?;
+        let parameter = read_param(outline, store, alloc, param)?;
         all.push(parameter)?;
     }
     Ok(all)
@@ -79,27 +62,19 @@ fn read_params<S: TypeStore>(
 
 /// A field as a parameter of its class, with the type that its annotation says.
 pub(crate) fn read_field<S: TypeStore>(
-    setting: &Setting,
+    outline: &ModuleOutline,
     store: &mut S,
     alloc: Global,
     field: &Field,
 ) -> Result<Parameter<S::Ty>, OutOfMemory>
-    requires { IsSetting setting.now }
+    requires { IsModuleOutline outline.now }
     ensures given { IfOk result (λ p. HasParameter (S.has store.new) p) }
     ensures means { IfOk result
-        (λ p. parameter_with S.tree p ≡ parameter_made (module_in setting.now) (field_of field.now)) }
+        (λ p. parameter_with S.tree p ≡ parameter_made (module_in outline.now) (field_of field.now)) }
     ensures kept { KeepsTypes S.has store.old store.new }
 {
     let mut aside = Vec::new(alloc);
-    let ty = read_ann(
-        store,
-        alloc,
-        setting.parents,
-        setting.tree,
-        setting.scopes,
-        &mut aside,
-        &field.annotation,
-    )?;
+    let ty = read_ann(store, alloc, outline, &mut aside, &field.annotation)?;
     let name = String::from_str(alloc, field.name.text.as_str())?;
     Ok(Parameter {
         name,
@@ -110,30 +85,22 @@ pub(crate) fn read_field<S: TypeStore>(
 
 /// A method of a class, with its number there and the types that its annotations say.
 pub(crate) fn read_method<S: TypeStore>(
-    setting: &Setting,
+    outline: &ModuleOutline,
     store: &mut S,
     alloc: Global,
     class: usize,
     number: usize,
     def: &FuncDef,
 ) -> Result<Method<S::Ty>, OutOfMemory>
-    requires { IsSetting setting.now }
+    requires { IsModuleOutline outline.now }
     ensures given { IfOk result (λ x. HasMethod (S.has store.new) x) }
     ensures means { IfOk result
-        (λ x. method_with S.tree x ≡ method_made (module_in setting.now) class number (func_of def.now)) }
+        (λ x. method_with S.tree x ≡ method_made (module_in outline.now) class number (func_of def.now)) }
     ensures kept { KeepsTypes S.has store.old store.new }
 {
-    let params = read_params(setting, store, alloc, &def.params)?;
+    let params = read_params(outline, store, alloc, &def.params)?;
     let mut aside = Vec::new(alloc);
-    let ret = read_option(
-        store,
-        alloc,
-        setting.parents,
-        setting.tree,
-        setting.scopes,
-        &mut aside,
-        &def.returns,
-    )?;
+    let ret = read_option(store, alloc, outline, &mut aside, &def.returns)?;
     let name = String::from_str(alloc, def.name.text.as_str())?;
     Ok(Method {
         name,

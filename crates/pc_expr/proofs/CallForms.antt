@@ -11,18 +11,18 @@ use Rattle.pc_scope.specs.Expressions.{is_named, are_two, is_instance_test}
 use Rattle.pc_types.specs.Tree.{Tree}
 use Rattle.pc_notes.specs.Notes.{Note}
 use Rattle.pc_rules.specs.Calls.{GivenArguments, CallOffer, CallRule, member_rule, length_rule, test_rule, arguments_given, positional_seat, named_seat}
-use Rattle.pc_rules.specs.Labels.{ItemsMarks, second_place}
-use Rattle.pc_rules.specs.Lawful.{whole_call_mark, whole_second_code, early_second}
+use Rattle.pc_rules.specs.Labels.{ItemsLabels, second_place}
+use Rattle.pc_rules.specs.Lawful.{whole_call_label, whole_second_code, early_second}
 use Rattle.pc_rules.specs.Context.{Context}
-use Rattle.pc_rules.specs.Found.{own_at, once, codes_at, notes_of_code}
-use Rattle.pc_rules.specs.Standing.{Standing, items_in, mark_in, parts_find, types_in, arguments_find, keywords_find}
-use Rattle.pc_call.specs.JudgedCalls.{second_code_of}
+use Rattle.pc_rules.specs.Computed.Findings.{own_at, once, codes_at, notes_of_code}
+use Rattle.pc_rules.specs.Computed.Standing.{Standing, items_in, label_in, parts_find, types_in, arguments_find, keywords_find}
+use Rattle.pc_calls.specs.JudgedCalls.{second_code_of}
 use Rattle.pc_expr.specs.Typing.{callee_in, callee_finds, early_in}
-use Rattle.pc_expr.proofs.Forms.{callee_whole, mark_call}
+use Rattle.pc_expr.proofs.Forms.{callee_whole, label_call}
 use Rattle.pc_expr.proofs.Typed.{two_found}
 
 -- the code at the second argument, by whether that one stands too early
-second_by : (ctx : Context) (rule : CallRule) (es : Exprs) (m : ItemsMarks es) → whole_second_code ctx rule es m ≡ second_code_of ctx.resolve rule es (early_second es m)
+second_by : (ctx : Context) (rule : CallRule) (es : Exprs) (m : ItemsLabels es) → whole_second_code ctx rule es m ≡ second_code_of ctx.resolve rule es (early_second es m)
 second_by ctx member_rule es m = refl
 second_by ctx length_rule es m = refl
 second_by ctx test_rule es m = refl
@@ -66,15 +66,15 @@ module _ (k : Standing) (want : Option Tree) (p : Place) (c : Expr) (args : Expr
   offers_there : offers ≡ (callee_in k (arguments_given args kws) c).offers
   offers_there = offers_are ∙ ap (λ (x : GivenArguments). (callee_in k x c).offers) given_is
 
-  pub call_mark_is : (types : List Tree) → types ≡ types_in k (positional_seat offers) args → whole_call_mark k.context k.env rule offers args types ≡ mark_in k want (call p c args kws)
-  call_mark_is types t =
-      ap (λ ts. whole_call_mark k.context k.env rule offers args ts) t
-      ∙ ap (λ (r : CallRule). whole_call_mark k.context k.env r offers args (types_in k (positional_seat offers) args)) rule_there
-      ∙ ap (λ (os : List CallOffer). whole_call_mark k.context k.env (callee_in k (arguments_given args kws) c).rule os args (types_in k (positional_seat os) args)) offers_there
-      ∙ sym (mark_call k want p c args kws)
+  pub call_label_is : (types : List Tree) → types ≡ types_in k (positional_seat offers) args → whole_call_label k.context k.env rule offers args types ≡ label_in k want (call p c args kws)
+  call_label_is types t =
+      ap (λ ts. whole_call_label k.context k.env rule offers args ts) t
+      ∙ ap (λ (r : CallRule). whole_call_label k.context k.env r offers args (types_in k (positional_seat offers) args)) rule_there
+      ∙ ap (λ (os : List CallOffer). whole_call_label k.context k.env (callee_in k (arguments_given args kws) c).rule os args (types_in k (positional_seat os) args)) offers_there
+      ∙ sym (label_call k want p c args kws)
 
   pub call_parts_found : (old callee_new callee_last then_arguments then_keywords last : List Note) (codes : List Code) (is_test early : Test) →
-      codes ≡ once (callee_in k g c).mark.codes →
+      codes ≡ once (callee_in k g c).label.codes →
       is_test ≡ is_instance_test c args kws →
       early ≡ early_in k (positional_seat offers) args →
       callee_new ≡ old ++ parts_find k None c →
@@ -85,11 +85,11 @@ module _ (k : Standing) (want : Option Tree) (p : Place) (c : Expr) (args : Expr
       last ≡ old ++ parts_find k want (call p c args kws)
   call_parts_found old a b d e last codes is_test early codes_is test_is early_is ha hb hd he hl =
       let callee = callee_in k (arguments_given args kws) c in
-      let first = parts_find k None c ++ codes_at (place_of c) (callee_in k g c).mark.codes in
+      let first = parts_find k None c ++ codes_at (place_of c) (callee_in k g c).label.codes in
       let second = arguments_find k (is_instance_test c args kws) (positional_seat callee.offers) args in
       let third = keywords_find k (named_seat callee.offers) [] kws in
       let fourth = notes_of_code (second_place args p) (second_code_of k.context.resolve callee.rule args (early_in k (positional_seat callee.offers) args)) in
-      let one : b ≡ old ++ first = two_found old a b (parts_find k None c) (codes_at (place_of c) (callee_in k g c).mark.codes) ha (hb ∙ ap (λ cs. a ++ flat_map (own_at (place_of c)) cs) codes_is) in
+      let one : b ≡ old ++ first = two_found old a b (parts_find k None c) (codes_at (place_of c) (callee_in k g c).label.codes) ha (hb ∙ ap (λ cs. a ++ flat_map (own_at (place_of c)) cs) codes_is) in
       let two : d ≡ b ++ second = hd ∙ ap (λ t. b ++ arguments_find k t (positional_seat offers) args) test_is ∙ ap (λ (os : List CallOffer). b ++ arguments_find k (is_instance_test c args kws) (positional_seat os) args) offers_there in
       let three : e ≡ d ++ third = he ∙ ap (λ (os : List CallOffer). d ++ keywords_find k (named_seat os) [] kws) offers_there in
       let four : last ≡ e ++ fourth =

@@ -9,13 +9,13 @@ use Rattle.pc_types.specs.Tree.{Tree}
 use Rattle.pc_notes.specs.Notes.{Note}
 use Rattle.pc_rules.specs.Calls.{CalleeLabel, Seat}
 use Rattle.pc_rules.specs.Context.{is_early}
-use Rattle.pc_rules.specs.Found.{once}
-use Rattle.pc_rules.specs.Standing.{Standing, mark_in, finds_in, types_in, arguments_find}
+use Rattle.pc_rules.specs.Computed.Findings.{once}
+use Rattle.pc_rules.specs.Computed.Standing.{Standing, label_in, finds_in, types_in, arguments_find}
 use Rattle.pc_expr.specs.Typing.{early_in}
 use Rattle.pc_rules.proofs.Once.{once_early}
 use Rattle.pc_expr.proofs.Forms.{types_none, types_more, early_two, arguments_first}
-use Rattle.pc_call.specs.declared.callee.Callee.{Callee as RustCallee}
-use Rattle.pc_call.specs.JudgedCalls.{IsCallee}
+use Rattle.pc_calls.specs.declared.callee.Callee.{Callee as RustCallee}
+use Rattle.pc_calls.specs.JudgedCalls.{IsCallee}
 
 module _ {Store Ty : Type 0} (has : Store → Ty → Type 0) (tree : Ty → Tree) (store : Store) where
   -- what is a callee is what equals it
@@ -30,20 +30,20 @@ two_arguments (x ∷ y ∷ []) a b h i j = ap (λ z. more_exprs (expr_of z) (mor
 two_arguments (x ∷ y ∷ z ∷ zs) a b h i j = absurd (omega (arith, h))
 
 module _ (k : Standing) (seat : ℕ → Seat) (es : List RustExpr) (a b : RustExpr) (are : exprs_of_list es ≡ more_exprs (expr_of a) (more_exprs (expr_of b) no_exprs)) where
-  pub two_types : (s t : Tree) (v w : Option Tree) → v ≡ (seat 0).want → w ≡ (seat 1).want → s ≡ (mark_in k v (expr_of a)).type → t ≡ (mark_in k w (expr_of b)).type → s ∷ t ∷ [] ≡ types_in k seat (exprs_of_list es)
+  pub two_types : (s t : Tree) (v w : Option Tree) → v ≡ (seat 0).want → w ≡ (seat 1).want → s ≡ (label_in k v (expr_of a)).type → t ≡ (label_in k w (expr_of b)).type → s ∷ t ∷ [] ≡ types_in k seat (exprs_of_list es)
   two_types s t v w first second is other =
-      ap (λ (x : Tree). x ∷ t ∷ []) (is ∙ ap (λ o. (mark_in k o (expr_of a)).type) first)
-      ∙ ap (λ (x : Tree). (mark_in k (seat 0).want (expr_of a)).type ∷ x ∷ []) (other ∙ ap (λ o. (mark_in k o (expr_of b)).type) second)
+      ap (λ (x : Tree). x ∷ t ∷ []) (is ∙ ap (λ o. (label_in k o (expr_of a)).type) first)
+      ∙ ap (λ (x : Tree). (label_in k (seat 0).want (expr_of a)).type ∷ x ∷ []) (other ∙ ap (λ o. (label_in k o (expr_of b)).type) second)
       ∙ sym (ap (types_in k seat) are
       ∙ types_more k seat (expr_of a) (more_exprs (expr_of b) no_exprs)
-      ∙ ap (λ (ts : List Tree). (mark_in k (seat 0).want (expr_of a)).type ∷ ts)
-      (types_more k (λ i. seat (suc i)) (expr_of b) no_exprs ∙ ap (λ (ts : List Tree). (mark_in k (seat 1).want (expr_of b)).type ∷ ts) (types_none k (λ i. seat (suc (suc i))))))
+      ∙ ap (λ (ts : List Tree). (label_in k (seat 0).want (expr_of a)).type ∷ ts)
+      (types_more k (λ i. seat (suc i)) (expr_of b) no_exprs ∙ ap (λ (ts : List Tree). (label_in k (seat 1).want (expr_of b)).type ∷ ts) (types_none k (λ i. seat (suc (suc i))))))
 
-  pub two_early : (w : Option Tree) → w ≡ (seat 1).want → (codes : List Code) → codes ≡ once (mark_in k w (expr_of b)).codes → (early : Test) → early ≡ is_early codes → early ≡ early_in k seat (exprs_of_list es)
+  pub two_early : (w : Option Tree) → w ≡ (seat 1).want → (codes : List Code) → codes ≡ once (label_in k w (expr_of b)).codes → (early : Test) → early ≡ is_early codes → early ≡ early_in k seat (exprs_of_list es)
   two_early w second codes is early e =
       e
-      ∙ ap is_early (is ∙ ap (λ o. once (mark_in k o (expr_of b)).codes) second)
-      ∙ once_early (mark_in k (seat 1).want (expr_of b)).codes
+      ∙ ap is_early (is ∙ ap (λ o. once (label_in k o (expr_of b)).codes) second)
+      ∙ once_early (label_in k (seat 1).want (expr_of b)).codes
       ∙ sym (ap (early_in k seat) are ∙ early_two k seat (expr_of a) (expr_of b) no_exprs)
 
   -- of a test of an instance the first argument alone is looked at

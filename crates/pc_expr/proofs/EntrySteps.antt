@@ -13,10 +13,10 @@ use Rattle.pc_types.specs.Tree.{Tree}
 use Rattle.pc_notes.specs.Notes.{Note}
 use Rattle.pc_rules.specs.Calls.{Seat, nowhere}
 use Rattle.pc_rules.specs.Lawful.{keyword_seat}
-use Rattle.pc_rules.specs.Computed.{flows_of}
-use Rattle.pc_rules.specs.Found.{brief, flows_at}
-use Rattle.pc_rules.specs.declared.label.Label.{Label}
-use Rattle.pc_rules.specs.Standing.{Standing, mark_with, mark_in, finds_in, keys_in, values_in, entries_find, keywords_find}
+use Rattle.pc_rules.specs.Computed.Expressions.{flows_of}
+use Rattle.pc_rules.specs.Computed.Findings.{brief, flows_at}
+use Rattle.pc_rules.specs.declared.label.Label.{Label as RustLabel}
+use Rattle.pc_rules.specs.Computed.Standing.{Standing, label_with, label_in, finds_in, keys_in, values_in, entries_find, keywords_find}
 use Rattle.pc_rules.proofs.Checkers.{in_turn}
 use Rattle.pc_expr.proofs.Forms.{keys_none, keys_more, values_none, values_more, entries_none, entries_more, keywords_none, keywords_more}
 use Rattle.pc_expr.proofs.Typed.{type_is, two_found}
@@ -34,32 +34,32 @@ module _ (k : Standing) (x y : Seat) (es : List RustEntry) (i : ℕ) where
   entries_from = entries_find k x y (entries_of_list (drop i es))
 
 module _ (k : Standing) (x y : Seat) (es : List RustEntry) (i : ℕ) (e : RustEntry) (lt : i < length es) (is : e ≡ get_or es i e) where
-  module _ {T : Type 0} (tree : T → Tree) (out : List T) (l : Label T) (all : List Tree) where
-    pub keys_step : mark_with tree l ≡ brief (mark_in k x.want (expr_of e.key)) → map tree out ++ keys_from k x y es i ≡ all → map tree (out ++ l.ty ∷ []) ++ keys_from k x y es (i + 1) ≡ all
+  module _ {T : Type 0} (tree : T → Tree) (out : List T) (l : RustLabel T) (all : List Tree) where
+    pub keys_step : label_with tree l ≡ brief (label_in k x.want (expr_of e.key)) → map tree out ++ keys_from k x y es i ≡ all → map tree (out ++ l.ty ∷ []) ++ keys_from k x y es (i + 1) ≡ all
     keys_step m h =
         ap (λ ts. ts ++ keys_from k x y es (i + 1)) (map_push tree out l.ty)
         ∙ append_assoc (map tree out) (tree l.ty ∷ []) (keys_from k x y es (i + 1))
-        ∙ ap (λ t. map tree out ++ t ∷ keys_from k x y es (i + 1)) (type_is tree l (mark_in k x.want (expr_of e.key)) m)
+        ∙ ap (λ t. map tree out ++ t ∷ keys_from k x y es (i + 1)) (type_is tree l (label_in k x.want (expr_of e.key)) m)
         ∙ ap (λ ts. map tree out ++ ts) (sym (ap (λ rest. keys_in k x y (entries_of_list rest)) (cons_at es i e lt is) ∙ keys_more k x y (expr_of e.key) (expr_of e.value) (entries_of_list (drop (i + 1) es))))
         ∙ h
 
-    pub values_step : mark_with tree l ≡ brief (mark_in k y.want (expr_of e.value)) → map tree out ++ values_from k x y es i ≡ all → map tree (out ++ l.ty ∷ []) ++ values_from k x y es (i + 1) ≡ all
+    pub values_step : label_with tree l ≡ brief (label_in k y.want (expr_of e.value)) → map tree out ++ values_from k x y es i ≡ all → map tree (out ++ l.ty ∷ []) ++ values_from k x y es (i + 1) ≡ all
     values_step m h =
         ap (λ ts. ts ++ values_from k x y es (i + 1)) (map_push tree out l.ty)
         ∙ append_assoc (map tree out) (tree l.ty ∷ []) (values_from k x y es (i + 1))
-        ∙ ap (λ t. map tree out ++ t ∷ values_from k x y es (i + 1)) (type_is tree l (mark_in k y.want (expr_of e.value)) m)
+        ∙ ap (λ t. map tree out ++ t ∷ values_from k x y es (i + 1)) (type_is tree l (label_in k y.want (expr_of e.value)) m)
         ∙ ap (λ ts. map tree out ++ ts) (sym (ap (λ rest. values_in k x y (entries_of_list rest)) (cons_at es i e lt is) ∙ values_more k x y (expr_of e.key) (expr_of e.value) (entries_of_list (drop (i + 1) es))))
         ∙ h
 
   pub entries_step : (old b last all : List Note) →
-      b ≡ old ++ (finds_in k x.want (expr_of e.key) ++ flows_at (place_of (expr_of e.key)) (flows_of k.context.bases (mark_in k x.want (expr_of e.key)) x.into)) →
-      last ≡ b ++ (finds_in k y.want (expr_of e.value) ++ flows_at (place_of (expr_of e.value)) (flows_of k.context.bases (mark_in k y.want (expr_of e.value)) y.into)) →
+      b ≡ old ++ (finds_in k x.want (expr_of e.key) ++ flows_at (place_of (expr_of e.key)) (flows_of k.context.bases (label_in k x.want (expr_of e.key)) x.into)) →
+      last ≡ b ++ (finds_in k y.want (expr_of e.value) ++ flows_at (place_of (expr_of e.value)) (flows_of k.context.bases (label_in k y.want (expr_of e.value)) y.into)) →
       old ++ entries_from k x y es i ≡ all → last ++ entries_from k x y es (i + 1) ≡ all
   entries_step old b last all hb hl h =
       let p = finds_in k x.want (expr_of e.key) in
-      let q = flows_at (place_of (expr_of e.key)) (flows_of k.context.bases (mark_in k x.want (expr_of e.key)) x.into) in
+      let q = flows_at (place_of (expr_of e.key)) (flows_of k.context.bases (label_in k x.want (expr_of e.key)) x.into) in
       let r = finds_in k y.want (expr_of e.value) in
-      let s = flows_at (place_of (expr_of e.value)) (flows_of k.context.bases (mark_in k y.want (expr_of e.value)) y.into) in
+      let s = flows_at (place_of (expr_of e.value)) (flows_of k.context.bases (label_in k y.want (expr_of e.value)) y.into) in
       let rest = entries_from k x y es (i + 1) in
       two_found old (old ++ p) (last ++ rest) p (q ++ (r ++ (s ++ rest))) refl
       (two_found (old ++ p) b (last ++ rest) q (r ++ (s ++ rest)) (in_turn old p q b hb)
@@ -89,8 +89,8 @@ module _ (k : Standing) (seat : List ℕ → Seat) where
   keywords_same a b same no_keywords = keywords_none k seat a ∙ sym (keywords_none k seat b)
   keywords_same a b same (more_keywords n e es) =
       keywords_more k seat a n e es
-      ∙ ap (λ t. let s : Seat = (if t then nowhere else seat n.text) in finds_in k s.want e ++ (flows_at (place_of e) (flows_of k.context.bases (mark_in k s.want e) s.into) ++ keywords_find k seat (n.text ∷ a) es)) (same n.text)
-      ∙ ap (λ fs. finds_in k (keyword_seat seat b n).want e ++ (flows_at (place_of e) (flows_of k.context.bases (mark_in k (keyword_seat seat b n).want e) (keyword_seat seat b n).into) ++ fs)) (keywords_same (n.text ∷ a) (n.text ∷ b) (further n.text) es)
+      ∙ ap (λ t. let s : Seat = (if t then nowhere else seat n.text) in finds_in k s.want e ++ (flows_at (place_of e) (flows_of k.context.bases (label_in k s.want e) s.into) ++ keywords_find k seat (n.text ∷ a) es)) (same n.text)
+      ∙ ap (λ fs. finds_in k (keyword_seat seat b n).want e ++ (flows_at (place_of e) (flows_of k.context.bases (label_in k (keyword_seat seat b n).want e) (keyword_seat seat b n).into) ++ fs)) (keywords_same (n.text ∷ a) (n.text ∷ b) (further n.text) es)
       ∙ sym (keywords_more k seat b n e es)
     where
       further : (t : List ℕ) → HaveSame (t ∷ a) (t ∷ b)
@@ -99,7 +99,7 @@ module _ (k : Standing) (seat : List ℕ → Seat) where
   module _ (es : List RustKeyword) (i : ℕ) (a : RustKeyword) (lt : i < length es) (is : a ≡ get_or es i a) where
     -- an argument further
     pub keywords_step : (before later : List (List ℕ)) → HaveSame later ((name_of a.name).text ∷ before) → (w : Option Tree) (ts : List Tree) → w ≡ (keyword_seat seat before (name_of a.name)).want → ts ≡ (keyword_seat seat before (name_of a.name)).into →
-        (old last all : List Note) → last ≡ old ++ (finds_in k w (expr_of a.value) ++ flows_at (place_of (expr_of a.value)) (flows_of k.context.bases (mark_in k w (expr_of a.value)) ts)) →
+        (old last all : List Note) → last ≡ old ++ (finds_in k w (expr_of a.value) ++ flows_at (place_of (expr_of a.value)) (flows_of k.context.bases (label_in k w (expr_of a.value)) ts)) →
         old ++ keywords_find k seat before (keywords_of_list (drop i es)) ≡ all → last ++ keywords_find k seat later (keywords_of_list (drop (i + 1) es)) ≡ all
     keywords_step before later same w ts wants into old last all l h =
         let e = expr_of a.value in
@@ -107,11 +107,11 @@ module _ (k : Standing) (seat : List ℕ → Seat) where
         let rest = keywords_find k seat ((name_of a.name).text ∷ before) (keywords_of_list (drop (i + 1) es)) in
         let new = old ++ finds_in k w e in
         ap (λ fs. last ++ fs) (keywords_same later ((name_of a.name).text ∷ before) same (keywords_of_list (drop (i + 1) es)))
-        ∙ two_found old new (last ++ rest) (finds_in k s.want e) (flows_at (place_of e) (flows_of k.context.bases (mark_in k s.want e) s.into) ++ rest)
+        ∙ two_found old new (last ++ rest) (finds_in k s.want e) (flows_at (place_of e) (flows_of k.context.bases (label_in k s.want e) s.into) ++ rest)
         (ap (λ x. old ++ finds_in k x e) wants)
-        (two_found new last (last ++ rest) (flows_at (place_of e) (flows_of k.context.bases (mark_in k s.want e) s.into)) rest
-        (in_turn old (finds_in k w e) (flows_at (place_of e) (flows_of k.context.bases (mark_in k w e) ts)) last l
-        ∙ ap (λ x. new ++ flows_at (place_of e) (flows_of k.context.bases (mark_in k x e) ts)) wants ∙ ap (λ z. new ++ flows_at (place_of e) (flows_of k.context.bases (mark_in k s.want e) z)) into) refl)
+        (two_found new last (last ++ rest) (flows_at (place_of e) (flows_of k.context.bases (label_in k s.want e) s.into)) rest
+        (in_turn old (finds_in k w e) (flows_at (place_of e) (flows_of k.context.bases (label_in k w e) ts)) last l
+        ∙ ap (λ x. new ++ flows_at (place_of e) (flows_of k.context.bases (label_in k x e) ts)) wants ∙ ap (λ z. new ++ flows_at (place_of e) (flows_of k.context.bases (label_in k s.want e) z)) into) refl)
         ∙ ap (λ fs. old ++ fs) (sym (ap (λ x. keywords_find k seat before (keywords_of_list x)) (cons_at es i a lt is) ∙ keywords_more k seat before (name_of a.name) e (keywords_of_list (drop (i + 1) es))))
         ∙ h
 

@@ -3,7 +3,7 @@ use Rattle.std.proofs.Common.{◌≡◌, ℕ, List, [], ◌∷◌, ◌++◌, Boo
 use Rattle.std.specs.Prelude.{◌||◌, if◌then◌else◌, bytes_eq}
 use Rattle.std.proofs.lemmas.Slice.Eq.{bytes_eq-Decides}
 use Rattle.pc_scope.specs.Resolution.{is_one_of}
-use Rattle.pc_call.proofs.NamesGiven.{with_name, among_behind}
+use Rattle.pc_calls.proofs.NamesGiven.{with_name, among_behind}
 use Rattle.pc_expr.proofs.EntrySteps.{HaveSame}
 
 -- a set with one more name has the same names as the list with that name before the others

@@ -3,7 +3,7 @@ use Rattle.pc_expr.specs.Internal.Seats.{HasSeats, HasSeat, HasEntrySeats}
 use Rattle.pc_expr.specs.declared.entries.EntrySeats.{EntrySeats}
 use Rattle.pc_expr.specs.declared.items.Seats.{Seats}
 use Rattle.pc_expr.specs.declared.items.Seats.TheVariants.{Same, Parts}
-use Rattle.pc_call.specs.declared.seats.Seat.{Seat}
+use Rattle.pc_calls.specs.declared.seats.Seat.{Seat}
 use Rattle.pc_rules.proofs.Kept.{any_kept, types_kept}
 
 module _ {Ty : Type 0} (has later : Ty → Type 0) (k : (ty : Ty) → has ty → later ty) where

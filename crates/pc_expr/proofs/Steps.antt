@@ -13,12 +13,12 @@ use Rattle.pc_types.specs.Tree.{Tree}
 use Rattle.pc_notes.specs.Notes.{Note}
 use Rattle.pc_rules.specs.Context.{is_early}
 use Rattle.pc_rules.specs.Calls.{Seat}
-use Rattle.pc_rules.specs.Computed.{flows_of}
-use Rattle.pc_rules.specs.Found.{brief, once, flows_at}
-use Rattle.pc_rules.specs.declared.label.Label.{Label}
+use Rattle.pc_rules.specs.Computed.Expressions.{flows_of}
+use Rattle.pc_rules.specs.Computed.Findings.{brief, once, flows_at}
+use Rattle.pc_rules.specs.declared.label.Label.{Label as RustLabel}
 use Rattle.pc_rules.proofs.Checkers.{in_turn}
 use Rattle.pc_expr.proofs.Typed.{type_is}
-use Rattle.pc_rules.specs.Standing.{Standing, mark_with, mark_in, finds_in, types_in, items_find}
+use Rattle.pc_rules.specs.Computed.Standing.{Standing, label_with, label_in, finds_in, types_in, items_find}
 use Rattle.pc_expr.specs.Typing.{early_in}
 use Rattle.pc_rules.proofs.Once.{once_early}
 use Rattle.pc_expr.proofs.Forms.{types_none, types_more, items_none, items_more, early_none, early_one, early_two}
@@ -48,22 +48,22 @@ module _ (k : Standing) (seat : ℕ → Seat) (items : List RustExpr) (i : ℕ) 
   finds_from = items_find k (seats_from i seat) (exprs_of_list (drop i items))
 
 module _ (k : Standing) (seat : ℕ → Seat) (items : List RustExpr) (i : ℕ) (e : RustExpr) (lt : i < length items) (is : e ≡ get_or items i e) where
-  types_at : types_from k seat items i ≡ (mark_in k (seat i).want (expr_of e)).type ∷ types_from k seat items (i + 1)
+  types_at : types_from k seat items i ≡ (label_in k (seat i).want (expr_of e)).type ∷ types_from k seat items (i + 1)
   types_at =
       ap (λ es. types_in k (seats_from i seat) (exprs_of_list es)) (cons_at items i e lt is)
       ∙ types_more k (seats_from i seat) (expr_of e) (exprs_of_list (drop (i + 1) items))
-      ∙ ap (λ (s : Seat). (mark_in k s.want (expr_of e)).type ∷ types_in k (λ j. seats_from i seat (suc j)) (exprs_of_list (drop (i + 1) items))) (seat_first i seat)
-      ∙ ap (λ (f : ℕ → Seat). (mark_in k (seat i).want (expr_of e)).type ∷ types_in k f (exprs_of_list (drop (i + 1) items))) (seats_further i seat)
+      ∙ ap (λ (s : Seat). (label_in k s.want (expr_of e)).type ∷ types_in k (λ j. seats_from i seat (suc j)) (exprs_of_list (drop (i + 1) items))) (seat_first i seat)
+      ∙ ap (λ (f : ℕ → Seat). (label_in k (seat i).want (expr_of e)).type ∷ types_in k f (exprs_of_list (drop (i + 1) items))) (seats_further i seat)
 
-  finds_at : finds_from k seat items i ≡ finds_in k (seat i).want (expr_of e) ++ (flows_at (place_of (expr_of e)) (flows_of k.context.bases (mark_in k (seat i).want (expr_of e)) (seat i).into) ++ finds_from k seat items (i + 1))
+  finds_at : finds_from k seat items i ≡ finds_in k (seat i).want (expr_of e) ++ (flows_at (place_of (expr_of e)) (flows_of k.context.bases (label_in k (seat i).want (expr_of e)) (seat i).into) ++ finds_from k seat items (i + 1))
   finds_at =
       ap (λ es. items_find k (seats_from i seat) (exprs_of_list es)) (cons_at items i e lt is)
       ∙ items_more k (seats_from i seat) (expr_of e) (exprs_of_list (drop (i + 1) items))
-      ∙ ap (λ (s : Seat). finds_in k s.want (expr_of e) ++ (flows_at (place_of (expr_of e)) (flows_of k.context.bases (mark_in k s.want (expr_of e)) s.into) ++ items_find k (λ j. seats_from i seat (suc j)) (exprs_of_list (drop (i + 1) items)))) (seat_first i seat)
-      ∙ ap (λ (f : ℕ → Seat). finds_in k (seat i).want (expr_of e) ++ (flows_at (place_of (expr_of e)) (flows_of k.context.bases (mark_in k (seat i).want (expr_of e)) (seat i).into) ++ items_find k f (exprs_of_list (drop (i + 1) items)))) (seats_further i seat)
+      ∙ ap (λ (s : Seat). finds_in k s.want (expr_of e) ++ (flows_at (place_of (expr_of e)) (flows_of k.context.bases (label_in k s.want (expr_of e)) s.into) ++ items_find k (λ j. seats_from i seat (suc j)) (exprs_of_list (drop (i + 1) items)))) (seat_first i seat)
+      ∙ ap (λ (f : ℕ → Seat). finds_in k (seat i).want (expr_of e) ++ (flows_at (place_of (expr_of e)) (flows_of k.context.bases (label_in k (seat i).want (expr_of e)) (seat i).into) ++ items_find k f (exprs_of_list (drop (i + 1) items)))) (seats_further i seat)
 
   -- an item further: the types so far
-  pub types_step : {T : Type 0} (tree : T → Tree) (out : List T) (t : T) (all : List Tree) → tree t ≡ (mark_in k (seat i).want (expr_of e)).type →
+  pub types_step : {T : Type 0} (tree : T → Tree) (out : List T) (t : T) (all : List Tree) → tree t ≡ (label_in k (seat i).want (expr_of e)).type →
       map tree out ++ types_from k seat items i ≡ all → map tree (out ++ t ∷ []) ++ types_from k seat items (i + 1) ≡ all
   types_step tree out t all q h =
       ap (λ l. l ++ types_from k seat items (i + 1)) (map_push tree out t)
@@ -73,11 +73,11 @@ module _ (k : Standing) (seat : ℕ → Seat) (items : List RustExpr) (i : ℕ) 
       ∙ h
 
   -- and what is found so far
-  pub finds_step : (old new last all : List Note) → new ≡ old ++ finds_in k (seat i).want (expr_of e) → last ≡ new ++ flows_at (place_of (expr_of e)) (flows_of k.context.bases (mark_in k (seat i).want (expr_of e)) (seat i).into) →
+  pub finds_step : (old new last all : List Note) → new ≡ old ++ finds_in k (seat i).want (expr_of e) → last ≡ new ++ flows_at (place_of (expr_of e)) (flows_of k.context.bases (label_in k (seat i).want (expr_of e)) (seat i).into) →
       old ++ finds_from k seat items i ≡ all → last ++ finds_from k seat items (i + 1) ≡ all
   finds_step old new last all n l h =
       let a = finds_in k (seat i).want (expr_of e) in
-      let b = flows_at (place_of (expr_of e)) (flows_of k.context.bases (mark_in k (seat i).want (expr_of e)) (seat i).into) in
+      let b = flows_at (place_of (expr_of e)) (flows_of k.context.bases (label_in k (seat i).want (expr_of e)) (seat i).into) in
       let c = finds_from k seat items (i + 1) in
       ap (λ x. x ++ c) (l ∙ ap (λ x. x ++ b) n)
       ∙ append_assoc (old ++ a) b c
@@ -88,21 +88,21 @@ module _ (k : Standing) (seat : ℕ → Seat) (items : List RustExpr) (i : ℕ) 
 -- ---- an item with its seat
 
 module _ (k : Standing) (seat : ℕ → Seat) (items : List RustExpr) (i : ℕ) (e : RustExpr) (lt : i < length items) (is : e ≡ get_or items i e) (w : Option Tree) (wants : w ≡ (seat i).want) where
-  pub seated_types : {T : Type 0} (tree : T → Tree) (out : List T) (l : Label T) (all : List Tree) → mark_with tree l ≡ brief (mark_in k w (expr_of e)) →
+  pub seated_types : {T : Type 0} (tree : T → Tree) (out : List T) (l : RustLabel T) (all : List Tree) → label_with tree l ≡ brief (label_in k w (expr_of e)) →
       map tree out ++ types_from k seat items i ≡ all → map tree (out ++ l.ty ∷ []) ++ types_from k seat items (i + 1) ≡ all
-  seated_types tree out l all m h = types_step k seat items i e lt is tree out l.ty all (type_is tree l (mark_in k w (expr_of e)) m ∙ ap (λ x. (mark_in k x (expr_of e)).type) wants) h
+  seated_types tree out l all m h = types_step k seat items i e lt is tree out l.ty all (type_is tree l (label_in k w (expr_of e)) m ∙ ap (λ x. (label_in k x (expr_of e)).type) wants) h
 
   pub seated_finds : (ts : List Tree) → ts ≡ (seat i).into → (old last all : List Note) →
-      last ≡ old ++ (finds_in k w (expr_of e) ++ flows_at (place_of (expr_of e)) (flows_of k.context.bases (mark_in k w (expr_of e)) ts)) →
+      last ≡ old ++ (finds_in k w (expr_of e) ++ flows_at (place_of (expr_of e)) (flows_of k.context.bases (label_in k w (expr_of e)) ts)) →
       old ++ finds_from k seat items i ≡ all → last ++ finds_from k seat items (i + 1) ≡ all
   seated_finds ts into old last all l h =
       let p = place_of (expr_of e) in
       let finds = finds_in k w (expr_of e) in
-      let flows = flows_at p (flows_of k.context.bases (mark_in k w (expr_of e)) ts) in
+      let flows = flows_at p (flows_of k.context.bases (label_in k w (expr_of e)) ts) in
       let new = old ++ finds in
       finds_step k seat items i e lt is old new last all (ap (λ x. old ++ finds_in k x (expr_of e)) wants)
-      (in_turn old finds flows last l ∙ ap (λ x. new ++ flows_at p (flows_of k.context.bases (mark_in k x (expr_of e)) ts)) wants
-      ∙ ap (λ y. new ++ flows_at p (flows_of k.context.bases (mark_in k (seat i).want (expr_of e)) y)) into) h
+      (in_turn old finds flows last l ∙ ap (λ x. new ++ flows_at p (flows_of k.context.bases (label_in k x (expr_of e)) ts)) wants
+      ∙ ap (λ y. new ++ flows_at p (flows_of k.context.bases (label_in k (seat i).want (expr_of e)) y)) into) h
 
 -- ---- the end
 
@@ -118,7 +118,7 @@ module _ (k : Standing) (seat : ℕ → Seat) (items : List RustExpr) (i : ℕ) 
 -- whether the first of several stands too early
 abbrev first_early : Standing → (ℕ → Seat) → Exprs → Test
 first_early k seat no_exprs = false
-first_early k seat (more_exprs e es) = is_early (mark_in k (seat 0).want e).codes
+first_early k seat (more_exprs e es) = is_early (label_in k (seat 0).want e).codes
 
 -- whether the second item of all stands too early, of the items from a position on
 abbrev pub early_from : ℕ → Standing → (ℕ → Seat) → Exprs → Test
@@ -150,20 +150,20 @@ early_empty (suc (suc n)) k seat = refl
 
 module _ (k : Standing) (seat : ℕ → Seat) (items : List RustExpr) (e : RustExpr) where
   early_at : (i : ℕ) → i < length items → e ≡ get_or items i e →
-      early_from i k (seats_from i seat) (exprs_of_list (drop i items)) ≡ ((nat_eq i 1 && is_early (mark_in k (seat i).want (expr_of e)).codes) || early_from (i + 1) k (seats_from (i + 1) seat) (exprs_of_list (drop (i + 1) items)))
+      early_from i k (seats_from i seat) (exprs_of_list (drop i items)) ≡ ((nat_eq i 1 && is_early (label_in k (seat i).want (expr_of e)).codes) || early_from (i + 1) k (seats_from (i + 1) seat) (exprs_of_list (drop (i + 1) items)))
   early_at zero lt is = ap (λ es. early_in k seat (exprs_of_list es)) (cons_at items 0 e lt is) ∙ early_second_is k seat (expr_of e) (exprs_of_list (drop 1 items))
-  early_at (suc zero) lt is = ap (λ es. first_early k (seats_from 1 seat) (exprs_of_list es)) (cons_at items 1 e lt is) ∙ sym (or_none (is_early (mark_in k (seat 1).want (expr_of e)).codes))
+  early_at (suc zero) lt is = ap (λ es. first_early k (seats_from 1 seat) (exprs_of_list es)) (cons_at items 1 e lt is) ∙ sym (or_none (is_early (label_in k (seat 1).want (expr_of e)).codes))
   early_at (suc (suc n)) lt is =
       let other : nat_eq (suc (suc n)) 1 ≡ false = grind (arith, nat_tests) in
       let past : early_from (suc (suc n) + 1) k (seats_from (suc (suc n) + 1) seat) (exprs_of_list (drop (suc (suc n) + 1) items)) ≡ false = early_past (suc (suc n) + 1) (omega arith) k (seats_from (suc (suc n) + 1) seat) (exprs_of_list (drop (suc (suc n) + 1) items)) in
-      sym (ap (λ b. (b && is_early (mark_in k (seat (suc (suc n))).want (expr_of e)).codes) || early_from (suc (suc n) + 1) k (seats_from (suc (suc n) + 1) seat) (exprs_of_list (drop (suc (suc n) + 1) items))) other ∙ past)
+      sym (ap (λ b. (b && is_early (label_in k (seat (suc (suc n))).want (expr_of e)).codes) || early_from (suc (suc n) + 1) k (seats_from (suc (suc n) + 1) seat) (exprs_of_list (drop (suc (suc n) + 1) items))) other ∙ past)
 
-  pub early_step : (i : ℕ) → i < length items → e ≡ get_or items i e → (early next all : Test) (codes : List Code) → codes ≡ once (mark_in k (seat i).want (expr_of e)).codes → next ≡ (early || (nat_eq i 1 && is_early codes)) →
+  pub early_step : (i : ℕ) → i < length items → e ≡ get_or items i e → (early next all : Test) (codes : List Code) → codes ≡ once (label_in k (seat i).want (expr_of e)).codes → next ≡ (early || (nat_eq i 1 && is_early codes)) →
       (early || early_from i k (seats_from i seat) (exprs_of_list (drop i items))) ≡ all → (next || early_from (i + 1) k (seats_from (i + 1) seat) (exprs_of_list (drop (i + 1) items))) ≡ all
   early_step i lt is early next all codes once_is n h =
       let rest = early_from (i + 1) k (seats_from (i + 1) seat) (exprs_of_list (drop (i + 1) items)) in
-      ap (λ b. b || rest) (n ∙ ap (λ cs. early || (nat_eq i 1 && is_early cs)) once_is ∙ ap (λ b. early || (nat_eq i 1 && b)) (once_early (mark_in k (seat i).want (expr_of e)).codes))
-      ∙ or_in_turn early (nat_eq i 1 && is_early (mark_in k (seat i).want (expr_of e)).codes) rest
+      ap (λ b. b || rest) (n ∙ ap (λ cs. early || (nat_eq i 1 && is_early cs)) once_is ∙ ap (λ b. early || (nat_eq i 1 && b)) (once_early (label_in k (seat i).want (expr_of e)).codes))
+      ∙ or_in_turn early (nat_eq i 1 && is_early (label_in k (seat i).want (expr_of e)).codes) rest
       ∙ ap (λ b. early || b) (sym (early_at i lt is))
       ∙ h
 

@@ -23,20 +23,20 @@ use Rattle.pc_types.specs.Tree.{Tree}
 use Rattle.pc_types.specs.Shape.{members}
 use Rattle.pc_flow.specs.Environment.{Env, join_or_object}
 use Rattle.pc_flow.specs.Narrowing.{narrow}
-use Rattle.pc_rules.specs.Operations.{Mark, clean, offers_mark, operand_types, negative_member, attribute_member, index_member, binary_mark, display_mark}
-use Rattle.pc_rules.specs.Lawful.{list_item, dict_parts, tuple_parts, members_of_expected, item_seat, part_seat, list_mark, key_seat, value_seat, int_literal, compare_mark, compare_types}
-use Rattle.pc_rules.specs.Computed.{flows_of, dict_mark}
-use Rattle.pc_rules.specs.Found.{own_at, once, brief, codes_at, flows_at}
-use Rattle.pc_rules.specs.Standing.{Standing, narrowed_standing, mark_in, finds_in, parts_find, types_in, items_find, keys_in, values_in, entries_find, mark_with}
-use Rattle.pc_rules.specs.declared.label.Label.{Label}
-use Rattle.pc_expr.proofs.Forms.{finds_whole, mark_negative, mark_attribute, mark_binary, mark_compare, parts_compare, mark_conjunction, mark_disjunction, parts_conjunction, parts_disjunction, parts_binary, mark_index, parts_index, mark_tuple, parts_tuple, mark_list, parts_list, mark_dict, parts_dict}
+use Rattle.pc_rules.specs.Operations.{Label, clean, offers_label, operand_types, negative_member, attribute_member, index_member, binary_label, display_label}
+use Rattle.pc_rules.specs.Lawful.{list_item, dict_parts, tuple_parts, members_of_expected, item_seat, part_seat, list_label, key_seat, value_seat, int_literal, compare_label, compare_types}
+use Rattle.pc_rules.specs.Computed.Expressions.{flows_of, dict_label}
+use Rattle.pc_rules.specs.Computed.Findings.{own_at, once, brief, codes_at, flows_at}
+use Rattle.pc_rules.specs.Computed.Standing.{Standing, narrowed_standing, label_in, finds_in, parts_find, types_in, items_find, keys_in, values_in, entries_find, label_with}
+use Rattle.pc_rules.specs.declared.label.Label.{Label as RustLabel}
+use Rattle.pc_expr.proofs.Forms.{finds_whole, label_negative, label_attribute, label_binary, label_compare, parts_compare, label_conjunction, label_disjunction, parts_conjunction, parts_disjunction, parts_binary, label_index, parts_index, label_tuple, parts_tuple, label_list, parts_list, label_dict, parts_dict}
 
-module _ {T : Type 0} (tree : T → Tree) (l : Label T) (m : Mark) (is : mark_with tree l ≡ brief m) where
+module _ {T : Type 0} (tree : T → Tree) (l : RustLabel T) (m : Label) (is : label_with tree l ≡ brief m) where
   pub type_is : tree l.ty ≡ m.type
-  type_is = ap (λ (x : Mark). x.type) is
+  type_is = ap (λ (x : Label). x.type) is
 
   pub codes_are : l.codes.items ≡ once m.codes
-  codes_are = ap (λ (x : Mark). x.codes) is
+  codes_are = ap (λ (x : Label). x.codes) is
 
 -- ---- findings in turn
 
@@ -48,59 +48,59 @@ three_found old new next last a b c h k i = two_found old new last a (b ++ c) h 
 
 module _ {T : Type 0} (tree : T → Tree) (k : Standing) (want : Option Tree) where
   -- what is found in an expression, by what is found in its parts and the codes of its label
-  pub whole_found : (e : Expr) (l : Label T) (old new last : List Note) → mark_with tree l ≡ brief (mark_in k want e) → new ≡ old ++ parts_find k want e → last ≡ new ++ flat_map (own_at (place_of e)) l.codes.items → last ≡ old ++ finds_in k want e
+  pub whole_found : (e : Expr) (l : RustLabel T) (old new last : List Note) → label_with tree l ≡ brief (label_in k want e) → new ≡ old ++ parts_find k want e → last ≡ new ++ flat_map (own_at (place_of e)) l.codes.items → last ≡ old ++ finds_in k want e
   whole_found e l old new last is h j =
-      two_found old new last (parts_find k want e) (codes_at (place_of e) (mark_in k want e).codes) h (j ∙ ap (λ cs. new ++ flat_map (own_at (place_of e)) cs) (codes_are tree l (mark_in k want e) is))
+      two_found old new last (parts_find k want e) (codes_at (place_of e) (label_in k want e).codes) h (j ∙ ap (λ cs. new ++ flat_map (own_at (place_of e)) cs) (codes_are tree l (label_in k want e) is))
       ∙ ap (λ fs. old ++ fs) (sym (finds_whole k want e))
 
-  pub negative_is : (p : Place) (e : Expr) (l : Label T) → mark_with tree l ≡ brief (mark_in k None e) → offers_mark k.context.bases (map negative_member (members (tree l.ty))) ≡ mark_in k want (negative p e)
-  negative_is p e l is = ap (λ t. offers_mark k.context.bases (map negative_member (members t))) (type_is tree l (mark_in k None e) is) ∙ sym (mark_negative k want p e)
+  pub negative_is : (p : Place) (e : Expr) (l : RustLabel T) → label_with tree l ≡ brief (label_in k None e) → offers_label k.context.bases (map negative_member (members (tree l.ty))) ≡ label_in k want (negative p e)
+  negative_is p e l is = ap (λ t. offers_label k.context.bases (map negative_member (members t))) (type_is tree l (label_in k None e) is) ∙ sym (label_negative k want p e)
 
-  pub attribute_is : (p : Place) (e : Expr) (field : Name) (l : Label T) → mark_with tree l ≡ brief (mark_in k None e) → offers_mark k.context.bases (map (attribute_member k.context.classes field.text) (members (tree l.ty))) ≡ mark_in k want (attribute p e field)
-  attribute_is p e field l is = ap (λ t. offers_mark k.context.bases (map (attribute_member k.context.classes field.text) (members t))) (type_is tree l (mark_in k None e) is) ∙ sym (mark_attribute k want p e field)
+  pub attribute_is : (p : Place) (e : Expr) (field : Name) (l : RustLabel T) → label_with tree l ≡ brief (label_in k None e) → offers_label k.context.bases (map (attribute_member k.context.classes field.text) (members (tree l.ty))) ≡ label_in k want (attribute p e field)
+  attribute_is p e field l is = ap (λ t. offers_label k.context.bases (map (attribute_member k.context.classes field.text) (members t))) (type_is tree l (label_in k None e) is) ∙ sym (label_attribute k want p e field)
 
-  module _ (p : Place) (a b : Expr) (l r : Label T) (left_is : mark_with tree l ≡ brief (mark_in k None a)) where
-    pub binary_is : (o : BinaryOperator) → mark_with tree r ≡ brief (mark_in k None b) → binary_mark k.context.bases o (tree l.ty) (tree r.ty) ≡ mark_in k want (binary p o a b)
+  module _ (p : Place) (a b : Expr) (l r : RustLabel T) (left_is : label_with tree l ≡ brief (label_in k None a)) where
+    pub binary_is : (o : BinaryOperator) → label_with tree r ≡ brief (label_in k None b) → binary_label k.context.bases o (tree l.ty) (tree r.ty) ≡ label_in k want (binary p o a b)
     binary_is o right_is =
-        ap (λ t. binary_mark k.context.bases o t (tree r.ty)) (type_is tree l (mark_in k None a) left_is)
-        ∙ ap (λ t. binary_mark k.context.bases o (mark_in k None a).type t) (type_is tree r (mark_in k None b) right_is)
-        ∙ sym (mark_binary k want p o a b)
+        ap (λ t. binary_label k.context.bases o t (tree r.ty)) (type_is tree l (label_in k None a) left_is)
+        ∙ ap (λ t. binary_label k.context.bases o (label_in k None a).type t) (type_is tree r (label_in k None b) right_is)
+        ∙ sym (label_binary k want p o a b)
 
-    pub compare_is : (o : ComparisonOperator) → mark_with tree r ≡ brief (mark_in k None b) → compare_mark k.context.bases o (tree l.ty) (tree r.ty) ≡ mark_in k want (compare p o a b)
+    pub compare_is : (o : ComparisonOperator) → label_with tree r ≡ brief (label_in k None b) → compare_label k.context.bases o (tree l.ty) (tree r.ty) ≡ label_in k want (compare p o a b)
     compare_is o right_is =
-        ap (λ t. compare_mark k.context.bases o t (tree r.ty)) (type_is tree l (mark_in k None a) left_is)
-        ∙ ap (λ t. compare_mark k.context.bases o (mark_in k None a).type t) (type_is tree r (mark_in k None b) right_is)
-        ∙ sym (mark_compare k want p o a b)
+        ap (λ t. compare_label k.context.bases o t (tree r.ty)) (type_is tree l (label_in k None a) left_is)
+        ∙ ap (λ t. compare_label k.context.bases o (label_in k None a).type t) (type_is tree r (label_in k None b) right_is)
+        ∙ sym (label_compare k want p o a b)
 
-    pub compare_found : (o : ComparisonOperator) (old new next last : List Note) → mark_with tree r ≡ brief (mark_in k None b) → new ≡ old ++ finds_in k None a → next ≡ new ++ finds_in k None b → last ≡ next ++ flows_at (place_of a) (flows_of k.context.bases (mark_in k None a) (compare_types o (tree r.ty))) → last ≡ old ++ parts_find k want (compare p o a b)
+    pub compare_found : (o : ComparisonOperator) (old new next last : List Note) → label_with tree r ≡ brief (label_in k None b) → new ≡ old ++ finds_in k None a → next ≡ new ++ finds_in k None b → last ≡ next ++ flows_at (place_of a) (flows_of k.context.bases (label_in k None a) (compare_types o (tree r.ty))) → last ≡ old ++ parts_find k want (compare p o a b)
     compare_found o old new next last right_is h j i =
-        three_found old new next last (finds_in k None a) (finds_in k None b) (flows_at (place_of a) (flows_of k.context.bases (mark_in k None a) (compare_types o (mark_in k None b).type))) h j (i ∙ ap (λ t. next ++ flows_at (place_of a) (flows_of k.context.bases (mark_in k None a) (compare_types o t))) (type_is tree r (mark_in k None b) right_is))
+        three_found old new next last (finds_in k None a) (finds_in k None b) (flows_at (place_of a) (flows_of k.context.bases (label_in k None a) (compare_types o (label_in k None b).type))) h j (i ∙ ap (λ t. next ++ flows_at (place_of a) (flows_of k.context.bases (label_in k None a) (compare_types o t))) (type_is tree r (label_in k None b) right_is))
         ∙ ap (λ fs. old ++ fs) (sym (parts_compare k want p o a b))
 
-    pub index_is : offers_mark k.context.bases (map (index_member k.context.bases (int_literal b)) (members (tree l.ty))) ≡ mark_in k want (index p a b)
-    index_is = ap (λ t. offers_mark k.context.bases (map (index_member k.context.bases (int_literal b)) (members t))) (type_is tree l (mark_in k None a) left_is) ∙ sym (mark_index k want p a b)
+    pub index_is : offers_label k.context.bases (map (index_member k.context.bases (int_literal b)) (members (tree l.ty))) ≡ label_in k want (index p a b)
+    index_is = ap (λ t. offers_label k.context.bases (map (index_member k.context.bases (int_literal b)) (members t))) (type_is tree l (label_in k None a) left_is) ∙ sym (label_index k want p a b)
 
-    pub index_found : (old new next last : List Note) → new ≡ old ++ finds_in k None a → next ≡ new ++ finds_in k None b → last ≡ next ++ flows_at (place_of b) (flows_of k.context.bases (mark_in k None b) (operand_types (map (index_member k.context.bases (int_literal b)) (members (tree l.ty))))) → last ≡ old ++ parts_find k want (index p a b)
+    pub index_found : (old new next last : List Note) → new ≡ old ++ finds_in k None a → next ≡ new ++ finds_in k None b → last ≡ next ++ flows_at (place_of b) (flows_of k.context.bases (label_in k None b) (operand_types (map (index_member k.context.bases (int_literal b)) (members (tree l.ty))))) → last ≡ old ++ parts_find k want (index p a b)
     index_found old new next last h j i =
-        three_found old new next last (finds_in k None a) (finds_in k None b) (flows_at (place_of b) (flows_of k.context.bases (mark_in k None b) (operand_types (map (index_member k.context.bases (int_literal b)) (members (mark_in k None a).type))))) h j
-        (i ∙ ap (λ t. next ++ flows_at (place_of b) (flows_of k.context.bases (mark_in k None b) (operand_types (map (index_member k.context.bases (int_literal b)) (members t))))) (type_is tree l (mark_in k None a) left_is))
+        three_found old new next last (finds_in k None a) (finds_in k None b) (flows_at (place_of b) (flows_of k.context.bases (label_in k None b) (operand_types (map (index_member k.context.bases (int_literal b)) (members (label_in k None a).type))))) h j
+        (i ∙ ap (λ t. next ++ flows_at (place_of b) (flows_of k.context.bases (label_in k None b) (operand_types (map (index_member k.context.bases (int_literal b)) (members t))))) (type_is tree l (label_in k None a) left_is))
         ∙ ap (λ fs. old ++ fs) (sym (parts_index k want p a b))
 
     -- the right side of `and` and of `or`, in the environment that the left one leaves
-    module _ (after : Standing) (right_is : mark_with tree r ≡ brief (mark_in after None b)) where
-      pub and_is : after ≡ narrowed_standing k true a → clean (join_or_object k.context.bases (tree l.ty) (tree r.ty)) ≡ mark_in k want (conjunction p a b)
+    module _ (after : Standing) (right_is : label_with tree r ≡ brief (label_in after None b)) where
+      pub and_is : after ≡ narrowed_standing k true a → clean (join_or_object k.context.bases (tree l.ty) (tree r.ty)) ≡ label_in k want (conjunction p a b)
       and_is e =
-          ap (λ t. clean (join_or_object k.context.bases t (tree r.ty))) (type_is tree l (mark_in k None a) left_is)
-          ∙ ap (λ t. clean (join_or_object k.context.bases (mark_in k None a).type t)) (type_is tree r (mark_in after None b) right_is)
-          ∙ ap (λ (s : Standing). clean (join_or_object k.context.bases (mark_in k None a).type (mark_in s None b).type)) e
-          ∙ sym (mark_conjunction k want p a b)
+          ap (λ t. clean (join_or_object k.context.bases t (tree r.ty))) (type_is tree l (label_in k None a) left_is)
+          ∙ ap (λ t. clean (join_or_object k.context.bases (label_in k None a).type t)) (type_is tree r (label_in after None b) right_is)
+          ∙ ap (λ (s : Standing). clean (join_or_object k.context.bases (label_in k None a).type (label_in s None b).type)) e
+          ∙ sym (label_conjunction k want p a b)
 
-      pub or_is : after ≡ narrowed_standing k false a → clean (join_or_object k.context.bases (tree l.ty) (tree r.ty)) ≡ mark_in k want (disjunction p a b)
+      pub or_is : after ≡ narrowed_standing k false a → clean (join_or_object k.context.bases (tree l.ty) (tree r.ty)) ≡ label_in k want (disjunction p a b)
       or_is e =
-          ap (λ t. clean (join_or_object k.context.bases t (tree r.ty))) (type_is tree l (mark_in k None a) left_is)
-          ∙ ap (λ t. clean (join_or_object k.context.bases (mark_in k None a).type t)) (type_is tree r (mark_in after None b) right_is)
-          ∙ ap (λ (s : Standing). clean (join_or_object k.context.bases (mark_in k None a).type (mark_in s None b).type)) e
-          ∙ sym (mark_disjunction k want p a b)
+          ap (λ t. clean (join_or_object k.context.bases t (tree r.ty))) (type_is tree l (label_in k None a) left_is)
+          ∙ ap (λ t. clean (join_or_object k.context.bases (label_in k None a).type t)) (type_is tree r (label_in after None b) right_is)
+          ∙ ap (λ (s : Standing). clean (join_or_object k.context.bases (label_in k None a).type (label_in s None b).type)) e
+          ∙ sym (label_disjunction k want p a b)
 
   pub and_found : (p : Place) (a b : Expr) (after : Standing) (old new last : List Note) → after ≡ narrowed_standing k true a → new ≡ old ++ finds_in k None a → last ≡ new ++ finds_in after None b → last ≡ old ++ parts_find k want (conjunction p a b)
   and_found p a b after old new last e h j =
@@ -125,11 +125,11 @@ standing_after k env holds e h = ap (λ (x : Env). let s : Standing = record { c
 
 module _ (k : Standing) (want : Option Tree) (p : Place) where
   module _ (v : Vec RustExpr Global) (seat : ℕ → Seat) where
-    pub list_is : (types : List Tree) → seat ≡ (λ i. item_seat (list_item (members_of_expected want))) → types ≡ types_in k seat (exprs_of_list v.items) → list_mark k.context.bases (list_item (members_of_expected want)) types ≡ mark_in k want (expr_of (View.List p v))
+    pub list_is : (types : List Tree) → seat ≡ (λ i. item_seat (list_item (members_of_expected want))) → types ≡ types_in k seat (exprs_of_list v.items) → list_label k.context.bases (list_item (members_of_expected want)) types ≡ label_in k want (expr_of (View.List p v))
     list_is types s t =
-        ap (λ ts. list_mark k.context.bases (list_item (members_of_expected want)) ts) (t ∙ ap (λ (f : ℕ → Seat). types_in k f (exprs_of_list v.items)) s)
-        ∙ sym (mark_list k want p (exprs_of_list v.items))
-        ∙ ap (mark_in k want) (sym (list_tree p v))
+        ap (λ ts. list_label k.context.bases (list_item (members_of_expected want)) ts) (t ∙ ap (λ (f : ℕ → Seat). types_in k f (exprs_of_list v.items)) s)
+        ∙ sym (label_list k want p (exprs_of_list v.items))
+        ∙ ap (label_in k want) (sym (list_tree p v))
 
     pub list_found : (old new : List Note) → seat ≡ (λ i. item_seat (list_item (members_of_expected want))) → new ≡ old ++ items_find k seat (exprs_of_list v.items) → new ≡ old ++ parts_find k want (expr_of (View.List p v))
     list_found old new s h =
@@ -142,11 +142,11 @@ module _ (k : Standing) (want : Option Tree) (p : Place) where
       seats_are : seat ≡ part_seat (tuple_parts (count_exprs (exprs_of_list v.items)) (members_of_expected want))
       seats_are = s ∙ ap (λ m. part_seat (tuple_parts m (members_of_expected want))) length_is
 
-      pub tuple_is : (types : List Tree) → types ≡ types_in k seat (exprs_of_list v.items) → display_mark (TupleOf (trees types)) ≡ mark_in k want (expr_of (View.Tuple p v))
+      pub tuple_is : (types : List Tree) → types ≡ types_in k seat (exprs_of_list v.items) → display_label (TupleOf (trees types)) ≡ label_in k want (expr_of (View.Tuple p v))
       tuple_is types t =
-          ap (λ ts. display_mark (TupleOf (trees ts))) (t ∙ ap (λ (f : ℕ → Seat). types_in k f (exprs_of_list v.items)) seats_are)
-          ∙ sym (mark_tuple k want p (exprs_of_list v.items))
-          ∙ ap (mark_in k want) (sym (tuple_tree p v))
+          ap (λ ts. display_label (TupleOf (trees ts))) (t ∙ ap (λ (f : ℕ → Seat). types_in k f (exprs_of_list v.items)) seats_are)
+          ∙ sym (label_tuple k want p (exprs_of_list v.items))
+          ∙ ap (label_in k want) (sym (tuple_tree p v))
 
       pub tuple_found : (old new : List Note) → new ≡ old ++ items_find k seat (exprs_of_list v.items) → new ≡ old ++ parts_find k want (expr_of (View.Tuple p v))
       tuple_found old new h =
@@ -157,14 +157,14 @@ module _ (k : Standing) (want : Option Tree) (p : Place) where
 
   module _ (v : Vec RustEntry Global) (key value : Seat) (at_key : key ≡ key_seat (dict_parts (members_of_expected want))) (at_value : value ≡ value_seat (dict_parts (members_of_expected want))) where
     pub dict_is : (keys values : List Tree) → keys ≡ keys_in k key value (entries_of_list v.items) → values ≡ values_in k key value (entries_of_list v.items) →
-        dict_mark k.context k.declared (static_test k.context.bases) (assignable_test k.context.bases) (dict_parts (members_of_expected want)) keys values ≡ mark_in k want (expr_of (View.Dict p v))
+        dict_label k.context k.declared (static_test k.context.bases) (assignable_test k.context.bases) (dict_parts (members_of_expected want)) keys values ≡ label_in k want (expr_of (View.Dict p v))
     dict_is keys values e f =
-        ap (λ ts. dict_mark k.context k.declared (static_test k.context.bases) (assignable_test k.context.bases) (dict_parts (members_of_expected want)) ts values) e
-        ∙ ap (λ ts. dict_mark k.context k.declared (static_test k.context.bases) (assignable_test k.context.bases) (dict_parts (members_of_expected want)) (keys_in k key value (entries_of_list v.items)) ts) f
-        ∙ ap (λ (x : Seat). dict_mark k.context k.declared (static_test k.context.bases) (assignable_test k.context.bases) (dict_parts (members_of_expected want)) (keys_in k x value (entries_of_list v.items)) (values_in k x value (entries_of_list v.items))) at_key
-        ∙ ap (λ (x : Seat). dict_mark k.context k.declared (static_test k.context.bases) (assignable_test k.context.bases) (dict_parts (members_of_expected want)) (keys_in k (key_seat (dict_parts (members_of_expected want))) x (entries_of_list v.items)) (values_in k (key_seat (dict_parts (members_of_expected want))) x (entries_of_list v.items))) at_value
-        ∙ sym (mark_dict k want p (entries_of_list v.items))
-        ∙ ap (mark_in k want) (sym (dict_tree p v))
+        ap (λ ts. dict_label k.context k.declared (static_test k.context.bases) (assignable_test k.context.bases) (dict_parts (members_of_expected want)) ts values) e
+        ∙ ap (λ ts. dict_label k.context k.declared (static_test k.context.bases) (assignable_test k.context.bases) (dict_parts (members_of_expected want)) (keys_in k key value (entries_of_list v.items)) ts) f
+        ∙ ap (λ (x : Seat). dict_label k.context k.declared (static_test k.context.bases) (assignable_test k.context.bases) (dict_parts (members_of_expected want)) (keys_in k x value (entries_of_list v.items)) (values_in k x value (entries_of_list v.items))) at_key
+        ∙ ap (λ (x : Seat). dict_label k.context k.declared (static_test k.context.bases) (assignable_test k.context.bases) (dict_parts (members_of_expected want)) (keys_in k (key_seat (dict_parts (members_of_expected want))) x (entries_of_list v.items)) (values_in k (key_seat (dict_parts (members_of_expected want))) x (entries_of_list v.items))) at_value
+        ∙ sym (label_dict k want p (entries_of_list v.items))
+        ∙ ap (label_in k want) (sym (dict_tree p v))
 
     pub dict_found : (old new : List Note) → new ≡ old ++ entries_find k key value (entries_of_list v.items) → new ≡ old ++ parts_find k want (expr_of (View.Dict p v))
     dict_found old new h =

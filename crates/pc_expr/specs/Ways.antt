@@ -5,7 +5,7 @@ use Rattle.pc_tree.specs.Tree.{Expr}
 use Rattle.pc_types.specs.Tree.{Tree}
 use Rattle.pc_flow.specs.Stored.{env_of}
 use Rattle.pc_flow.specs.declared.narrowing.BothWays.{BothWays}
-use Rattle.pc_rules.specs.Standing.{Standing, narrowed_standing, HasGivenAll}
+use Rattle.pc_rules.specs.Computed.Standing.{Standing, narrowed_standing, HasGivenAll}
 use Rattle.pc_rules.specs.declared.setting.Setting.{Setting}
 
 module _ {Store Ty : Type 0} (has : Store → Ty → Type 0) (tree : Ty → Tree) where

@@ -10,19 +10,19 @@ ghost use Rattle.pc_types.specs.Store.{KeepsTypes};
 ghost use Rattle.pc_class.specs.Tables.{HasEntries};
 ghost use Rattle.pc_flow.specs.Stored.{env_of, HasEach};
 ghost use Rattle.pc_notes.specs.Notes.{notes_of};
-ghost use Rattle.pc_rules.specs.Operations.{Mark};
+ghost use Rattle.pc_rules.specs.Operations.{Label as LabelOf};
 ghost use Rattle.pc_rules.specs.Labels.{second_place};
-ghost use Rattle.pc_rules.specs.Lawful.{whole_call_mark};
-ghost use Rattle.pc_rules.specs.Found.{brief, notes_of_code};
-ghost use Rattle.pc_rules.specs.Standing.{mark_with, context_with, HasGivenAll};
-ghost use Rattle.pc_call.specs.JudgedCalls.{offer_called, rule_of, second_code_of, HasCallOffer, IsCallee};
+ghost use Rattle.pc_rules.specs.Lawful.{whole_call_label};
+ghost use Rattle.pc_rules.specs.Computed.Findings.{brief, notes_of_code};
+ghost use Rattle.pc_rules.specs.Computed.Standing.{label_with, context_with, HasGivenAll};
+ghost use Rattle.pc_calls.specs.JudgedCalls.{offer_called, rule_of, second_code_of, HasCallOffer, IsCallee};
 ghost use Rattle.pc_expr.specs.Typing.{unnamed_callee};
-ghost use Rattle.pc_rules.specs.Checkers.{Finds, GoesOn, IsLabel};
+ghost use Rattle.pc_rules.specs.Computed.Checkers.{Finds, GoesOn, IsLabel};
 ghost use Rattle.pc_flow.specs.Naming.{meanings};
 
 use crate::items::Typed;
 use crate::whole::call_label;
-use pc_call::{CallOffer, Callee, callee_in_error, callee_of_value, second_code};
+use pc_calls::{CallOffer, Callee, callee_in_error, callee_of_value, second_code};
 use pc_flow::Env;
 use pc_notes::Notes;
 use pc_rules::{Checker, Label, Setting, find_codes};
@@ -41,7 +41,7 @@ pub(crate) fn callee_of_other<'t, S: TypeStore>(
     label: Label<S::Ty>,
 ) -> Result<Callee<'t, S::Ty>, OutOfMemory>
     requires { S.has store.old label.ty }
-    ensures callee { (m : Mark) → mark_with S.tree label ≡ brief m
+    ensures callee { (m : LabelOf) → label_with S.tree label ≡ brief m
         → IfOk result (λ c. IsCallee S.has S.tree store.new c (unnamed_callee setting.now.in_body m)) }
     ensures kept { KeepsTypes S.has store.old store.new }
 {
@@ -82,13 +82,13 @@ pub(crate) fn label_call<S: TypeStore>(
     arguments: &[Expr],
     typed: &Typed<S::Ty>,
 ) -> Result<Label<S::Ty>, OutOfMemory>
-    requires classes { HasEntries (S.has checker.old.store.now) setting.now.classes.now }
+    requires classes { HasEntries (S.has checker.old.store.now) setting.now.globals.now.classes.now }
     requires env { HasEach (S.has checker.old.store.now) env.now }
     requires offers { All (HasCallOffer (S.has checker.old.store.now)) callee.now.offers.items }
     requires types { All (S.has checker.old.store.now) typed.now.types.items }
     ensures value { IfOk result
         (λ l. IsLabel S.TypeStore checker.new l
-        (whole_call_mark (context_with S.tree setting.now) (env_of S.tree env.now) (rule_of callee.now.rule)
+        (whole_call_label (context_with S.tree setting.now) (env_of S.tree env.now) (rule_of callee.now.rule)
         (map (offer_called S.tree) callee.now.offers.items) (exprs_of_list arguments.now)
         (map S.tree typed.now.types.items))) }
     ensures found { OnOk result (Finds checker.old checker.new

@@ -6,24 +6,24 @@ ghost use Rattle.pc_tree.specs.Tree.{expr_of};
 ghost use Rattle.pc_tree.specs.Lists.{exprs_of_list, keywords_of_list};
 ghost use Rattle.pc_types.specs.Tree.{Tree};
 ghost use Rattle.pc_rules.specs.Calls.{positional_seat, named_seat};
-ghost use Rattle.pc_rules.specs.Standing.{standing_of, mark_in, parts_find, arguments_find, keywords_find};
-ghost use Rattle.pc_call.specs.JudgedCalls.{given_with, offer_called, HasCallOffer, IsCallee};
+ghost use Rattle.pc_rules.specs.Computed.Standing.{standing_of, label_in, parts_find, arguments_find, keywords_find};
+ghost use Rattle.pc_calls.specs.JudgedCalls.{given_with, offer_called, HasCallOffer, IsCallee};
 ghost use Rattle.pc_expr.specs.Typing.{callee_in};
 ghost use Rattle.pc_expr.specs.Internal.Seats.{AreTyped};
 ghost use Rattle.pc_expr.specs.Internal.Forms.{IsCall};
-ghost use Rattle.pc_rules.specs.Checkers.{Finds, GoesOn, IsLabel, Stands};
+ghost use Rattle.pc_rules.specs.Computed.Checkers.{Finds, GoesOn, IsLabel, Stands};
 
 use crate::call_labels::{callee_of_other, is_test, label_call, still_called};
 use crate::items::{Typed, early_at};
 use crate::typing::{label_expr, type_expr, type_seated};
 use indexmap::IndexSet;
-use pc_call::given::given;
-use pc_call::{
+use pc_calls::given::given;
+use pc_calls::{
     CallOffer, Callee, Given, callee_of_method, callee_of_name, keyword_seat, positional_seat,
 };
 use pc_flow::Env;
 use pc_notes::Notes;
-use pc_operate::still_stands;
+use pc_operations::still_stands;
 use pc_rules::{Checker, Label, Setting, find_codes, is_early};
 use pc_source::OutOfMemory;
 use pc_tree::{Expr, KeywordArgument};
@@ -39,9 +39,9 @@ pub(crate) fn label_called<S: TypeStore>(
 ) -> Result<Label<S::Ty>, OutOfMemory>
     requires given { Stands S.TypeStore checker.old setting.now env.now }
     requires form { IsCall e.now }
-    ensures marked { (expected : Option Tree) → IfOk result
+    ensures labelled { (expected : Option Tree) → IfOk result
         (λ l. IsLabel S.TypeStore checker.new l
-        (mark_in (standing_of S.tree setting.now env.now) expected (expr_of e.now))) }
+        (label_in (standing_of S.tree setting.now env.now) expected (expr_of e.now))) }
     ensures found { (expected : Option Tree) → OnOk result (Finds checker.old checker.new
         (parts_find (standing_of S.tree setting.now env.now) expected (expr_of e.now))) }
     ensures goes_on { GoesOn S.TypeStore checker.old checker.new }

@@ -12,16 +12,16 @@ ghost use Rattle.pc_flow.specs.Narrowing.{tested_locals};
 ghost use Rattle.pc_flow.specs.Stored.{env_of, declared_of, HasEach, GivesEnv};
 ghost use Rattle.pc_flow.specs.Ways.{way_on, way_out};
 ghost use Rattle.pc_flow.specs.WellFormed.{IsWellFormedEnv};
-ghost use Rattle.pc_rules.specs.Checkers.{Finds, GoesOn, IsLabel, Stands};
+ghost use Rattle.pc_rules.specs.Computed.Checkers.{Finds, GoesOn, IsLabel, Stands};
 ghost use Rattle.pc_rules.specs.Operations.{clean};
-ghost use Rattle.pc_rules.specs.Standing.{standing_of, mark_in, finds_in};
+ghost use Rattle.pc_rules.specs.Computed.Standing.{standing_of, label_in, finds_in};
 ghost use Rattle.pc_expr.specs.Ways.{GivesWays};
 
 use crate::typing::type_expr;
 use pc_flow::{
     BothWays, Connective, Declarations, Env, Junction, copy_env, narrow_junction, narrow_simple,
 };
-use pc_operate::{label_bool, label_junction};
+use pc_operations::{label_bool, label_junction};
 use pc_rules::{Checker, Label, Setting};
 use pc_source::OutOfMemory;
 use pc_tree::Expr;
@@ -49,19 +49,19 @@ fn junction_condition<S: TypeStore>(
     requires second { S.has checker.old.store.now second.label.ty }
     requires settled { HasEach (S.has checker.old.store.now) settled }
     requires late { HasEach (S.has checker.old.store.now) (way_out junction.now.connective second.ways) }
-    requires well_formed { IsWellFormedEnv setting.now.parents.now (env_of S.tree settled) }
+    requires well_formed { IsWellFormedEnv setting.now.globals.now.outline.now.parents.now (env_of S.tree settled) }
     requires agree { AgreeBelow (length setting.now.declared.now)
         (tested_locals (meanings setting.now.names.now) (expr_of junction.now.left.now)
         ++ tested_locals (meanings setting.now.names.now) (expr_of junction.now.right.now))
         (env_of S.tree settled) (env_of S.tree (way_out junction.now.connective second.ways)) }
     ensures labelled { IfOk result
         (λ n. IsLabel S.TypeStore checker.new n.label
-        (clean (join_or_object setting.now.parents.now (S.tree first.now.ty) (S.tree second.label.ty)))) }
+        (clean (join_or_object setting.now.globals.now.outline.now.parents.now (S.tree first.now.ty) (S.tree second.label.ty)))) }
     ensures asked { IfOk result
         (λ n. way_on junction.now.connective n.ways ≡ way_on junction.now.connective second.ways) }
     ensures met { IfOk result
         (λ n. GivesEnv S.has S.tree checker.new.store.now (way_out junction.now.connective n.ways)
-        (join_env setting.now.parents.now (declared_of S.tree setting.now.declared.now) (env_of S.tree settled)
+        (join_env setting.now.globals.now.outline.now.parents.now (declared_of S.tree setting.now.declared.now) (env_of S.tree settled)
         (env_of S.tree (way_out junction.now.connective second.ways)))) }
     ensures found { checker.new.found.now ≡ checker.old.found.now }
     ensures goes_on { GoesOn S.TypeStore checker.old checker.new }
@@ -69,12 +69,12 @@ fn junction_condition<S: TypeStore>(
     let label = label_junction(
         checker.store,
         checker.alloc,
-        setting.parents,
+        setting.globals.outline.parents,
         &first.ty,
         &second.label.ty,
     )?;
     let declarations = Declarations {
-        parents: setting.parents,
+        parents: setting.globals.outline.parents,
         declared: setting.declared,
         names: setting.names,
     };
@@ -99,9 +99,9 @@ pub fn type_condition<S: TypeStore>(
     e: &Expr,
 ) -> Result<Condition<S::Ty>, OutOfMemory>
     requires { Stands S.TypeStore checker.old setting.now env.now }
-    ensures marked { IfOk result
+    ensures labelled { IfOk result
         (λ n. IsLabel S.TypeStore checker.new n.label
-        (mark_in (standing_of S.tree setting.now env.now) None (expr_of e.now))) }
+        (label_in (standing_of S.tree setting.now env.now) None (expr_of e.now))) }
     ensures ways { IfOk result
         (λ n. GivesWays S.has S.tree checker.new.store.now setting.now (standing_of S.tree setting.now env.now) n.ways
         (expr_of e.now)) }
@@ -109,7 +109,7 @@ pub fn type_condition<S: TypeStore>(
         (finds_in (standing_of S.tree setting.now env.now) None (expr_of e.now))) }
     ensures goes_on { GoesOn S.TypeStore checker.old checker.new }
 {
-    setting.parents.ordered();
+    setting.globals.outline.parents.ordered();
     match e {
         Expr::Not(_, operand) => {
             let condition = type_condition(checker, setting, env, operand)?;
@@ -167,7 +167,7 @@ pub fn type_condition<S: TypeStore>(
             let label = type_expr(checker, setting, env, &None, e)?;
             let copy = copy_env(checker.store, checker.alloc, env)?;
             let declarations = Declarations {
-                parents: setting.parents,
+                parents: setting.globals.outline.parents,
                 declared: setting.declared,
                 names: setting.names,
             };

@@ -5,17 +5,17 @@ ghost use Rattle.std.specs.Prelude.{◌≡◌, IfOk, OnOk, map, All};
 ghost use Rattle.std.specs.Option.{option_map};
 ghost use Rattle.pc_tree.specs.Tree.{expr_of};
 ghost use Rattle.pc_tree.specs.Lists.{exprs_of_list, entries_of_list};
-ghost use Rattle.pc_rules.specs.Standing.{standing_of, mark_in, parts_find, types_in, items_find};
-ghost use Rattle.pc_rules.specs.Standing.{entries_find};
+ghost use Rattle.pc_rules.specs.Computed.Standing.{standing_of, label_in, parts_find, types_in, items_find};
+ghost use Rattle.pc_rules.specs.Computed.Standing.{entries_find};
 ghost use Rattle.pc_expr.specs.Internal.Seats.{seats_of, seat_with, HasSeats, HasEntrySeats, AreEntryTypes};
 ghost use Rattle.pc_expr.specs.Internal.Forms.{IsDisplay};
-ghost use Rattle.pc_rules.specs.Checkers.{Finds, GoesOn, HoldsIfAny, IsLabel, Stands};
+ghost use Rattle.pc_rules.specs.Computed.Checkers.{Finds, GoesOn, HoldsIfAny, IsLabel, Stands};
 
 use crate::entries::{EntrySeats, EntryTypes, dict_seats, label_dict};
 use crate::items::{Seats, label_list, list_seats, seat_at, tuple_seats};
 use crate::typing::type_seated;
 use pc_flow::Env;
-use pc_operate::{still_stands, tuple_label};
+use pc_operations::{still_stands, tuple_label};
 use pc_rules::{Checker, Label, Setting};
 use pc_source::OutOfMemory;
 use pc_tree::{Entry, Expr};
@@ -33,9 +33,9 @@ pub(crate) fn label_display<S: TypeStore>(
     requires given { Stands S.TypeStore checker.old setting.now env.now }
     requires want { HoldsIfAny S.TypeStore checker.old want.now }
     requires form { IsDisplay e.now }
-    ensures marked { IfOk result
+    ensures labelled { IfOk result
         (λ l. IsLabel S.TypeStore checker.new l
-        (mark_in (standing_of S.tree setting.now env.now) (option_map S.tree want.now) (expr_of e.now))) }
+        (label_in (standing_of S.tree setting.now env.now) (option_map S.tree want.now) (expr_of e.now))) }
     ensures found { OnOk result (Finds checker.old checker.new
         (parts_find (standing_of S.tree setting.now env.now) (option_map S.tree want.now) (expr_of e.now))) }
     ensures goes_on { GoesOn S.TypeStore checker.old checker.new }
@@ -49,7 +49,13 @@ pub(crate) fn label_display<S: TypeStore>(
         Expr::List(_, items) => {
             let seats = list_seats(checker.store, checker.alloc, want)?;
             let types = type_items(checker, setting, env, &seats, items)?;
-            label_list(checker.store, checker.alloc, setting.parents, want, &types)
+            label_list(
+                checker.store,
+                checker.alloc,
+                setting.globals.outline.parents,
+                want,
+                &types,
+            )
         }
         Expr::Dict(_, entries) => {
             let seats = dict_seats(checker.store, checker.alloc, want)?;

@@ -6,14 +6,14 @@ ghost use Rattle.pc_types.specs.Computed.{static_test, assignable_test};
 ghost use Rattle.pc_types.specs.Store.{KeepsTypes};
 ghost use Rattle.pc_flow.specs.Stored.{declared_of};
 ghost use Rattle.pc_rules.specs.Lawful.{dict_parts, members_of_expected, key_seat, value_seat};
-ghost use Rattle.pc_rules.specs.Computed.{dict_mark};
-ghost use Rattle.pc_rules.specs.Standing.{context_with, HasIfAny, IsMark};
-ghost use Rattle.pc_call.specs.JudgedCalls.{IsSeat};
+ghost use Rattle.pc_rules.specs.Computed.Expressions.{dict_label};
+ghost use Rattle.pc_rules.specs.Computed.Standing.{context_with, HasIfAny, MeansLabel};
+ghost use Rattle.pc_calls.specs.JudgedCalls.{IsSeat};
 ghost use Rattle.pc_expr.specs.Internal.Seats.{AreEntrySeats};
 
 use crate::items::{nowhere, seat_of_type};
-use pc_call::Seat;
-use pc_operate::{dict_label, dict_parts};
+use pc_calls::Seat;
+use pc_operations::{dict_label, dict_parts};
 use pc_rules::{Label, Setting};
 use pc_source::OutOfMemory;
 use pc_types::TypeStore;
@@ -69,9 +69,9 @@ pub(crate) fn label_dict<S: TypeStore>(
     requires keys { All (S.has store.old) types.now.keys.items }
     requires values { All (S.has store.old) types.now.values.items }
     ensures value { IfOk result
-        (λ l. IsMark S.has S.tree store.new l
-        (dict_mark (context_with S.tree setting.now) (declared_of S.tree setting.now.declared.now)
-        (static_test setting.now.parents.now) (assignable_test setting.now.parents.now)
+        (λ l. MeansLabel S.has S.tree store.new l
+        (dict_label (context_with S.tree setting.now) (declared_of S.tree setting.now.declared.now)
+        (static_test setting.now.globals.now.outline.now.parents.now) (assignable_test setting.now.globals.now.outline.now.parents.now)
         (dict_parts (members_of_expected (option_map S.tree want.now))) (map S.tree types.now.keys.items)
         (map S.tree types.now.values.items))) }
     ensures kept { KeepsTypes S.has store.old store.new }
@@ -80,7 +80,7 @@ pub(crate) fn label_dict<S: TypeStore>(
     dict_label(
         store,
         alloc,
-        setting.parents,
+        setting.globals.outline.parents,
         &parts,
         &types.keys,
         &types.values,

@@ -4,13 +4,13 @@ ghost use Rattle.std.specs.Prelude.{◌≡◌, ◌||◌, ◌&&◌, nat_eq, Some,
 ghost use Rattle.std.specs.Option.{option_map};
 ghost use Rattle.pc_types.specs.Store.{KeepsTypes};
 ghost use Rattle.pc_rules.specs.Context.{is_early};
-ghost use Rattle.pc_rules.specs.Lawful.{item_seat, part_seat, list_item, tuple_parts, members_of_expected, list_mark};
-ghost use Rattle.pc_rules.specs.Standing.{HasIfAny, IsMark};
-ghost use Rattle.pc_call.specs.JudgedCalls.{IsSeat};
+ghost use Rattle.pc_rules.specs.Lawful.{item_seat, part_seat, list_item, tuple_parts, members_of_expected, list_label};
+ghost use Rattle.pc_rules.specs.Computed.Standing.{HasIfAny, MeansLabel};
+ghost use Rattle.pc_calls.specs.JudgedCalls.{IsSeat};
 ghost use Rattle.pc_expr.specs.Internal.Seats.{seats_of, HasSeats};
 
-use pc_call::Seat;
-use pc_operate::{list_item, list_label, tuple_parts};
+use pc_calls::Seat;
+use pc_operations::{list_item, list_label, tuple_parts};
 use pc_rules::{Label, is_early};
 use pc_source::OutOfMemory;
 use pc_tree::Code;
@@ -158,8 +158,8 @@ pub(crate) fn label_list<S: TypeStore>(
     requires want { HasIfAny (S.has store.old) want.now }
     requires types { All (S.has store.old) types.now }
     ensures value { IfOk result
-        (λ l. IsMark S.has S.tree store.new l
-        (list_mark parents.now (list_item (members_of_expected (option_map S.tree want.now))) (map S.tree types.now))) }
+        (λ l. MeansLabel S.has S.tree store.new l
+        (list_label parents.now (list_item (members_of_expected (option_map S.tree want.now))) (map S.tree types.now))) }
     ensures kept { KeepsTypes S.has store.old store.new }
 {
     let item = list_item(store, alloc, want)?;

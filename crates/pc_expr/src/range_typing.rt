@@ -5,13 +5,13 @@ ghost use Rattle.std.specs.Prelude.{IfOk, OnOk};
 ghost use Rattle.pc_tree.specs.Tree.{expr_of};
 ghost use Rattle.pc_tree.specs.Lists.{exprs_of_list, keywords_of_list};
 ghost use Rattle.pc_rules.specs.Calls.{arguments_given, range_item};
-ghost use Rattle.pc_rules.specs.Standing.{standing_of};
-ghost use Rattle.pc_rules.specs.RangesFound.{range_finds};
-ghost use Rattle.pc_rules.specs.Checkers.{Finds, GoesOn, IsLabel, Stands};
+ghost use Rattle.pc_rules.specs.Computed.Standing.{standing_of};
+ghost use Rattle.pc_rules.specs.Computed.Ranges.{range_finds};
+ghost use Rattle.pc_rules.specs.Computed.Checkers.{Finds, GoesOn, IsLabel, Stands};
 
 use crate::calls::{type_arguments, type_keywords};
-use pc_call::given::given;
-use pc_call::{call_codes, range_item, range_offers};
+use pc_calls::given::given;
+use pc_calls::{call_codes, range_item, range_offers};
 use pc_flow::Env;
 use pc_rules::{Checker, Label, Setting, find_codes};
 use pc_scope::is_instance_test;

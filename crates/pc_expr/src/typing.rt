@@ -6,18 +6,18 @@ ghost use Rattle.std.specs.Option.{option_map};
 ghost use Rattle.pc_tree.specs.Tree.{expr_of};
 ghost use Rattle.pc_tree.specs.Depth.{place_of};
 ghost use Rattle.pc_types.specs.Tree.{Tree};
-ghost use Rattle.pc_rules.specs.Computed.{flows_of};
-ghost use Rattle.pc_rules.specs.Found.{flows_at};
-ghost use Rattle.pc_rules.specs.Standing.{standing_of, mark_in, finds_in, parts_find};
+ghost use Rattle.pc_rules.specs.Computed.Expressions.{flows_of};
+ghost use Rattle.pc_rules.specs.Computed.Findings.{flows_at};
+ghost use Rattle.pc_rules.specs.Computed.Standing.{standing_of, label_in, finds_in, parts_find};
 ghost use Rattle.pc_expr.specs.Internal.Forms.{IsUnary, IsBinary, IsConnective};
-ghost use Rattle.pc_rules.specs.Checkers.{Finds, GoesOn, HoldsIfAny, IsLabel, Stands};
+ghost use Rattle.pc_rules.specs.Computed.Checkers.{Finds, GoesOn, HoldsIfAny, IsLabel, Stands};
 
 use crate::calls::label_called;
 use crate::conditions::type_condition;
 use crate::displays::label_display;
-use pc_call::Seat;
+use pc_calls::Seat;
 use pc_flow::Env;
-use pc_operate::{
+use pc_operations::{
     binary_label, label_attribute, label_bool, label_comparison, label_index, label_int,
     label_junction, label_negative, label_none, label_str, still_stands,
 };
@@ -38,9 +38,9 @@ pub fn type_expr<S: TypeStore>(
 ) -> Result<Label<S::Ty>, OutOfMemory>
     requires given { Stands S.TypeStore checker.old setting.now env.now }
     requires want { HoldsIfAny S.TypeStore checker.old want.now }
-    ensures marked { IfOk result
+    ensures labelled { IfOk result
         (λ l. IsLabel S.TypeStore checker.new l
-        (mark_in (standing_of S.tree setting.now env.now) (option_map S.tree want.now) (expr_of e.now))) }
+        (label_in (standing_of S.tree setting.now env.now) (option_map S.tree want.now) (expr_of e.now))) }
     ensures found { OnOk result (Finds checker.old checker.new
         (finds_in (standing_of S.tree setting.now env.now) (option_map S.tree want.now) (expr_of e.now))) }
     ensures goes_on { GoesOn S.TypeStore checker.old checker.new }
@@ -62,19 +62,25 @@ pub(crate) fn type_seated<S: TypeStore>(
     requires given { Stands S.TypeStore checker.old setting.now env.now }
     requires want { HoldsIfAny S.TypeStore checker.old seat.now.want }
     requires into { All (S.has checker.old.store.now) seat.now.into.items }
-    ensures marked { IfOk result
+    ensures labelled { IfOk result
         (λ l. IsLabel S.TypeStore checker.new l
-        (mark_in (standing_of S.tree setting.now env.now) (option_map S.tree seat.now.want)
+        (label_in (standing_of S.tree setting.now env.now) (option_map S.tree seat.now.want)
         (expr_of e.now))) }
     ensures found { OnOk result (Finds checker.old checker.new
         (finds_in (standing_of S.tree setting.now env.now) (option_map S.tree seat.now.want) (expr_of e.now)
         ++ flows_at (place_of (expr_of e.now))
-        (flows_of setting.now.parents.now (mark_in (standing_of S.tree setting.now env.now)
+        (flows_of setting.now.globals.now.outline.now.parents.now (label_in (standing_of S.tree setting.now env.now)
         (option_map S.tree seat.now.want) (expr_of e.now)) (map S.tree seat.now.into.items)))) }
     ensures goes_on { GoesOn S.TypeStore checker.old checker.new }
 {
     let label = type_expr(checker, setting, env, &seat.want, e)?;
-    find_flows(checker, setting.parents, e.place(), &label, &seat.into)?;
+    find_flows(
+        checker,
+        setting.globals.outline.parents,
+        e.place(),
+        &label,
+        &seat.into,
+    )?;
     Ok(label)
 }
 
@@ -89,9 +95,9 @@ pub(crate) fn label_expr<S: TypeStore>(
 ) -> Result<Label<S::Ty>, OutOfMemory>
     requires given { Stands S.TypeStore checker.old setting.now env.now }
     requires want { HoldsIfAny S.TypeStore checker.old want.now }
-    ensures marked { IfOk result
+    ensures labelled { IfOk result
         (λ l. IsLabel S.TypeStore checker.new l
-        (mark_in (standing_of S.tree setting.now env.now) (option_map S.tree want.now) (expr_of e.now))) }
+        (label_in (standing_of S.tree setting.now env.now) (option_map S.tree want.now) (expr_of e.now))) }
     ensures found { OnOk result (Finds checker.old checker.new
         (parts_find (standing_of S.tree setting.now env.now) (option_map S.tree want.now) (expr_of e.now))) }
     ensures goes_on { GoesOn S.TypeStore checker.old checker.new }
@@ -129,9 +135,9 @@ fn label_unary<S: TypeStore>(
 ) -> Result<Label<S::Ty>, OutOfMemory>
     requires given { Stands S.TypeStore checker.old setting.now env.now }
     requires form { IsUnary e.now }
-    ensures marked { (expected : Option Tree) → IfOk result
+    ensures labelled { (expected : Option Tree) → IfOk result
         (λ l. IsLabel S.TypeStore checker.new l
-        (mark_in (standing_of S.tree setting.now env.now) expected (expr_of e.now))) }
+        (label_in (standing_of S.tree setting.now env.now) expected (expr_of e.now))) }
     ensures found { (expected : Option Tree) → OnOk result (Finds checker.old checker.new
         (parts_find (standing_of S.tree setting.now env.now) expected (expr_of e.now))) }
     ensures goes_on { GoesOn S.TypeStore checker.old checker.new }
@@ -171,9 +177,9 @@ fn label_binary<S: TypeStore>(
 ) -> Result<Label<S::Ty>, OutOfMemory>
     requires given { Stands S.TypeStore checker.old setting.now env.now }
     requires form { IsBinary e.now }
-    ensures marked { (expected : Option Tree) → IfOk result
+    ensures labelled { (expected : Option Tree) → IfOk result
         (λ l. IsLabel S.TypeStore checker.new l
-        (mark_in (standing_of S.tree setting.now env.now) expected (expr_of e.now))) }
+        (label_in (standing_of S.tree setting.now env.now) expected (expr_of e.now))) }
     ensures found { (expected : Option Tree) → OnOk result (Finds checker.old checker.new
         (parts_find (standing_of S.tree setting.now env.now) expected (expr_of e.now))) }
     ensures goes_on { GoesOn S.TypeStore checker.old checker.new }
@@ -186,7 +192,7 @@ fn label_binary<S: TypeStore>(
             binary_label(
                 checker.store,
                 checker.alloc,
-                setting.parents,
+                setting.globals.outline.parents,
                 *operator,
                 &first.ty,
                 &second.ty,
@@ -198,7 +204,7 @@ fn label_binary<S: TypeStore>(
             let second = type_expr(checker, setting, env, &None, right)?;
             label_comparison(
                 checker,
-                setting.parents,
+                setting.globals.outline.parents,
                 *operator,
                 left,
                 &first,
@@ -225,9 +231,9 @@ fn label_connective<S: TypeStore>(
 ) -> Result<Label<S::Ty>, OutOfMemory>
     requires given { Stands S.TypeStore checker.old setting.now env.now }
     requires form { IsConnective e.now }
-    ensures marked { (expected : Option Tree) → IfOk result
+    ensures labelled { (expected : Option Tree) → IfOk result
         (λ l. IsLabel S.TypeStore checker.new l
-        (mark_in (standing_of S.tree setting.now env.now) expected (expr_of e.now))) }
+        (label_in (standing_of S.tree setting.now env.now) expected (expr_of e.now))) }
     ensures found { (expected : Option Tree) → OnOk result (Finds checker.old checker.new
         (parts_find (standing_of S.tree setting.now env.now) expected (expr_of e.now))) }
     ensures goes_on { GoesOn S.TypeStore checker.old checker.new }
@@ -240,7 +246,7 @@ fn label_connective<S: TypeStore>(
             label_junction(
                 checker.store,
                 checker.alloc,
-                setting.parents,
+                setting.globals.outline.parents,
                 &first.label.ty,
                 &second.ty,
             )
@@ -252,7 +258,7 @@ fn label_connective<S: TypeStore>(
             label_junction(
                 checker.store,
                 checker.alloc,
-                setting.parents,
+                setting.globals.outline.parents,
                 &first.label.ty,
                 &second.ty,
             )

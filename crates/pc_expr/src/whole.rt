@@ -5,15 +5,15 @@ ghost use Rattle.pc_tree.specs.Lists.{exprs_of_list};
 ghost use Rattle.pc_types.specs.Store.{KeepsTypes, Means};
 ghost use Rattle.pc_class.specs.Tables.{HasEntries};
 ghost use Rattle.pc_flow.specs.Stored.{HasEach, env_of};
-ghost use Rattle.pc_rules.specs.Calls.{first_type, length_mark};
-ghost use Rattle.pc_rules.specs.Checkers.{GoesOn, IsLabel};
-ghost use Rattle.pc_rules.specs.Lawful.{whole_call_mark};
-ghost use Rattle.pc_rules.specs.Standing.{context_with, IsMark};
-ghost use Rattle.pc_call.specs.JudgedCalls.{offer_called, rule_of, HasCallOffer};
+ghost use Rattle.pc_rules.specs.Calls.{first_type, length_label};
+ghost use Rattle.pc_rules.specs.Computed.Checkers.{GoesOn, IsLabel};
+ghost use Rattle.pc_rules.specs.Lawful.{whole_call_label};
+ghost use Rattle.pc_rules.specs.Computed.Standing.{context_with, MeansLabel};
+ghost use Rattle.pc_calls.specs.JudgedCalls.{offer_called, rule_of, HasCallOffer};
 
-use pc_call::{CallRule, Callee, members_label, test_label};
+use pc_calls::{CallRule, Callee, members_label, test_label};
 use pc_flow::Env;
-use pc_operate::{Operation, member_offers, offers_label};
+use pc_operations::{Operation, member_offers, offers_label};
 use pc_rules::{Checker, Label, Setting};
 use pc_source::OutOfMemory;
 use pc_tree::Expr;
@@ -43,22 +43,22 @@ fn length_label<S: TypeStore>(
     setting: &Setting<'_, S::Ty>,
     types: &[S::Ty],
 ) -> Result<Label<S::Ty>, OutOfMemory>
-    requires classes { HasEntries (S.has store.old) setting.now.classes.now }
+    requires classes { HasEntries (S.has store.old) setting.now.globals.now.classes.now }
     requires types { All (S.has store.old) types.now }
     ensures label { IfOk result
-        (λ l. IsMark S.has S.tree store.new l (length_mark setting.now.parents.now (map S.tree types.now))) }
+        (λ l. MeansLabel S.has S.tree store.new l (length_label setting.now.globals.now.outline.now.parents.now (map S.tree types.now))) }
     ensures kept { KeepsTypes S.has store.old store.new }
 {
     let ty = first_type(store, alloc, types)?;
     let offers = member_offers(
         store,
         alloc,
-        setting.parents,
-        setting.classes,
+        setting.globals.outline.parents,
+        setting.globals.classes,
         Operation::Length,
         &ty,
     )?;
-    offers_label(store, alloc, setting.parents, &offers)
+    offers_label(store, alloc, setting.globals.outline.parents, &offers)
 }
 
 /// The label of a call, by the rule of its callee. Language Reference 6.3.4 "Calls".
@@ -70,13 +70,13 @@ pub(crate) fn call_label<S: TypeStore>(
     arguments: &[Expr],
     types: &[S::Ty],
 ) -> Result<Label<S::Ty>, OutOfMemory>
-    requires classes { HasEntries (S.has checker.old.store.now) setting.now.classes.now }
+    requires classes { HasEntries (S.has checker.old.store.now) setting.now.globals.now.classes.now }
     requires env { HasEach (S.has checker.old.store.now) env.now }
     requires offers { All (HasCallOffer (S.has checker.old.store.now)) callee.now.offers.items }
     requires types { All (S.has checker.old.store.now) types.now }
     ensures label { IfOk result
         (λ l. IsLabel S.TypeStore checker.new l
-        (whole_call_mark (context_with S.tree setting.now) (env_of S.tree env.now) (rule_of callee.now.rule)
+        (whole_call_label (context_with S.tree setting.now) (env_of S.tree env.now) (rule_of callee.now.rule)
         (map (offer_called S.tree) callee.now.offers.items) (exprs_of_list arguments.now) (map S.tree types.now))) }
     ensures found { checker.new.found.now ≡ checker.old.found.now }
     ensures goes_on { GoesOn S.TypeStore checker.old checker.new }
@@ -86,7 +86,7 @@ pub(crate) fn call_label<S: TypeStore>(
             members_label(
                 checker.store,
                 checker.alloc,
-                setting.parents,
+                setting.globals.outline.parents,
                 &callee.offers,
             )
         }

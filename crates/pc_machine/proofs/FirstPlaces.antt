@@ -5,7 +5,7 @@ use Rattle.std.specs.Option.{option_map}
 use Rattle.std.specs.Borrow.{Bor}
 use Rattle.std.proofs.lemmas.List.{map-append}
 use Rattle.indexmap.specs.IndexMap.{IndexMap}
-use Rattle.pc_names.specs.Names.{at_text, first_of, bound_as}
+use Rattle.pc_tree.specs.Names.{at_text, first_of, bound_as}
 use Rattle.pc_value.specs.Texts.{same_text}
 use Rattle.pc_machine.specs.declared.state.Global.{Global as RustGlobal}
 use Rattle.pc_machine.specs.State.{GlobalBinding}

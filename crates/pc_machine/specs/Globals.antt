@@ -4,7 +4,7 @@ use Rattle.std.specs.Prelude.{◌≡◌, ℕ, suc, List, [], ◌∷◌, Option, 
 use Rattle.std.specs.Option.{option_map}
 use Rattle.std.specs.Borrow.{Bor}
 use Rattle.indexmap.specs.IndexMap.{IndexMap}
-use Rattle.pc_names.specs.Names.{at_text}
+use Rattle.pc_tree.specs.Names.{at_text}
 use Rattle.pc_value.specs.Texts.{same_text}
 use Rattle.pc_machine.specs.declared.state.Global.{Global as RustGlobal}
 

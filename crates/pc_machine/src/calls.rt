@@ -3,7 +3,7 @@
 ghost use Rattle.std.specs.Prelude.{◌≡◌, map, IfOk, List, ℕ, chars, string_bytes};
 ghost use Rattle.std.specs.List.{list_all};
 ghost use Rattle.pc_tree.specs.Stopping.{is_among};
-ghost use Rattle.pc_names.specs.Names.{at_text, texts_in};
+ghost use Rattle.pc_tree.specs.Names.{at_text, texts_in};
 ghost use Rattle.pc_tree.specs.Tree.{literal_of, param_of};
 ghost use Rattle.pc_value.specs.Meaning.{value_of};
 ghost use Rattle.pc_value.specs.Internal.Keys.{option_value};
@@ -13,9 +13,8 @@ ghost use Rattle.pc_machine.specs.Machine.{locals_of, default_of};
 
 use crate::state::{Local, NamedValue, Parameter};
 use indexmap::{IndexMap, IndexSet};
-use pc_names::{NameMap, NameSet, bind_first, put};
 use pc_source::OutOfMemory;
-use pc_tree::{Literal, LiteralKind, Param};
+use pc_tree::{Literal, LiteralKind, NameMap, NameSet, Param, bind_first, put};
 use pc_value::Value;
 use std::alloc::Global;
 use std::hash::RandomState;

@@ -5,8 +5,8 @@ ghost use Rattle.pc_machine.specs.Machine.{global_of as global_seen, bound_of, f
 
 use crate::state::{Bound, Global, Globals};
 use indexmap::IndexMap;
-use pc_names::bind_first;
 use pc_source::OutOfMemory;
+use pc_tree::bind_first;
 use std::alloc::Global as Allocator;
 use std::hash::RandomState;
 

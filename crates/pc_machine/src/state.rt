@@ -3,8 +3,7 @@
 ghost use Rattle.std.specs.Prelude.{map};
 ghost use Rattle.pc_machine.specs.Globals.{ArePlaced, name_of_global};
 
-use pc_names::NameMap;
-use pc_tree::{FuncDef, Literal};
+use pc_tree::{FuncDef, Literal, NameMap};
 use pc_value::Value;
 
 /// A parameter of a def, or a field of a class. Language Reference 8.7 "Function definitions".

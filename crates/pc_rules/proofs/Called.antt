@@ -17,11 +17,11 @@ use Rattle.pc_types.specs.Shape.{members}
 use Rattle.pc_class.specs.Facts as facts
 use Rattle.pc_class.specs.Facts.{TypedParameter, Method, field_by_name, method_by_name, class_facts_at}
 use Rattle.pc_flow.specs.Environment.{Env, join_or_object}
-use Rattle.pc_rules.specs.Operations.{Mark, in_error, has_error, length_member}
-use Rattle.pc_rules.specs.Context.{Context, Signature, name_mark}
-use Rattle.pc_rules.specs.Calls.{GivenArguments, is_suited, CallOffer, fails_at_call, fails_at_callee, signature_offer, value_offer, value_offers, class_signature, method_signature, unnamed_parameter, builtin_signature, class_offers, list_offers, dict_offers, method_offers, is_one, builtin_callee, is_two, CallRule, member_rule, length_rule, test_rule, own_callee, first_type, CalleeLabel, function_offer, value_callee, good_callee, name_callee, method_callee, all_codes, call_mark, signatures, Seat, only_member, expected_type, type_at, positional_seat, named_seat, nowhere, length_mark, plain_call}
-use Rattle.pc_rules.specs.Labels.{Marks, mark_of, type_of}
-use Rattle.pc_rules.specs.Lawful.{callee_of, whole_call_mark, keyword_seat}
+use Rattle.pc_rules.specs.Operations.{Label, in_error, has_error, length_member}
+use Rattle.pc_rules.specs.Context.{Context, Signature, name_label}
+use Rattle.pc_rules.specs.Calls.{GivenArguments, is_suited, CallOffer, fails_at_call, fails_at_callee, signature_offer, value_offer, value_offers, class_signature, method_signature, unnamed_parameter, builtin_signature, class_offers, list_offers, dict_offers, method_offers, is_one, builtin_callee, is_two, CallRule, member_rule, length_rule, test_rule, own_callee, first_type, CalleeLabel, function_offer, value_callee, good_callee, name_callee, method_callee, all_codes, call_label, signatures, Seat, only_member, expected_type, type_at, positional_seat, named_seat, nowhere, length_label, plain_call}
+use Rattle.pc_rules.specs.Labels.{Labels, whole_label, type_of}
+use Rattle.pc_rules.specs.Lawful.{callee_of, whole_call_label, keyword_seat}
 use Rattle.pc_types.specs.WellFormed.{IsWellFormed}
 use Rattle.pc_flow.specs.WellFormed.{IsWellFormedIfAny, IsWellFormedEnv, AreWellFormed}
 use Rattle.pc_flow.proofs.Conditions.{join_object_well_formed}
@@ -30,7 +30,7 @@ use Rattle.pc_rules.proofs.Names.{name_well_formed}
 use Rattle.pc_rules.proofs.OfferedTypes.{ParameterWellFormed, FoundMethodWellFormed, field_well_formed, method_well_formed, each_well_formed, length_well_formed, offers_well_formed}
 use Rattle.pc_class.specs.WellFormed.{ParametersWellFormed, ClassesWellFormed}
 use Rattle.pc_class.proofs.WellFormed.{class_at_well_formed}
-use Rattle.pc_rules.specs.WellFormed.{SignatureWellFormed, SignaturesWellFormed, ContextWellFormed}
+use Rattle.pc_rules.specs.Laws.WellFormed.{SignatureWellFormed, SignaturesWellFormed, ContextWellFormed}
 
 -- what a call comes to on one member is of well-formed types
 pub record CallWellFormed (bases : Bases) (o : CallOffer) : Type 0 where
@@ -180,20 +180,20 @@ module _ (bases : Bases) where
     dict_calls g word k v h j =
         if_calls (bytes_eq word (codes "get")) _ _ (called_well_formed g (builtin_signature (k ∷ []) (join_or_object bases v NoneType)) (builtin_well_formed (k ∷ []) (join_or_object bases v NoneType) (h, tt) (join_object_well_formed bases v NoneType o j (none_well_formed bases))), tt) (fails_well_formed E15)
 
-    call_well_formed : (os : List CallOffer) → CallsWellFormed bases os → IsWellFormed bases (call_mark bases os).type
+    call_well_formed : (os : List CallOffer) → CallsWellFormed bases os → IsWellFormed bases (call_label bases os).type
     call_well_formed os h = if_any bases (has_error (all_codes os)) _ (all_well_formed bases o _ (call_gives os h))
 
     first_well_formed : (ts : List Tree) → AreWellFormed bases ts → IsWellFormed bases (first_type ts)
     first_well_formed [] h = never_well_formed bases
     first_well_formed (t ∷ ts) h = h.0
 
-    length_mark_well_formed : (ts : List Tree) → AreWellFormed bases ts → IsWellFormed bases (length_mark bases ts).type
-    length_mark_well_formed ts h = offers_well_formed bases o _ (each_well_formed bases length_member (length_well_formed bases) (first_type ts) (first_well_formed ts h))
+    length_label_well_formed : (ts : List Tree) → AreWellFormed bases ts → IsWellFormed bases (length_label bases ts).type
+    length_label_well_formed ts h = offers_well_formed bases o _ (each_well_formed bases length_member (length_well_formed bases) (first_type ts) (first_well_formed ts h))
 
 module _ (ctx : Context) (ck : ContextWellFormed ctx) where
-  pub whole_call_well_formed : (env : Env) (rule : CallRule) (os : List CallOffer) (args : Exprs) (ts : List Tree) → CallsWellFormed ctx.bases os → AreWellFormed ctx.bases ts → IsWellFormed ctx.bases (whole_call_mark ctx env rule os args ts).type
+  pub whole_call_well_formed : (env : Env) (rule : CallRule) (os : List CallOffer) (args : Exprs) (ts : List Tree) → CallsWellFormed ctx.bases os → AreWellFormed ctx.bases ts → IsWellFormed ctx.bases (whole_call_label ctx env rule os args ts).type
   whole_call_well_formed env member_rule os args ts h k = call_well_formed ctx.bases ck.smaller os h
-  whole_call_well_formed env length_rule os args ts h k = length_mark_well_formed ctx.bases ck.smaller ts k
+  whole_call_well_formed env length_rule os args ts h k = length_label_well_formed ctx.bases ck.smaller ts k
   whole_call_well_formed env test_rule os args ts h k = bool_well_formed ctx.bases
 
   method_calls : (g : GivenArguments) (word : List ℕ) (t : Tree) → IsWellFormed ctx.bases t → CallsWellFormed ctx.bases (method_offers ctx g word t)
@@ -216,43 +216,43 @@ module _ (ctx : Context) (ck : ContextWellFormed ctx) where
   name_calls env g (res.Func i) = if_offers ctx.bases ctx.in_body (good_callee (function_offer g (slice_get ctx.functions i) ∷ [])) (value_callee (in_error E03)) (function_well_formed g ctx.functions i ck.functions, tt) (called_value ctx.bases Any)
   name_calls env g (res.Class c) = if_offers ctx.bases (nat_lt c ctx.known) (good_callee (signature_offer g (class_signature ctx.classes c) ∷ [])) (value_callee (in_error E03)) (called_well_formed ctx.bases g (class_signature ctx.classes c) (class_signature_well_formed ctx.bases ctx.classes ck.classes c), tt) (called_value ctx.bases Any)
   name_calls env g (res.Builtin b) = built_in ctx.bases g b
-  name_calls env g (res.Local x) = called_value ctx.bases (name_mark ctx env (res.Local x)).type
-  name_calls env g (res.Const i) = called_value ctx.bases (name_mark ctx env (res.Const i)).type
+  name_calls env g (res.Local x) = called_value ctx.bases (name_label ctx env (res.Local x)).type
+  name_calls env g (res.Const i) = called_value ctx.bases (name_label ctx env (res.Const i)).type
   name_calls env g res.None = called_value ctx.bases Any
 
-  value_calls : (m : Mark) → CallsWellFormed ctx.bases (if ctx.in_body then value_callee m else value_callee (in_error E03)).offers
+  value_calls : (m : Label) → CallsWellFormed ctx.bases (if ctx.in_body then value_callee m else value_callee (in_error E03)).offers
   value_calls m = if_offers ctx.bases ctx.in_body (value_callee m) (value_callee (in_error E03)) (called_value ctx.bases m.type) (called_value ctx.bases Any)
 
   -- of a callee that is an attribute its object's type is well-formed
-  abbrev pub ObjectWellFormed : (e : Expr) → Marks e → Type 0
+  abbrev pub ObjectWellFormed : (e : Expr) → Labels e → Type 0
   ObjectWellFormed (attribute p e f) m = IsWellFormed ctx.bases (type_of e m.object)
   ObjectWellFormed _ m = Unit {0}
 
-  pub callee_well_formed : (env : Env) (g : GivenArguments) (e : Expr) (m : Marks e) → ObjectWellFormed e m → CallsWellFormed ctx.bases (callee_of ctx env g e m).offers
+  pub callee_well_formed : (env : Env) (g : GivenArguments) (e : Expr) (m : Labels e) → ObjectWellFormed e m → CallsWellFormed ctx.bases (callee_of ctx env g e m).offers
   callee_well_formed env g (name n) m h = name_calls env g (ctx.resolve n.text)
   callee_well_formed env g (attribute p e f) m h = if_offers ctx.bases ctx.in_body (method_callee ctx g f.text (type_of e m.object)) (value_callee (in_error E03)) (each_method g f.text (members (type_of e m.object)) (members_well_formed ctx.bases (type_of e m.object) h)) (called_value ctx.bases Any)
-  callee_well_formed env g e m h = value_calls (mark_of e m)
+  callee_well_formed env g e m h = value_calls (whole_label e m)
 
   -- ---- the label of a callee
 
-  if_mark : (b : Test) (c d : CalleeLabel) → IsWellFormed ctx.bases c.mark.type → IsWellFormed ctx.bases d.mark.type → IsWellFormed ctx.bases (if b then c else d).mark.type
-  if_mark true c d h k = h
-  if_mark false c d h k = k
+  if_label : (b : Test) (c d : CalleeLabel) → IsWellFormed ctx.bases c.label.type → IsWellFormed ctx.bases d.label.type → IsWellFormed ctx.bases (if b then c else d).label.type
+  if_label true c d h k = h
+  if_label false c d h k = k
 
-  built_in_mark : (g : GivenArguments) (b : Builtin) → IsWellFormed ctx.bases (builtin_callee g b).mark.type
-  built_in_mark g builtin.Len = if_mark (is_one g) (own_callee length_rule) (good_callee (fails_at_call E14 ∷ [])) (any_well_formed ctx.bases) (any_well_formed ctx.bases)
-  built_in_mark g builtin.IsInstance = if_mark (is_two g) (own_callee test_rule) (good_callee (fails_at_call E14 ∷ [])) (any_well_formed ctx.bases) (any_well_formed ctx.bases)
-  built_in_mark g _ = any_well_formed ctx.bases
+  built_in_label : (g : GivenArguments) (b : Builtin) → IsWellFormed ctx.bases (builtin_callee g b).label.type
+  built_in_label g builtin.Len = if_label (is_one g) (own_callee length_rule) (good_callee (fails_at_call E14 ∷ [])) (any_well_formed ctx.bases) (any_well_formed ctx.bases)
+  built_in_label g builtin.IsInstance = if_label (is_two g) (own_callee test_rule) (good_callee (fails_at_call E14 ∷ [])) (any_well_formed ctx.bases) (any_well_formed ctx.bases)
+  built_in_label g _ = any_well_formed ctx.bases
 
-  name_callee_mark : (env : Env) → IsWellFormedEnv ctx.bases env → (g : GivenArguments) (r : Res) → IsWellFormed ctx.bases (name_callee ctx env g r).mark.type
-  name_callee_mark env k g (res.Func i) = if_mark ctx.in_body (good_callee (function_offer g (slice_get ctx.functions i) ∷ [])) (value_callee (in_error E03)) (any_well_formed ctx.bases) (any_well_formed ctx.bases)
-  name_callee_mark env k g (res.Class c) = if_mark (nat_lt c ctx.known) (good_callee (signature_offer g (class_signature ctx.classes c) ∷ [])) (value_callee (in_error E03)) (any_well_formed ctx.bases) (any_well_formed ctx.bases)
-  name_callee_mark env k g (res.Builtin b) = built_in_mark g b
-  name_callee_mark env k g (res.Local x) = name_well_formed ctx ck env k (res.Local x)
-  name_callee_mark env k g (res.Const i) = name_well_formed ctx ck env k (res.Const i)
-  name_callee_mark env k g res.None = name_well_formed ctx ck env k res.None
+  name_callee_label : (env : Env) → IsWellFormedEnv ctx.bases env → (g : GivenArguments) (r : Res) → IsWellFormed ctx.bases (name_callee ctx env g r).label.type
+  name_callee_label env k g (res.Func i) = if_label ctx.in_body (good_callee (function_offer g (slice_get ctx.functions i) ∷ [])) (value_callee (in_error E03)) (any_well_formed ctx.bases) (any_well_formed ctx.bases)
+  name_callee_label env k g (res.Class c) = if_label (nat_lt c ctx.known) (good_callee (signature_offer g (class_signature ctx.classes c) ∷ [])) (value_callee (in_error E03)) (any_well_formed ctx.bases) (any_well_formed ctx.bases)
+  name_callee_label env k g (res.Builtin b) = built_in_label g b
+  name_callee_label env k g (res.Local x) = name_well_formed ctx ck env k (res.Local x)
+  name_callee_label env k g (res.Const i) = name_well_formed ctx ck env k (res.Const i)
+  name_callee_label env k g res.None = name_well_formed ctx ck env k res.None
 
-  pub callee_mark_well_formed : (env : Env) → IsWellFormedEnv ctx.bases env → (g : GivenArguments) (e : Expr) (m : Marks e) → IsWellFormed ctx.bases (type_of e m) → IsWellFormed ctx.bases (callee_of ctx env g e m).mark.type
-  callee_mark_well_formed env k g (name n) m h = name_callee_mark env k g (ctx.resolve n.text)
-  callee_mark_well_formed env k g (attribute p e f) m h = if_mark ctx.in_body (method_callee ctx g f.text (type_of e m.object)) (value_callee (in_error E03)) (any_well_formed ctx.bases) (any_well_formed ctx.bases)
-  callee_mark_well_formed env k g e m h = if_mark ctx.in_body (value_callee (mark_of e m)) (value_callee (in_error E03)) h (any_well_formed ctx.bases)
+  pub callee_label_well_formed : (env : Env) → IsWellFormedEnv ctx.bases env → (g : GivenArguments) (e : Expr) (m : Labels e) → IsWellFormed ctx.bases (type_of e m) → IsWellFormed ctx.bases (callee_of ctx env g e m).label.type
+  callee_label_well_formed env k g (name n) m h = name_callee_label env k g (ctx.resolve n.text)
+  callee_label_well_formed env k g (attribute p e f) m h = if_label ctx.in_body (method_callee ctx g f.text (type_of e m.object)) (value_callee (in_error E03)) (any_well_formed ctx.bases) (any_well_formed ctx.bases)
+  callee_label_well_formed env k g e m h = if_label ctx.in_body (value_callee (whole_label e m)) (value_callee (in_error E03)) h (any_well_formed ctx.bases)

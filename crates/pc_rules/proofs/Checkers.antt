@@ -3,7 +3,7 @@ use Rattle.std.proofs.Common.{◌≡◌, ◌∙◌, ◌++◌, List, sym, append_
 use Rattle.pc_types.specs.declared.store.TypeStore.{Ghosts as StoreOf}
 use Rattle.pc_notes.specs.Notes.{Note}
 use Rattle.pc_rules.specs.declared.checker.Checker.{Checker}
-use Rattle.pc_rules.specs.Checkers.{GoesOn}
+use Rattle.pc_rules.specs.Computed.Checkers.{GoesOn}
 
 -- two steps
 pub goes_further : {Store Ty : Type 0} {S : StoreOf Store Ty} {a b c : Checker Store Ty} → GoesOn S a b → GoesOn S b c → GoesOn S a c

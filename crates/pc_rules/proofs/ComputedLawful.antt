@@ -13,23 +13,23 @@ use Rattle.pc_flow.specs.Environment.{Env, join_all}
 use Rattle.pc_flow.specs.Narrowing.{narrow}
 use Rattle.pc_flow.specs.WellFormed.{IsWellFormedIfAny, IsWellFormedEnv, AreWellFormed}
 use Rattle.pc_flow.proofs.Conditions.{conditions_well_formed, join_object_well_formed}
-use Rattle.pc_rules.specs.Operations.{Mark, operand_types, negative_member, attribute_member, index_member}
+use Rattle.pc_rules.specs.Operations.{Label, operand_types, negative_member, attribute_member, index_member}
 use Rattle.pc_rules.specs.Context.{Context}
 use Rattle.pc_rules.specs.Calls.{Seat, arguments_given, count_exprs, positional_seat, named_seat}
-use Rattle.pc_rules.specs.Labels.{Marks, ItemsMarks, EntriesMarks, KeywordsMarks, mark_of, type_of, item_types, key_types, value_types, with_mark}
-use Rattle.pc_rules.specs.Lawful.{list_item, KeyValue, dict_parts, tuple_parts, members_of_expected, item_seat, part_seat, key_seat, value_seat, int_literal, compare_types, callee_of, keyword_seat, DictMark, no_keys, int_keys, str_keys, other_keys, DictRule, Lawful, LawfulItems, LawfulEntries, LawfulKeywords}
-use Rattle.pc_rules.specs.WellFormed.{ContextWellFormed, MarksWellFormed, ItemsWellFormed, EntriesWellFormed, KeywordsWellFormed, ExpressionsHaveLabels, LawfulLabelsAreWellFormed}
-use Rattle.pc_rules.specs.Computed.{keys_mark, dict_mark, labels, items_labels, entries_labels, keywords_labels, labels_of, LabelsAreLawful}
+use Rattle.pc_rules.specs.Labels.{Labels, ItemsLabels, EntriesLabels, KeywordsLabels, whole_label, type_of, item_types, key_types, value_types, with_label}
+use Rattle.pc_rules.specs.Lawful.{list_item, KeyValue, dict_parts, tuple_parts, members_of_expected, item_seat, part_seat, key_seat, value_seat, int_literal, compare_types, callee_of, keyword_seat, DictLabel, no_keys, int_keys, str_keys, other_keys, DictRule, Lawful, LawfulItems, LawfulEntries, LawfulKeywords}
+use Rattle.pc_rules.specs.Laws.WellFormed.{ContextWellFormed, LabelsWellFormed, ItemsWellFormed, EntriesWellFormed, KeywordsWellFormed, ExpressionsHaveLabels, LawfulLabelsAreWellFormed}
+use Rattle.pc_rules.specs.Computed.Expressions.{keys_label, dict_label, labels, items_labels, entries_labels, keywords_labels, labels_of, LabelsAreLawful}
 use Rattle.pc_rules.proofs.WellFormed.{any_well_formed, int_well_formed, bool_well_formed, str_well_formed, none_well_formed, all_well_formed}
 use Rattle.pc_rules.proofs.One.{one_labelling}
 use Rattle.pc_rules.proofs.Names.{name_well_formed}
 use Rattle.pc_rules.proofs.OfferedTypes.{each_well_formed, negative_well_formed, attribute_well_formed, index_well_formed, offers_well_formed, operands_well_formed, binary_well_formed}
-use Rattle.pc_rules.proofs.Called.{SeatWellFormed, ObjectWellFormed, positional_well_formed, named_well_formed, keyword_well_formed, callee_well_formed, whole_call_well_formed, callee_mark_well_formed}
+use Rattle.pc_rules.proofs.Called.{SeatWellFormed, ObjectWellFormed, positional_well_formed, named_well_formed, keyword_well_formed, callee_well_formed, whole_call_well_formed, callee_label_well_formed}
 use Rattle.pc_rules.proofs.Expected.{DictWellFormed, int_dict, str_dict, wanted_members, list_item_well_formed, list_seat_well_formed, list_well_formed, tuple_parts_well_formed, part_seat_well_formed, tuple_well_formed, dict_parts_well_formed, key_seat_well_formed, value_seat_well_formed, compare_well_formed, compare_types_well_formed}
 use Rattle.pc_rules.proofs.ComputedFlows.{AreTests, into_is, flows_well_formed, are_tests}
 
 -- the labels with another well-formed one for the expression itself
-with_well_formed : (bases : Bases) (e : Expr) (m : Marks e) (here : Mark) → IsWellFormed bases here.type → MarksWellFormed bases e m → MarksWellFormed bases e (with_mark e m here)
+with_well_formed : (bases : Bases) (e : Expr) (m : Labels e) (here : Label) → IsWellFormed bases here.type → LabelsWellFormed bases e m → LabelsWellFormed bases e (with_label e m here)
 with_well_formed bases (name n) m here h k = h
 with_well_formed bases (number p digits) m here h k = h
 with_well_formed bases (text p characters) m here h k = h
@@ -64,37 +64,37 @@ module _ (ctx : Context) (declared : List Tree) (ck : ContextWellFormed ctx) (dk
   not_all : (u : Tree) → IsWellFormed ctx.bases u → (ts : List Tree) → AreWellFormed ctx.bases ts → list_all (λ t. static t u) ts ≡ false → All (λ t. Static ctx.bases t u) ts → ⊥
   not_all u k ts h e a = false≢true (sym e ∙ of_all u k ts h a)
 
-  keys_ruled : (k : Tree) (ks values : List Tree) → AreWellFormed ctx.bases (k ∷ ks) → AreWellFormed ctx.bases values → (x y : Test) → list_all (λ t. static t Int) (k ∷ ks) ≡ x → list_all (λ t. static t Str) (k ∷ ks) ≡ y → DictMark ctx.bases values (k ∷ ks) (keys_mark ctx declared static assignable x y values) × IsWellFormed ctx.bases (keys_mark ctx declared static assignable x y values).type
+  keys_ruled : (k : Tree) (ks values : List Tree) → AreWellFormed ctx.bases (k ∷ ks) → AreWellFormed ctx.bases values → (x y : Test) → list_all (λ t. static t Int) (k ∷ ks) ≡ x → list_all (λ t. static t Str) (k ∷ ks) ≡ y → DictLabel ctx.bases values (k ∷ ks) (keys_label ctx declared static assignable x y values) × IsWellFormed ctx.bases (keys_label ctx declared static assignable x y values).type
   keys_ruled k ks values h v true y e f = (int_keys (all_of Int (int_well_formed ctx.bases) (k ∷ ks) h e), int_dict ctx.bases ck.smaller (join_all ctx.bases values) (all_well_formed ctx.bases ck.smaller values v))
   keys_ruled k ks values h v false true e f = (str_keys (not_all Int (int_well_formed ctx.bases) (k ∷ ks) h e) (all_of Str (str_well_formed ctx.bases) (k ∷ ks) h f), str_dict ctx.bases ck.smaller (join_all ctx.bases values) (all_well_formed ctx.bases ck.smaller values v))
   keys_ruled k ks values h v false false e f = (other_keys (not_all Int (int_well_formed ctx.bases) (k ∷ ks) h e) (not_all Str (str_well_formed ctx.bases) (k ∷ ks) h f), any_well_formed ctx.bases)
 
-  ruled : (kv : Option KeyValue) (keys values : List Tree) → DictWellFormed ctx.bases kv → AreWellFormed ctx.bases keys → AreWellFormed ctx.bases values → DictRule ctx.bases kv keys values (dict_mark ctx declared static assignable kv keys values) × IsWellFormed ctx.bases (dict_mark ctx declared static assignable kv keys values).type
+  ruled : (kv : Option KeyValue) (keys values : List Tree) → DictWellFormed ctx.bases kv → AreWellFormed ctx.bases keys → AreWellFormed ctx.bases values → DictRule ctx.bases kv keys values (dict_label ctx declared static assignable kv keys values) × IsWellFormed ctx.bases (dict_label ctx declared static assignable kv keys values).type
   ruled (Some kv) keys values h k v = (refl, h)
   ruled None [] values h k v = (no_keys, any_well_formed ctx.bases)
   ruled None (t ∷ ts) values h k v = keys_ruled t ts values k v (list_all (λ u. static u Int) (t ∷ ts)) (list_all (λ u. static u Str) (t ∷ ts)) refl refl
 
   -- the labels of an expression, of items, of entries and of arguments by name
-  abbrev labels_here : Env → Option Tree → (e : Expr) → Marks e
+  abbrev labels_here : Env → Option Tree → (e : Expr) → Labels e
   labels_here env want e = labels ctx declared static assignable env want e
 
   -- those of items
-  abbrev items_here : Env → (ℕ → Seat) → (es : Exprs) → ItemsMarks es
+  abbrev items_here : Env → (ℕ → Seat) → (es : Exprs) → ItemsLabels es
   items_here env seat es = items_labels ctx declared static assignable env seat es
 
   -- those of entries
-  abbrev entries_here : Env → Seat → Seat → (es : Entries) → EntriesMarks es
+  abbrev entries_here : Env → Seat → Seat → (es : Entries) → EntriesLabels es
   entries_here env x y es = entries_labels ctx declared static assignable env x y es
 
   -- those of arguments by name
-  abbrev keywords_here : Env → (List ℕ → Seat) → List (List ℕ) → (es : Keywords) → KeywordsMarks es
+  abbrev keywords_here : Env → (List ℕ → Seat) → List (List ℕ) → (es : Keywords) → KeywordsLabels es
   keywords_here env seat before es = keywords_labels ctx declared static assignable env seat before es
 
   -- they are lawful, and the type is well-formed; so is the type of the object of an attribute, which a call of it reads
   pub record AreLawful (env : Env) (want : Option Tree) (e : Expr) : Type 0 where
     pub lawful : Lawful ctx declared env want e (labels_here env want e)
     pub well_formed : IsWellFormed ctx.bases (type_of e (labels_here env want e))
-    pub each : MarksWellFormed ctx.bases e (labels_here env want e)
+    pub each : LabelsWellFormed ctx.bases e (labels_here env want e)
     pub object : ObjectWellFormed ctx ck e (labels_here env want e)
 
   -- so for items
@@ -182,8 +182,8 @@ module _ (ctx : Context) (declared : List Tree) (ck : ContextWellFormed ctx) (dk
     labels_lawful env k want w (compare p o l r) =
         let a = labels_lawful env k None tt l in
         let b = labels_lawful env k None tt r in
-        let f = into_is ctx.bases static assignable tests (mark_of l (labels_here env None l)) (compare_types o (type_of r (labels_here env None r))) a.well_formed (compare_types_well_formed ctx.bases o (type_of r (labels_here env None r)) b.well_formed) in
-        let fw = flows_well_formed ctx.bases static assignable tests (mark_of l (labels_here env None l)) (compare_types o (type_of r (labels_here env None r))) a.well_formed (compare_types_well_formed ctx.bases o (type_of r (labels_here env None r)) b.well_formed) in
+        let f = into_is ctx.bases static assignable tests (whole_label l (labels_here env None l)) (compare_types o (type_of r (labels_here env None r))) a.well_formed (compare_types_well_formed ctx.bases o (type_of r (labels_here env None r)) b.well_formed) in
+        let fw = flows_well_formed ctx.bases static assignable tests (whole_label l (labels_here env None l)) (compare_types o (type_of r (labels_here env None r))) a.well_formed (compare_types_well_formed ctx.bases o (type_of r (labels_here env None r)) b.well_formed) in
         let t : IsWellFormed ctx.bases (type_of (compare p o l r) (labels_here env want (compare p o l r))) = compare_well_formed ctx.bases ck.smaller o (type_of l (labels_here env None l)) (type_of r (labels_here env None r)) b.well_formed in
         record {
           lawful = record { left = a.lawful; right = b.lawful; here = refl; flows = f };
@@ -232,8 +232,8 @@ module _ (ctx : Context) (declared : List Tree) (ck : ContextWellFormed ctx) (dk
         let a = labels_lawful env k None tt e in
         let b = labels_lawful env k None tt i in
         let h = each_well_formed ctx.bases (index_member ctx.bases (int_literal i)) (index_well_formed ctx.bases ck.smaller (int_literal i)) (type_of e (labels_here env None e)) a.well_formed in
-        let f = into_is ctx.bases static assignable tests (mark_of i (labels_here env None i)) (operand_types (map (index_member ctx.bases (int_literal i)) (members (type_of e (labels_here env None e))))) b.well_formed (operands_well_formed ctx.bases _ h) in
-        let fw = flows_well_formed ctx.bases static assignable tests (mark_of i (labels_here env None i)) (operand_types (map (index_member ctx.bases (int_literal i)) (members (type_of e (labels_here env None e))))) b.well_formed (operands_well_formed ctx.bases _ h) in
+        let f = into_is ctx.bases static assignable tests (whole_label i (labels_here env None i)) (operand_types (map (index_member ctx.bases (int_literal i)) (members (type_of e (labels_here env None e))))) b.well_formed (operands_well_formed ctx.bases _ h) in
+        let fw = flows_well_formed ctx.bases static assignable tests (whole_label i (labels_here env None i)) (operand_types (map (index_member ctx.bases (int_literal i)) (members (type_of e (labels_here env None e))))) b.well_formed (operands_well_formed ctx.bases _ h) in
         let t : IsWellFormed ctx.bases (type_of (index p e i) (labels_here env want (index p e i))) = offers_well_formed ctx.bases ck.smaller _ h in
         record {
           lawful = record { object = a.lawful; key = b.lawful; here = refl; flows = f };
@@ -248,7 +248,7 @@ module _ (ctx : Context) (declared : List Tree) (ck : ContextWellFormed ctx) (dk
         let h = callee_well_formed ctx ck env (arguments_given args kws) c (labels_here env None c) v.object in
         let a = items_lawful env k (positional_seat os) (positional_well_formed ctx.bases os h) args in
         let b = keywords_lawful env k (named_seat os) (named_well_formed ctx.bases os h) [] kws in
-        let cw = with_well_formed ctx.bases c (labels_here env None c) callee.mark (callee_mark_well_formed ctx ck env k (arguments_given args kws) c (labels_here env None c) v.well_formed) v.each in
+        let cw = with_well_formed ctx.bases c (labels_here env None c) callee.label (callee_label_well_formed ctx ck env k (arguments_given args kws) c (labels_here env None c) v.well_formed) v.each in
         let t : IsWellFormed ctx.bases (type_of (call p c args kws) (labels_here env want (call p c args kws))) = whole_call_well_formed ctx ck env callee.rule os args (item_types args (items_here env (positional_seat os) args)) h a.well_formed in
         record {
           lawful = record { value = (labels_here env None c); lawful = v.lawful; callee = refl; arguments = a.lawful; keywords = b.lawful; here = refl; second = refl };
@@ -261,8 +261,8 @@ module _ (ctx : Context) (declared : List Tree) (ck : ContextWellFormed ctx) (dk
     items_lawful env k seat s no_exprs = record { lawful = tt; well_formed = tt; each = tt }
     items_lawful env k seat s (more_exprs e es) =
         let a = labels_lawful env k (seat 0).want (s 0).want e in
-        let f = into_is ctx.bases static assignable tests (mark_of e (labels_here env (seat 0).want e)) (seat 0).into a.well_formed (s 0).into in
-        let fw = flows_well_formed ctx.bases static assignable tests (mark_of e (labels_here env (seat 0).want e)) (seat 0).into a.well_formed (s 0).into in
+        let f = into_is ctx.bases static assignable tests (whole_label e (labels_here env (seat 0).want e)) (seat 0).into a.well_formed (s 0).into in
+        let fw = flows_well_formed ctx.bases static assignable tests (whole_label e (labels_here env (seat 0).want e)) (seat 0).into a.well_formed (s 0).into in
         let r = items_lawful env k (λ i. seat (suc i)) (λ i. s (suc i)) es in
         record {
           lawful = record { first = a.lawful; flows = f; rest = r.lawful };
@@ -274,11 +274,11 @@ module _ (ctx : Context) (declared : List Tree) (ck : ContextWellFormed ctx) (dk
     entries_lawful env k x s y t no_entries = record { lawful = tt; keys = tt; values = tt; each = tt }
     entries_lawful env k x s y t (more_entries key value es) =
         let a = labels_lawful env k x.want s.want key in
-        let f = into_is ctx.bases static assignable tests (mark_of key (labels_here env x.want key)) x.into a.well_formed s.into in
+        let f = into_is ctx.bases static assignable tests (whole_label key (labels_here env x.want key)) x.into a.well_formed s.into in
         let b = labels_lawful env k y.want t.want value in
-        let g = into_is ctx.bases static assignable tests (mark_of value (labels_here env y.want value)) y.into b.well_formed t.into in
-        let fw = flows_well_formed ctx.bases static assignable tests (mark_of key (labels_here env x.want key)) x.into a.well_formed s.into in
-        let gw = flows_well_formed ctx.bases static assignable tests (mark_of value (labels_here env y.want value)) y.into b.well_formed t.into in
+        let g = into_is ctx.bases static assignable tests (whole_label value (labels_here env y.want value)) y.into b.well_formed t.into in
+        let fw = flows_well_formed ctx.bases static assignable tests (whole_label key (labels_here env x.want key)) x.into a.well_formed s.into in
+        let gw = flows_well_formed ctx.bases static assignable tests (whole_label value (labels_here env y.want value)) y.into b.well_formed t.into in
         let r = entries_lawful env k x s y t es in
         record {
           lawful = record { key = a.lawful; key_flows = f; value = b.lawful; value_flows = g; rest = r.lawful };
@@ -292,9 +292,9 @@ module _ (ctx : Context) (declared : List Tree) (ck : ContextWellFormed ctx) (dk
     keywords_lawful env k seat s before (more_keywords parameter value es) =
         let here = keyword_well_formed ctx.bases seat s before parameter in
         let a = labels_lawful env k (keyword_seat seat before parameter).want here.want value in
-        let f = into_is ctx.bases static assignable tests (mark_of value (labels_here env (keyword_seat seat before parameter).want value)) (keyword_seat seat before parameter).into a.well_formed here.into in
+        let f = into_is ctx.bases static assignable tests (whole_label value (labels_here env (keyword_seat seat before parameter).want value)) (keyword_seat seat before parameter).into a.well_formed here.into in
         let r = keywords_lawful env k seat s (parameter.text ∷ before) es in
-        let fw = flows_well_formed ctx.bases static assignable tests (mark_of value (labels_here env (keyword_seat seat before parameter).want value)) (keyword_seat seat before parameter).into a.well_formed here.into in
+        let fw = flows_well_formed ctx.bases static assignable tests (whole_label value (labels_here env (keyword_seat seat before parameter).want value)) (keyword_seat seat before parameter).into a.well_formed here.into in
         record { lawful = record { first = a.lawful; flows = f; rest = r.lawful }; each = (a.each, fw, r.each) }
 
 pub labels_are_lawful : LabelsAreLawful
@@ -305,10 +305,10 @@ labels_are_lawful ctx declared env want e ck dk k w =
 pub has_labels : ExpressionsHaveLabels
 has_labels ctx declared env want e ck dk k w =
     let h = labels_are_lawful ctx declared env want e ck dk k w in
-    record { marks = labels_of ctx declared env want e; lawful = h.0; well_formed = h.1; each = h.2 }
+    record { labels = labels_of ctx declared env want e; lawful = h.0; well_formed = h.1; each = h.2 }
 
 -- and any lawful labels are the computed ones
 pub lawful_labels_well_formed : LawfulLabelsAreWellFormed
-lawful_labels_well_formed ctx declared env want e marks l ck dk k w lawful =
+lawful_labels_well_formed ctx declared env want e labels l ck dk k w lawful =
     let h = labels_are_lawful ctx declared env want e ck dk k w in
-    subst (MarksWellFormed ctx.bases e) (one_labelling ctx declared env l want e (labels_of ctx declared env want e) marks h.0 lawful) h.2
+    subst (LabelsWellFormed ctx.bases e) (one_labelling ctx declared env l want e (labels_of ctx declared env want e) labels h.0 lawful) h.2

@@ -7,7 +7,7 @@ use Rattle.pc_class.specs.Bases.{bases_of}
 use Rattle.pc_ann.proofs.Earlier.{smaller}
 use Rattle.pc_class.proofs.WellFormed.{params_well_formed, returned_well_formed, all_classes_well_formed}
 use Rattle.pc_rules.specs.Signatures.{signature_of, signatures_of}
-use Rattle.pc_rules.specs.WellFormed.{SignaturesWellFormed, BodyContextsAreWellFormed, InitializerContextsAreWellFormed}
+use Rattle.pc_rules.specs.Laws.WellFormed.{SignaturesWellFormed, BodyContextsAreWellFormed, InitializerContextsAreWellFormed}
 
 module _ (m : Module) where
   functions_well_formed : (fs : List FuncDef) → SignaturesWellFormed (bases_of m) (map (signature_of m) fs)

@@ -8,8 +8,8 @@ use Rattle.pc_types.specs.Tree.{Tree, Any, Int, Str, ListOf, DictOf, TupleOf}
 use Rattle.pc_types.specs.Below.{Bases, AreSmaller}
 use Rattle.pc_types.specs.Shape.{count, list_of_trees, trees}
 use Rattle.pc_flow.specs.Environment.{join_all}
-use Rattle.pc_rules.specs.Operations.{display_mark, contain_member}
-use Rattle.pc_rules.specs.Lawful.{list_item, KeyValue, dict_parts, tuple_parts, members_of_expected, item_seat, part_seat, list_mark, key_seat, value_seat, contain_offers, compare_mark, compare_types}
+use Rattle.pc_rules.specs.Operations.{display_label, contain_member}
+use Rattle.pc_rules.specs.Lawful.{list_item, KeyValue, dict_parts, tuple_parts, members_of_expected, item_seat, part_seat, list_label, key_seat, value_seat, contain_offers, compare_label, compare_types}
 use Rattle.pc_types.specs.WellFormed.{IsWellFormed}
 use Rattle.pc_flow.specs.WellFormed.{IsWellFormedIfAny, AreWellFormed}
 use Rattle.pc_rules.proofs.WellFormed.{bool_well_formed, item_well_formed, key_well_formed, value_well_formed, parts_well_formed, members_well_formed, at_well_formed, trees_normal, all_well_formed}
@@ -40,7 +40,7 @@ module _ (bases : Bases) where
   list_seat_well_formed None h = item_seat_well_formed None tt
   list_seat_well_formed (Some t) h = item_seat_well_formed (Some t) (item_well_formed bases t h)
 
-  pub list_well_formed : AreSmaller bases → (item : Option Tree) (ts : List Tree) → ListWellFormed item → AreWellFormed bases ts → IsWellFormed bases (list_mark bases item ts).type
+  pub list_well_formed : AreSmaller bases → (item : Option Tree) (ts : List Tree) → ListWellFormed item → AreWellFormed bases ts → IsWellFormed bases (list_label bases item ts).type
   list_well_formed o (Some t) ts h k = h
   list_well_formed o None [] h k = display_well_formed bases (ListOf Any) tt tt
   list_well_formed o None (t ∷ ts) h k = let j = all_well_formed bases o (t ∷ ts) k in display_well_formed bases (ListOf (join_all bases (t ∷ ts))) j.0 j.1
@@ -54,7 +54,7 @@ module _ (bases : Bases) where
   pub part_seat_well_formed : (ts : List Tree) → AreWellFormed bases ts → (i : ℕ) → SeatWellFormed bases (part_seat ts i)
   part_seat_well_formed ts h i = record { want = at_well_formed bases ts i h; into = tt }
 
-  pub tuple_well_formed : (ts : List Tree) → AreWellFormed bases ts → IsWellFormed bases (display_mark (TupleOf (trees ts))).type
+  pub tuple_well_formed : (ts : List Tree) → AreWellFormed bases ts → IsWellFormed bases (display_label (TupleOf (trees ts))).type
   tuple_well_formed ts h = let r = trees_normal bases ts h in display_well_formed bases (TupleOf (trees ts)) r.0 r.1
 
   -- ---- dicts
@@ -76,17 +76,17 @@ module _ (bases : Bases) where
   value_seat_well_formed (Some kv) h = item_seat_well_formed (Some kv.value) (value_well_formed bases kv.key kv.value h)
 
   module _ (o : AreSmaller bases) where
-    pub int_dict : (v : Tree) → IsWellFormed bases v → IsWellFormed bases (display_mark (DictOf Int v)).type
+    pub int_dict : (v : Tree) → IsWellFormed bases v → IsWellFormed bases (display_label (DictOf Int v)).type
     int_dict v h = display_well_formed bases (DictOf Int v) (tt, tt, h.0) h.1
 
-    pub str_dict : (v : Tree) → IsWellFormed bases v → IsWellFormed bases (display_mark (DictOf Str v)).type
+    pub str_dict : (v : Tree) → IsWellFormed bases v → IsWellFormed bases (display_label (DictOf Str v)).type
     str_dict v h = display_well_formed bases (DictOf Str v) (tt, tt, h.0) h.1
 
     -- ---- comparisons
     contain_offers_well_formed : (t : Tree) → IsWellFormed bases t → OffersWellFormed bases (contain_offers t)
     contain_offers_well_formed t h = each_well_formed bases contain_member (contain_well_formed bases) t h
 
-    pub compare_well_formed : (operator : ComparisonOperator) (s t : Tree) → IsWellFormed bases t → IsWellFormed bases (compare_mark bases operator s t).type
+    pub compare_well_formed : (operator : ComparisonOperator) (s t : Tree) → IsWellFormed bases t → IsWellFormed bases (compare_label bases operator s t).type
     compare_well_formed Equal s t h = bool_well_formed bases
     compare_well_formed NotEqual s t h = bool_well_formed bases
     compare_well_formed In s t h = offers_well_formed bases o (contain_offers t) (contain_offers_well_formed t h)

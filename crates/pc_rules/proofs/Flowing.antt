@@ -8,10 +8,10 @@ use Rattle.pc_types.specs.Below.{Bases}
 use Rattle.pc_types.specs.Computed.{static_test, assignable_test}
 use Rattle.pc_flow.proofs.Rest.{mapped_rest, mapped_end}
 use Rattle.pc_notes.specs.Notes.{Note}
-use Rattle.pc_rules.specs.Operations.{Mark}
+use Rattle.pc_rules.specs.Operations.{Label}
 use Rattle.pc_rules.specs.Context.{is_early}
-use Rattle.pc_rules.specs.Computed.{code_unless, flows_of}
-use Rattle.pc_rules.specs.Found.{has_code, brief, own_flow, flow_at, flow_then, flows_behind, flows_at}
+use Rattle.pc_rules.specs.Computed.Expressions.{code_unless, flows_of}
+use Rattle.pc_rules.specs.Computed.Findings.{has_code, brief, own_flow, flow_at, flow_then, flows_behind, flows_at}
 use Rattle.pc_rules.proofs.Once.{once_early}
 
 -- the code of the flow of a type with this test of E03
@@ -19,20 +19,20 @@ abbrev pub code_of : Bases → Test → Tree → Tree → Option Code
 code_of bases early s t = code_unless (static_test bases) (assignable_test bases) early s t
 
 -- the flows of a label with each code once are the same
-pub brief_flows : (bases : Bases) (m : Mark) (ts : List Tree) → flows_of bases (brief m) ts ≡ flows_of bases m ts
+pub brief_flows : (bases : Bases) (m : Label) (ts : List Tree) → flows_of bases (brief m) ts ≡ flows_of bases m ts
 brief_flows bases m [] = refl
 brief_flows bases m (t ∷ ts) =
     rw (brief_flows bases m ts) (ap (λ e. record { from = m.type; into = t; code = code_of bases e m.type t } ∷ flows_of bases m ts) (once_early m.codes))
 
-pub flows_alike : (bases : Bases) (p : Place) (l m : Mark) (ts : List Tree) → l ≡ brief m → flows_at p (flows_of bases l ts) ≡ flows_at p (flows_of bases m ts)
-flows_alike bases p l m ts e = ap (λ (x : Mark). flows_at p (flows_of bases x ts)) e ∙ ap (flows_at p) (brief_flows bases m ts)
+pub flows_alike : (bases : Bases) (p : Place) (l m : Label) (ts : List Tree) → l ≡ brief m → flows_at p (flows_of bases l ts) ≡ flows_at p (flows_of bases m ts)
+flows_alike bases p l m ts e = ap (λ (x : Label). flows_at p (flows_of bases x ts)) e ∙ ap (flows_at p) (brief_flows bases m ts)
 
 -- what is found of one flow
 pub one_flow : (p : Place) (s t : Tree) (o : Option Code) → flow_at p s t o ≡ flow_then p [] s t o (λ codes. [])
 one_flow p s t None = refl
 one_flow p s t (Some c) = sym (append-nil (own_flow p s t c))
 
-module _ {Ty : Type 0} (tree : Ty → Tree) (bases : Bases) (p : Place) (m : Mark) (into : List Ty) (before : List Note) where
+module _ {Ty : Type 0} (tree : Ty → Tree) (bases : Bases) (p : Place) (m : Label) (into : List Ty) (before : List Note) where
   -- what is found of flows into the types from this number on, after these codes
   abbrev pub to_come : ℕ → List Code → List Note
   to_come i codes = flows_behind p codes (flows_of bases m (drop i (map tree into)))

@@ -15,10 +15,10 @@ use Rattle.pc_tree.specs.Tree.{Expr, Exprs, Entries, Keywords, name, number, tex
 use Rattle.pc_tree.specs.Depth.{place_of}
 use Rattle.pc_scope.specs.Expressions.{is_instance_test}
 use Rattle.pc_notes.specs.Notes.{Note, plain_note, findings_of}
-use Rattle.pc_rules.specs.Operations.{Mark}
-use Rattle.pc_rules.specs.Found.{has_code, add_code, once_onto, once, flow_note, own_flow, flow_then, flows_behind}
+use Rattle.pc_rules.specs.Operations.{Label}
+use Rattle.pc_rules.specs.Computed.Findings.{has_code, add_code, once_onto, once, flow_note, own_flow, flow_then, flows_behind}
 use Rattle.pc_rules.specs.Found as noted
-use Rattle.pc_rules.specs.Labels.{FlowMarks, Marks, ItemsMarks, EntriesMarks, KeywordsMarks, mark_of, is_of_scopes, second_place, Finds}
+use Rattle.pc_rules.specs.Labels.{FlowLabels, Labels, ItemsLabels, EntriesLabels, KeywordsLabels, whole_label, is_of_scopes, second_place, Finds}
 
 -- the finding of a code at a place, none of a code that is found of scopes
 abbrev pub own_at : Place → Code → List Finding
@@ -34,21 +34,21 @@ code_at p None = []
 code_at p (Some c) = own_at p c
 
 -- the codes of flows
-abbrev pub flow_codes : FlowMarks → List Code
+abbrev pub flow_codes : FlowLabels → List Code
 flow_codes flows = flat_map (λ f. option_to_list f.code) flows
 
 -- the findings of flows at the place of what flows, each code once
-abbrev pub flows_at : Place → FlowMarks → List Finding
+abbrev pub flows_at : Place → FlowLabels → List Finding
 flows_at p flows = codes_at p (flow_codes flows)
 
 -- the findings in the parts of an expression, with those of its own codes after them
-abbrev pub whole : (e : Expr) → Marks e → List Finding → List Finding
-whole e m parts = parts ++ codes_at (place_of e) (mark_of e m).codes
+abbrev pub whole : (e : Expr) → Labels e → List Finding → List Finding
+whole e m parts = parts ++ codes_at (place_of e) (whole_label e m).codes
 
 -- the findings in the parts of an expression, under the labels of items, of arguments, and of the entries of a dict
 abbrev mutual
   -- what is found in the parts of an expression and of their flows
-  pub found_in_parts : (e : Expr) → Marks e → List Finding
+  pub found_in_parts : (e : Expr) → Labels e → List Finding
   found_in_parts (name n) m = []
   found_in_parts (number p digits) m = []
   found_in_parts (text p characters) m = []
@@ -73,29 +73,29 @@ abbrev mutual
       ++ (found_in_keywords keywords m.keywords ++ code_at (second_place arguments p) m.second))
 
   -- of items, each with its flows
-  pub found_in_items : (es : Exprs) → ItemsMarks es → List Finding
+  pub found_in_items : (es : Exprs) → ItemsLabels es → List Finding
   found_in_items no_exprs m = []
   found_in_items (more_exprs e rest) m = whole e m.first (found_in_parts e m.first) ++ (flows_at (place_of e) m.flows ++ found_in_items rest m.rest)
 
   -- of arguments; of a test of an instance what stands second is not looked at
-  pub found_in_arguments : (is_test : Test) → (es : Exprs) → ItemsMarks es → List Finding
+  pub found_in_arguments : (is_test : Test) → (es : Exprs) → ItemsLabels es → List Finding
   found_in_arguments is_test no_exprs m = []
   found_in_arguments true (more_exprs e rest) m = whole e m.first (found_in_parts e m.first)
   found_in_arguments false (more_exprs e rest) m = whole e m.first (found_in_parts e m.first) ++ (flows_at (place_of e) m.flows ++ found_in_arguments false rest m.rest)
 
   -- of the entries of a dict, each key and value with its flows
-  pub found_in_entries : (es : Entries) → EntriesMarks es → List Finding
+  pub found_in_entries : (es : Entries) → EntriesLabels es → List Finding
   found_in_entries no_entries m = []
   found_in_entries (more_entries key value rest) m =
       whole key m.key (found_in_parts key m.key) ++ (flows_at (place_of key) m.key_flows ++ (whole value m.value (found_in_parts value m.value) ++ (flows_at (place_of value) m.value_flows ++ found_in_entries rest m.rest)))
 
   -- of arguments by name, each with its flows
-  pub found_in_keywords : (es : Keywords) → KeywordsMarks es → List Finding
+  pub found_in_keywords : (es : Keywords) → KeywordsLabels es → List Finding
   found_in_keywords no_keywords m = []
   found_in_keywords (more_keywords parameter value rest) m = whole value m.first (found_in_parts value m.first) ++ (flows_at (place_of value) m.flows ++ found_in_keywords rest m.rest)
 
 -- the findings under the labels of an expression: what is found in its parts, and then at it
-abbrev pub found_in : (e : Expr) → Marks e → List Finding
+abbrev pub found_in : (e : Expr) → Labels e → List Finding
 found_in e m = whole e m (found_in_parts e m)
 
 -- ---- what is forgotten of the list with types
@@ -148,18 +148,18 @@ flow_step p before s t (Some c) rest cs go = by_test (has_code before c)
         ∙ append_assoc (flat_map (own_at p) before) (own_at p c) (findings_of (rest (before ++ c ∷ [])))
         ∙ ap (λ l. flat_map (own_at p) before ++ l) (sym (both (own_flow p s t c) (rest (before ++ c ∷ [])) (own_at p c) (findings_of (rest (before ++ c ∷ []))) (forget_flow p s t c) refl))
 
-forget_behind : (p : Place) (flows : FlowMarks) (before : List Code) → flat_map (own_at p) (once_onto before (flow_codes flows)) ≡ flat_map (own_at p) before ++ findings_of (flows_behind p before flows)
+forget_behind : (p : Place) (flows : FlowLabels) (before : List Code) → flat_map (own_at p) (once_onto before (flow_codes flows)) ≡ flat_map (own_at p) before ++ findings_of (flows_behind p before flows)
 forget_behind p [] before = sym (append-nil (flat_map (own_at p) before))
 forget_behind p (f ∷ fs) before = flow_step p before f.from f.into f.code (λ codes. flows_behind p codes fs) (flow_codes fs) (forget_behind p fs)
 
-pub forget_flows : (p : Place) (flows : FlowMarks) → findings_of (noted.flows_at p flows) ≡ flows_at p flows
+pub forget_flows : (p : Place) (flows : FlowLabels) → findings_of (noted.flows_at p flows) ≡ flows_at p flows
 forget_flows p flows = sym (forget_behind p flows [])
 
-forget_whole : (e : Expr) (m : Marks e) (parts : List Note) (fs : List Finding) → findings_of parts ≡ fs → findings_of (noted.whole e m parts) ≡ whole e m fs
-forget_whole e m parts fs h = both parts (noted.codes_at (place_of e) (mark_of e m).codes) fs _ h (forget_codes (place_of e) (mark_of e m).codes)
+forget_whole : (e : Expr) (m : Labels e) (parts : List Note) (fs : List Finding) → findings_of parts ≡ fs → findings_of (noted.whole e m parts) ≡ whole e m fs
+forget_whole e m parts fs h = both parts (noted.codes_at (place_of e) (whole_label e m).codes) fs _ h (forget_codes (place_of e) (whole_label e m).codes)
 
 mutual
-  pub forget_parts : (e : Expr) (m : Marks e) → findings_of (noted.found_in_parts e m) ≡ found_in_parts e m
+  pub forget_parts : (e : Expr) (m : Labels e) → findings_of (noted.found_in_parts e m) ≡ found_in_parts e m
   forget_parts (name n) m = refl
   forget_parts (number p digits) m = refl
   forget_parts (text p characters) m = refl
@@ -183,16 +183,16 @@ mutual
       (both _ _ _ _ (forget_arguments (is_instance_test callee arguments keywords) arguments m.arguments)
       (both _ _ _ _ (forget_keywords keywords m.keywords) (forget_code (second_place arguments p) m.second)))
 
-  pub forget_items : (es : Exprs) (m : ItemsMarks es) → findings_of (noted.found_in_items es m) ≡ found_in_items es m
+  pub forget_items : (es : Exprs) (m : ItemsLabels es) → findings_of (noted.found_in_items es m) ≡ found_in_items es m
   forget_items no_exprs m = refl
   forget_items (more_exprs e rest) m = both _ _ _ _ (forget_whole e m.first _ _ (forget_parts e m.first)) (both _ _ _ _ (forget_flows (place_of e) m.flows) (forget_items rest m.rest))
 
-  pub forget_arguments : (is_test : Test) (es : Exprs) (m : ItemsMarks es) → findings_of (noted.found_in_arguments is_test es m) ≡ found_in_arguments is_test es m
+  pub forget_arguments : (is_test : Test) (es : Exprs) (m : ItemsLabels es) → findings_of (noted.found_in_arguments is_test es m) ≡ found_in_arguments is_test es m
   forget_arguments is_test no_exprs m = refl
   forget_arguments true (more_exprs e rest) m = forget_whole e m.first _ _ (forget_parts e m.first)
   forget_arguments false (more_exprs e rest) m = both _ _ _ _ (forget_whole e m.first _ _ (forget_parts e m.first)) (both _ _ _ _ (forget_flows (place_of e) m.flows) (forget_arguments false rest m.rest))
 
-  pub forget_entries : (es : Entries) (m : EntriesMarks es) → findings_of (noted.found_in_entries es m) ≡ found_in_entries es m
+  pub forget_entries : (es : Entries) (m : EntriesLabels es) → findings_of (noted.found_in_entries es m) ≡ found_in_entries es m
   forget_entries no_entries m = refl
   forget_entries (more_entries key value rest) m =
       both _ _ _ _ (forget_whole key m.key _ _ (forget_parts key m.key))
@@ -200,10 +200,10 @@ mutual
       (both _ _ _ _ (forget_whole value m.value _ _ (forget_parts value m.value))
       (both _ _ _ _ (forget_flows (place_of value) m.value_flows) (forget_entries rest m.rest))))
 
-  pub forget_keywords : (es : Keywords) (m : KeywordsMarks es) → findings_of (noted.found_in_keywords es m) ≡ found_in_keywords es m
+  pub forget_keywords : (es : Keywords) (m : KeywordsLabels es) → findings_of (noted.found_in_keywords es m) ≡ found_in_keywords es m
   forget_keywords no_keywords m = refl
   forget_keywords (more_keywords parameter value rest) m = both _ _ _ _ (forget_whole value m.first _ _ (forget_parts value m.first)) (both _ _ _ _ (forget_flows (place_of value) m.flows) (forget_keywords rest m.rest))
 
 -- in an expression, with its own codes
-pub forget_inside : (e : Expr) (m : Marks e) → findings_of (noted.notes_under e m) ≡ found_in e m
+pub forget_inside : (e : Expr) (m : Labels e) → findings_of (noted.notes_under e m) ≡ found_in e m
 forget_inside e m = forget_whole e m (noted.found_in_parts e m) (found_in_parts e m) (forget_parts e m)

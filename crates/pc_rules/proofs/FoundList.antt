@@ -11,10 +11,10 @@ use Rattle.pc_tree.specs.Tree.{Expr, Exprs, Entries, Keywords, name, number, tex
 use Rattle.pc_tree.specs.Depth.{place_of}
 use Rattle.pc_scope.specs.Expressions.{is_instance_test}
 use Rattle.pc_tree.proofs.Among.{none_among, first_among, later_among, among_first, either}
-use Rattle.pc_rules.specs.Operations.{FlowMark}
-use Rattle.pc_rules.specs.Labels.{FlowMarks, Marks, ItemsMarks, EntriesMarks, KeywordsMarks, is_of_scopes, second_place, IsFoundAt, IsFlowAt, IsCodeAt, Finds, ItemsFind, ArgumentsFind, EntriesFind, KeywordsFind}
+use Rattle.pc_rules.specs.Operations.{FlowLabel}
+use Rattle.pc_rules.specs.Labels.{FlowLabels, Labels, ItemsLabels, EntriesLabels, KeywordsLabels, is_of_scopes, second_place, IsFoundAt, IsFlowAt, IsCodeAt, Finds, ItemsFind, ArgumentsFind, EntriesFind, KeywordsFind}
 use Rattle.pc_notes.specs.Notes.{Note, plain_note, findings_of}
-use Rattle.pc_rules.specs.Found.{once, IsOwn}
+use Rattle.pc_rules.specs.Computed.Findings.{once, IsOwn}
 use Rattle.pc_rules.specs.Found as noted
 use Rattle.pc_rules.proofs.Forgotten.{own_at, codes_at, code_at, flow_codes, flows_at, found_in, found_in_items, found_in_arguments, found_in_entries, found_in_keywords, forget_inside, forget_flows}
 use Rattle.pc_rules.proofs.SameCodes.{once_has, once_from}
@@ -72,34 +72,34 @@ code_lists p None f h own = absurd h
 code_lists p (Some c) f h own = own_lists p c f h own
 
 -- a code of flows is the code of one of them
-record HasFlow (fs : FlowMarks) (c : Code) : Type 0 where
-  flow : FlowMark
+record HasFlow (fs : FlowLabels) (c : Code) : Type 0 where
+  flow : FlowLabel
   among : Contains fs flow
   found : flow.code ≡ Some c
 
-one_code : (g : FlowMark) (c : Code) (o : Option Code) → g.code ≡ o → Contains (option_to_list o) c → g.code ≡ Some c
+one_code : (g : FlowLabel) (c : Code) (o : Option Code) → g.code ≡ o → Contains (option_to_list o) c → g.code ≡ Some c
 one_code g c None e h = absurd (none_among c h)
 one_code g c (Some d) e h = elim (among_first d [] c h) [ inl s ↦ e ∙ ap (λ x. Some x) s | inr n ↦ absurd (none_among c n) ]
 
-flow_with : (fs : FlowMarks) (c : Code) → Contains (flow_codes fs) c → HasFlow fs c
+flow_with : (fs : FlowLabels) (c : Code) → Contains (flow_codes fs) c → HasFlow fs c
 flow_with [] c h = absurd (none_among c h)
 flow_with (g ∷ gs) c h = either (option_to_list g.code) (flow_codes gs) c h
     (λ a. record { flow = g; among = first_among g gs; found = one_code g c g.code refl a })
     (λ b. let r = flow_with gs c b in record { flow = r.flow; among = later_among g gs r.flow r.among; found = r.found })
 
-code_with : (fs : FlowMarks) (g : FlowMark) (c : Code) → Contains fs g → g.code ≡ Some c → Contains (flow_codes fs) c
+code_with : (fs : FlowLabels) (g : FlowLabel) (c : Code) → Contains fs g → g.code ≡ Some c → Contains (flow_codes fs) c
 code_with [] g c h e = absurd (none_among g h)
 code_with (d ∷ fs) g c h e = elim (among_first d fs g h) [
-  | inl same ↦ Contains-append_left (option_to_list d.code) (flow_codes fs) c (subst (λ (o : Option Code). Contains (option_to_list o) c) (sym (ap (λ (x : FlowMark). x.code) same ∙ e)) (first_among c []))
+  | inl same ↦ Contains-append_left (option_to_list d.code) (flow_codes fs) c (subst (λ (o : Option Code). Contains (option_to_list o) c) (sym (ap (λ (x : FlowLabel). x.code) same ∙ e)) (first_among c []))
   | inr rest ↦ Contains-append_right (option_to_list d.code) (flow_codes fs) c (code_with fs g c rest e)
 ]
 
-flow_of_code : (p : Place) (fs : FlowMarks) (f : Finding) → IsFoundAt p (flow_codes fs) f → IsFlowAt p fs f
+flow_of_code : (p : Place) (fs : FlowLabels) (f : Finding) → IsFoundAt p (flow_codes fs) f → IsFlowAt p fs f
 flow_of_code p fs f h =
     let r = flow_with fs h.code h.among in
     record { flow = r.flow; among = r.among; code = h.code; found = r.found; is = h.is }
 
-code_of_flow : (p : Place) (fs : FlowMarks) (f : Finding) → IsFlowAt p fs f → IsFoundAt p (flow_codes fs) f
+code_of_flow : (p : Place) (fs : FlowLabels) (f : Finding) → IsFlowAt p fs f → IsFoundAt p (flow_codes fs) f
 code_of_flow p fs f h = record { code = h.code; among = code_with fs h.flow h.code h.among h.found; is = h.is }
 
 -- ---- two lists, one after the other
@@ -176,7 +176,7 @@ at_codes f p cs = (codes_listed p cs f, codes_list p cs f)
 at_code : (f : Finding) (p : Place) (c : Option Code) → Lists f (code_at p c) (IsCodeAt p c f)
 at_code f p c = (code_listed p c f, code_lists p c f)
 
-pub at_flows : (f : Finding) (p : Place) (fs : FlowMarks) → Lists f (flows_at p fs) (IsFlowAt p fs f)
+pub at_flows : (f : Finding) (p : Place) (fs : FlowLabels) → Lists f (flows_at p fs) (IsFlowAt p fs f)
 at_flows f p fs = same_listed f (flows_at p fs) (flow_of_code p fs f) (code_of_flow p fs f) (at_codes f p (flow_codes fs))
 
 pub nothing_listed : (f : Finding) → Lists f [] ⊥
@@ -189,7 +189,7 @@ over_parts : (f : Finding) (xs : List Finding) {P : Type 0} (p : Place) (cs : Li
 over_parts f xs p cs h = same_listed f (xs ++ codes_at p cs) turned turned (in_turn f xs (codes_at p cs) h (at_codes f p cs))
 
 -- two operands, and a flow of one of them
-over_flow : (f : Finding) (xs ys : List Finding) {P Q : Type 0} (q : Place) (fs : FlowMarks) → Lists f xs P → Lists f ys Q → Lists f (xs ++ (ys ++ flows_at q fs)) (IsFlowAt q fs f ⊎ (P ⊎ Q))
+over_flow : (f : Finding) (xs ys : List Finding) {P Q : Type 0} (q : Place) (fs : FlowLabels) → Lists f xs P → Lists f ys Q → Lists f (xs ++ (ys ++ flows_at q fs)) (IsFlowAt q fs f ⊎ (P ⊎ Q))
 over_flow f xs ys q fs h k =
     same_listed f (xs ++ (ys ++ flows_at q fs)) third_first first_third (in_turn f xs (ys ++ flows_at q fs) h (in_turn f ys (flows_at q fs) k (at_flows f q fs)))
 
@@ -198,12 +198,12 @@ over_operands : (f : Finding) (xs ys : List Finding) {P Q : Type 0} (p : Place) 
 over_operands f xs ys p cs h k = over_parts f (xs ++ ys) p cs (in_turn f xs ys h k)
 
 -- an item with its flows, and then the others
-over_item : (f : Finding) (xs ys : List Finding) {P Q : Type 0} (p : Place) (fs : FlowMarks) → Lists f xs P → Lists f ys Q → Lists f (xs ++ (flows_at p fs ++ ys)) (IsFlowAt p fs f ⊎ (P ⊎ Q))
+over_item : (f : Finding) (xs ys : List Finding) {P Q : Type 0} (p : Place) (fs : FlowLabels) → Lists f xs P → Lists f ys Q → Lists f (xs ++ (flows_at p fs ++ ys)) (IsFlowAt p fs f ⊎ (P ⊎ Q))
 over_item f xs ys p fs h k =
     same_listed f (xs ++ (flows_at p fs ++ ys)) second_first second_first (in_turn f xs (flows_at p fs ++ ys) h (in_turn f (flows_at p fs) ys (at_flows f p fs) k))
 
 mutual
-  in_expression : (f : Finding) (e : Expr) (m : Marks e) → Lists f (found_in e m) (Finds e m f)
+  in_expression : (f : Finding) (e : Expr) (m : Labels e) → Lists f (found_in e m) (Finds e m f)
   in_expression f (name n) m = at_codes f n.place m.codes
   in_expression f (number p d) m = at_codes f p m.codes
   in_expression f (text p d) m = at_codes f p m.codes
@@ -239,17 +239,17 @@ mutual
       (in_turn f a (k ++ s) (in_arguments f is_test args m.arguments)
       (in_turn f k s (in_keywords f kws m.keywords) (at_code f (second_place args p) m.second)))))
 
-  in_items : (f : Finding) (es : Exprs) (m : ItemsMarks es) → Lists f (found_in_items es m) (ItemsFind es m f)
+  in_items : (f : Finding) (es : Exprs) (m : ItemsLabels es) → Lists f (found_in_items es m) (ItemsFind es m f)
   in_items f no_exprs m = nothing_listed f
   in_items f (more_exprs e rest) m = over_item f (found_in e m.first) (found_in_items rest m.rest) (place_of e) m.flows (in_expression f e m.first) (in_items f rest m.rest)
 
-  in_arguments : (f : Finding) (is_test : Test) (es : Exprs) (m : ItemsMarks es) → Lists f (found_in_arguments is_test es m) (ArgumentsFind is_test es m f)
+  in_arguments : (f : Finding) (is_test : Test) (es : Exprs) (m : ItemsLabels es) → Lists f (found_in_arguments is_test es m) (ArgumentsFind is_test es m f)
   in_arguments f is_test no_exprs m = nothing_listed f
   in_arguments f true (more_exprs e rest) m = in_expression f e m.first
   in_arguments f false (more_exprs e rest) m =
       over_item f (found_in e m.first) (found_in_arguments false rest m.rest) (place_of e) m.flows (in_expression f e m.first) (in_arguments f false rest m.rest)
 
-  in_entries : (f : Finding) (es : Entries) (m : EntriesMarks es) → Lists f (found_in_entries es m) (EntriesFind es m f)
+  in_entries : (f : Finding) (es : Entries) (m : EntriesLabels es) → Lists f (found_in_entries es m) (EntriesFind es m f)
   in_entries f no_entries m = nothing_listed f
   in_entries f (more_entries key value rest) m =
       let k = found_in key m.key in
@@ -263,13 +263,13 @@ mutual
       (in_turn f v (y ++ r) (in_expression f value m.value)
       (in_turn f y r (at_flows f (place_of value) m.value_flows) (in_entries f rest m.rest)))))
 
-  in_keywords : (f : Finding) (es : Keywords) (m : KeywordsMarks es) → Lists f (found_in_keywords es m) (KeywordsFind es m f)
+  in_keywords : (f : Finding) (es : Keywords) (m : KeywordsLabels es) → Lists f (found_in_keywords es m) (KeywordsFind es m f)
   in_keywords f no_keywords m = nothing_listed f
   in_keywords f (more_keywords parameter value rest) m =
       over_item f (found_in value m.first) (found_in_keywords rest m.rest) (place_of value) m.flows (in_expression f value m.first) (in_keywords f rest m.rest)
 
 -- the list has just what stands under the labels and is not found of scopes
-pub findings_listed : (e : Expr) (m : Marks e) (f : Finding) → Contains (findings_of (noted.notes_under e m)) f ↔ IsOwn e m f
+pub findings_listed : (e : Expr) (m : Labels e) (f : Finding) → Contains (findings_of (noted.notes_under e m)) f ↔ IsOwn e m f
 findings_listed e m f =
     let h = in_expression f e m in
     subst (λ (l : List Finding). Contains l f ↔ IsOwn e m f) (sym (forget_inside e m)) (λ c. let r = h.0 c in record { stands = r.0; own = r.1 }, λ o. h.1 o.stands o.own)
@@ -293,7 +293,7 @@ noted_in_turn f xs ys {P} {Q} h k =
     subst (λ (l : List Finding). Lists f l (P ⊎ Q)) (sym (map-append (λ (n : Note). n.finding) xs ys)) (in_turn f (findings_of xs) (findings_of ys) h k)
 
 -- the list of flows has the codes of flows
-pub noted_flows : (f : Finding) (p : Place) (flows : FlowMarks) → Noted f (noted.flows_at p flows) (IsFlowAt p flows f)
+pub noted_flows : (f : Finding) (p : Place) (flows : FlowLabels) → Noted f (noted.flows_at p flows) (IsFlowAt p flows f)
 noted_flows f p flows = subst (λ (l : List Finding). Lists f l (IsFlowAt p flows f)) (sym (forget_flows p flows)) (at_flows f p flows)
 
 pub plain_findings : (fs : List Finding) → findings_of (map plain_note fs) ≡ fs

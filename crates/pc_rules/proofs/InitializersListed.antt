@@ -9,16 +9,16 @@ use Rattle.pc_types.specs.Below.{Bases}
 use Rattle.pc_ann.proofs.Earlier.{smaller}
 use Rattle.pc_class.specs.Bases.{bases_of}
 use Rattle.pc_flow.specs.WellFormed.{AreWellFormed, IsWellFormedIfAny}
-use Rattle.pc_rules.specs.Operations.{Mark}
+use Rattle.pc_rules.specs.Operations.{Label}
 use Rattle.pc_rules.specs.Context.{Context, FlowsInto}
-use Rattle.pc_rules.specs.Computed.{labels_of, flows_of}
-use Rattle.pc_rules.specs.Found.{notes_under, flows_at}
-use Rattle.pc_rules.specs.Labels.{FlowMarks, Marks, mark_of, Finds, IsFlowAt}
+use Rattle.pc_rules.specs.Computed.Expressions.{labels_of, flows_of}
+use Rattle.pc_rules.specs.Computed.Findings.{notes_under, flows_at}
+use Rattle.pc_rules.specs.Labels.{FlowLabels, Labels, whole_label, Finds, IsFlowAt}
 use Rattle.pc_rules.specs.Lawful.{Lawful}
 use Rattle.pc_rules.specs.Signatures.{initializer_context, first_of_types}
-use Rattle.pc_rules.specs.SignaturesFound.{ItemsReached, initial, value_findings}
+use Rattle.pc_rules.specs.Computed.Signatures.{ItemsReached, initial, value_findings}
 use Rattle.pc_notes.specs.Notes.{Note}
-use Rattle.pc_rules.specs.Standing.{mark_in, finds_in}
+use Rattle.pc_rules.specs.Computed.Standing.{label_in, finds_in}
 use Rattle.pc_rules.proofs.ComputedFlows.{flows_are_lawful}
 use Rattle.pc_rules.proofs.ComputedLawful.{labels_are_lawful}
 use Rattle.pc_rules.proofs.Contexts.{initializers_well_formed}
@@ -33,36 +33,36 @@ module _ (m : Module) (r : ItemsReached) (known : AreWellFormed (bases_of m) r.c
   abbrev context : Context
   context = initializer_context m r.constants r.classes
 
-  abbrev computed : Marks e
+  abbrev computed : Labels e
   computed = labels_of context [] [] (first_of_types into) e
 
   -- the computed label of an initializer, by its lawful labels
-  module _ (marks : Marks e) (lawful : Lawful context [] [] (first_of_types into) e marks) where
-    is_computed : computed ≡ marks
+  module _ (labels : Labels e) (lawful : Lawful context [] [] (first_of_types into) e labels) where
+    is_computed : computed ≡ labels
     is_computed =
         let h = labels_are_lawful context [] [] (first_of_types into) e (initializers_well_formed m r.constants r.classes known) tt tt (first_well_formed (bases_of m) into wanted) in
-        one_labelling context [] [] refl (first_of_types into) e computed marks h.0 lawful
+        one_labelling context [] [] refl (first_of_types into) e computed labels h.0 lawful
 
-    pub initializer_label : mark_in (initial m r.constants r.classes) (first_of_types into) e ≡ mark_of e marks
-    unfolding mark_in
-    initializer_label = ap (mark_of e) is_computed
+    pub initializer_label : label_in (initial m r.constants r.classes) (first_of_types into) e ≡ whole_label e labels
+    unfolding label_in
+    initializer_label = ap (whole_label e) is_computed
 
-    initializer_found : finds_in (initial m r.constants r.classes) (first_of_types into) e ≡ notes_under e marks
+    initializer_found : finds_in (initial m r.constants r.classes) (first_of_types into) e ≡ notes_under e labels
     unfolding finds_in
     initializer_found = ap (notes_under e) is_computed
 
-    flows_computed : (flows : FlowMarks) → FlowsInto (bases_of m) (mark_of e marks) into flows → flows_of (bases_of m) (mark_in (initial m r.constants r.classes) (first_of_types into) e) into ≡ flows
+    flows_computed : (flows : FlowLabels) → FlowsInto (bases_of m) (whole_label e labels) into flows → flows_of (bases_of m) (label_in (initial m r.constants r.classes) (first_of_types into) e) into ≡ flows
     flows_computed flows h =
         let w = labels_are_lawful context [] [] (first_of_types into) e (initializers_well_formed m r.constants r.classes known) tt tt (first_well_formed (bases_of m) into wanted) in
-        let k = subst (λ (x : Marks e). FlowsInto (bases_of m) (mark_of e x) into (flows_of (bases_of m) (mark_of e x) into)) is_computed (flows_are_lawful (bases_of m) (mark_of e computed) into (smaller m) w.1 wanted) in
-        ap (λ (x : Mark). flows_of (bases_of m) x into) initializer_label ∙ into_one (bases_of m) (mark_of e marks) into (flows_of (bases_of m) (mark_of e marks) into) flows k h
+        let k = subst (λ (x : Labels e). FlowsInto (bases_of m) (whole_label e x) into (flows_of (bases_of m) (whole_label e x) into)) is_computed (flows_are_lawful (bases_of m) (whole_label e computed) into (smaller m) w.1 wanted) in
+        ap (λ (x : Label). flows_of (bases_of m) x into) initializer_label ∙ into_one (bases_of m) (whole_label e labels) into (flows_of (bases_of m) (whole_label e labels) into) flows k h
 
-    listed_own : (f : Finding) → Noted f (notes_under e marks) (Finds e marks f)
-    listed_own f = let l = findings_listed e marks f in (λ c. let o = l.0 c in (o.stands, o.own), λ s own. l.1 (record { stands = s; own = own }))
+    listed_own : (f : Finding) → Noted f (notes_under e labels) (Finds e labels f)
+    listed_own f = let l = findings_listed e labels f in (λ c. let o = l.0 c in (o.stands, o.own), λ s own. l.1 (record { stands = s; own = own }))
 
     -- what is found of an initializer, by its lawful labels and its lawful flow
-    pub value_listed : (flows : FlowMarks) → FlowsInto (bases_of m) (mark_of e marks) into flows → (f : Finding) → Noted f (value_findings m r into e) (Finds e marks f ⊎ IsFlowAt (place_of e) flows f)
+    pub value_listed : (flows : FlowLabels) → FlowsInto (bases_of m) (whole_label e labels) into flows → (f : Finding) → Noted f (value_findings m r into e) (Finds e labels f ⊎ IsFlowAt (place_of e) flows f)
     value_listed flows h f =
         let p = place_of e in
-        let all : value_findings m r into e ≡ notes_under e marks ++ flows_at p flows = λ i. initializer_found i ++ flows_at p (flows_computed flows h i) in
-        subst (λ (l : List Note). Noted f l (Finds e marks f ⊎ IsFlowAt p flows f)) (sym all) (in_turn f (notes_under e marks) (flows_at p flows) (listed_own f) (at_flows f p flows))
+        let all : value_findings m r into e ≡ notes_under e labels ++ flows_at p flows = λ i. initializer_found i ++ flows_at p (flows_computed flows h i) in
+        subst (λ (l : List Note). Noted f l (Finds e labels f ⊎ IsFlowAt p flows f)) (sym all) (in_turn f (notes_under e labels) (flows_at p flows) (listed_own f) (at_flows f p flows))

@@ -9,9 +9,9 @@ use Rattle.pc_class.specs.declared.table.Method.{Method}
 use Rattle.pc_class.specs.Tables.{ClassEntry, HasParameter, HasMethod, HasEntry, HasEntries}
 use Rattle.pc_flow.specs.WellFormed.{AreWellFormed, IsWellFormedEnv}
 use Rattle.pc_flow.specs.Stored.{HasOne, HasEach, env_of}
-use Rattle.pc_rules.specs.Operations.{Mark}
-use Rattle.pc_rules.specs.Standing.{HasGivenAll, HasIfAny, HasSignature, IsMark}
-use Rattle.pc_rules.specs.declared.label.Label.{Label}
+use Rattle.pc_rules.specs.Operations.{Label}
+use Rattle.pc_rules.specs.Computed.Standing.{HasGivenAll, HasIfAny, HasSignature, MeansLabel}
+use Rattle.pc_rules.specs.declared.label.Label.{Label as RustLabel}
 use Rattle.pc_rules.specs.declared.setting.Setting.{Setting}
 use Rattle.pc_rules.specs.declared.setting.Signature.{Signature}
 
@@ -49,9 +49,9 @@ module _ {Ty : Type 0} (has later : Ty → Type 0) (k : (ty : Ty) → has ty →
     -- all types of a setting and of an environment stay given
     pub stands_kept : HasGivenAll has tree s env → HasGivenAll later tree s env
     stands_kept h = record {
-      classes = entries_kept s.classes.now h.classes;
-      functions = All-weaker (HasSignature has) (HasSignature later) signature_kept s.functions.now h.functions;
-      constants = types_kept s.constants.now h.constants;
+      classes = entries_kept s.globals.now.classes.now h.classes;
+      functions = All-weaker (HasSignature has) (HasSignature later) signature_kept s.globals.now.functions.now h.functions;
+      constants = types_kept s.globals.now.constants.now h.constants;
       declared = locals_kept s.declared.now h.declared;
       env = locals_kept env h.env;
       declared_well_formed = h.declared_well_formed;
@@ -59,11 +59,11 @@ module _ {Ty : Type 0} (has later : Ty → Type 0) (k : (ty : Ty) → has ty →
     }
 
     -- with another environment, whose types are given and well-formed
-    pub stands_after : HasGivenAll has tree s env → (after : List (Option Ty)) → HasEach later after → IsWellFormedEnv s.parents.now (env_of tree after) → HasGivenAll later tree s after
+    pub stands_after : HasGivenAll has tree s env → (after : List (Option Ty)) → HasEach later after → IsWellFormedEnv s.globals.now.outline.now.parents.now (env_of tree after) → HasGivenAll later tree s after
     stands_after h after given well_formed = record {
-      classes = entries_kept s.classes.now h.classes;
-      functions = All-weaker (HasSignature has) (HasSignature later) signature_kept s.functions.now h.functions;
-      constants = types_kept s.constants.now h.constants;
+      classes = entries_kept s.globals.now.classes.now h.classes;
+      functions = All-weaker (HasSignature has) (HasSignature later) signature_kept s.globals.now.functions.now h.functions;
+      constants = types_kept s.globals.now.constants.now h.constants;
       declared = locals_kept s.declared.now h.declared;
       env = given;
       declared_well_formed = h.declared_well_formed;
@@ -80,5 +80,5 @@ module _ {Store Ty : Type 0} (has : Store → Ty → Type 0) where
 
 module _ {Store Ty : Type 0} (has : Store → Ty → Type 0) (tree : Ty → Tree) where
   -- a label stays given
-  pub mark_kept : (a b : Store) → KeepsTypes has a b → (l : Label Ty) (m : Mark) → IsMark has tree a l m → IsMark has tree b l m
-  mark_kept a b k l m h = record { given = k l.ty h.given; is = h.is }
+  pub label_kept : (a b : Store) → KeepsTypes has a b → (l : RustLabel Ty) (m : Label) → MeansLabel has tree a l m → MeansLabel has tree b l m
+  label_kept a b k l m h = record { given = k l.ty h.given; is = h.is }

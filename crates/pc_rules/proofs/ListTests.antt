@@ -7,10 +7,10 @@ use Rattle.pc_tree.specs.Tree.{Exprs, name, no_exprs, more_exprs, no_keywords}
 use Rattle.pc_types.specs.Tree.{Tree, Any, Object}
 use Rattle.pc_types.specs.Shape.{members}
 use Rattle.pc_flow.specs.Narrowing.{as_local, test_named}
-use Rattle.pc_rules.specs.Calls.{GivenArguments, arguments_given, name_callee, is_object_or_any, any_list_codes, test_codes, test_mark}
+use Rattle.pc_rules.specs.Calls.{GivenArguments, arguments_given, name_callee, is_object_or_any, any_list_codes, test_codes, test_label}
 use Rattle.pc_rules.specs.Labels.{item_types}
-use Rattle.pc_rules.specs.Lawful.{whole_call_mark}
-use Rattle.pc_rules.specs.ListTests.{HasAnyOrObject, ListTestsAreDynamicPlaces}
+use Rattle.pc_rules.specs.Lawful.{whole_call_label}
+use Rattle.pc_rules.specs.Laws.ListTests.{HasAnyOrObject, ListTestsAreDynamicPlaces}
 use Rattle.pc_rules.proofs.Saying.{none_among, among_first}
 
 second_true : (a b : Test) → b ≡ true → (a || b) ≡ true
@@ -28,8 +28,8 @@ has_one : (t : Tree) → HasAnyOrObject t → list_any is_object_or_any (members
 has_one t wide = elim wide [ inl any ↦ one_passes Any refl (members t) any | inr object ↦ one_passes Object refl (members t) object ]
 
 pub list_tests_are_dynamic : ListTestsAreDynamicPlaces
-list_tests_are_dynamic ctx declared env want p callee first second marks x t test now wide law =
-    inl (record { code = A7; among = subst (λ mark. Contains mark.codes A7) (sym (law.here ∙ by_meaning)) listed; is = refl })
+list_tests_are_dynamic ctx declared env want p callee first second labels x t test now wide law =
+    inl (record { code = A7; among = subst (λ label. Contains label.codes A7) (sym (law.here ∙ by_meaning)) listed; is = refl })
   where
     arguments : Exprs
     arguments = more_exprs (name first) (more_exprs (name second) no_exprs)
@@ -37,8 +37,8 @@ list_tests_are_dynamic ctx declared env want p callee first second marks x t tes
     given : GivenArguments
     given = arguments_given arguments no_keywords
 
-    by_meaning : whole_call_mark ctx env (name_callee ctx env given (ctx.resolve callee.text)).rule (name_callee ctx env given (ctx.resolve callee.text)).offers arguments (item_types arguments marks.arguments) ≡ test_mark ctx env arguments
-    by_meaning = ap (λ r. whole_call_mark ctx env (name_callee ctx env given r).rule (name_callee ctx env given r).offers arguments (item_types arguments marks.arguments)) test.instance
+    by_meaning : whole_call_label ctx env (name_callee ctx env given (ctx.resolve callee.text)).rule (name_callee ctx env given (ctx.resolve callee.text)).offers arguments (item_types arguments labels.arguments) ≡ test_label ctx env arguments
+    by_meaning = ap (λ r. whole_call_label ctx env (name_callee ctx env given r).rule (name_callee ctx env given r).offers arguments (item_types arguments labels.arguments)) test.instance
 
     listed : Contains (test_codes env (as_local (ctx.resolve first.text)) (test_named (ctx.resolve second.text))) A7
     listed =

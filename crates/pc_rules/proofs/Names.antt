@@ -8,18 +8,18 @@ use Rattle.pc_types.specs.Tree.{Tree}
 use Rattle.pc_types.specs.Below.{Bases}
 use Rattle.pc_flow.specs.Environment.{Env, current}
 use Rattle.pc_rules.specs.Operations.{in_error}
-use Rattle.pc_rules.specs.Context.{Context, local_mark, constant_mark, name_mark}
+use Rattle.pc_rules.specs.Context.{Context, local_label, constant_label, name_label}
 use Rattle.pc_types.specs.WellFormed.{IsWellFormed}
 use Rattle.pc_flow.specs.WellFormed.{IsWellFormedIfAny, IsWellFormedEnv}
 use Rattle.pc_flow.proofs.Conditions.{current_well_formed}
 use Rattle.pc_rules.proofs.WellFormed.{any_well_formed, at_well_formed}
-use Rattle.pc_rules.specs.WellFormed.{ContextWellFormed}
+use Rattle.pc_rules.specs.Laws.WellFormed.{ContextWellFormed}
 
-local_well_formed : (bases : Bases) (t : Option Tree) → IsWellFormedIfAny bases t → IsWellFormed bases (local_mark t).type
+local_well_formed : (bases : Bases) (t : Option Tree) → IsWellFormedIfAny bases t → IsWellFormed bases (local_label t).type
 local_well_formed bases None h = any_well_formed bases
 local_well_formed bases (Some t) h = h
 
-constant_well_formed : (bases : Bases) (t : Option Tree) → IsWellFormedIfAny bases t → IsWellFormed bases (constant_mark t).type
+constant_well_formed : (bases : Bases) (t : Option Tree) → IsWellFormedIfAny bases t → IsWellFormed bases (constant_label t).type
 constant_well_formed bases None h = any_well_formed bases
 constant_well_formed bases (Some t) h = h
 
@@ -27,7 +27,7 @@ early_well_formed : (bases : Bases) (b : Test) → IsWellFormed bases (if b then
 early_well_formed bases true = any_well_formed bases
 early_well_formed bases false = any_well_formed bases
 
-pub name_well_formed : (ctx : Context) → ContextWellFormed ctx → (env : Env) → IsWellFormedEnv ctx.bases env → (r : Res) → IsWellFormed ctx.bases (name_mark ctx env r).type
+pub name_well_formed : (ctx : Context) → ContextWellFormed ctx → (env : Env) → IsWellFormedEnv ctx.bases env → (r : Res) → IsWellFormed ctx.bases (name_label ctx env r).type
 name_well_formed ctx k env h (res.Local x) = local_well_formed ctx.bases (current env x) (current_well_formed ctx.bases env x h)
 name_well_formed ctx k env h (res.Const i) = constant_well_formed ctx.bases (slice_get ctx.constants i) (at_well_formed ctx.bases ctx.constants i k.constants)
 name_well_formed ctx k env h (res.Func i) = early_well_formed ctx.bases ctx.in_body

@@ -11,7 +11,7 @@ use Rattle.pc_types.specs.Shape.{nodes, node_limit, members, list_of_trees}
 use Rattle.pc_types.specs.Normal.{IsNormal, IsReduced}
 use Rattle.pc_class.specs.Facts as facts
 use Rattle.pc_class.specs.Facts.{TypedParameter, Method, class_facts_at, class_in, field_by_name, method_by_name}
-use Rattle.pc_rules.specs.Operations.{Mark, clean, in_error, has_error, Offer, found_of, offers_mark, operand_types, tuple_item, index_member, attribute_found, attribute_member, contain_member, length_member, negative_member, Kind, whole_kind, text_kind, takes_kind, kind_type, row_of_kinds, kind_of, pair_found, pair_offers, pairs_mark, is_dynamic, is_any, is_never, binary_mark, order_mark, display_mark}
+use Rattle.pc_rules.specs.Operations.{Label, clean, in_error, has_error, Offer, found_of, offers_label, operand_types, tuple_item, index_member, attribute_found, attribute_member, contain_member, length_member, negative_member, Kind, whole_kind, text_kind, takes_kind, kind_type, row_of_kinds, kind_of, pair_found, pair_offers, pairs_label, is_dynamic, is_any, is_never, binary_label, order_label, display_label}
 use Rattle.pc_types.specs.WellFormed.{IsWellFormed}
 use Rattle.pc_flow.specs.WellFormed.{IsWellFormedIfAny, AreWellFormed}
 use Rattle.pc_class.specs.WellFormed.{ParametersWellFormed, MethodWellFormed, MethodsWellFormed, ClassesWellFormed}
@@ -137,17 +137,17 @@ module _ (bases : Bases) where
     pairs_well_formed [] ns = tt
     pairs_well_formed (m ∷ ms) ns = offers_append _ (pair_offers takes gives ms ns) (row_of_well_formed m ns) (pairs_well_formed ms ns)
 
-  if_type : (b : Test) (m n : Mark) → IsWellFormed bases m.type → IsWellFormed bases n.type → IsWellFormed bases (if b then m else n).type
+  if_type : (b : Test) (m n : Label) → IsWellFormed bases m.type → IsWellFormed bases n.type → IsWellFormed bases (if b then m else n).type
   if_type true m n h k = h
   if_type false m n h k = k
 
-  pub display_well_formed : (t : Tree) → IsNormal t → IsReduced bases t → IsWellFormed bases (display_mark t).type
+  pub display_well_formed : (t : Tree) → IsNormal t → IsReduced bases t → IsWellFormed bases (display_label t).type
   display_well_formed t n r =
       cond_both (nat_le (nodes t) node_limit) (clean t) (in_error E26) (λ m. IsWellFormed bases m.type) (λ e. (n, r, leb-true (nodes t) node_limit e)) (λ e. any_well_formed bases)
 
   -- ---- what joins
   module _ (o : AreSmaller bases) where
-    pub offers_well_formed : (os : List Offer) → OffersWellFormed bases os → IsWellFormed bases (offers_mark bases os).type
+    pub offers_well_formed : (os : List Offer) → OffersWellFormed bases os → IsWellFormed bases (offers_label bases os).type
     offers_well_formed os h = if_any bases (has_error (found_of os)) _ (all_well_formed bases o _ (gives_well_formed os h))
 
     tuple_item_well_formed : (i : Option ℕ) (ts : Trees) → IsWellFormed bases (TupleOf ts) → IsWellFormed bases (tuple_item bases i ts)
@@ -162,14 +162,14 @@ module _ (bases : Bases) where
     index_well_formed i Any h = plain (any_well_formed bases) tt
     index_well_formed i _ h = plain (any_well_formed bases) tt
 
-    pairs_mark_well_formed : (takes : Kind → Test) (gives : Kind → Tree) (dynamic : Tree) → ((k : Kind) → IsWellFormed bases (gives k)) → IsWellFormed bases dynamic → (s t : Tree) → IsWellFormed bases (pairs_mark bases takes gives dynamic s t).type
-    pairs_mark_well_formed takes gives dynamic g d s t =
+    pairs_label_well_formed : (takes : Kind → Test) (gives : Kind → Tree) (dynamic : Tree) → ((k : Kind) → IsWellFormed bases (gives k)) → IsWellFormed bases dynamic → (s t : Tree) → IsWellFormed bases (pairs_label bases takes gives dynamic s t).type
+    pairs_label_well_formed takes gives dynamic g d s t =
         if_type (is_never s || is_never t) (clean Never) _ (never_well_formed bases)
         (if_type (is_dynamic takes s t) _ _ d
         (if_type (is_any s || is_any t) (in_error E13) _ (any_well_formed bases) (offers_well_formed (pair_offers takes gives (members s) (members t)) (pairs_well_formed takes gives g (members s) (members t)))))
 
-    pub binary_well_formed : (operator : BinaryOperator) (s t : Tree) → IsWellFormed bases (binary_mark bases operator s t).type
-    binary_well_formed operator s t = pairs_mark_well_formed (takes_kind operator) kind_type Any kind_well_formed (any_well_formed bases) s t
+    pub binary_well_formed : (operator : BinaryOperator) (s t : Tree) → IsWellFormed bases (binary_label bases operator s t).type
+    binary_well_formed operator s t = pairs_label_well_formed (takes_kind operator) kind_type Any kind_well_formed (any_well_formed bases) s t
 
-    pub order_well_formed : (s t : Tree) → IsWellFormed bases (order_mark bases s t).type
-    order_well_formed s t = pairs_mark_well_formed (λ k. true) (λ k. Bool) Bool (λ k. bool_well_formed bases) (bool_well_formed bases) s t
+    pub order_well_formed : (s t : Tree) → IsWellFormed bases (order_label bases s t).type
+    order_well_formed s t = pairs_label_well_formed (λ k. true) (λ k. Bool) Bool (λ k. bool_well_formed bases) (bool_well_formed bases) s t

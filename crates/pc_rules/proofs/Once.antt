@@ -13,11 +13,11 @@ use Rattle.pc_tree.specs.declared.code.Code.{Code}
 use Rattle.pc_tree.specs.declared.code.Code.TheVariants.{A1, A2, A3, A4, A5, A6, A7, A8, E01, E02, E03, E04, E05, E06, E07, E08, E09, E10, E11, E12, E13, E14, E15, E16, E17, E18, E19, E20, E21, E22, E23, E24, E25, E26, E27, E28, E29, E30, E31}
 use Rattle.pc_tree.specs.Code.{text_of, is_error}
 use Rattle.pc_types.specs.Tree.{Tree}
-use Rattle.pc_rules.specs.Operations.{Mark, clean, has_error}
+use Rattle.pc_rules.specs.Operations.{Label, clean, has_error}
 use Rattle.pc_rules.specs.Context.{is_early}
-use Rattle.pc_rules.specs.Found.{has_code, add_code, once_onto, once}
-use Rattle.pc_rules.specs.Standing.{mark_with, IsMark}
-use Rattle.pc_rules.specs.declared.label.Label.{Label}
+use Rattle.pc_rules.specs.Computed.Findings.{has_code, add_code, once_onto, once}
+use Rattle.pc_rules.specs.Computed.Standing.{label_with, MeansLabel}
+use Rattle.pc_rules.specs.declared.label.Label.{Label as RustLabel}
 
 -- ---- a code is told by its text
 
@@ -176,12 +176,12 @@ once_contains cs c = (
 -- ---- labels
 
 -- a label at which nothing is found, of a type of the store
-pub clean_is : {Store Ty : Type 0} (has : Store → Ty → Type 0) (tree : Ty → Tree) (store : Store) (l : Label Ty) (ty : Ty) (t : Tree) → mark_with tree l ≡ clean (tree ty) → l.ty ≡ ty → has store ty → tree ty ≡ t → IsMark has tree store l (clean t)
+pub clean_is : {Store Ty : Type 0} (has : Store → Ty → Type 0) (tree : Ty → Tree) (store : Store) (l : RustLabel Ty) (ty : Ty) (t : Tree) → label_with tree l ≡ clean (tree ty) → l.ty ≡ ty → has store ty → tree ty ≡ t → MeansLabel has tree store l (clean t)
 clean_is has tree store l ty t m e h is = record { given = subst (has store) (sym e) h; is = m ∙ ap clean is }
 
 -- equal labels are meant alike
-pub mark_as : {Store Ty : Type 0} (has : Store → Ty → Type 0) (tree : Ty → Tree) (store : Store) (l : Label Ty) (m n : Mark) → m ≡ n → IsMark has tree store l m → IsMark has tree store l n
-mark_as has tree store l m n e h = subst (IsMark has tree store l) e h
+pub label_as : {Store Ty : Type 0} (has : Store → Ty → Type 0) (tree : Ty → Tree) (store : Store) (l : RustLabel Ty) (m n : Label) → m ≡ n → MeansLabel has tree store l m → MeansLabel has tree store l n
+label_as has tree store l m n e h = subst (MeansLabel has tree store l) e h
 
-pub marks_as : {Store Ty E : Type 0} (has : Store → Ty → Type 0) (tree : Ty → Tree) (store : Store) (r : Result (Label Ty) E) (m n : Mark) → m ≡ n → IfOk r (λ l. IsMark has tree store l m) → IfOk r (λ l. IsMark has tree store l n)
-marks_as has tree store r m n e h = subst (λ (x : Mark). IfOk r (λ l. IsMark has tree store l x)) e h
+pub labels_as : {Store Ty E : Type 0} (has : Store → Ty → Type 0) (tree : Ty → Tree) (store : Store) (r : Result (RustLabel Ty) E) (m n : Label) → m ≡ n → IfOk r (λ l. MeansLabel has tree store l m) → IfOk r (λ l. MeansLabel has tree store l n)
+labels_as has tree store r m n e h = subst (λ (x : Label). IfOk r (λ l. MeansLabel has tree store l x)) e h

@@ -1,12 +1,12 @@
 -- What is found in the parts of an expression has nothing of the expression's own label.
 use Rattle.std.proofs.Common.{◌≡◌, refl}
 use Rattle.pc_tree.specs.Tree.{Expr, name, number, text, truth, nothing, tuple, list, dict, negative, negation, binary, compare, is_none, is_not_none, conjunction, disjunction, attribute, index, call}
-use Rattle.pc_rules.specs.Operations.{Mark}
-use Rattle.pc_rules.specs.Labels.{Marks, with_mark}
-use Rattle.pc_rules.specs.Found.{found_in_parts}
+use Rattle.pc_rules.specs.Operations.{Label}
+use Rattle.pc_rules.specs.Labels.{Labels, with_label}
+use Rattle.pc_rules.specs.Computed.Findings.{found_in_parts}
 
 -- the parts of an expression whose own label is another one
-pub parts_kept : (e : Expr) (m : Marks e) (here : Mark) → found_in_parts e (with_mark e m here) ≡ found_in_parts e m
+pub parts_kept : (e : Expr) (m : Labels e) (here : Label) → found_in_parts e (with_label e m here) ≡ found_in_parts e m
 parts_kept (name n) m here = refl
 parts_kept (number p d) m here = refl
 parts_kept (text p d) m here = refl

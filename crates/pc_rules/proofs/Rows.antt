@@ -7,9 +7,9 @@ use Rattle.pc_types.specs.Tree.{Any, Object, Never, Int, Bool, Str, NoneType, Cl
 use Rattle.pc_types.specs.Shape.{members}
 use Rattle.pc_flow.specs.Environment.{join_or_object, join_all, assigned_type, loop_head}
 use Rattle.pc_flow.specs.Narrowing.{for_none, for_type, for_list, type_where_true, type_where_false}
-use Rattle.pc_rules.specs.Operations.{clean, in_error, offers_mark, index_member, binary_mark, order_mark, operand_types, store_index_member, store_codes, stored_types, found_of}
+use Rattle.pc_rules.specs.Operations.{clean, in_error, offers_label, index_member, binary_label, order_label, operand_types, store_index_member, store_codes, stored_types, found_of}
 use Rattle.pc_rules.specs.Context.{Signature}
-use Rattle.pc_rules.specs.Calls.{is_suited, value_offers, call_mark, builtin_signature}
+use Rattle.pc_rules.specs.Calls.{is_suited, value_offers, call_label, builtin_signature}
 use Rattle.std.specs.Prelude.{map}
 
 -- class 1 descends from class 0; class 2 stands alone
@@ -18,45 +18,45 @@ bases = None ∷ Some 0 ∷ None ∷ []
 
 -- ---- operators
 
-whole_and_truth : binary_mark bases Add Int Bool ≡ clean Int
+whole_and_truth : binary_label bases Add Int Bool ≡ clean Int
 whole_and_truth = refl
 
-texts_joined : binary_mark bases Add Str Str ≡ clean Str
+texts_joined : binary_label bases Add Str Str ≡ clean Str
 texts_joined = refl
 
-texts_not_subtracted : binary_mark bases Sub Str Str ≡ in_error E13
+texts_not_subtracted : binary_label bases Sub Str Str ≡ in_error E13
 texts_not_subtracted = refl
 
-any_and_whole : binary_mark bases Add Any Int ≡ record { type = Any; codes = A2 ∷ [] }
+any_and_whole : binary_label bases Add Any Int ≡ record { type = Any; codes = A2 ∷ [] }
 any_and_whole = refl
 
-any_and_both : binary_mark bases Add Any (Union Int Str) ≡ record { type = Any; codes = A2 ∷ [] }
+any_and_both : binary_label bases Add Any (Union Int Str) ≡ record { type = Any; codes = A2 ∷ [] }
 any_and_both = refl
 
-any_and_none : binary_mark bases Add Any (Union Int NoneType) ≡ in_error E13
+any_and_none : binary_label bases Add Any (Union Int NoneType) ≡ in_error E13
 any_and_none = refl
 
-both_and_whole : binary_mark bases Add (Union Int Str) Int ≡ in_error E13
+both_and_whole : binary_label bases Add (Union Int Str) Int ≡ in_error E13
 both_and_whole = refl
 
-never_and_none : binary_mark bases Add Never NoneType ≡ clean Never
+never_and_none : binary_label bases Add Never NoneType ≡ clean Never
 never_and_none = refl
 
-any_ordered : order_mark bases Any Any ≡ record { type = Bool; codes = A2 ∷ [] }
+any_ordered : order_label bases Any Any ≡ record { type = Bool; codes = A2 ∷ [] }
 any_ordered = refl
 
-object_suits_nothing : binary_mark bases Add Object Int ≡ in_error E13
+object_suits_nothing : binary_label bases Add Object Int ≡ in_error E13
 object_suits_nothing = refl
 
 -- ---- items
 
-item_at_literal : offers_mark bases (map (index_member bases (Some 1)) (members (TupleOf (more Int (more Str end))))) ≡ clean Str
+item_at_literal : offers_label bases (map (index_member bases (Some 1)) (members (TupleOf (more Int (more Str end))))) ≡ clean Str
 item_at_literal = refl
 
-item_past_the_end : offers_mark bases (map (index_member bases (Some 2)) (members (TupleOf (more Int (more Str end))))) ≡ clean (Union Int Str)
+item_past_the_end : offers_label bases (map (index_member bases (Some 2)) (members (TupleOf (more Int (more Str end))))) ≡ clean (Union Int Str)
 item_past_the_end = refl
 
-item_of_either : offers_mark bases (map (index_member bases None) (members (Union Str (ListOf Int)))) ≡ clean (Union Int Str)
+item_of_either : offers_label bases (map (index_member bases None) (members (Union Str (ListOf Int)))) ≡ clean (Union Int Str)
 item_of_either = refl
 
 item_of_none : found_of (map (index_member bases None) (members (Union NoneType (ListOf Int)))) ≡ E16 ∷ []
@@ -148,11 +148,11 @@ no_such_name = refl
 no_names_for_built_in : is_suited (record { positional = 0; named = codes "" ∷ [] }) (builtin_signature (Int ∷ []) NoneType) ≡ false
 no_names_for_built_in = refl
 
-any_called : call_mark bases (value_offers Any) ≡ record { type = Any; codes = A6 ∷ [] }
+any_called : call_label bases (value_offers Any) ≡ record { type = Any; codes = A6 ∷ [] }
 any_called = refl
 
-never_called : call_mark bases (value_offers Never) ≡ clean Never
+never_called : call_label bases (value_offers Never) ≡ clean Never
 never_called = refl
 
-number_called : call_mark bases (value_offers Int) ≡ in_error E14
+number_called : call_label bases (value_offers Int) ≡ in_error E14
 number_called = refl

@@ -10,16 +10,16 @@ use Rattle.pc_scope.specs.Expressions.{is_name, is_instance_test, first_or_all, 
 use Rattle.pc_types.specs.Tree.{Tree}
 use Rattle.pc_flow.specs.Environment.{Env}
 use Rattle.pc_flow.specs.Narrowing.{narrow, test_of_argument, second_argument}
-use Rattle.pc_rules.specs.Operations.{Mark, in_error}
+use Rattle.pc_rules.specs.Operations.{Label, in_error}
 use Rattle.pc_rules.specs.Context.{Context, FlowsInto}
 use Rattle.pc_rules.specs.Calls.{GivenArguments, arguments_given, CallRule, member_rule, length_rule, test_rule, value_callee, method_callee, Seat}
-use Rattle.pc_rules.specs.Labels.{FlowMarks, Marks, ItemsMarks, EntriesMarks, KeywordsMarks, mark_of, type_of, is_of_scopes, IsFoundAt, IsFlowAt, IsCodeAt, second_place, Finds, ItemsFind, ArgumentsFind, EntriesFind, KeywordsFind}
+use Rattle.pc_rules.specs.Labels.{FlowLabels, Labels, ItemsLabels, EntriesLabels, KeywordsLabels, whole_label, type_of, is_of_scopes, IsFoundAt, IsFlowAt, IsCodeAt, second_place, Finds, ItemsFind, ArgumentsFind, EntriesFind, KeywordsFind}
 use Rattle.pc_rules.specs.Lawful.{callee_of, whole_second_code, early_second, keyword_seat, Lawful, LawfulItems, LawfulEntries, LawfulKeywords}
 use Rattle.pc_rules.proofs.Silent.{own_silent, method_callee_silent}
 use Rattle.pc_rules.proofs.Saying.{not_of_scopes, only_at, no_flow_of_scopes, second_silent, Said, said_left, said_right, said_behind, name_says, callee_name_says, with_found}
 
 -- arguments that are not second in a test of an instance are found as items
-items_found : (es : Exprs) (m : ItemsMarks es) (f : Finding) → ArgumentsFind false es m f → ItemsFind es m f
+items_found : (es : Exprs) (m : ItemsLabels es) (f : Finding) → ArgumentsFind false es m f → ItemsFind es m f
 items_found no_exprs m f h = h
 items_found (more_exprs e rest) m f h = elim h [ inl a ↦ inl a | inr b ↦ elim b [ inl c ↦ inr (inl c) | inr d ↦ inr (inr (items_found rest m.rest f d)) ] ]
 
@@ -28,13 +28,13 @@ module _ (ctx : Context) (declared : List Tree) (j : Test) (f : Finding) (s : is
   SaidIn parts = Said ctx parts f
 
   -- an expression that is no name says nothing itself
-  own : (env : Env) (want : Option Tree) (e : Expr) → is_name e ≡ false → (m : Marks e) → Lawful ctx declared env want e m → IsFoundAt (place_of e) (mark_of e m).codes f → ⊥
-  own env want e other m law found = not_of_scopes (place_of e) (mark_of e m).codes f (own_silent ctx declared env want e other m law) s found
+  own : (env : Env) (want : Option Tree) (e : Expr) → is_name e ≡ false → (m : Labels e) → Lawful ctx declared env want e m → IsFoundAt (place_of e) (whole_label e m).codes f → ⊥
+  own env want e other m law found = not_of_scopes (place_of e) (whole_label e m).codes f (own_silent ctx declared env want e other m law) s found
 
-  no_flow : (m : Mark) (ts : List Tree) (flows : FlowMarks) (p : Place) → FlowsInto ctx.bases m ts flows → IsFlowAt p flows f → ⊥
+  no_flow : (m : Label) (ts : List Tree) (flows : FlowLabels) (p : Place) → FlowsInto ctx.bases m ts flows → IsFlowAt p flows f → ⊥
   no_flow m ts flows p law found = no_flow_of_scopes ctx.bases m ts flows p f law s found
 
-  no_second : (rule : CallRule) (arguments : Exprs) (m : ItemsMarks arguments) (p : Place) → IsCodeAt p (whole_second_code ctx rule arguments m) f → ⊥
+  no_second : (rule : CallRule) (arguments : Exprs) (m : ItemsLabels arguments) (p : Place) → IsCodeAt p (whole_second_code ctx rule arguments m) f → ⊥
   no_second member_rule arguments m p h = h
   no_second length_rule arguments m p h = h
   no_second test_rule arguments m p h = second_silent (test_of_argument ctx.resolve (second_argument arguments)) (early_second arguments m) p f s h
@@ -46,16 +46,16 @@ module _ (ctx : Context) (declared : List Tree) (j : Test) (f : Finding) (s : is
   callee_late : (p : Place) (c : Expr) (args : Exprs) (kws : Keywords) (rest : List Expr) → is_name c ≡ false → ctx.in_body ≡ false → IsFoundAt (place_of c) (E03 ∷ []) f → SaidIn (call p c args kws ∷ rest)
   callee_late p c args kws rest other late found = record { part = call p c args kws; among = inl refl; says = (other, late, only_at (place_of c) E03 f found) }
 
-  value_late : (env : Env) (p : Place) (c : Expr) (args : Exprs) (kws : Keywords) (rest : List Expr) (value : Marks c) → is_name c ≡ false → Lawful ctx declared env None c value → (b : Test) → ctx.in_body ≡ b → IsFoundAt (place_of c) (if b then value_callee (mark_of c value) else value_callee (in_error E03)).mark.codes f → SaidIn (call p c args kws ∷ rest)
+  value_late : (env : Env) (p : Place) (c : Expr) (args : Exprs) (kws : Keywords) (rest : List Expr) (value : Labels c) → is_name c ≡ false → Lawful ctx declared env None c value → (b : Test) → ctx.in_body ≡ b → IsFoundAt (place_of c) (if b then value_callee (whole_label c value) else value_callee (in_error E03)).label.codes f → SaidIn (call p c args kws ∷ rest)
   value_late env p c args kws rest value other law true e found = absurd (own env None c other value law found)
   value_late env p c args kws rest value other law false e found = callee_late p c args kws rest other e found
 
-  method_late : (g : GivenArguments) (p q : Place) (e : Expr) (n : Name) (args : Exprs) (kws : Keywords) (rest : List Expr) (t : Tree) → (b : Test) → ctx.in_body ≡ b → IsFoundAt q (if b then method_callee ctx g n.text t else value_callee (in_error E03)).mark.codes f → SaidIn (call p (attribute q e n) args kws ∷ rest)
-  method_late g p q e n args kws rest t true is found = absurd (not_of_scopes q (method_callee ctx g n.text t).mark.codes f (method_callee_silent ctx g n.text t) s found)
+  method_late : (g : GivenArguments) (p q : Place) (e : Expr) (n : Name) (args : Exprs) (kws : Keywords) (rest : List Expr) (t : Tree) → (b : Test) → ctx.in_body ≡ b → IsFoundAt q (if b then method_callee ctx g n.text t else value_callee (in_error E03)).label.codes f → SaidIn (call p (attribute q e n) args kws ∷ rest)
+  method_late g p q e n args kws rest t true is found = absurd (not_of_scopes q (method_callee ctx g n.text t).label.codes f (method_callee_silent ctx g n.text t) s found)
   method_late g p q e n args kws rest t false is found = callee_late p (attribute q e n) args kws rest refl is found
 
   -- what stands at a callee
-  callee_said : (env : Env) (g : GivenArguments) (p : Place) (c : Expr) (args : Exprs) (kws : Keywords) (rest : List Expr) (value : Marks c) → Lawful ctx declared env None c value → IsFoundAt (place_of c) (callee_of ctx env g c value).mark.codes f → SaidIn (call p c args kws ∷ (parts_in j c ++ rest))
+  callee_said : (env : Env) (g : GivenArguments) (p : Place) (c : Expr) (args : Exprs) (kws : Keywords) (rest : List Expr) (value : Labels c) → Lawful ctx declared env None c value → IsFoundAt (place_of c) (callee_of ctx env g c value).label.codes f → SaidIn (call p c args kws ∷ (parts_in j c ++ rest))
   callee_said env g p (name n) args kws rest value law found = record { part = name n; among = inr (inl refl); says = callee_name_says ctx env g n f s found }
   callee_said env g p (attribute q e n) args kws rest value law found = method_late g p q e n args kws (parts_in j (attribute q e n) ++ rest) (type_of e value.object) ctx.in_body refl found
   callee_said env g p (number q x) args kws rest value law found = value_late env p (number q x) args kws (parts_in j (number q x) ++ rest) value refl law ctx.in_body refl found
@@ -77,14 +77,14 @@ module _ (ctx : Context) (declared : List Tree) (j : Test) (f : Finding) (s : is
   callee_said env g p (call q x y z) args kws rest value law found = value_late env p (call q x y z) args kws (parts_in j (call q x y z) ++ rest) value refl law ctx.in_body refl found
 
   -- the arguments of a call that are looked at
-  looked_at : (es : Exprs) (m : ItemsMarks es) (is_test : Test) → ((g : ItemsFind es m f) → SaidIn (parts_in_all j es)) → (ArgumentsFind true es m f → SaidIn (parts_in_first j es)) → ((g : ArgumentsFind true es m f) → SaidIn (parts_in_all j es)) → ArgumentsFind is_test es m f → (k : Test) → k ≡ j → SaidIn (first_or_all (parts_in_first j es) (parts_in_all j es) (k && is_test))
+  looked_at : (es : Exprs) (m : ItemsLabels es) (is_test : Test) → ((g : ItemsFind es m f) → SaidIn (parts_in_all j es)) → (ArgumentsFind true es m f → SaidIn (parts_in_first j es)) → ((g : ArgumentsFind true es m f) → SaidIn (parts_in_all j es)) → ArgumentsFind is_test es m f → (k : Test) → k ≡ j → SaidIn (first_or_all (parts_in_first j es) (parts_in_all j es) (k && is_test))
   looked_at es m true all first first_all h true e = first h
   looked_at es m true all first first_all h false e = first_all h
   looked_at es m false all first first_all h true e = all (items_found es m f h)
   looked_at es m false all first first_all h false e = all (items_found es m f h)
 
   mutual
-    pub said : (env : Env) (want : Option Tree) (e : Expr) (m : Marks e) → Lawful ctx declared env want e m → Finds e m f → SaidIn (parts_in j e)
+    pub said : (env : Env) (want : Option Tree) (e : Expr) (m : Labels e) → Lawful ctx declared env want e m → Finds e m f → SaidIn (parts_in j e)
     said env want (name n) m law h = record { part = name n; among = inl refl; says = name_says ctx env n f s (subst (λ x. IsFoundAt n.place x.codes f) law h) }
     said env want (number p d) m law h = absurd (own env want (number p d) refl m law h)
     said env want (text p d) m law h = absurd (own env want (text p d) refl m law h)
@@ -130,7 +130,7 @@ module _ (ctx : Context) (declared : List Tree) (j : Test) (f : Finding) (s : is
         elim h [
           | inl a ↦ absurd (own env want (call p c args kws) refl m law a)
           | inr b ↦ elim b [
-            | inl x ↦ elim (with_found c law.value callee.mark f (subst (λ v. Finds c v f) law.callee x)) [
+            | inl x ↦ elim (with_found c law.value callee.label f (subst (λ v. Finds c v f) law.callee x)) [
               | inl y ↦ callee_said env (arguments_given args kws) p c args kws rest law.value law.lawful y
               | inr z ↦ two (call p c args kws) (parts_in j c) rest (inl (said env None c law.value law.lawful z))
             ]
@@ -144,7 +144,7 @@ module _ (ctx : Context) (declared : List Tree) (j : Test) (f : Finding) (s : is
           ]
         ]
 
-    pub items_said : (env : Env) (seat : ℕ → Seat) (es : Exprs) (m : ItemsMarks es) → LawfulItems ctx declared env seat es m → ItemsFind es m f → SaidIn (parts_in_all j es)
+    pub items_said : (env : Env) (seat : ℕ → Seat) (es : Exprs) (m : ItemsLabels es) → LawfulItems ctx declared env seat es m → ItemsFind es m f → SaidIn (parts_in_all j es)
     items_said env seat no_exprs m law h = absurd h
     items_said env seat (more_exprs e rest) m law h = elim h [
       | inl a ↦ absurd (no_flow _ _ m.flows (place_of e) law.flows a)
@@ -154,15 +154,15 @@ module _ (ctx : Context) (declared : List Tree) (j : Test) (f : Finding) (s : is
       ]
     ]
 
-    first_said : (env : Env) (seat : ℕ → Seat) (es : Exprs) (m : ItemsMarks es) → LawfulItems ctx declared env seat es m → ArgumentsFind true es m f → SaidIn (parts_in_first j es)
+    first_said : (env : Env) (seat : ℕ → Seat) (es : Exprs) (m : ItemsLabels es) → LawfulItems ctx declared env seat es m → ArgumentsFind true es m f → SaidIn (parts_in_first j es)
     first_said env seat no_exprs m law h = absurd h
     first_said env seat (more_exprs e rest) m law h = said env (seat 0).want e m.first law.first h
 
-    first_of_all_said : (env : Env) (seat : ℕ → Seat) (es : Exprs) (m : ItemsMarks es) → LawfulItems ctx declared env seat es m → ArgumentsFind true es m f → SaidIn (parts_in_all j es)
+    first_of_all_said : (env : Env) (seat : ℕ → Seat) (es : Exprs) (m : ItemsLabels es) → LawfulItems ctx declared env seat es m → ArgumentsFind true es m f → SaidIn (parts_in_all j es)
     first_of_all_said env seat no_exprs m law h = absurd h
     first_of_all_said env seat (more_exprs e rest) m law h = said_left ctx (parts_in j e) (parts_in_all j rest) f (said env (seat 0).want e m.first law.first h)
 
-    entries_said : (env : Env) (k v : Seat) (es : Entries) (m : EntriesMarks es) → LawfulEntries ctx declared env k v es m → EntriesFind es m f → SaidIn (parts_in_entries j es)
+    entries_said : (env : Env) (k v : Seat) (es : Entries) (m : EntriesLabels es) → LawfulEntries ctx declared env k v es m → EntriesFind es m f → SaidIn (parts_in_entries j es)
     entries_said env k v no_entries m law h = absurd h
     entries_said env k v (more_entries a b rest) m law h = elim h [
       | inl x ↦ elim x [
@@ -178,7 +178,7 @@ module _ (ctx : Context) (declared : List Tree) (j : Test) (f : Finding) (s : is
       ])
     ]
 
-    pub keywords_said : (env : Env) (seat : List ℕ → Seat) (before : List (List ℕ)) (es : Keywords) (m : KeywordsMarks es) → LawfulKeywords ctx declared env seat before es m → KeywordsFind es m f → SaidIn (parts_in_keywords j es)
+    pub keywords_said : (env : Env) (seat : List ℕ → Seat) (before : List (List ℕ)) (es : Keywords) (m : KeywordsLabels es) → LawfulKeywords ctx declared env seat before es m → KeywordsFind es m f → SaidIn (parts_in_keywords j es)
     keywords_said env seat before no_keywords m law h = absurd h
     keywords_said env seat before (more_keywords n e rest) m law h = elim h [
       | inl a ↦ absurd (no_flow _ _ m.flows (place_of e) law.flows a)
@@ -188,5 +188,5 @@ module _ (ctx : Context) (declared : List Tree) (j : Test) (f : Finding) (s : is
       ]
     ]
 
-  pub arguments_said : (env : Env) (seat : ℕ → Seat) (es : Exprs) (m : ItemsMarks es) → LawfulItems ctx declared env seat es m → (is_test : Test) → ArgumentsFind is_test es m f → SaidIn (first_or_all (parts_in_first j es) (parts_in_all j es) (j && is_test))
+  pub arguments_said : (env : Env) (seat : ℕ → Seat) (es : Exprs) (m : ItemsLabels es) → LawfulItems ctx declared env seat es m → (is_test : Test) → ArgumentsFind is_test es m f → SaidIn (first_or_all (parts_in_first j es) (parts_in_all j es) (j && is_test))
   arguments_said env seat es m law is_test h = looked_at es m is_test (items_said env seat es m law) (first_said env seat es m law) (first_of_all_said env seat es m law) h j refl

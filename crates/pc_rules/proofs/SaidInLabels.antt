@@ -9,16 +9,16 @@ use Rattle.pc_scope.specs.Expressions.{is_name, is_instance_test, first_or_all, 
 use Rattle.pc_types.specs.Tree.{Tree}
 use Rattle.pc_flow.specs.Environment.{Env}
 use Rattle.pc_flow.specs.Narrowing.{narrow}
-use Rattle.pc_rules.specs.Operations.{Mark, in_error}
+use Rattle.pc_rules.specs.Operations.{Label, in_error}
 use Rattle.pc_rules.specs.Context.{Context}
 use Rattle.pc_rules.specs.Calls.{GivenArguments, arguments_given, value_callee, method_callee, Seat}
-use Rattle.pc_rules.specs.Labels.{Marks, ItemsMarks, EntriesMarks, KeywordsMarks, mark_of, type_of, with_mark, IsFoundAt, Finds, ItemsFind, ArgumentsFind, EntriesFind, KeywordsFind}
+use Rattle.pc_rules.specs.Labels.{Labels, ItemsLabels, EntriesLabels, KeywordsLabels, whole_label, type_of, with_label, IsFoundAt, Finds, ItemsFind, ArgumentsFind, EntriesFind, KeywordsFind}
 use Rattle.pc_rules.specs.Lawful.{callee_of, keyword_seat, Lawful, LawfulItems, LawfulEntries, LawfulKeywords}
-use Rattle.pc_rules.proofs.Saying.{IsPart, part_either, PartSays, CalleeSays, found_at, found_here, own_mark, name_said, callee_name_said}
+use Rattle.pc_rules.proofs.Saying.{IsPart, part_either, PartSays, CalleeSays, found_at, found_here, own_label, name_said, callee_name_said}
 
 -- ---- what is found within an expression, its own label aside
 
-abbrev Within : (e : Expr) → Marks e → Finding → Type 0
+abbrev Within : (e : Expr) → Labels e → Finding → Type 0
 Within (tuple p es) m f = ItemsFind es m.items f
 Within (list p es) m f = ItemsFind es m.items f
 Within (dict p es) m f = EntriesFind es m.entries f
@@ -36,7 +36,7 @@ Within (call p c args kws) m f = Finds c m.callee f ⊎ (ArgumentsFind (is_insta
 Within _ m f = ⊥
 
 -- it is found, whatever the label of the expression itself
-found_within : (e : Expr) (m : Marks e) (here : Mark) (f : Finding) → Within e m f → Finds e (with_mark e m here) f
+found_within : (e : Expr) (m : Labels e) (here : Label) (f : Finding) → Within e m f → Finds e (with_label e m here) f
 found_within (name n) m here f h = absurd h
 found_within (number p d) m here f h = absurd h
 found_within (text p d) m here f h = absurd h
@@ -58,7 +58,7 @@ found_within (index p l r) m here f h = inr (inr h)
 found_within (call p c args kws) m here f h = inr (elim h [ inl a ↦ inl a | inr b ↦ inr (inr b) ])
 
 -- with its own label as well
-own_again : (e : Expr) (m : Marks e) → with_mark e m (mark_of e m) ≡ m
+own_again : (e : Expr) (m : Labels e) → with_label e m (whole_label e m) ≡ m
 own_again (name n) m = refl
 own_again (number p d) m = refl
 own_again (text p d) m = refl
@@ -79,11 +79,11 @@ own_again (attribute p e n) m = refl
 own_again (index p l r) m = refl
 own_again (call p c args kws) m = refl
 
-in_own : (e : Expr) (m : Marks e) (f : Finding) → Within e m f → Finds e m f
-in_own e m f h = subst (λ k. Finds e k f) (own_again e m) (found_within e m (mark_of e m) f h)
+in_own : (e : Expr) (m : Labels e) (f : Finding) → Within e m f → Finds e m f
+in_own e m f h = subst (λ k. Finds e k f) (own_again e m) (found_within e m (whole_label e m) f h)
 
 -- items are found as arguments that are not second in a test of an instance
-pub as_arguments : (es : Exprs) (m : ItemsMarks es) (f : Finding) → ItemsFind es m f → ArgumentsFind false es m f
+pub as_arguments : (es : Exprs) (m : ItemsLabels es) (f : Finding) → ItemsFind es m f → ArgumentsFind false es m f
 as_arguments no_exprs m f h = h
 as_arguments (more_exprs e rest) m f h = elim h [ inl a ↦ inl a | inr b ↦ elim b [ inl c ↦ inr (inl c) | inr d ↦ inr (inr (as_arguments rest m.rest f d)) ] ]
 
@@ -93,34 +93,34 @@ module _ (ctx : Context) (declared : List Tree) (part : Expr) (f : Finding) (say
   nothing_said e silent is = silent (subst (λ x. PartSays ctx x f) (sym is) says)
 
   -- in an initializer a callee that is no name has E03
-  late_mark : (env : Env) (g : GivenArguments) (c : Expr) (value : Marks c) → is_name c ≡ false → ctx.in_body ≡ false → (callee_of ctx env g c value).mark ≡ in_error E03
-  late_mark env g (name n) value other late = absurd (grind (arith, other))
-  late_mark env g (attribute q e n) value other late = ap (λ b. (if b then method_callee ctx g n.text (type_of e value.object) else value_callee (in_error E03)).mark) late
-  late_mark env g (number q x) value other late = ap (λ b. (if b then value_callee value else value_callee (in_error E03)).mark) late
-  late_mark env g (text q x) value other late = ap (λ b. (if b then value_callee value else value_callee (in_error E03)).mark) late
-  late_mark env g (truth q x) value other late = ap (λ b. (if b then value_callee value else value_callee (in_error E03)).mark) late
-  late_mark env g (nothing q) value other late = ap (λ b. (if b then value_callee value else value_callee (in_error E03)).mark) late
-  late_mark env g (tuple q x) value other late = ap (λ b. (if b then value_callee value.here else value_callee (in_error E03)).mark) late
-  late_mark env g (list q x) value other late = ap (λ b. (if b then value_callee value.here else value_callee (in_error E03)).mark) late
-  late_mark env g (dict q x) value other late = ap (λ b. (if b then value_callee value.here else value_callee (in_error E03)).mark) late
-  late_mark env g (negative q x) value other late = ap (λ b. (if b then value_callee value.here else value_callee (in_error E03)).mark) late
-  late_mark env g (negation q x) value other late = ap (λ b. (if b then value_callee value.here else value_callee (in_error E03)).mark) late
-  late_mark env g (binary q o x y) value other late = ap (λ b. (if b then value_callee value.here else value_callee (in_error E03)).mark) late
-  late_mark env g (compare q o x y) value other late = ap (λ b. (if b then value_callee value.here else value_callee (in_error E03)).mark) late
-  late_mark env g (is_none q x) value other late = ap (λ b. (if b then value_callee value.here else value_callee (in_error E03)).mark) late
-  late_mark env g (is_not_none q x) value other late = ap (λ b. (if b then value_callee value.here else value_callee (in_error E03)).mark) late
-  late_mark env g (conjunction q x y) value other late = ap (λ b. (if b then value_callee value.here else value_callee (in_error E03)).mark) late
-  late_mark env g (disjunction q x y) value other late = ap (λ b. (if b then value_callee value.here else value_callee (in_error E03)).mark) late
-  late_mark env g (index q x y) value other late = ap (λ b. (if b then value_callee value.here else value_callee (in_error E03)).mark) late
-  late_mark env g (call q x y z) value other late = ap (λ b. (if b then value_callee value.here else value_callee (in_error E03)).mark) late
+  late_label : (env : Env) (g : GivenArguments) (c : Expr) (value : Labels c) → is_name c ≡ false → ctx.in_body ≡ false → (callee_of ctx env g c value).label ≡ in_error E03
+  late_label env g (name n) value other late = absurd (grind (arith, other))
+  late_label env g (attribute q e n) value other late = ap (λ b. (if b then method_callee ctx g n.text (type_of e value.object) else value_callee (in_error E03)).label) late
+  late_label env g (number q x) value other late = ap (λ b. (if b then value_callee value else value_callee (in_error E03)).label) late
+  late_label env g (text q x) value other late = ap (λ b. (if b then value_callee value else value_callee (in_error E03)).label) late
+  late_label env g (truth q x) value other late = ap (λ b. (if b then value_callee value else value_callee (in_error E03)).label) late
+  late_label env g (nothing q) value other late = ap (λ b. (if b then value_callee value else value_callee (in_error E03)).label) late
+  late_label env g (tuple q x) value other late = ap (λ b. (if b then value_callee value.here else value_callee (in_error E03)).label) late
+  late_label env g (list q x) value other late = ap (λ b. (if b then value_callee value.here else value_callee (in_error E03)).label) late
+  late_label env g (dict q x) value other late = ap (λ b. (if b then value_callee value.here else value_callee (in_error E03)).label) late
+  late_label env g (negative q x) value other late = ap (λ b. (if b then value_callee value.here else value_callee (in_error E03)).label) late
+  late_label env g (negation q x) value other late = ap (λ b. (if b then value_callee value.here else value_callee (in_error E03)).label) late
+  late_label env g (binary q o x y) value other late = ap (λ b. (if b then value_callee value.here else value_callee (in_error E03)).label) late
+  late_label env g (compare q o x y) value other late = ap (λ b. (if b then value_callee value.here else value_callee (in_error E03)).label) late
+  late_label env g (is_none q x) value other late = ap (λ b. (if b then value_callee value.here else value_callee (in_error E03)).label) late
+  late_label env g (is_not_none q x) value other late = ap (λ b. (if b then value_callee value.here else value_callee (in_error E03)).label) late
+  late_label env g (conjunction q x y) value other late = ap (λ b. (if b then value_callee value.here else value_callee (in_error E03)).label) late
+  late_label env g (disjunction q x y) value other late = ap (λ b. (if b then value_callee value.here else value_callee (in_error E03)).label) late
+  late_label env g (index q x y) value other late = ap (λ b. (if b then value_callee value.here else value_callee (in_error E03)).label) late
+  late_label env g (call q x y z) value other late = ap (λ b. (if b then value_callee value.here else value_callee (in_error E03)).label) late
 
-  callee_late : (env : Env) (g : GivenArguments) (c : Expr) (value m : Marks c) → m ≡ with_mark c value (callee_of ctx env g c value).mark → CalleeSays ctx c f → Finds c m f
+  callee_late : (env : Env) (g : GivenArguments) (c : Expr) (value m : Labels c) → m ≡ with_label c value (callee_of ctx env g c value).label → CalleeSays ctx c f → Finds c m f
   callee_late env g c value m law h =
-      let own : mark_of c m ≡ in_error E03 = ap (mark_of c) law ∙ own_mark c value _ ∙ late_mark env g c value h.0 h.1 in
+      let own : whole_label c m ≡ in_error E03 = ap (whole_label c) law ∙ own_label c value _ ∙ late_label env g c value h.0 h.1 in
       found_here c m f (subst (λ x. IsFoundAt (place_of c) x.codes f) (sym own) (found_at (place_of c) E03 f h.2))
 
   -- an expression, from what is found within it; a name says it itself
-  found_by : (env : Env) (want : Option Tree) (e : Expr) (m : Marks e) → Lawful ctx declared env want e m → IsPart part (parts_in true e) → (is_name e ≡ false → Within e m f) → Finds e m f
+  found_by : (env : Env) (want : Option Tree) (e : Expr) (m : Labels e) → Lawful ctx declared env want e m → IsPart part (parts_in true e) → (is_name e ≡ false → Within e m f) → Finds e m f
   found_by env want (name n) m law h within = elim h [ inl is ↦ subst (λ x. IsFoundAt n.place x.codes f) (sym law) (name_said ctx env n f (subst (λ x. PartSays ctx x f) (sym is) says)) | inr b ↦ absurd b ]
   found_by env want (number p d) m law h within = absurd (within refl)
   found_by env want (text p d) m law h within = absurd (within refl)
@@ -141,11 +141,11 @@ module _ (ctx : Context) (declared : List Tree) (part : Expr) (f : Finding) (say
   found_by env want (index p l r) m law h within = in_own (index p l r) m f (within refl)
   found_by env want (call p c args kws) m law h within = in_own (call p c args kws) m f (within refl)
 
-  other_found : (env : Env) (g : GivenArguments) (c : Expr) (value m : Marks c) → m ≡ with_mark c value (callee_of ctx env g c value).mark → Within c value f → Finds c m f
-  other_found env g c value m law h = subst (λ k. Finds c k f) (sym law) (found_within c value (callee_of ctx env g c value).mark f h)
+  other_found : (env : Env) (g : GivenArguments) (c : Expr) (value m : Labels c) → m ≡ with_label c value (callee_of ctx env g c value).label → Within c value f → Finds c m f
+  other_found env g c value m law h = subst (λ k. Finds c k f) (sym law) (found_within c value (callee_of ctx env g c value).label f h)
 
   -- a callee, whose own label says what it is as a callee
-  callee_found : (env : Env) (g : GivenArguments) (c : Expr) (value m : Marks c) → m ≡ with_mark c value (callee_of ctx env g c value).mark → IsPart part (parts_in true c) → (is_name c ≡ false → Within c value f) → Finds c m f
+  callee_found : (env : Env) (g : GivenArguments) (c : Expr) (value m : Labels c) → m ≡ with_label c value (callee_of ctx env g c value).label → IsPart part (parts_in true c) → (is_name c ≡ false → Within c value f) → Finds c m f
   callee_found env g (name n) value m law h within =
       elim h [ inl is ↦ subst (λ x. IsFoundAt n.place x.codes f) (sym law) (callee_name_said ctx env g n f (subst (λ x. PartSays ctx x f) (sym is) says)) | inr b ↦ absurd b ]
   callee_found env g (number q x) value m law h within = absurd (within refl)
@@ -168,13 +168,13 @@ module _ (ctx : Context) (declared : List Tree) (part : Expr) (f : Finding) (say
   callee_found env g (call q x y z) value m law h within = other_found env g (call q x y z) value m law (within refl)
 
   -- the arguments that are looked at
-  pub arguments_found : (es : Exprs) (m : ItemsMarks es) → (IsPart part (parts_in_first true es) → ArgumentsFind true es m f) → (IsPart part (parts_in_all true es) → ItemsFind es m f) → (is_test : Test) → IsPart part (first_or_all (parts_in_first true es) (parts_in_all true es) is_test) → ArgumentsFind is_test es m f
+  pub arguments_found : (es : Exprs) (m : ItemsLabels es) → (IsPart part (parts_in_first true es) → ArgumentsFind true es m f) → (IsPart part (parts_in_all true es) → ItemsFind es m f) → (is_test : Test) → IsPart part (first_or_all (parts_in_first true es) (parts_in_all true es) is_test) → ArgumentsFind is_test es m f
   arguments_found es m first all true h = first h
   arguments_found es m first all false h = as_arguments es m f (all h)
 
   mutual
     -- a part of an expression that is no name itself
-    within_found : (env : Env) (want : Option Tree) (e : Expr) → is_name e ≡ false → (m : Marks e) → Lawful ctx declared env want e m → IsPart part (parts_in true e) → Within e m f
+    within_found : (env : Env) (want : Option Tree) (e : Expr) → is_name e ≡ false → (m : Labels e) → Lawful ctx declared env want e m → IsPart part (parts_in true e) → Within e m f
     within_found env want (name n) other m law h = absurd (grind (arith, other))
     within_found env want (number p d) other m law h = elim h [ inl is ↦ nothing_said (number p d) (λ x. x) is | inr b ↦ b ]
     within_found env want (text p d) other m law h = elim h [ inl is ↦ nothing_said (text p d) (λ x. x) is | inr b ↦ b ]
@@ -236,18 +236,18 @@ module _ (ctx : Context) (declared : List Tree) (part : Expr) (f : Finding) (say
           ]
         ]
 
-    pub items_found : (env : Env) (seat : ℕ → Seat) (es : Exprs) (m : ItemsMarks es) → LawfulItems ctx declared env seat es m → IsPart part (parts_in_all true es) → ItemsFind es m f
+    pub items_found : (env : Env) (seat : ℕ → Seat) (es : Exprs) (m : ItemsLabels es) → LawfulItems ctx declared env seat es m → IsPart part (parts_in_all true es) → ItemsFind es m f
     items_found env seat no_exprs m law h = h
     items_found env seat (more_exprs e rest) m law h = elim (part_either part (parts_in true e) (parts_in_all true rest) h) [
       | inl x ↦ inr (inl (found_by env (seat 0).want e m.first law.first x (λ k. within_found env (seat 0).want e k m.first law.first x)))
       | inr y ↦ inr (inr (items_found env (λ i. seat (suc i)) rest m.rest law.rest y))
     ]
 
-    pub first_found : (env : Env) (seat : ℕ → Seat) (es : Exprs) (m : ItemsMarks es) → LawfulItems ctx declared env seat es m → IsPart part (parts_in_first true es) → ArgumentsFind true es m f
+    pub first_found : (env : Env) (seat : ℕ → Seat) (es : Exprs) (m : ItemsLabels es) → LawfulItems ctx declared env seat es m → IsPart part (parts_in_first true es) → ArgumentsFind true es m f
     first_found env seat no_exprs m law h = h
     first_found env seat (more_exprs e rest) m law h = found_by env (seat 0).want e m.first law.first h (λ k. within_found env (seat 0).want e k m.first law.first h)
 
-    entries_found : (env : Env) (k v : Seat) (es : Entries) (m : EntriesMarks es) → LawfulEntries ctx declared env k v es m → IsPart part (parts_in_entries true es) → EntriesFind es m f
+    entries_found : (env : Env) (k v : Seat) (es : Entries) (m : EntriesLabels es) → LawfulEntries ctx declared env k v es m → IsPart part (parts_in_entries true es) → EntriesFind es m f
     entries_found env k v no_entries m law h = h
     entries_found env k v (more_entries a b rest) m law h = elim (part_either part (parts_in true a) (parts_in true b ++ parts_in_entries true rest) h) [
       | inl x ↦ inl (inr (found_by env k.want a m.key law.key x (λ o. within_found env k.want a o m.key law.key x)))
@@ -257,12 +257,12 @@ module _ (ctx : Context) (declared : List Tree) (part : Expr) (f : Finding) (say
       ])
     ]
 
-    pub keywords_found : (env : Env) (seat : List ℕ → Seat) (before : List (List ℕ)) (es : Keywords) (m : KeywordsMarks es) → LawfulKeywords ctx declared env seat before es m → IsPart part (parts_in_keywords true es) → KeywordsFind es m f
+    pub keywords_found : (env : Env) (seat : List ℕ → Seat) (before : List (List ℕ)) (es : Keywords) (m : KeywordsLabels es) → LawfulKeywords ctx declared env seat before es m → IsPart part (parts_in_keywords true es) → KeywordsFind es m f
     keywords_found env seat before no_keywords m law h = h
     keywords_found env seat before (more_keywords n e rest) m law h = elim (part_either part (parts_in true e) (parts_in_keywords true rest) h) [
       | inl x ↦ inr (inl (found_by env (keyword_seat seat before n).want e m.first law.first x (λ o. within_found env (keyword_seat seat before n).want e o m.first law.first x)))
       | inr y ↦ inr (inr (keywords_found env seat (n.text ∷ before) rest m.rest law.rest y))
     ]
 
-  pub said_found : (env : Env) (want : Option Tree) (e : Expr) (m : Marks e) → Lawful ctx declared env want e m → IsPart part (parts_in true e) → Finds e m f
+  pub said_found : (env : Env) (want : Option Tree) (e : Expr) (m : Labels e) → Lawful ctx declared env want e m → IsPart part (parts_in true e) → Finds e m f
   said_found env want e m law h = found_by env want e m law h (λ k. within_found env want e k m law h)

@@ -7,7 +7,7 @@ use Rattle.pc_tree.specs.declared.code.Code.{Code}
 use Rattle.pc_tree.specs.declared.code.Code.TheVariants.{A1, A2, A3, A4, A5, A6, A7, A8, E01, E02, E03, E04, E05, E06, E07, E08, E09, E10, E11, E12, E13, E14, E15, E16, E17, E18, E19, E20, E21, E22, E23, E24, E25, E26, E27, E28, E29, E30, E31}
 use Rattle.pc_tree.specs.Code.{text_of}
 use Rattle.pc_tree.proofs.Among.{none_among, first_among, later_among, among_first, either}
-use Rattle.pc_rules.specs.Found.{has_code, add_code, once_onto, once}
+use Rattle.pc_rules.specs.Computed.Findings.{has_code, add_code, once_onto, once}
 
 -- ---- codes by their texts
 

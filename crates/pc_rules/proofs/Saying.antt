@@ -20,10 +20,10 @@ use Rattle.pc_types.specs.Tree.{Tree}
 use Rattle.pc_types.specs.Below.{Bases}
 use Rattle.pc_flow.specs.Environment.{Env, current}
 use Rattle.pc_flow.specs.Narrowing.{Tested}
-use Rattle.pc_rules.specs.Operations.{Mark, in_error}
-use Rattle.pc_rules.specs.Context.{Context, Flows, static, dynamic, wrong, FlowUnless, FlowsInto, is_early, local_mark, constant_mark, name_mark}
+use Rattle.pc_rules.specs.Operations.{Label, in_error}
+use Rattle.pc_rules.specs.Context.{Context, Flows, static, dynamic, wrong, FlowUnless, FlowsInto, is_early, local_label, constant_label, name_label}
 use Rattle.pc_rules.specs.Calls.{GivenArguments, CallRule, length_rule, test_rule, function_offer, signature_offer, class_signature, own_callee, builtin_callee, good_callee, value_callee, name_callee, fails_at_call, is_one, is_two, second_code}
-use Rattle.pc_rules.specs.Labels.{FlowMarks, Marks, mark_of, with_mark, is_of_scopes, IsFoundAt, IsFlowAt, IsCodeAt, Finds}
+use Rattle.pc_rules.specs.Labels.{FlowLabels, Labels, whole_label, with_label, is_of_scopes, IsFoundAt, IsFlowAt, IsCodeAt, Finds}
 use Rattle.pc_rules.proofs.Silent.{Silent}
 
 -- ---- codes at a place
@@ -65,7 +65,7 @@ unless_silent true bases s t c h x e = absurd (grind (arith, h, e))
 unless_silent false bases s t c h x e = flow_silent h x e
 
 -- what is found at flows is of another code
-pub no_flow_of_scopes : (bases : Bases) (m : Mark) (ts : List Tree) (flows : FlowMarks) (p : Place) (f : Finding) → FlowsInto bases m ts flows → is_of_scopes f.code ≡ true → IsFlowAt p flows f → ⊥
+pub no_flow_of_scopes : (bases : Bases) (m : Label) (ts : List Tree) (flows : FlowLabels) (p : Place) (f : Finding) → FlowsInto bases m ts flows → is_of_scopes f.code ≡ true → IsFlowAt p flows f → ⊥
 no_flow_of_scopes bases m ts [] p f law s found = none_among found.flow found.among
 no_flow_of_scopes bases m [] (x ∷ xs) p f law s found = law
 no_flow_of_scopes bases m (t ∷ ts) (x ∷ xs) p f law s found = elim (among_first x xs found.flow found.among) [
@@ -136,7 +136,7 @@ said_behind ctx x xs f h = record { part = h.part; among = inr h.among; says = h
 -- ---- labels of a node itself
 
 -- the codes of an expression's own label are found at its place
-pub found_here : (e : Expr) (m : Marks e) (f : Finding) → IsFoundAt (place_of e) (mark_of e m).codes f → Finds e m f
+pub found_here : (e : Expr) (m : Labels e) (f : Finding) → IsFoundAt (place_of e) (whole_label e m).codes f → Finds e m f
 found_here (name n) m f h = h
 found_here (number p d) m f h = h
 found_here (text p d) m f h = h
@@ -158,29 +158,29 @@ found_here (index p a b) m f h = inl h
 found_here (call p c args kws) m f h = inl h
 
 -- the label that was put in place of its own
-pub own_mark : (e : Expr) (m : Marks e) (here : Mark) → mark_of e (with_mark e m here) ≡ here
-own_mark (name n) m here = refl
-own_mark (number p d) m here = refl
-own_mark (text p d) m here = refl
-own_mark (truth p d) m here = refl
-own_mark (nothing p) m here = refl
-own_mark (tuple p es) m here = refl
-own_mark (list p es) m here = refl
-own_mark (dict p es) m here = refl
-own_mark (negative p e) m here = refl
-own_mark (negation p e) m here = refl
-own_mark (binary p o a b) m here = refl
-own_mark (compare p o a b) m here = refl
-own_mark (is_none p e) m here = refl
-own_mark (is_not_none p e) m here = refl
-own_mark (conjunction p a b) m here = refl
-own_mark (disjunction p a b) m here = refl
-own_mark (attribute p e n) m here = refl
-own_mark (index p a b) m here = refl
-own_mark (call p c args kws) m here = refl
+pub own_label : (e : Expr) (m : Labels e) (here : Label) → whole_label e (with_label e m here) ≡ here
+own_label (name n) m here = refl
+own_label (number p d) m here = refl
+own_label (text p d) m here = refl
+own_label (truth p d) m here = refl
+own_label (nothing p) m here = refl
+own_label (tuple p es) m here = refl
+own_label (list p es) m here = refl
+own_label (dict p es) m here = refl
+own_label (negative p e) m here = refl
+own_label (negation p e) m here = refl
+own_label (binary p o a b) m here = refl
+own_label (compare p o a b) m here = refl
+own_label (is_none p e) m here = refl
+own_label (is_not_none p e) m here = refl
+own_label (conjunction p a b) m here = refl
+own_label (disjunction p a b) m here = refl
+own_label (attribute p e n) m here = refl
+own_label (index p a b) m here = refl
+own_label (call p c args kws) m here = refl
 
 -- under labels with another one for the expression itself: that one, or what is found under the others
-pub with_found : (e : Expr) (m : Marks e) (here : Mark) (f : Finding) → Finds e (with_mark e m here) f → IsFoundAt (place_of e) here.codes f ⊎ Finds e m f
+pub with_found : (e : Expr) (m : Labels e) (here : Label) (f : Finding) → Finds e (with_label e m here) f → IsFoundAt (place_of e) here.codes f ⊎ Finds e m f
 with_found (name n) m here f h = inl h
 with_found (number p d) m here f h = inl h
 with_found (text p d) m here f h = inl h
@@ -205,17 +205,17 @@ with_found (call p c args kws) m here f h = elim h [ inl a ↦ inl a | inr b ↦
 
 module _ (ctx : Context) where
   -- what a name's label says of scopes
-  pub name_says : (env : Env) (n : Name) (f : Finding) → is_of_scopes f.code ≡ true → IsFoundAt n.place (name_mark ctx env (ctx.resolve n.text)).codes f → NameSays ctx n f
+  pub name_says : (env : Env) (n : Name) (f : Finding) → is_of_scopes f.code ≡ true → IsFoundAt n.place (name_label ctx env (ctx.resolve n.text)).codes f → NameSays ctx n f
   name_says env n f s found = go (ctx.resolve n.text) refl found
     where
       early : (r : Res) → ctx.resolve n.text ≡ r → IsEarlyHere ctx r → IsFoundAt n.place (E03 ∷ []) f → NameSays ctx n f
       early r is h found = inr (subst (IsEarlyHere ctx) (sym is) h, only_at n.place E03 f found)
 
-      of_local : (o : Option Tree) → IsFoundAt n.place (local_mark o).codes f → NameSays ctx n f
+      of_local : (o : Option Tree) → IsFoundAt n.place (local_label o).codes f → NameSays ctx n f
       of_local None found = absurd (not_of_scopes n.place _ f (refl, tt) s found)
       of_local (Some t) found = absurd (not_of_scopes n.place [] f tt s found)
 
-      of_constant : (i : ℕ) (o : Option Tree) → ctx.resolve n.text ≡ res.Const i → slice_get ctx.constants i ≡ o → IsFoundAt n.place (constant_mark o).codes f → NameSays ctx n f
+      of_constant : (i : ℕ) (o : Option Tree) → ctx.resolve n.text ≡ res.Const i → slice_get ctx.constants i ≡ o → IsFoundAt n.place (constant_label o).codes f → NameSays ctx n f
       of_constant i None is e found = early (res.Const i) is e found
       of_constant i (Some t) is e found = absurd (not_of_scopes n.place [] f tt s found)
 
@@ -227,7 +227,7 @@ module _ (ctx : Context) where
       of_class c true is e found = absurd (not_of_scopes n.place _ f (refl, tt) s found)
       of_class c false is e found = early (res.Class c) is e found
 
-      go : (r : Res) → ctx.resolve n.text ≡ r → IsFoundAt n.place (name_mark ctx env r).codes f → NameSays ctx n f
+      go : (r : Res) → ctx.resolve n.text ≡ r → IsFoundAt n.place (name_label ctx env r).codes f → NameSays ctx n f
       go (res.Local x) is found = of_local (current env x) found
       go (res.Const i) is found = of_constant i (slice_get ctx.constants i) is refl found
       go (res.Func i) is found = of_function i ctx.in_body is refl found
@@ -236,28 +236,28 @@ module _ (ctx : Context) where
       go res.None is found = inl (is, only_at n.place E02 f found)
 
   -- and as a callee
-  pub callee_name_says : (env : Env) (g : GivenArguments) (n : Name) (f : Finding) → is_of_scopes f.code ≡ true → IsFoundAt n.place (name_callee ctx env g (ctx.resolve n.text)).mark.codes f → NameSays ctx n f
+  pub callee_name_says : (env : Env) (g : GivenArguments) (n : Name) (f : Finding) → is_of_scopes f.code ≡ true → IsFoundAt n.place (name_callee ctx env g (ctx.resolve n.text)).label.codes f → NameSays ctx n f
   callee_name_says env g n f s found = go (ctx.resolve n.text) refl found
     where
       early : (r : Res) → ctx.resolve n.text ≡ r → IsEarlyHere ctx r → IsFoundAt n.place (E03 ∷ []) f → NameSays ctx n f
       early r is h found = inr (subst (IsEarlyHere ctx) (sym is) h, only_at n.place E03 f found)
 
-      as_value : (r : Res) → ctx.resolve n.text ≡ r → IsFoundAt n.place (name_mark ctx env r).codes f → NameSays ctx n f
-      as_value r is found = name_says env n f s (subst (λ x. IsFoundAt n.place (name_mark ctx env x).codes f) (sym is) found)
+      as_value : (r : Res) → ctx.resolve n.text ≡ r → IsFoundAt n.place (name_label ctx env r).codes f → NameSays ctx n f
+      as_value r is found = name_says env n f s (subst (λ x. IsFoundAt n.place (name_label ctx env x).codes f) (sym is) found)
 
-      of_function : (i : ℕ) (b : Test) → ctx.resolve n.text ≡ res.Func i → ctx.in_body ≡ b → IsFoundAt n.place (if b then good_callee (function_offer g (slice_get ctx.functions i) ∷ []) else value_callee (in_error E03)).mark.codes f → NameSays ctx n f
+      of_function : (i : ℕ) (b : Test) → ctx.resolve n.text ≡ res.Func i → ctx.in_body ≡ b → IsFoundAt n.place (if b then good_callee (function_offer g (slice_get ctx.functions i) ∷ []) else value_callee (in_error E03)).label.codes f → NameSays ctx n f
       of_function i true is e found = absurd (not_of_scopes n.place [] f tt s found)
       of_function i false is e found = early (res.Func i) is e found
 
-      of_class : (c : ℕ) (b : Test) → ctx.resolve n.text ≡ res.Class c → nat_lt c ctx.known ≡ b → IsFoundAt n.place (if b then good_callee (signature_offer g (class_signature ctx.classes c) ∷ []) else value_callee (in_error E03)).mark.codes f → NameSays ctx n f
+      of_class : (c : ℕ) (b : Test) → ctx.resolve n.text ≡ res.Class c → nat_lt c ctx.known ≡ b → IsFoundAt n.place (if b then good_callee (signature_offer g (class_signature ctx.classes c) ∷ []) else value_callee (in_error E03)).label.codes f → NameSays ctx n f
       of_class c true is e found = absurd (not_of_scopes n.place [] f tt s found)
       of_class c false is e found = early (res.Class c) is e found
 
-      own_or_error : (rule : CallRule) (b : Test) → IsFoundAt n.place (if b then own_callee rule else good_callee (fails_at_call E14 ∷ [])).mark.codes f → ⊥
+      own_or_error : (rule : CallRule) (b : Test) → IsFoundAt n.place (if b then own_callee rule else good_callee (fails_at_call E14 ∷ [])).label.codes f → ⊥
       own_or_error rule true found = not_of_scopes n.place [] f tt s found
       own_or_error rule false found = not_of_scopes n.place [] f tt s found
 
-      of_builtin : (b : Builtin) → IsFoundAt n.place (builtin_callee g b).mark.codes f → ⊥
+      of_builtin : (b : Builtin) → IsFoundAt n.place (builtin_callee g b).label.codes f → ⊥
       of_builtin builtin.Print found = not_of_scopes n.place [] f tt s found
       of_builtin builtin.Str found = not_of_scopes n.place [] f tt s found
       of_builtin builtin.Len found = own_or_error length_rule (is_one g) found
@@ -265,7 +265,7 @@ module _ (ctx : Context) where
       of_builtin builtin.Range found = not_of_scopes n.place [] f tt s found
       of_builtin _ found = not_of_scopes n.place _ f (refl, tt) s found
 
-      go : (r : Res) → ctx.resolve n.text ≡ r → IsFoundAt n.place (name_callee ctx env g r).mark.codes f → NameSays ctx n f
+      go : (r : Res) → ctx.resolve n.text ≡ r → IsFoundAt n.place (name_callee ctx env g r).label.codes f → NameSays ctx n f
       go (res.Local x) is found = as_value (res.Local x) is found
       go (res.Const i) is found = as_value (res.Const i) is found
       go (res.Func i) is found = of_function i ctx.in_body is refl found
@@ -274,30 +274,30 @@ module _ (ctx : Context) where
       go res.None is found = as_value res.None is found
 
   -- what is said of a name stands at its label
-  pub name_said : (env : Env) (n : Name) (f : Finding) → NameSays ctx n f → IsFoundAt n.place (name_mark ctx env (ctx.resolve n.text)).codes f
+  pub name_said : (env : Env) (n : Name) (f : Finding) → NameSays ctx n f → IsFoundAt n.place (name_label ctx env (ctx.resolve n.text)).codes f
   name_said env n f h = elim h [
-    | inl a ↦ subst (λ r. IsFoundAt n.place (name_mark ctx env r).codes f) (sym a.0) (found_at n.place E02 f a.1)
+    | inl a ↦ subst (λ r. IsFoundAt n.place (name_label ctx env r).codes f) (sym a.0) (found_at n.place E02 f a.1)
     | inr b ↦ go (ctx.resolve n.text) b.0 (found_at n.place E03 f b.1)
   ]
     where
-      go : (r : Res) → IsEarlyHere ctx r → IsFoundAt n.place (E03 ∷ []) f → IsFoundAt n.place (name_mark ctx env r).codes f
+      go : (r : Res) → IsEarlyHere ctx r → IsFoundAt n.place (E03 ∷ []) f → IsFoundAt n.place (name_label ctx env r).codes f
       go (res.Func i) e h = subst (λ b. IsFoundAt n.place (if b then in_error E20 else in_error E03).codes f) (sym e) h
-      go (res.Const i) e h = subst (λ o. IsFoundAt n.place (constant_mark o).codes f) (sym e) h
+      go (res.Const i) e h = subst (λ o. IsFoundAt n.place (constant_label o).codes f) (sym e) h
       go (res.Class c) e h = subst (λ b. IsFoundAt n.place (if b then in_error E20 else in_error E03).codes f) (sym e) h
       go (res.Local x) e h = absurd e
       go (res.Builtin x) e h = absurd e
       go res.None e h = absurd e
 
-  pub callee_name_said : (env : Env) (g : GivenArguments) (n : Name) (f : Finding) → NameSays ctx n f → IsFoundAt n.place (name_callee ctx env g (ctx.resolve n.text)).mark.codes f
+  pub callee_name_said : (env : Env) (g : GivenArguments) (n : Name) (f : Finding) → NameSays ctx n f → IsFoundAt n.place (name_callee ctx env g (ctx.resolve n.text)).label.codes f
   callee_name_said env g n f h = elim h [
-    | inl a ↦ subst (λ r. IsFoundAt n.place (name_callee ctx env g r).mark.codes f) (sym a.0) (found_at n.place E02 f a.1)
+    | inl a ↦ subst (λ r. IsFoundAt n.place (name_callee ctx env g r).label.codes f) (sym a.0) (found_at n.place E02 f a.1)
     | inr b ↦ go (ctx.resolve n.text) b.0 (found_at n.place E03 f b.1)
   ]
     where
-      go : (r : Res) → IsEarlyHere ctx r → IsFoundAt n.place (E03 ∷ []) f → IsFoundAt n.place (name_callee ctx env g r).mark.codes f
-      go (res.Func i) e h = subst (λ b. IsFoundAt n.place (if b then good_callee (function_offer g (slice_get ctx.functions i) ∷ []) else value_callee (in_error E03)).mark.codes f) (sym e) h
-      go (res.Const i) e h = subst (λ o. IsFoundAt n.place (constant_mark o).codes f) (sym e) h
-      go (res.Class c) e h = subst (λ b. IsFoundAt n.place (if b then good_callee (signature_offer g (class_signature ctx.classes c) ∷ []) else value_callee (in_error E03)).mark.codes f) (sym e) h
+      go : (r : Res) → IsEarlyHere ctx r → IsFoundAt n.place (E03 ∷ []) f → IsFoundAt n.place (name_callee ctx env g r).label.codes f
+      go (res.Func i) e h = subst (λ b. IsFoundAt n.place (if b then good_callee (function_offer g (slice_get ctx.functions i) ∷ []) else value_callee (in_error E03)).label.codes f) (sym e) h
+      go (res.Const i) e h = subst (λ o. IsFoundAt n.place (constant_label o).codes f) (sym e) h
+      go (res.Class c) e h = subst (λ b. IsFoundAt n.place (if b then good_callee (signature_offer g (class_signature ctx.classes c) ∷ []) else value_callee (in_error E03)).label.codes f) (sym e) h
       go (res.Local x) e h = absurd e
       go (res.Builtin x) e h = absurd e
       go res.None e h = absurd e

@@ -21,12 +21,12 @@ use Rattle.pc_ann.proofs.Listing.{listed}
 use Rattle.pc_class.specs.Bases.{bases_of}
 use Rattle.pc_class.specs.Facts.{ClassFacts, binds_field}
 use Rattle.pc_rules.specs.Operations.{clean}
-use Rattle.pc_rules.specs.Computed.{flows_of}
+use Rattle.pc_rules.specs.Computed.Expressions.{flows_of}
 use Rattle.pc_notes.specs.Notes.{plain_note}
-use Rattle.pc_rules.specs.Found.{flows_at}
-use Rattle.pc_rules.specs.Labels.{FlowMarks, IsFlowAt, is_of_scopes}
-use Rattle.pc_rules.specs.Signatures.{literal_type, literal_place, LawfulDefault, DefaultFinds, binds_name, ParamsMarks, LawfulParams, ParamsFind}
-use Rattle.pc_rules.specs.SignaturesFound.{default_findings, param_findings, params_findings, def_findings, field_findings}
+use Rattle.pc_rules.specs.Computed.Findings.{flows_at}
+use Rattle.pc_rules.specs.Labels.{FlowLabels, IsFlowAt, is_of_scopes}
+use Rattle.pc_rules.specs.Signatures.{literal_type, literal_place, LawfulDefault, DefaultFinds, binds_name, ParamsLabels, LawfulParams, ParamsFind}
+use Rattle.pc_rules.specs.Computed.Signatures.{default_findings, param_findings, params_findings, def_findings, field_findings}
 use Rattle.pc_rules.proofs.ComputedFlows.{flows_are_lawful}
 use Rattle.pc_rules.proofs.FoundList.{IsFoundElsewhere, Lists, Noted, noted_same as same_listed, noted_in_turn as in_turn, noted_flows as at_flows, noted_plain, nothing_noted, nothing_listed}
 use Rattle.pc_rules.proofs.One.{into_one}
@@ -44,17 +44,17 @@ module _ (m : Module) (f : Finding) where
   abbrev bases : Bases
   bases = bases_of m
 
-  nothing_flows : (p : Place) (flows : FlowMarks) → flows ≡ [] → Noted f [] (IsFlowAt p flows f)
-  nothing_flows p flows e = subst (λ (fs : FlowMarks). Noted f [] (IsFlowAt p fs f)) (sym e) (at_flows f p [])
+  nothing_flows : (p : Place) (flows : FlowLabels) → flows ≡ [] → Noted f [] (IsFlowAt p flows f)
+  nothing_flows p flows e = subst (λ (fs : FlowLabels). Noted f [] (IsFlowAt p fs f)) (sym e) (at_flows f p [])
 
   -- what is found at a default, where its flow is lawful
-  pub default_listed : (binds : Test) (d : Option Literal) (t : Tree) (flows : FlowMarks) → IsWellFormed bases t → LawfulDefault bases binds d t flows → Noted f (default_findings bases binds d t) (DefaultFinds d flows f)
+  pub default_listed : (binds : Test) (d : Option Literal) (t : Tree) (flows : FlowLabels) → IsWellFormed bases t → LawfulDefault bases binds d t flows → Noted f (default_findings bases binds d t) (DefaultFinds d flows f)
   default_listed binds None t flows k h = nothing_noted f
   default_listed false (Some l) t flows k h = nothing_flows (literal_place l) flows h
   default_listed true (Some l) t flows k h =
       let from = clean (literal_type l) in
       let e : flows_of bases from (t ∷ []) ≡ flows = into_one bases from (t ∷ []) (flows_of bases from (t ∷ [])) flows (flows_are_lawful bases from (t ∷ []) (smaller m) (literal_well_formed bases l) (k, tt)) h in
-      subst (λ (fs : FlowMarks). Noted f (flows_at (literal_place l) (flows_of bases from (t ∷ []))) (IsFlowAt (literal_place l) fs f)) e (at_flows f (literal_place l) (flows_of bases from (t ∷ [])))
+      subst (λ (fs : FlowLabels). Noted f (flows_at (literal_place l) (flows_of bases from (t ∷ []))) (IsFlowAt (literal_place l) fs f)) e (at_flows f (literal_place l) (flows_of bases from (t ∷ [])))
 
   -- ---- annotations
 
@@ -107,20 +107,20 @@ module _ (m : Module) (f : Finding) where
   option_well_formed (Some a) = read_ann_well_formed m bases (smaller m) a
 
   -- what is found of parameters, after names
-  pub params_listed : (before : List (List ℕ)) (ps : List Param) (marks : ParamsMarks ps) → LawfulParams m before ps marks → Noted f (params_findings m (λ t. is_one_of t before) ps) (ParamsFind m ps marks f)
-  params_listed before [] marks h = nothing_noted f
-  params_listed before (p ∷ ps) marks h =
+  pub params_listed : (before : List (List ℕ)) (ps : List Param) (labels : ParamsLabels ps) → LawfulParams m before ps labels → Noted f (params_findings m (λ t. is_one_of t before) ps) (ParamsFind m ps labels f)
+  params_listed before [] labels h = nothing_noted f
+  params_listed before (p ∷ ps) labels h =
       let one = in_turn f (map plain_note (option_findings m bases p.annotation)) (default_findings bases (binds_name before p.name) p.default (read_option m bases p.annotation)) (option_listed p.annotation)
-      (default_listed (binds_name before p.name) p.default (read_option m bases p.annotation) marks.default (option_well_formed p.annotation) h.default) in
+      (default_listed (binds_name before p.name) p.default (read_option m bases p.annotation) labels.default (option_well_formed p.annotation) h.default) in
       same_listed f (param_findings m (λ t. is_one_of t before) p ++ params_findings m (λ t. is_one_of t (p.name.text ∷ before)) ps) first_two two_first
-      (in_turn f (param_findings m (λ t. is_one_of t before) p) (params_findings m (λ t. is_one_of t (p.name.text ∷ before)) ps) one (params_listed (p.name.text ∷ before) ps marks.rest h.rest))
+      (in_turn f (param_findings m (λ t. is_one_of t before) p) (params_findings m (λ t. is_one_of t (p.name.text ∷ before)) ps) one (params_listed (p.name.text ∷ before) ps labels.rest h.rest))
 
   -- what is found of a function's signature
-  pub def_listed : (before : List (List ℕ)) (d : FuncDef) (marks : ParamsMarks d.params) → LawfulParams m before d.params marks → Noted f (def_findings m (λ t. is_one_of t before) d) (ParamsFind m d.params marks f ⊎ OptionAnnFinds m bases d.returns f)
-  def_listed before d marks h = in_turn f (params_findings m (λ t. is_one_of t before) d.params) (map plain_note (option_findings m bases d.returns)) (params_listed before d.params marks h) (option_listed d.returns)
+  pub def_listed : (before : List (List ℕ)) (d : FuncDef) (labels : ParamsLabels d.params) → LawfulParams m before d.params labels → Noted f (def_findings m (λ t. is_one_of t before) d) (ParamsFind m d.params labels f ⊎ OptionAnnFinds m bases d.returns f)
+  def_listed before d labels h = in_turn f (params_findings m (λ t. is_one_of t before) d.params) (map plain_note (option_findings m bases d.returns)) (params_listed before d.params labels h) (option_listed d.returns)
 
   -- what is found of a field of a class with this base
-  pub field_listed : (base : ClassFacts) (before : List (List ℕ)) (d : Field) (flows : FlowMarks) → LawfulDefault bases (binds_field base before d.name.text) d.default (read_ann m bases d.annotation) flows
+  pub field_listed : (base : ClassFacts) (before : List (List ℕ)) (d : Field) (flows : FlowLabels) → LawfulDefault bases (binds_field base before d.name.text) d.default (read_ann m bases d.annotation) flows
       → Noted f (field_findings m base (λ t. is_one_of t before) d) (AnnFinds m bases d.annotation f ⊎ DefaultFinds d.default flows f)
   field_listed base before d flows h =
       in_turn f (map plain_note (ann_findings m bases d.annotation)) (default_findings bases (binds_field base before d.name.text) d.default (read_ann m bases d.annotation)) (ann_listed d.annotation)

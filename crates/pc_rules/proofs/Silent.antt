@@ -19,11 +19,11 @@ use Rattle.pc_types.specs.Shape.{members, nodes, node_limit, trees}
 use Rattle.pc_class.specs.Facts.{TypedParameter, Method, field_by_name, method_by_name, class_facts_at}
 use Rattle.pc_flow.specs.Environment.{Env, join_or_object}
 use Rattle.pc_flow.specs.Narrowing.{Tested, for_list, test_of_argument, local_of_argument, first_argument, second_argument}
-use Rattle.pc_rules.specs.Operations.{Mark, clean, in_error, Offer, found_of, offers_mark, index_member, attribute_found, attribute_member, StoreOffer, store_codes, store_found, store_attribute_member, store_index_member, iterate_member, contain_member, length_member, negative_member, Kind, kind_of, kind_type, row_of_kinds, pair_found, pair_offers, pairs_mark, takes_kind, is_never, is_any, is_dynamic, display_mark}
-use Rattle.pc_rules.specs.Context.{Context, Signature, name_mark, is_early}
-use Rattle.pc_rules.specs.Calls.{GivenArguments, arguments_given, CallOffer, signature_offer, is_suited, plain_call, fails_at_call, fails_at_callee, value_offer, class_signature, method_signature, builtin_signature, class_offers, list_offers, dict_offers, method_offers, CallRule, member_rule, length_rule, test_rule, own_callee, builtin_callee, function_offer, name_callee, method_callee, value_callee, good_callee, is_one, is_two, call_codes, length_mark, first_type, test_codes, any_list_codes, current_of, is_object_or_any}
-use Rattle.pc_rules.specs.Labels.{Marks, mark_of, type_of, item_types, is_of_scopes}
-use Rattle.pc_rules.specs.Lawful.{Lawful, KeyValue, list_item, dict_parts, members_of_expected, list_mark, DictMark, no_keys, int_keys, str_keys, other_keys, DictRule, int_literal, compare_mark, callee_of, whole_call_mark}
+use Rattle.pc_rules.specs.Operations.{Label, clean, in_error, Offer, found_of, offers_label, index_member, attribute_found, attribute_member, StoreOffer, store_codes, store_found, store_attribute_member, store_index_member, iterate_member, contain_member, length_member, negative_member, Kind, kind_of, kind_type, row_of_kinds, pair_found, pair_offers, pairs_label, takes_kind, is_never, is_any, is_dynamic, display_label}
+use Rattle.pc_rules.specs.Context.{Context, Signature, name_label, is_early}
+use Rattle.pc_rules.specs.Calls.{GivenArguments, arguments_given, CallOffer, signature_offer, is_suited, plain_call, fails_at_call, fails_at_callee, value_offer, class_signature, method_signature, builtin_signature, class_offers, list_offers, dict_offers, method_offers, CallRule, member_rule, length_rule, test_rule, own_callee, builtin_callee, function_offer, name_callee, method_callee, value_callee, good_callee, is_one, is_two, call_codes, length_label, first_type, test_codes, any_list_codes, current_of, is_object_or_any}
+use Rattle.pc_rules.specs.Labels.{Labels, whole_label, type_of, item_types, is_of_scopes}
+use Rattle.pc_rules.specs.Lawful.{Lawful, KeyValue, list_item, dict_parts, members_of_expected, list_label, DictLabel, no_keys, int_keys, str_keys, other_keys, DictRule, int_literal, compare_label, callee_of, whole_call_label}
 
 -- none of these codes is found of scopes
 abbrev pub Silent : List Code → Type 0
@@ -40,7 +40,7 @@ append_silent : (cs ds : List Code) → Silent cs → Silent ds → Silent (cs +
 append_silent [] ds h k = k
 append_silent (c ∷ cs) ds h k = (h.0, append_silent cs ds h.1 k)
 
-display_silent : (t : Tree) → Silent (display_mark t).codes
+display_silent : (t : Tree) → Silent (display_label t).codes
 display_silent t = go (nat_le (nodes t) node_limit)
   where
     go : (x : Test) → Silent (if x then clean t else in_error E26).codes
@@ -61,7 +61,7 @@ each_found : (offer : Tree → Offer) → ((t : Tree) → Silent (offer t).found
 each_found offer each [] = tt
 each_found offer each (t ∷ ms) = (each t, each_found offer each ms)
 
-operation_silent : (bases : Bases) (offer : Tree → Offer) → ((t : Tree) → Silent (offer t).found) → (t : Tree) → Silent (offers_mark bases (map offer (members t))).codes
+operation_silent : (bases : Bases) (offer : Tree → Offer) → ((t : Tree) → Silent (offer t).found) → (t : Tree) → Silent (offers_label bases (map offer (members t))).codes
 operation_silent bases offer each t = found_silent (map offer (members t)) (each_found offer each (members t))
 
 index_silent : (bases : Bases) (literal : Option ℕ) (t : Tree) → Silent (index_member bases literal t).found
@@ -107,7 +107,7 @@ iterate_silent bases (TupleOf ts) = tt
 iterate_silent bases Any = (refl, tt)
 iterate_silent bases _ = (refl, tt)
 
-pub items_silent : (bases : Bases) (t : Tree) → Silent (offers_mark bases (map (iterate_member bases) (members t))).codes
+pub items_silent : (bases : Bases) (t : Tree) → Silent (offers_label bases (map (iterate_member bases) (members t))).codes
 items_silent bases t = operation_silent bases (iterate_member bases) (iterate_silent bases) t
 
 each_store : (offer : Tree → StoreOffer) → ((t : Tree) → Silent (offer t).found) → (ms : List Tree) → Silent (store_codes (map offer ms))
@@ -140,34 +140,34 @@ module _ (takes : Kind → Test) (gives : Kind → Tree) where
   rows_silent [] ns = tt
   rows_silent (m ∷ ms) ns = all_append (map (λ n. pair_found (row_of_kinds takes gives (kind_of m) (kind_of n))) ns) (pair_offers takes gives ms ns) (row_silent m ns) (rows_silent ms ns)
 
-  pairs_silent : (bases : Bases) (dynamic s t : Tree) → Silent (pairs_mark bases takes gives dynamic s t).codes
+  pairs_silent : (bases : Bases) (dynamic s t : Tree) → Silent (pairs_label bases takes gives dynamic s t).codes
   pairs_silent bases dynamic s t = go (is_never s || is_never t) (is_dynamic takes s t) (is_any s || is_any t)
     where
-      go : (x y z : Test) → Silent (if x then clean Never else (if y then record { type = dynamic; codes = A2 ∷ [] } else (if z then in_error E13 else offers_mark bases (pair_offers takes gives (members s) (members t))))).codes
+      go : (x y z : Test) → Silent (if x then clean Never else (if y then record { type = dynamic; codes = A2 ∷ [] } else (if z then in_error E13 else offers_label bases (pair_offers takes gives (members s) (members t))))).codes
       go true y z = tt
       go false true z = (refl, tt)
       go false false true = (refl, tt)
       go false false false = found_silent (pair_offers takes gives (members s) (members t)) (rows_silent (members s) (members t))
 
-compare_silent : (bases : Bases) (operator : ComparisonOperator) (s t : Tree) → Silent (compare_mark bases operator s t).codes
+compare_silent : (bases : Bases) (operator : ComparisonOperator) (s t : Tree) → Silent (compare_label bases operator s t).codes
 compare_silent bases Equal s t = tt
 compare_silent bases NotEqual s t = tt
 compare_silent bases In s t = operation_silent bases contain_member contain_silent t
 compare_silent bases NotIn s t = operation_silent bases contain_member contain_silent t
 compare_silent bases _ s t = pairs_silent (λ k. true) (λ k. Bool) bases Bool s t
 
-list_silent : (bases : Bases) (o : Option Tree) (ts : List Tree) → Silent (list_mark bases o ts).codes
+list_silent : (bases : Bases) (o : Option Tree) (ts : List Tree) → Silent (list_label bases o ts).codes
 list_silent bases (Some t) ts = tt
 list_silent bases None [] = display_silent (ListOf Any)
 list_silent bases None (t ∷ ts) = display_silent (ListOf _)
 
-keys_silent : (bases : Bases) (values keys : List Tree) (m : Mark) → DictMark bases values keys m → Silent m.codes
+keys_silent : (bases : Bases) (values keys : List Tree) (m : Label) → DictLabel bases values keys m → Silent m.codes
 keys_silent bases values _ _ no_keys = (refl, tt)
 keys_silent bases values _ _ (int_keys all) = display_silent (DictOf Int _)
 keys_silent bases values _ _ (str_keys apart all) = display_silent (DictOf Str _)
 keys_silent bases values _ _ (other_keys apart others) = (refl, tt)
 
-dict_silent : (bases : Bases) (o : Option KeyValue) (keys values : List Tree) (m : Mark) → DictRule bases o keys values m → Silent m.codes
+dict_silent : (bases : Bases) (o : Option KeyValue) (keys values : List Tree) (m : Label) → DictRule bases o keys values m → Silent m.codes
 dict_silent bases (Some kv) keys values m is = subst (λ x. Silent x.codes) (sym is) tt
 dict_silent bases None keys values m rule = keys_silent bases values keys m rule
 
@@ -263,10 +263,10 @@ test_codes_silent env x (Some for_list) = go (current_of env x)
         one false = tt
 test_codes_silent env x _ = tt
 
-length_mark_silent : (bases : Bases) (ts : List Tree) → Silent (length_mark bases ts).codes
-length_mark_silent bases ts = operation_silent bases length_member length_silent (first_type ts)
+length_label_silent : (bases : Bases) (ts : List Tree) → Silent (length_label bases ts).codes
+length_label_silent bases ts = operation_silent bases length_member length_silent (first_type ts)
 
-so_silent : {m n : Mark} → m ≡ n → Silent n.codes → Silent m.codes
+so_silent : {m n : Label} → m ≡ n → Silent n.codes → Silent m.codes
 so_silent e h = subst (λ x. Silent x.codes) (sym e) h
 
 module _ (ctx : Context) where
@@ -316,34 +316,34 @@ module _ (ctx : Context) where
       go true = called_silent g (class_signature ctx.classes c)
       go false = ((tt, (refl, tt)), tt)
   name_callee_silent env g (res.Builtin b) = builtin_silent g b
-  name_callee_silent env g (res.Local x) = value_silent (members (name_mark ctx env (res.Local x)).type)
-  name_callee_silent env g (res.Const i) = value_silent (members (name_mark ctx env (res.Const i)).type)
+  name_callee_silent env g (res.Local x) = value_silent (members (name_label ctx env (res.Local x)).type)
+  name_callee_silent env g (res.Const i) = value_silent (members (name_label ctx env (res.Const i)).type)
   name_callee_silent env g res.None = ((tt, (refl, tt)), tt)
 
-  value_callee_silent : (m : Mark) (x : Test) → AllCalls (if x then value_callee m else value_callee (in_error E03)).offers
+  value_callee_silent : (m : Label) (x : Test) → AllCalls (if x then value_callee m else value_callee (in_error E03)).offers
   value_callee_silent m true = value_silent (members m.type)
   value_callee_silent m false = ((tt, (refl, tt)), tt)
 
-  callee_silent : (env : Env) (g : GivenArguments) (e : Expr) (m : Marks e) → AllCalls (callee_of ctx env g e m).offers
+  callee_silent : (env : Env) (g : GivenArguments) (e : Expr) (m : Labels e) → AllCalls (callee_of ctx env g e m).offers
   callee_silent env g (name n) m = name_callee_silent env g (ctx.resolve n.text)
   callee_silent env g (attribute p e field) m = go ctx.in_body
     where
       go : (x : Test) → AllCalls (if x then method_callee ctx g field.text (type_of e m.object) else value_callee (in_error E03)).offers
       go true = methods_silent g field.text (members (type_of e m.object))
       go false = ((tt, (refl, tt)), tt)
-  callee_silent env g e m = value_callee_silent (mark_of e m) ctx.in_body
+  callee_silent env g e m = value_callee_silent (whole_label e m) ctx.in_body
 
-  whole_call_silent : (env : Env) (rule : CallRule) (offers : List CallOffer) → AllCalls offers → (args : Exprs) (ts : List Tree) → Silent (whole_call_mark ctx env rule offers args ts).codes
+  whole_call_silent : (env : Env) (rule : CallRule) (offers : List CallOffer) → AllCalls offers → (args : Exprs) (ts : List Tree) → Silent (whole_call_label ctx env rule offers args ts).codes
   whole_call_silent env member_rule offers h args ts = calls_silent offers h
-  whole_call_silent env length_rule offers h args ts = length_mark_silent ctx.bases ts
+  whole_call_silent env length_rule offers h args ts = length_label_silent ctx.bases ts
   whole_call_silent env test_rule offers h args ts = test_codes_silent env (local_of_argument ctx.resolve (first_argument args)) (test_of_argument ctx.resolve (second_argument args))
 
   -- what is found at the callee `e.m`
-  pub method_callee_silent : (g : GivenArguments) (word : List ℕ) (t : Tree) → Silent (method_callee ctx g word t).mark.codes
+  pub method_callee_silent : (g : GivenArguments) (word : List ℕ) (t : Tree) → Silent (method_callee ctx g word t).label.codes
   method_callee_silent g word t = callees_silent (flat_map (method_offers ctx g word) (members t)) (methods_silent g word (members t))
 
   -- the label of an expression that is no name
-  pub own_silent : (declared : List Tree) (env : Env) (want : Option Tree) (e : Expr) → is_name e ≡ false → (m : Marks e) → Lawful ctx declared env want e m → Silent (mark_of e m).codes
+  pub own_silent : (declared : List Tree) (env : Env) (want : Option Tree) (e : Expr) → is_name e ≡ false → (m : Labels e) → Lawful ctx declared env want e m → Silent (whole_label e m).codes
   own_silent declared env want (name n) other m law = absurd (grind (arith, other))
   own_silent declared env want (number p d) other m law = so_silent law tt
   own_silent declared env want (text p d) other m law = so_silent law tt

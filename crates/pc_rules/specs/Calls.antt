@@ -23,8 +23,8 @@ use Rattle.pc_class.specs.Facts.{TypedParameter, Method, field_by_name, method_b
 use Rattle.pc_flow.specs.Environment.{Env, current, join_or_object, join_all}
 use Rattle.pc_flow.specs.Narrowing.{Tested, for_list, test_of_argument, local_of_argument, first_argument}
 use Rattle.pc_flow.specs.Narrowing.{second_argument}
-use Rattle.pc_rules.specs.Operations.{Mark, clean, in_error, has_error, offers_mark, length_member}
-use Rattle.pc_rules.specs.Context.{Context, Signature, name_mark}
+use Rattle.pc_rules.specs.Operations.{Label, clean, in_error, has_error, offers_label, length_member}
+use Rattle.pc_rules.specs.Context.{Context, Signature, name_label}
 
 -- ---- the arguments of a call
 
@@ -188,7 +188,7 @@ pub data CallRule : Type 0 where
 -- a callee: its label, the rule of its call, and what the call comes to on each member, none where the rule is another
 -- one
 pub record CalleeLabel : Type 0 where
-  pub mark : Mark
+  pub label : Label
   pub rule : CallRule
   pub offers : List CallOffer
 
@@ -198,16 +198,16 @@ function_offer g None = error_offer
 function_offer g (Some s) = signature_offer g s
 
 -- a callee that is a value with this label, called on each member of its type
-abbrev pub value_callee : Mark → CalleeLabel
-value_callee m = record { mark = m; rule = member_rule; offers = value_offers m.type }
+abbrev pub value_callee : Label → CalleeLabel
+value_callee m = record { label = m; rule = member_rule; offers = value_offers m.type }
 
 -- a callee at which nothing is found, and what a call of it comes to
 abbrev pub good_callee : List CallOffer → CalleeLabel
-good_callee offers = record { mark = clean Any; rule = member_rule; offers = offers }
+good_callee offers = record { label = clean Any; rule = member_rule; offers = offers }
 
 -- a callee whose call has a rule of its own; the arguments flow nowhere
 abbrev pub own_callee : CallRule → CalleeLabel
-own_callee rule = record { mark = clean Any; rule = rule; offers = [] }
+own_callee rule = record { label = clean Any; rule = rule; offers = [] }
 
 -- the built-ins: `print`, `str`, `len`, `isinstance`, `range`; any other reserved name is no value, and is not called
 abbrev pub builtin_callee : GivenArguments → Builtin → CalleeLabel
@@ -226,14 +226,14 @@ name_callee ctx env g (res.Func i) = if ctx.in_body then good_callee (function_o
 name_callee ctx env g (res.Class c) = if nat_lt c ctx.known
     then good_callee (signature_offer g (class_signature ctx.classes c) ∷ []) else value_callee (in_error E03)
 name_callee ctx env g (res.Builtin b) = builtin_callee g b
-name_callee ctx env g r = value_callee (name_mark ctx env r)
+name_callee ctx env g r = value_callee (name_label ctx env r)
 
 -- what is found at a callee `e.m`, where e has this type
 abbrev pub method_callee : Context → GivenArguments → List ℕ → Tree → CalleeLabel
 method_callee ctx g word t =
     let offers = flat_map (method_offers ctx g word) (members t) in
     record {
-      mark = record { type = Any; codes = flat_map (λ o. o.at_callee) offers };
+      label = record { type = Any; codes = flat_map (λ o. o.at_callee) offers };
       rule = member_rule;
       offers = offers;
     }
@@ -249,8 +249,8 @@ abbrev pub all_codes : List CallOffer → List Code
 all_codes offers = flat_map (λ o. o.at_callee ++ o.at_call) offers
 
 -- the label of a call by the members of what is called: the join of what they give, Any where an error is found
-abbrev pub call_mark : Bases → List CallOffer → Mark
-call_mark bases offers = record {
+abbrev pub call_label : Bases → List CallOffer → Label
+call_label bases offers = record {
   type = if has_error (all_codes offers) then Any else join_all bases (map (λ o. o.gives) offers);
   codes = call_codes offers;
 }
@@ -304,8 +304,8 @@ first_type [] = Never
 first_type (t ∷ ts) = t
 
 -- the label of a call of `len`, by the type of its one argument
-abbrev pub length_mark : Bases → List Tree → Mark
-length_mark bases types = offers_mark bases (map length_member (members (first_type types)))
+abbrev pub length_label : Bases → List Tree → Label
+length_label bases types = offers_label bases (map length_member (members (first_type types)))
 
 -- the type is Any or object
 abbrev pub is_object_or_any : Tree → Test
@@ -329,8 +329,8 @@ test_codes env x (Some for_list) = any_list_codes (current_of env x)
 test_codes env x _ = []
 
 -- the label of a test of an instance: bool
-abbrev pub test_mark : Context → Env → Exprs → Mark
-test_mark ctx env arguments = record {
+abbrev pub test_label : Context → Env → Exprs → Label
+test_label ctx env arguments = record {
   type = Bool;
   codes = test_codes env (local_of_argument ctx.resolve (first_argument arguments))
       (test_of_argument ctx.resolve (second_argument arguments));
@@ -359,5 +359,5 @@ abbrev pub range_offers : GivenArguments → List CallOffer
 range_offers g = signature_offer g range_signature ∷ []
 
 -- what a turn gives: int, or where the call does not suit Any
-abbrev pub range_item : GivenArguments → Mark
+abbrev pub range_item : GivenArguments → Label
 range_item g = if is_suited g range_signature then clean Int else record { type = Any; codes = A5 ∷ [] }

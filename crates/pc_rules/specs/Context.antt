@@ -13,7 +13,7 @@ use Rattle.pc_tree.specs.declared.code.Code.TheVariants.{A1, E12}
 use Rattle.pc_class.specs.Facts as facts
 use Rattle.pc_class.specs.Facts.{TypedParameter}
 use Rattle.pc_flow.specs.Environment.{Env, current}
-use Rattle.pc_rules.specs.Operations.{Mark, FlowMark, clean, in_error}
+use Rattle.pc_rules.specs.Operations.{Label, FlowLabel, clean, in_error}
 
 -- what is called: its parameters, what it returns, and whether it takes arguments by name
 pub record Signature : Type 0 where
@@ -38,23 +38,23 @@ pub data Flows (bases : Bases) (s t : Tree) : Option Code → Type 0 where
   wrong : ¬ (Assignable bases s t) → Flows bases s t (Some E12)
 
 -- a local that is not assigned is E04
-abbrev pub local_mark : Option Tree → Mark
-local_mark None = in_error E04
-local_mark (Some t) = clean t
+abbrev pub local_label : Option Tree → Label
+local_label None = in_error E04
+local_label (Some t) = clean t
 
 -- a constant that an initializer names too early reads as Any
-abbrev pub constant_mark : Option Tree → Mark
-constant_mark None = in_error E03
-constant_mark (Some t) = clean t
+abbrev pub constant_label : Option Tree → Label
+constant_label None = in_error E03
+constant_label (Some t) = clean t
 
 -- what a name is as a value: a function, a class and a reserved name are none
-abbrev pub name_mark : Context → Env → Res → Mark
-name_mark ctx env (res.Local x) = local_mark (current env x)
-name_mark ctx env (res.Const i) = constant_mark (slice_get ctx.constants i)
-name_mark ctx env (res.Func i) = if ctx.in_body then in_error E20 else in_error E03
-name_mark ctx env (res.Class c) = if nat_lt c ctx.known then in_error E20 else in_error E03
-name_mark ctx env (res.Builtin b) = in_error E20
-name_mark ctx env res.None = in_error E02
+abbrev pub name_label : Context → Env → Res → Label
+name_label ctx env (res.Local x) = local_label (current env x)
+name_label ctx env (res.Const i) = constant_label (slice_get ctx.constants i)
+name_label ctx env (res.Func i) = if ctx.in_body then in_error E20 else in_error E03
+name_label ctx env (res.Class c) = if nat_lt c ctx.known then in_error E20 else in_error E03
+name_label ctx env (res.Builtin b) = in_error E20
+name_label ctx env res.None = in_error E02
 
 -- the codes of a node are those of E03, in place of all other findings at it
 abbrev pub is_early : List Code → Test
@@ -67,13 +67,13 @@ FlowUnless true bases s t code = code ≡ None
 FlowUnless false bases s t code = Flows bases s t code
 
 -- the flow of an expression with this label into one type: its type, that type, and its code
-pub record FlowAt (bases : Bases) (m : Mark) (t : Tree) (flow : FlowMark) : Type 0 where
+pub record FlowAt (bases : Bases) (m : Label) (t : Tree) (flow : FlowLabel) : Type 0 where
   pub from : flow.from ≡ m.type
   pub into : flow.into ≡ t
   pub code : FlowUnless (is_early m.codes) bases m.type t flow.code
 
 -- its flow into several types, one after another
-abbrev pub FlowsInto : Bases → Mark → List Tree → List FlowMark → Type 0
+abbrev pub FlowsInto : Bases → Label → List Tree → List FlowLabel → Type 0
 FlowsInto bases m [] [] = Unit {0}
 FlowsInto bases m (t ∷ ts) (f ∷ fs) = FlowAt bases m t f × FlowsInto bases m ts fs
 FlowsInto bases m _ _ = ⊥

@@ -13,114 +13,114 @@ use Rattle.pc_tree.specs.Tree.{more_keywords}
 use Rattle.pc_tree.specs.Depth.{place_of}
 use Rattle.pc_scope.specs.Expressions.{is_instance_test}
 use Rattle.pc_types.specs.Tree.{Tree}
-use Rattle.pc_rules.specs.Operations.{Mark, FlowMark}
+use Rattle.pc_rules.specs.Operations.{Label, FlowLabel}
 
 -- the flows of an expression, one for each type that it flows into
-abbrev pub FlowMarks : Type 0
-FlowMarks = List FlowMark
+abbrev pub FlowLabels : Type 0
+FlowLabels = List FlowLabel
 
 -- the labels of an expression, of items, of the entries of a dict and of arguments by name, by recursion on the tree
 abbrev mutual
   -- of an expression: its own label, the labels of its parts, and their flows
-  pub Marks : Expr → Type 0
-  Marks (name n) = Mark
-  Marks (number p digits) = Mark
-  Marks (text p characters) = Mark
-  Marks (truth p value) = Mark
-  Marks (nothing p) = Mark
-  Marks (tuple p items) = record { here : Mark; items : ItemsMarks items }
-  Marks (list p items) = record { here : Mark; items : ItemsMarks items }
-  Marks (dict p entries) = record { here : Mark; entries : EntriesMarks entries }
-  Marks (negative p e) = record { here : Mark; operand : Marks e }
-  Marks (negation p e) = record { here : Mark; operand : Marks e }
-  Marks (binary p operator l r) = record { here : Mark; left : Marks l; right : Marks r }
-  Marks (compare p operator l r) = record { here : Mark; left : Marks l; right : Marks r; flows : FlowMarks }
-  Marks (is_none p e) = record { here : Mark; operand : Marks e }
-  Marks (is_not_none p e) = record { here : Mark; operand : Marks e }
-  Marks (conjunction p l r) = record { here : Mark; left : Marks l; right : Marks r }
-  Marks (disjunction p l r) = record { here : Mark; left : Marks l; right : Marks r }
-  Marks (attribute p e field) = record { here : Mark; object : Marks e }
-  Marks (index p e i) = record { here : Mark; object : Marks e; key : Marks i; flows : FlowMarks }
-  Marks (call p callee arguments keywords) = record {
-    here : Mark;
-    callee : Marks callee;
+  pub Labels : Expr → Type 0
+  Labels (name n) = Label
+  Labels (number p digits) = Label
+  Labels (text p characters) = Label
+  Labels (truth p value) = Label
+  Labels (nothing p) = Label
+  Labels (tuple p items) = record { here : Label; items : ItemsLabels items }
+  Labels (list p items) = record { here : Label; items : ItemsLabels items }
+  Labels (dict p entries) = record { here : Label; entries : EntriesLabels entries }
+  Labels (negative p e) = record { here : Label; operand : Labels e }
+  Labels (negation p e) = record { here : Label; operand : Labels e }
+  Labels (binary p operator l r) = record { here : Label; left : Labels l; right : Labels r }
+  Labels (compare p operator l r) = record { here : Label; left : Labels l; right : Labels r; flows : FlowLabels }
+  Labels (is_none p e) = record { here : Label; operand : Labels e }
+  Labels (is_not_none p e) = record { here : Label; operand : Labels e }
+  Labels (conjunction p l r) = record { here : Label; left : Labels l; right : Labels r }
+  Labels (disjunction p l r) = record { here : Label; left : Labels l; right : Labels r }
+  Labels (attribute p e field) = record { here : Label; object : Labels e }
+  Labels (index p e i) = record { here : Label; object : Labels e; key : Labels i; flows : FlowLabels }
+  Labels (call p callee arguments keywords) = record {
+    here : Label;
+    callee : Labels callee;
     second : Option Code;
-    arguments : ItemsMarks arguments;
-    keywords : KeywordsMarks keywords;
+    arguments : ItemsLabels arguments;
+    keywords : KeywordsLabels keywords;
   }
 
   -- of items and of arguments by position: the labels of each, and its flows
-  pub ItemsMarks : Exprs → Type 0
-  ItemsMarks no_exprs = Unit {0}
-  ItemsMarks (more_exprs e rest) = record { first : Marks e; flows : FlowMarks; rest : ItemsMarks rest }
+  pub ItemsLabels : Exprs → Type 0
+  ItemsLabels no_exprs = Unit {0}
+  ItemsLabels (more_exprs e rest) = record { first : Labels e; flows : FlowLabels; rest : ItemsLabels rest }
 
   -- of the entries of a dict: the labels of each key and value, and their flows
-  pub EntriesMarks : Entries → Type 0
-  EntriesMarks no_entries = Unit {0}
-  EntriesMarks (more_entries key value rest) = record {
-    key : Marks key;
-    key_flows : FlowMarks;
-    value : Marks value;
-    value_flows : FlowMarks;
-    rest : EntriesMarks rest;
+  pub EntriesLabels : Entries → Type 0
+  EntriesLabels no_entries = Unit {0}
+  EntriesLabels (more_entries key value rest) = record {
+    key : Labels key;
+    key_flows : FlowLabels;
+    value : Labels value;
+    value_flows : FlowLabels;
+    rest : EntriesLabels rest;
   }
 
   -- of arguments by name: the labels of each value, and its flows
-  pub KeywordsMarks : Keywords → Type 0
-  KeywordsMarks no_keywords = Unit {0}
-  KeywordsMarks (more_keywords parameter value rest) = record {
-    first : Marks value;
-    flows : FlowMarks;
-    rest : KeywordsMarks rest;
+  pub KeywordsLabels : Keywords → Type 0
+  KeywordsLabels no_keywords = Unit {0}
+  KeywordsLabels (more_keywords parameter value rest) = record {
+    first : Labels value;
+    flows : FlowLabels;
+    rest : KeywordsLabels rest;
   }
 
 -- the label of an expression itself
-abbrev pub mark_of : (e : Expr) → Marks e → Mark
-mark_of (name n) m = m
-mark_of (number p digits) m = m
-mark_of (text p characters) m = m
-mark_of (truth p value) m = m
-mark_of (nothing p) m = m
-mark_of (tuple p items) m = m.here
-mark_of (list p items) m = m.here
-mark_of (dict p pairs) m = m.here
-mark_of (negative p e) m = m.here
-mark_of (negation p e) m = m.here
-mark_of (binary p operator l r) m = m.here
-mark_of (compare p operator l r) m = m.here
-mark_of (is_none p e) m = m.here
-mark_of (is_not_none p e) m = m.here
-mark_of (conjunction p l r) m = m.here
-mark_of (disjunction p l r) m = m.here
-mark_of (attribute p e field) m = m.here
-mark_of (index p e i) m = m.here
-mark_of (call p callee arguments by_name) m = m.here
+abbrev pub whole_label : (e : Expr) → Labels e → Label
+whole_label (name n) m = m
+whole_label (number p digits) m = m
+whole_label (text p characters) m = m
+whole_label (truth p value) m = m
+whole_label (nothing p) m = m
+whole_label (tuple p items) m = m.here
+whole_label (list p items) m = m.here
+whole_label (dict p pairs) m = m.here
+whole_label (negative p e) m = m.here
+whole_label (negation p e) m = m.here
+whole_label (binary p operator l r) m = m.here
+whole_label (compare p operator l r) m = m.here
+whole_label (is_none p e) m = m.here
+whole_label (is_not_none p e) m = m.here
+whole_label (conjunction p l r) m = m.here
+whole_label (disjunction p l r) m = m.here
+whole_label (attribute p e field) m = m.here
+whole_label (index p e i) m = m.here
+whole_label (call p callee arguments by_name) m = m.here
 
 -- its type
-abbrev pub type_of : (e : Expr) → Marks e → Tree
-type_of e m = (mark_of e m).type
+abbrev pub type_of : (e : Expr) → Labels e → Tree
+type_of e m = (whole_label e m).type
 
 -- the labels with another one for the expression itself
-abbrev pub with_mark : (e : Expr) → Marks e → Mark → Marks e
-with_mark (name n) m here = here
-with_mark (number p digits) m here = here
-with_mark (text p characters) m here = here
-with_mark (truth p value) m here = here
-with_mark (nothing p) m here = here
-with_mark (tuple p items) m here = record { here = here; items = m.items }
-with_mark (list p items) m here = record { here = here; items = m.items }
-with_mark (dict p pairs) m here = record { here = here; entries = m.entries }
-with_mark (negative p e) m here = record { here = here; operand = m.operand }
-with_mark (negation p e) m here = record { here = here; operand = m.operand }
-with_mark (binary p operator l r) m here = record { here = here; left = m.left; right = m.right }
-with_mark (compare p operator l r) m here = record { here = here; left = m.left; right = m.right; flows = m.flows }
-with_mark (is_none p e) m here = record { here = here; operand = m.operand }
-with_mark (is_not_none p e) m here = record { here = here; operand = m.operand }
-with_mark (conjunction p l r) m here = record { here = here; left = m.left; right = m.right }
-with_mark (disjunction p l r) m here = record { here = here; left = m.left; right = m.right }
-with_mark (attribute p e field) m here = record { here = here; object = m.object }
-with_mark (index p e i) m here = record { here = here; object = m.object; key = m.key; flows = m.flows }
-with_mark (call p callee arguments by_name) m here = record {
+abbrev pub with_label : (e : Expr) → Labels e → Label → Labels e
+with_label (name n) m here = here
+with_label (number p digits) m here = here
+with_label (text p characters) m here = here
+with_label (truth p value) m here = here
+with_label (nothing p) m here = here
+with_label (tuple p items) m here = record { here = here; items = m.items }
+with_label (list p items) m here = record { here = here; items = m.items }
+with_label (dict p pairs) m here = record { here = here; entries = m.entries }
+with_label (negative p e) m here = record { here = here; operand = m.operand }
+with_label (negation p e) m here = record { here = here; operand = m.operand }
+with_label (binary p operator l r) m here = record { here = here; left = m.left; right = m.right }
+with_label (compare p operator l r) m here = record { here = here; left = m.left; right = m.right; flows = m.flows }
+with_label (is_none p e) m here = record { here = here; operand = m.operand }
+with_label (is_not_none p e) m here = record { here = here; operand = m.operand }
+with_label (conjunction p l r) m here = record { here = here; left = m.left; right = m.right }
+with_label (disjunction p l r) m here = record { here = here; left = m.left; right = m.right }
+with_label (attribute p e field) m here = record { here = here; object = m.object }
+with_label (index p e i) m here = record { here = here; object = m.object; key = m.key; flows = m.flows }
+with_label (call p callee arguments by_name) m here = record {
   here = here;
   callee = m.callee;
   second = m.second;
@@ -129,17 +129,17 @@ with_mark (call p callee arguments by_name) m here = record {
 }
 
 -- the types of items, in order
-abbrev pub item_types : (es : Exprs) → ItemsMarks es → List Tree
+abbrev pub item_types : (es : Exprs) → ItemsLabels es → List Tree
 item_types no_exprs m = []
 item_types (more_exprs e rest) m = type_of e m.first ∷ item_types rest m.rest
 
 -- the types of a dict's keys, in order
-abbrev pub key_types : (es : Entries) → EntriesMarks es → List Tree
+abbrev pub key_types : (es : Entries) → EntriesLabels es → List Tree
 key_types no_entries m = []
 key_types (more_entries key value rest) m = type_of key m.key ∷ key_types rest m.rest
 
 -- the types of a dict's values, in order
-abbrev pub value_types : (es : Entries) → EntriesMarks es → List Tree
+abbrev pub value_types : (es : Entries) → EntriesLabels es → List Tree
 value_types no_entries m = []
 value_types (more_entries key value rest) m = type_of value m.value ∷ value_types rest m.rest
 
@@ -159,8 +159,8 @@ pub record IsFoundAt (place : Place) (codes : List Code) (f : Finding) : Type 0 
   pub is : f ≡ finding place code
 
 -- a code of a flow stands at the place of what flows
-pub record IsFlowAt (place : Place) (flows : FlowMarks) (f : Finding) : Type 0 where
-  pub flow : FlowMark
+pub record IsFlowAt (place : Place) (flows : FlowLabels) (f : Finding) : Type 0 where
+  pub flow : FlowLabel
   pub among : Contains flows flow
   pub code : Code
   pub found : flow.code ≡ Some code
@@ -179,7 +179,7 @@ second_place (more_exprs e (more_exprs f rest)) p = place_of f
 
 -- what stands under the labels of an expression, of items, of arguments, and of the entries of a dict
 abbrev mutual
-  pub Finds : (e : Expr) → Marks e → Finding → Type 0
+  pub Finds : (e : Expr) → Labels e → Finding → Type 0
   Finds (name n) m f = IsFoundAt n.place m.codes f
   Finds (number p digits) m f = IsFoundAt p m.codes f
   Finds (text p characters) m f = IsFoundAt p m.codes f
@@ -207,24 +207,24 @@ abbrev mutual
       ⊎ (ArgumentsFind (is_instance_test callee arguments keywords) arguments m.arguments f
       ⊎ KeywordsFind keywords m.keywords f)))
 
-  pub ItemsFind : (es : Exprs) → ItemsMarks es → Finding → Type 0
+  pub ItemsFind : (es : Exprs) → ItemsLabels es → Finding → Type 0
   ItemsFind no_exprs m f = ⊥
   ItemsFind (more_exprs e rest) m f = IsFlowAt (place_of e) m.flows f ⊎ (Finds e m.first f ⊎ ItemsFind rest m.rest f)
 
   -- of a test of an instance what stands second is not looked at
-  pub ArgumentsFind : (is_test : Test) → (es : Exprs) → ItemsMarks es → Finding → Type 0
+  pub ArgumentsFind : (is_test : Test) → (es : Exprs) → ItemsLabels es → Finding → Type 0
   ArgumentsFind is_test no_exprs m f = ⊥
   ArgumentsFind true (more_exprs e rest) m f = Finds e m.first f
   ArgumentsFind false (more_exprs e rest) m f = IsFlowAt (place_of e) m.flows f
       ⊎ (Finds e m.first f ⊎ ArgumentsFind false rest m.rest f)
 
-  pub EntriesFind : (es : Entries) → EntriesMarks es → Finding → Type 0
+  pub EntriesFind : (es : Entries) → EntriesLabels es → Finding → Type 0
   EntriesFind no_entries m f = ⊥
   EntriesFind (more_entries key value rest) m f =
       (IsFlowAt (place_of key) m.key_flows f ⊎ Finds key m.key f)
       ⊎ ((IsFlowAt (place_of value) m.value_flows f ⊎ Finds value m.value f) ⊎ EntriesFind rest m.rest f)
 
-  pub KeywordsFind : (es : Keywords) → KeywordsMarks es → Finding → Type 0
+  pub KeywordsFind : (es : Keywords) → KeywordsLabels es → Finding → Type 0
   KeywordsFind no_keywords m f = ⊥
   KeywordsFind (more_keywords parameter value rest) m f = IsFlowAt (place_of value) m.flows f
       ⊎ (Finds value m.first f ⊎ KeywordsFind rest m.rest f)

@@ -16,15 +16,15 @@ use Rattle.pc_types.specs.Below.{Bases, Static}
 use Rattle.pc_types.specs.Shape.{members, list_of_trees, trees, count}
 use Rattle.pc_flow.specs.Environment.{Env, join_or_object, join_all}
 use Rattle.pc_flow.specs.Narrowing.{narrow, test_of_argument, second_argument}
-use Rattle.pc_rules.specs.Operations.{Mark, clean, in_error, Offer, offers_mark, operand_types, index_member}
-use Rattle.pc_rules.specs.Operations.{attribute_member, contain_member, negative_member, binary_mark, order_mark}
-use Rattle.pc_rules.specs.Operations.{display_mark}
-use Rattle.pc_rules.specs.Context.{Context, FlowsInto, name_mark, is_early}
+use Rattle.pc_rules.specs.Operations.{Label, clean, in_error, Offer, offers_label, operand_types, index_member}
+use Rattle.pc_rules.specs.Operations.{attribute_member, contain_member, negative_member, binary_label, order_label}
+use Rattle.pc_rules.specs.Operations.{display_label}
+use Rattle.pc_rules.specs.Context.{Context, FlowsInto, name_label, is_early}
 use Rattle.pc_rules.specs.Calls.{GivenArguments, arguments_given, count_exprs, CallOffer, CallRule, member_rule}
 use Rattle.pc_rules.specs.Calls.{length_rule, test_rule, CalleeLabel, value_callee, name_callee, method_callee}
-use Rattle.pc_rules.specs.Calls.{call_mark, Seat, nowhere, positional_seat, named_seat, length_mark, test_mark}
+use Rattle.pc_rules.specs.Calls.{call_label, Seat, nowhere, positional_seat, named_seat, length_label, test_label}
 use Rattle.pc_rules.specs.Calls.{second_code}
-use Rattle.pc_rules.specs.Labels.{Marks, ItemsMarks, EntriesMarks, KeywordsMarks, mark_of, type_of, with_mark}
+use Rattle.pc_rules.specs.Labels.{Labels, ItemsLabels, EntriesLabels, KeywordsLabels, whole_label, type_of, with_label}
 use Rattle.pc_rules.specs.Labels.{item_types, key_types, value_types}
 
 -- ---- what is expected of the parts of a display
@@ -67,27 +67,27 @@ abbrev pub part_seat : List Tree → ℕ → Seat
 part_seat ts i = record { want = slice_get ts i; into = [] }
 
 -- the type of a list display: of the expected items, else of the join of its items, of Any where it is empty
-abbrev pub list_mark : Bases → Option Tree → List Tree → Mark
-list_mark bases (Some t) types = clean (ListOf t)
-list_mark bases None [] = display_mark (ListOf Any)
-list_mark bases None (t ∷ ts) = display_mark (ListOf (join_all bases (t ∷ ts)))
+abbrev pub list_label : Bases → Option Tree → List Tree → Label
+list_label bases (Some t) types = clean (ListOf t)
+list_label bases None [] = display_label (ListOf Any)
+list_label bases None (t ∷ ts) = display_label (ListOf (join_all bases (t ∷ ts)))
 
 -- the type of a dict display without an expected dict: its keys are int or str where every key is static to it, and int
 -- where both
-pub data DictMark (bases : Bases) (values : List Tree) : List Tree → Mark → Type 0 where
-  no_keys : DictMark bases values [] (in_error E22)
+pub data DictLabel (bases : Bases) (values : List Tree) : List Tree → Label → Type 0 where
+  no_keys : DictLabel bases values [] (in_error E22)
   int_keys : {k : Tree} {ks : List Tree} → All (λ t. Static bases t Int) (k ∷ ks)
-      → DictMark bases values (k ∷ ks) (display_mark (DictOf Int (join_all bases values)))
+      → DictLabel bases values (k ∷ ks) (display_label (DictOf Int (join_all bases values)))
   str_keys : {k : Tree} {ks : List Tree} → ¬ (All (λ t. Static bases t Int) (k ∷ ks))
       → All (λ t. Static bases t Str) (k ∷ ks)
-      → DictMark bases values (k ∷ ks) (display_mark (DictOf Str (join_all bases values)))
+      → DictLabel bases values (k ∷ ks) (display_label (DictOf Str (join_all bases values)))
   other_keys : {k : Tree} {ks : List Tree} → ¬ (All (λ t. Static bases t Int) (k ∷ ks))
-      → ¬ (All (λ t. Static bases t Str) (k ∷ ks)) → DictMark bases values (k ∷ ks) (in_error E22)
+      → ¬ (All (λ t. Static bases t Str) (k ∷ ks)) → DictLabel bases values (k ∷ ks) (in_error E22)
 
 -- the label of a dict display: the type of the expected dict, else what its own keys and values make
-abbrev pub DictRule : Bases → Option KeyValue → (keys values : List Tree) → Mark → Type 0
+abbrev pub DictRule : Bases → Option KeyValue → (keys values : List Tree) → Label → Type 0
 DictRule bases (Some kv) keys values m = m ≡ clean (DictOf kv.key kv.value)
-DictRule bases None keys values m = DictMark bases values keys m
+DictRule bases None keys values m = DictLabel bases values keys m
 
 -- the seat of a key of a dict display: the key type of the expected dict, or nowhere
 abbrev pub key_seat : Option KeyValue → Seat
@@ -118,12 +118,12 @@ abbrev pub contain_offers : Tree → List Offer
 contain_offers t = map contain_member (members t)
 
 -- `==` and `!=` take anything; `in` goes by its right operand
-abbrev pub compare_mark : Bases → ComparisonOperator → Tree → Tree → Mark
-compare_mark bases Equal s t = clean Bool
-compare_mark bases NotEqual s t = clean Bool
-compare_mark bases In s t = offers_mark bases (contain_offers t)
-compare_mark bases NotIn s t = offers_mark bases (contain_offers t)
-compare_mark bases _ s t = order_mark bases s t
+abbrev pub compare_label : Bases → ComparisonOperator → Tree → Tree → Label
+compare_label bases Equal s t = clean Bool
+compare_label bases NotEqual s t = clean Bool
+compare_label bases In s t = offers_label bases (contain_offers t)
+compare_label bases NotIn s t = offers_label bases (contain_offers t)
+compare_label bases _ s t = order_label bases s t
 
 -- what the left operand of a comparison flows into: with `in` and `not in` what the right one takes, else nothing
 abbrev pub compare_types : ComparisonOperator → Tree → List Tree
@@ -134,27 +134,27 @@ compare_types _ t = []
 -- ---- calls
 
 -- a callee: a name, a method of an object, or a value; in an initializer a callee that is no name is E03
-abbrev pub callee_of : Context → Env → GivenArguments → (e : Expr) → Marks e → CalleeLabel
+abbrev pub callee_of : Context → Env → GivenArguments → (e : Expr) → Labels e → CalleeLabel
 callee_of ctx env g (name n) m = name_callee ctx env g (ctx.resolve n.text)
 callee_of ctx env g (attribute p e field) m = if ctx.in_body then method_callee ctx g field.text (type_of e m.object)
     else value_callee (in_error E03)
-callee_of ctx env g e m = if ctx.in_body then value_callee (mark_of e m) else value_callee (in_error E03)
+callee_of ctx env g e m = if ctx.in_body then value_callee (whole_label e m) else value_callee (in_error E03)
 
 -- the label of a call, by its rule
-abbrev pub whole_call_mark : Context → Env → CallRule → List CallOffer → (arguments : Exprs) → (types : List Tree)
-    → Mark
-whole_call_mark ctx env member_rule offers arguments types = call_mark ctx.bases offers
-whole_call_mark ctx env length_rule offers arguments types = length_mark ctx.bases types
-whole_call_mark ctx env test_rule offers arguments types = test_mark ctx env arguments
+abbrev pub whole_call_label : Context → Env → CallRule → List CallOffer → (arguments : Exprs) → (types : List Tree)
+    → Label
+whole_call_label ctx env member_rule offers arguments types = call_label ctx.bases offers
+whole_call_label ctx env length_rule offers arguments types = length_label ctx.bases types
+whole_call_label ctx env test_rule offers arguments types = test_label ctx env arguments
 
 -- whether an initializer names the second argument too early
-abbrev pub early_second : (es : Exprs) → ItemsMarks es → Test
+abbrev pub early_second : (es : Exprs) → ItemsLabels es → Test
 early_second no_exprs m = false
 early_second (more_exprs e no_exprs) m = false
-early_second (more_exprs e (more_exprs f rest)) m = is_early (mark_of f m.rest.first).codes
+early_second (more_exprs e (more_exprs f rest)) m = is_early (whole_label f m.rest.first).codes
 
 -- the code at the second argument of a call, which only a test of an instance has
-abbrev pub whole_second_code : Context → CallRule → (arguments : Exprs) → ItemsMarks arguments → Option Code
+abbrev pub whole_second_code : Context → CallRule → (arguments : Exprs) → ItemsLabels arguments → Option Code
 whole_second_code ctx test_rule arguments m =
     second_code (test_of_argument ctx.resolve (second_argument arguments)) (early_second arguments m)
 whole_second_code ctx _ arguments m = None
@@ -169,19 +169,19 @@ module _ (ctx : Context) (declared : List Tree) where
   -- the labels are lawful: of an expression, of items, of the entries of a dict, of arguments by name
   abbrev mutual
     -- an expression obeys its form's rule, in an environment and with the type that is expected of it
-    pub Lawful : Env → (want : Option Tree) → (e : Expr) → Marks e → Type 0
-    Lawful env want (name n) m = m ≡ name_mark ctx env (ctx.resolve n.text)
+    pub Lawful : Env → (want : Option Tree) → (e : Expr) → Labels e → Type 0
+    Lawful env want (name n) m = m ≡ name_label ctx env (ctx.resolve n.text)
     Lawful env want (number p digits) m = m ≡ clean Int
     Lawful env want (text p characters) m = m ≡ clean Str
     Lawful env want (truth p value) m = m ≡ clean Bool
     Lawful env want (nothing p) m = m ≡ clean NoneType
     Lawful env want (tuple p es) m = record {
       items : LawfulItems env (part_seat (tuple_parts (count_exprs es) (members_of_expected want))) es m.items;
-      here : m.here ≡ display_mark (TupleOf (trees (item_types es m.items)));
+      here : m.here ≡ display_label (TupleOf (trees (item_types es m.items)));
     }
     Lawful env want (list p es) m = record {
       items : LawfulItems env (λ i. item_seat (list_item (members_of_expected want))) es m.items;
-      here : m.here ≡ list_mark ctx.bases (list_item (members_of_expected want)) (item_types es m.items);
+      here : m.here ≡ list_label ctx.bases (list_item (members_of_expected want)) (item_types es m.items);
     }
     Lawful env want (dict p es) m = record {
       entries : LawfulEntries env (key_seat (dict_parts (members_of_expected want)))
@@ -191,7 +191,7 @@ module _ (ctx : Context) (declared : List Tree) where
     }
     Lawful env want (negative p e) m = record {
       operand : Lawful env None e m.operand;
-      here : m.here ≡ offers_mark ctx.bases (map negative_member (members (type_of e m.operand)));
+      here : m.here ≡ offers_label ctx.bases (map negative_member (members (type_of e m.operand)));
     }
     Lawful env want (negation p e) m = record {
       operand : Lawful env None e m.operand;
@@ -200,13 +200,13 @@ module _ (ctx : Context) (declared : List Tree) where
     Lawful env want (binary p operator l r) m = record {
       left : Lawful env None l m.left;
       right : Lawful env None r m.right;
-      here : m.here ≡ binary_mark ctx.bases operator (type_of l m.left) (type_of r m.right);
+      here : m.here ≡ binary_label ctx.bases operator (type_of l m.left) (type_of r m.right);
     }
     Lawful env want (compare p operator l r) m = record {
       left : Lawful env None l m.left;
       right : Lawful env None r m.right;
-      here : m.here ≡ compare_mark ctx.bases operator (type_of l m.left) (type_of r m.right);
-      flows : FlowsInto ctx.bases (mark_of l m.left) (compare_types operator (type_of r m.right)) m.flows;
+      here : m.here ≡ compare_label ctx.bases operator (type_of l m.left) (type_of r m.right);
+      flows : FlowsInto ctx.bases (whole_label l m.left) (compare_types operator (type_of r m.right)) m.flows;
     }
     Lawful env want (is_none p e) m = record {
       operand : Lawful env None e m.operand;
@@ -229,58 +229,58 @@ module _ (ctx : Context) (declared : List Tree) where
     }
     Lawful env want (attribute p e field) m = record {
       object : Lawful env None e m.object;
-      here : m.here ≡ offers_mark ctx.bases
+      here : m.here ≡ offers_label ctx.bases
           (map (attribute_member ctx.classes field.text) (members (type_of e m.object)));
     }
     Lawful env want (index p e i) m = record {
       object : Lawful env None e m.object;
       key : Lawful env None i m.key;
-      here : m.here ≡ offers_mark ctx.bases
+      here : m.here ≡ offers_label ctx.bases
           (map (index_member ctx.bases (int_literal i)) (members (type_of e m.object)));
-      flows : FlowsInto ctx.bases (mark_of i m.key)
+      flows : FlowsInto ctx.bases (whole_label i m.key)
           (operand_types (map (index_member ctx.bases (int_literal i)) (members (type_of e m.object)))) m.flows;
     }
     -- the callee has the labels of a value but for its own, which says what it is as a callee
     Lawful env want (call p c args kws) m = record {
-      value : Marks c;
+      value : Labels c;
       lawful : Lawful env None c value;
-      callee : m.callee ≡ with_mark c value (callee_of ctx env (arguments_given args kws) c value).mark;
+      callee : m.callee ≡ with_label c value (callee_of ctx env (arguments_given args kws) c value).label;
       arguments : LawfulItems env
           (positional_seat (callee_of ctx env (arguments_given args kws) c value).offers) args m.arguments;
       keywords : LawfulKeywords env
           (named_seat (callee_of ctx env (arguments_given args kws) c value).offers) [] kws m.keywords;
-      here : m.here ≡ whole_call_mark ctx env (callee_of ctx env (arguments_given args kws) c value).rule
+      here : m.here ≡ whole_call_label ctx env (callee_of ctx env (arguments_given args kws) c value).rule
           (callee_of ctx env (arguments_given args kws) c value).offers args (item_types args m.arguments);
       second : m.second ≡ whole_second_code ctx
           (callee_of ctx env (arguments_given args kws) c value).rule args m.arguments;
     }
 
     -- items or arguments by position are lawful, each for the seat at its position
-    pub LawfulItems : Env → (seat : ℕ → Seat) → (es : Exprs) → ItemsMarks es → Type 0
+    pub LawfulItems : Env → (seat : ℕ → Seat) → (es : Exprs) → ItemsLabels es → Type 0
     LawfulItems env seat no_exprs m = Unit {0}
     LawfulItems env seat (more_exprs e rest) m = record {
       first : Lawful env (seat 0).want e m.first;
-      flows : FlowsInto ctx.bases (mark_of e m.first) (seat 0).into m.flows;
+      flows : FlowsInto ctx.bases (whole_label e m.first) (seat 0).into m.flows;
       rest : LawfulItems env (λ i. seat (suc i)) rest m.rest;
     }
 
     -- the entries of a dict are lawful, each key and each value for its seat
-    pub LawfulEntries : Env → (key value : Seat) → (es : Entries) → EntriesMarks es → Type 0
+    pub LawfulEntries : Env → (key value : Seat) → (es : Entries) → EntriesLabels es → Type 0
     LawfulEntries env k v no_entries m = Unit {0}
     LawfulEntries env k v (more_entries a b rest) m = record {
       key : Lawful env k.want a m.key;
-      key_flows : FlowsInto ctx.bases (mark_of a m.key) k.into m.key_flows;
+      key_flows : FlowsInto ctx.bases (whole_label a m.key) k.into m.key_flows;
       value : Lawful env v.want b m.value;
-      value_flows : FlowsInto ctx.bases (mark_of b m.value) v.into m.value_flows;
+      value_flows : FlowsInto ctx.bases (whole_label b m.value) v.into m.value_flows;
       rest : LawfulEntries env k v rest m.rest;
     }
 
     -- of a name given twice the later argument flows nowhere
-    pub LawfulKeywords : Env → (seat : List ℕ → Seat) → (before : List (List ℕ)) → (es : Keywords) → KeywordsMarks es
+    pub LawfulKeywords : Env → (seat : List ℕ → Seat) → (before : List (List ℕ)) → (es : Keywords) → KeywordsLabels es
         → Type 0
     LawfulKeywords env seat before no_keywords m = Unit {0}
     LawfulKeywords env seat before (more_keywords parameter value rest) m = record {
       first : Lawful env (keyword_seat seat before parameter).want value m.first;
-      flows : FlowsInto ctx.bases (mark_of value m.first) (keyword_seat seat before parameter).into m.flows;
+      flows : FlowsInto ctx.bases (whole_label value m.first) (keyword_seat seat before parameter).into m.flows;
       rest : LawfulKeywords env seat (parameter.text ∷ before) rest m.rest;
     }

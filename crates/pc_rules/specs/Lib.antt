@@ -1,14 +1,8 @@
 pub mod Calls
-pub mod Checkers
 pub mod Computed
 pub mod Context
-pub mod Found
 pub mod Labels
 pub mod Lawful
-pub mod ListTests
+pub mod Laws
 pub mod Operations
-pub mod RangesFound
 pub mod Signatures
-pub mod SignaturesFound
-pub mod Standing
-pub mod WellFormed

@@ -19,23 +19,23 @@ use Rattle.pc_class.specs.Facts.{TypedParameter, Method, field_by_name, method_b
 use Rattle.pc_flow.specs.Environment.{join_all}
 
 -- what a node is labelled with: its type, and the codes that are found at it
-pub record Mark : Type 0 where
+pub record Label : Type 0 where
   pub type : Tree
   pub codes : List Code
 
 -- what a flow is labelled with: the type that flows, the type that it flows into, and the code that is found of it, if
 -- any
-pub record FlowMark : Type 0 where
+pub record FlowLabel : Type 0 where
   pub from : Tree
   pub into : Tree
   pub code : Option Code
 
 -- a label of this type at which nothing is found
-abbrev pub clean : Tree → Mark
+abbrev pub clean : Tree → Label
 clean t = record { type = t; codes = [] }
 
 -- an expression in error is Any
-abbrev pub in_error : Code → Mark
+abbrev pub in_error : Code → Label
 in_error code = record { type = Any; codes = code ∷ [] }
 
 -- one of the codes is an error
@@ -65,8 +65,8 @@ abbrev pub found_of : List Offer → List Code
 found_of offers = flat_map (λ o. o.found) offers
 
 -- an operation on a union must suit each member; its type is the join of the results, of Never it is Never
-abbrev pub offers_mark : Bases → List Offer → Mark
-offers_mark bases offers = record {
+abbrev pub offers_label : Bases → List Offer → Label
+offers_label bases offers = record {
   type = if has_error (found_of offers) then Any else join_all bases (map (λ o. o.gives) offers);
   codes = found_of offers;
 }
@@ -268,25 +268,25 @@ is_dynamic takes s t =
     || (is_any t && list_all (λ m. is_any m || has_side takes m) (members s))
 
 -- each pair must have a row; on Never it is Never; on Any a dynamic place
-abbrev pub pairs_mark : Bases → (Kind → Test) → (Kind → Tree) → (dynamic : Tree) → Tree → Tree → Mark
-pairs_mark bases takes gives dynamic s t =
+abbrev pub pairs_label : Bases → (Kind → Test) → (Kind → Tree) → (dynamic : Tree) → Tree → Tree → Label
+pairs_label bases takes gives dynamic s t =
     if is_never s || is_never t
     then clean Never
     else (if is_dynamic takes s t
     then record { type = dynamic; codes = A2 ∷ [] }
     else (if is_any s || is_any t then in_error E13
-    else offers_mark bases (pair_offers takes gives (members s) (members t))))
+    else offers_label bases (pair_offers takes gives (members s) (members t))))
 
 -- `+ - * // %`
-abbrev pub binary_mark : Bases → BinaryOperator → Tree → Tree → Mark
-binary_mark bases operator s t = pairs_mark bases (takes_kind operator) kind_type Any s t
+abbrev pub binary_label : Bases → BinaryOperator → Tree → Tree → Label
+binary_label bases operator s t = pairs_label bases (takes_kind operator) kind_type Any s t
 
 -- `< <= > >=`
-abbrev pub order_mark : Bases → Tree → Tree → Mark
-order_mark bases s t = pairs_mark bases (λ k. true) (λ k. Bool) Bool s t
+abbrev pub order_label : Bases → Tree → Tree → Label
+order_label bases s t = pairs_label bases (λ k. true) (λ k. Bool) Bool s t
 
 -- ---- displays
 
 -- a display over the limit of nodes is in error
-abbrev pub display_mark : Tree → Mark
-display_mark t = if nat_le (nodes t) node_limit then clean t else in_error E26
+abbrev pub display_label : Tree → Label
+display_label t = if nat_le (nodes t) node_limit then clean t else in_error E26

@@ -16,7 +16,7 @@ use Rattle.pc_class.specs.Bases.{bases_of}
 use Rattle.pc_class.specs.Facts.{parameters_of, return_type, classes_of}
 use Rattle.pc_rules.specs.Operations.{clean}
 use Rattle.pc_rules.specs.Context.{Context, Signature, FlowsInto}
-use Rattle.pc_rules.specs.Labels.{FlowMarks, IsFlowAt}
+use Rattle.pc_rules.specs.Labels.{FlowLabels, IsFlowAt}
 
 -- a function of a module as what is called
 abbrev pub signature_of : Module → FuncDef → Signature
@@ -69,13 +69,13 @@ literal_place (truth_literal p value) = p
 literal_place (none_literal p) = p
 
 -- a default flows into its type, at the literal; what binds nothing, nothing flows into
-abbrev pub LawfulDefault : Bases → (binds : Test) → Option Literal → Tree → FlowMarks → Type 0
+abbrev pub LawfulDefault : Bases → (binds : Test) → Option Literal → Tree → FlowLabels → Type 0
 LawfulDefault bases binds None t flows = flows ≡ []
 LawfulDefault bases false (Some l) t flows = flows ≡ []
 LawfulDefault bases true (Some l) t flows = FlowsInto bases (clean (literal_type l)) (t ∷ []) flows
 
 -- what is found at a default: the code of its flow, at the literal
-abbrev pub DefaultFinds : Option Literal → FlowMarks → Finding → Type 0
+abbrev pub DefaultFinds : Option Literal → FlowLabels → Finding → Type 0
 DefaultFinds None flows f = ⊥
 DefaultFinds (Some l) flows f = IsFlowAt (literal_place l) flows f
 
@@ -84,24 +84,24 @@ abbrev pub binds_name : List (List ℕ) → Name → Test
 binds_name before n = not (is_builtin_name n.text || is_one_of n.text before)
 
 -- the flow of the default of each parameter, none where nothing flows
-abbrev pub ParamsMarks : List Param → Type 0
-ParamsMarks [] = Unit {0}
-ParamsMarks (p ∷ ps) = record { default : FlowMarks; rest : ParamsMarks ps }
+abbrev pub ParamsLabels : List Param → Type 0
+ParamsLabels [] = Unit {0}
+ParamsLabels (p ∷ ps) = record { default : FlowLabels; rest : ParamsLabels ps }
 
 -- the default of each parameter is lawful, after parameters of these names
-abbrev pub LawfulParams : Module → (before : List (List ℕ)) → (ps : List Param) → ParamsMarks ps → Type 0
-LawfulParams m before [] marks = Unit {0}
-LawfulParams m before (p ∷ ps) marks = record {
+abbrev pub LawfulParams : Module → (before : List (List ℕ)) → (ps : List Param) → ParamsLabels ps → Type 0
+LawfulParams m before [] labels = Unit {0}
+LawfulParams m before (p ∷ ps) labels = record {
   default : LawfulDefault (bases_of m) (binds_name before p.name) p.default
-      (read_option m (bases_of m) p.annotation) marks.default;
-  rest : LawfulParams m (p.name.text ∷ before) ps marks.rest;
+      (read_option m (bases_of m) p.annotation) labels.default;
+  rest : LawfulParams m (p.name.text ∷ before) ps labels.rest;
 }
 
 -- the findings of parameters: in their annotations, and at their defaults
-abbrev pub ParamsFind : Module → (ps : List Param) → ParamsMarks ps → Finding → Type 0
-ParamsFind m [] marks f = ⊥
-ParamsFind m (p ∷ ps) marks f = OptionAnnFinds m (bases_of m) p.annotation f
-    ⊎ (DefaultFinds p.default marks.default f ⊎ ParamsFind m ps marks.rest f)
+abbrev pub ParamsFind : Module → (ps : List Param) → ParamsLabels ps → Finding → Type 0
+ParamsFind m [] labels f = ⊥
+ParamsFind m (p ∷ ps) labels f = OptionAnnFinds m (bases_of m) p.annotation f
+    ⊎ (DefaultFinds p.default labels.default f ⊎ ParamsFind m ps labels.rest f)
 
 -- ---- constants
 

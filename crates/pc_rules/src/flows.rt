@@ -4,12 +4,12 @@
 ghost use Rattle.std.specs.Prelude.{◌≡◌, All, IfOk, OnOk, map};
 ghost use Rattle.pc_types.specs.Computed.{static_test, assignable_test};
 ghost use Rattle.pc_types.specs.Store.{KeepsTypes};
-ghost use Rattle.pc_rules.specs.Checkers.{Finds, GoesOn};
-ghost use Rattle.pc_rules.specs.Operations.{Mark};
+ghost use Rattle.pc_rules.specs.Computed.Checkers.{Finds, GoesOn};
+ghost use Rattle.pc_rules.specs.Operations.{Label as LabelOf};
 ghost use Rattle.pc_rules.specs.Context.{is_early};
-ghost use Rattle.pc_rules.specs.Computed.{code_unless, flows_of};
-ghost use Rattle.pc_rules.specs.Found.{own_flow, flow_at, flows_at, brief};
-ghost use Rattle.pc_rules.specs.Standing.{mark_with};
+ghost use Rattle.pc_rules.specs.Computed.Expressions.{code_unless, flows_of};
+ghost use Rattle.pc_rules.specs.Computed.Findings.{own_flow, flow_at, flows_at, brief};
+ghost use Rattle.pc_rules.specs.Computed.Standing.{label_with};
 
 use crate::checker::Checker;
 use crate::label::{Label, has_code, is_early, is_of_scopes};
@@ -100,7 +100,7 @@ pub fn find_flows<S: TypeStore>(
 ) -> Result<(), OutOfMemory>
     requires label { S.has checker.old.store.now label.now.ty }
     requires into { All (S.has checker.old.store.now) into.now }
-    ensures found { (m : Mark) → mark_with S.tree label.now ≡ brief m
+    ensures found { (m : LabelOf) → label_with S.tree label.now ≡ brief m
         → OnOk result (Finds checker.old checker.new (flows_at place (flows_of parents.now m (map S.tree into.now)))) }
     ensures goes_on { GoesOn S.TypeStore checker.old checker.new }
 {

@@ -7,8 +7,8 @@ ghost use Rattle.pc_notes.specs.Notes.{notes_of};
 ghost use Rattle.pc_rules.specs.Operations.{clean, in_error};
 ghost use Rattle.pc_rules.specs.Context.{is_early};
 ghost use Rattle.pc_rules.specs.Labels.{is_of_scopes};
-ghost use Rattle.pc_rules.specs.Found.{own_at, has_code, add_code, once_onto};
-ghost use Rattle.pc_rules.specs.Standing.{mark_with, IsMark};
+ghost use Rattle.pc_rules.specs.Computed.Findings.{own_at, has_code, add_code, once_onto};
+ghost use Rattle.pc_rules.specs.Computed.Standing.{label_with, MeansLabel};
 
 use pc_notes::Notes;
 use pc_source::{OutOfMemory, Place};
@@ -33,7 +33,7 @@ pub struct Offer<Ty: Drop> {
 
 /// A label of a type at which nothing is found.
 pub fn clean<Ty: Drop>(alloc: Global, ty: Ty) -> Label<Ty>
-    ensures mark { (tree : Ty → Tree) → mark_with tree result ≡ clean (tree ty) }
+    ensures label { (tree : Ty → Tree) → label_with tree result ≡ clean (tree ty) }
     ensures ty { result.ty ≡ ty }
 {
     Label {
@@ -48,7 +48,7 @@ pub fn in_error<S: TypeStore>(
     alloc: Global,
     code: Code,
 ) -> Result<Label<S::Ty>, OutOfMemory>
-    ensures value { IfOk result (λ l. IsMark S.has S.tree store.new l (in_error code)) }
+    ensures value { IfOk result (λ l. MeansLabel S.has S.tree store.new l (in_error code)) }
     ensures kept { KeepsTypes S.has store.old store.new }
 {
     let ty = store.any(alloc)?;

@@ -4,21 +4,21 @@ ghost use Rattle.std.specs.Prelude.{◌≡◌, Option, List, length};
 ghost use Rattle.pc_types.specs.Tree.{Tree};
 ghost use Rattle.pc_tree.specs.Tree.{Expr};
 ghost use Rattle.pc_flow.specs.Environment.{Env};
-ghost use Rattle.pc_rules.specs.Computed.{LabelsAreLawful};
-ghost use Rattle.pc_rules.specs.Found.{LabelFindingsAreListed};
+ghost use Rattle.pc_rules.specs.Computed.Expressions.{LabelsAreLawful};
+ghost use Rattle.pc_rules.specs.Computed.Findings.{LabelFindingsAreListed};
 ghost use Rattle.pc_rules.specs.Context.{Context};
-ghost use Rattle.pc_rules.specs.Labels.{Marks};
+ghost use Rattle.pc_rules.specs.Labels.{Labels};
 ghost use Rattle.pc_rules.specs.Lawful.{Lawful};
-ghost use Rattle.pc_rules.specs.ListTests.{ListTestsAreDynamicPlaces};
-ghost use Rattle.pc_rules.specs.WellFormed.{ExpressionsHaveLabels, LawfulLabelsAreWellFormed};
-ghost use Rattle.pc_rules.specs.WellFormed.{BodyContextsAreWellFormed, InitializerContextsAreWellFormed};
+ghost use Rattle.pc_rules.specs.Laws.ListTests.{ListTestsAreDynamicPlaces};
+ghost use Rattle.pc_rules.specs.Laws.WellFormed.{ExpressionsHaveLabels, LawfulLabelsAreWellFormed};
+ghost use Rattle.pc_rules.specs.Laws.WellFormed.{BodyContextsAreWellFormed, InitializerContextsAreWellFormed};
 
 /// The law that an expression has at most one lawful labelling, with what it may name, in an environment, with
 /// what is expected of it.
 pub fn one_labelling_of_expressions()
     ensures { (ctx : Context) (declared : List Tree) (env : Env) → length declared ≡ length env
-        → (want : Option Tree) (e : Expr) (marks others : Marks e) → Lawful ctx declared env want e marks
-        → Lawful ctx declared env want e others → marks ≡ others }
+        → (want : Option Tree) (e : Expr) (labels others : Labels e) → Lawful ctx declared env want e labels
+        → Lawful ctx declared env want e others → labels ≡ others }
 {}
 
 /// The law that an expression has a lawful labelling, where the types of what it may name, of the locals and the one

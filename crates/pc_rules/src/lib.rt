@@ -16,4 +16,4 @@ pub use laws::{
     list_tests_are_dynamic_places, one_labelling_of_expressions,
 };
 pub use naming::name_label;
-pub use setting::{Setting, Signature};
+pub use setting::{ModuleContext, Setting, Signature};

@@ -5,8 +5,8 @@ ghost use Rattle.std.specs.Prelude.{All, IfOk, map, slice_get, string_bytes};
 ghost use Rattle.pc_types.specs.Store.{KeepsTypes};
 ghost use Rattle.pc_flow.specs.Environment.{current};
 ghost use Rattle.pc_flow.specs.Stored.{HasEach, env_of};
-ghost use Rattle.pc_rules.specs.Context.{local_mark, constant_mark, name_mark};
-ghost use Rattle.pc_rules.specs.Standing.{context_with, HasGivenAll, IsMark};
+ghost use Rattle.pc_rules.specs.Context.{local_label, constant_label, name_label};
+ghost use Rattle.pc_rules.specs.Computed.Standing.{context_with, HasGivenAll, MeansLabel};
 ghost use Rattle.pc_flow.specs.Naming.{meanings};
 
 use crate::label::{Label, clean, in_error};
@@ -27,7 +27,7 @@ fn local_label<S: TypeStore>(
 ) -> Result<Label<S::Ty>, OutOfMemory>
     requires { HasEach (S.has store.old) env.now }
     ensures value { IfOk result
-        (λ l. IsMark S.has S.tree store.new l (local_mark (current (env_of S.tree env.now) local))) }
+        (λ l. MeansLabel S.has S.tree store.new l (local_label (current (env_of S.tree env.now) local))) }
     ensures kept { KeepsTypes S.has store.old store.new }
 {
     match env.current(local) {
@@ -45,7 +45,7 @@ fn constant_label<S: TypeStore>(
 ) -> Result<Label<S::Ty>, OutOfMemory>
     requires { All (S.has store.old) constants.now }
     ensures value { IfOk result
-        (λ l. IsMark S.has S.tree store.new l (constant_mark (slice_get (map S.tree constants.now) number))) }
+        (λ l. MeansLabel S.has S.tree store.new l (constant_label (slice_get (map S.tree constants.now) number))) }
     ensures kept { KeepsTypes S.has store.old store.new }
 {
     match constants.get(number) {
@@ -65,14 +65,14 @@ pub fn name_label<S: TypeStore>(
 ) -> Result<Label<S::Ty>, OutOfMemory>
     requires { HasGivenAll (S.has store.old) S.tree setting.now env.now }
     ensures value { IfOk result
-        (λ l. IsMark S.has S.tree store.new l
-        (name_mark (context_with S.tree setting.now) (env_of S.tree env.now)
+        (λ l. MeansLabel S.has S.tree store.new l
+        (name_label (context_with S.tree setting.now) (env_of S.tree env.now)
         (meanings setting.now.names.now (string_bytes name.now.text)))) }
     ensures kept { KeepsTypes S.has store.old store.new }
 {
     match setting.names.resolve(name.text.as_str()) {
         Res::Local(local) => local_label(store, alloc, env, local),
-        Res::Const(number) => constant_label(store, alloc, setting.constants, number),
+        Res::Const(number) => constant_label(store, alloc, setting.globals.constants, number),
         Res::Func(_) => {
             let code = if setting.in_body {
                 Code::E20
@@ -82,7 +82,7 @@ pub fn name_label<S: TypeStore>(
             in_error(store, alloc, code)
         }
         Res::Class(class) => {
-            let code = if class < setting.known {
+            let code = if class < setting.globals.known {
                 Code::E20
             } else {
                 Code::E03

@@ -1,11 +1,14 @@
 //! A tracer: it follows the plain run of a module, and gives its events and its end.
 #![tactic(auto)]
 
+mod calls;
 mod collecting;
 mod evaluate;
 mod forms;
 mod items;
+mod loops;
 mod running;
+mod statements;
 mod trace;
 
 pub use pc_machine::plain_runs_are_runs;

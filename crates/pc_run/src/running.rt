@@ -10,7 +10,7 @@ ghost use Rattle.pc_run.specs.Traces.{end_of_rust};
 ghost use Rattle.pc_run.specs.Internal.LastLine.{main_entered};
 ghost use Rattle.pc_machine.specs.Machine.{TellsProgress, progress_of, stop_of};
 
-use crate::evaluate::call;
+use crate::calls::call;
 use crate::items::run_module;
 use crate::trace::{End, Trace};
 use pc_machine::{Halt, Machine, Stop};

@@ -2,7 +2,7 @@
 use Rattle.std.proofs.Common.{◌≡◌, ℕ, List, [], ◌∷◌, map, refl}
 use Rattle.std.specs.Prelude.{Bool, true, false, if◌then◌else◌, Some, bytes_eq, cond}
 use Rattle.std.specs.Map.{lookup}
-pub use Rattle.pc_names.proofs.Texts.{turned}
+pub use Rattle.pc_tree.proofs.Texts.{turned}
 use Rattle.pc_scope.specs.Reserved.{beside}
 use Rattle.pc_scope.specs.declared.resolution.Res.{Res}
 

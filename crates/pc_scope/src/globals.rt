@@ -3,7 +3,7 @@
 ghost use Rattle.std.specs.Prelude.{◌≡◌, map, Option, OnOk, IfOk, List, ℕ};
 ghost use Rattle.pc_tree.specs.Tree.{item_of};
 ghost use Rattle.pc_scope.specs.Resolution.{bound_first};
-ghost use Rattle.pc_names.specs.Names.{first_of, bound_as};
+ghost use Rattle.pc_tree.specs.Names.{first_of, bound_as};
 ghost use Rattle.pc_scope.specs.Internal.WalkViews.{at_text};
 
 use crate::resolution::Res;

@@ -11,11 +11,10 @@ ghost use Rattle.pc_scope_findings.specs.Internal.FindingLists.{name_findings, s
 use crate::early::find_early_names;
 use crate::unknown::{find_unknown_decorators, find_unknown_in_bodies, find_unknown_in_constants};
 use crate::unreached::find_unreached_in_defs;
-use pc_names::fixed_keys;
 use pc_scope::Scopes;
 use pc_source::OutOfMemory;
 use pc_stop::find_in_scopes;
-use pc_tree::{Findings, Module};
+use pc_tree::{Findings, Module, fixed_keys};
 use std::alloc::Global as Allocator;
 
 /// Finds names that mean nothing or stand too early: E02, E03.

@@ -8,8 +8,8 @@ use Rattle.pc_types.specs.Store.{KeepsTypes}
 use Rattle.pc_class.specs.Tables.{ClassEntry, HasParameter, HasMethod, HasEntry, HasEntries}
 use Rattle.pc_class.specs.declared.table.Parameter.{Parameter as RustParameter}
 use Rattle.pc_rules.specs.declared.setting.Signature.{Signature as RustSignature}
-use Rattle.pc_rules.specs.Standing.{HasSignature}
-use Rattle.pc_signatures.specs.declared.constants.Globals.{Globals}
+use Rattle.pc_rules.specs.Computed.Standing.{HasSignature}
+use Rattle.pc_rules.specs.declared.setting.ModuleContext.{ModuleContext}
 use Rattle.pc_signatures.specs.SignaturesHeld.{methods_seen, all_signatures_with}
 use Rattle.pc_signatures.specs.Internal.SignaturesRead.{HasSignatures, HasMethods, AreGlobals, methods_with}
 
@@ -40,9 +40,9 @@ pub held_push : {X : Type 0} (P : X → Type 0) (old new : List X) (x : X) → A
 held_push P old new x h p e = subst (All P) (sym e) (All-push P old x h p)
 
 -- classes and functions of a module stay what members and initializers may name
-pub globals_kept : {Store Ty : Type 0} (has : Store → Ty → Type 0) (tree : Ty → Tree) (a b : Store) (g : Globals Ty) → KeepsTypes has a b → AreGlobals has tree a g → AreGlobals has tree b g
+pub globals_kept : {Store Ty : Type 0} (has : Store → Ty → Type 0) (tree : Ty → Tree) (a b : Store) (g : ModuleContext Ty) → KeepsTypes has a b → AreGlobals has tree a g → AreGlobals has tree b g
 globals_kept has tree a b g k h = record {
-  frame = h.frame;
+  outline = h.outline;
   classes = h.classes;
   entries = entries_kept has a b k _ h.entries;
   functions = record { given = signatures_kept has a b k _ h.functions.given; are = h.functions.are };

@@ -15,8 +15,8 @@ use Rattle.pc_class.specs.Facts.{ClassFacts, classes_of}
 use Rattle.pc_flow.specs.Environment.{Env}
 use Rattle.pc_rules.specs.Context.{Signature}
 use Rattle.pc_rules.specs.Signatures.{signatures_of}
-use Rattle.pc_rules.specs.SignaturesFound.{initial}
-use Rattle.pc_rules.specs.Standing.{Standing}
+use Rattle.pc_rules.specs.Computed.Signatures.{initial}
+use Rattle.pc_rules.specs.Computed.Standing.{Standing}
 
 module _ (m : Module) where
   -- names mean to the module what its tables say

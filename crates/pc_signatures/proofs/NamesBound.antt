@@ -3,7 +3,7 @@ use Rattle.std.proofs.Common.{◌≡◌, ℕ, List, [], ◌∷◌, ◌++◌, sym
 use Rattle.std.specs.Prelude.{true, false, if◌then◌else◌}
 use Rattle.pc_scope.specs.Resolution.{is_one_of}
 use Rattle.pc_class.proofs.EntryWalk.{among_with}
-use Rattle.pc_rules.specs.SignaturesFound.{with_name}
+use Rattle.pc_rules.specs.Computed.Signatures.{with_name}
 
 -- a name that is bound already
 pub bound_again : (name : List ℕ) (names : List (List ℕ)) → is_one_of name names ≡ true → (λ (t : List ℕ). is_one_of t names) ≡ with_name (λ t. is_one_of t names) name

@@ -12,7 +12,7 @@ use Rattle.pc_tree.specs.Tree.{Module, param_of, member_of, item_of}
 use Rattle.pc_scope.specs.Bindings.{as_function, as_class, as_method, functions_in, classes_in, methods_in}
 use Rattle.pc_class.specs.Facts.{ClassFacts, typed_parameter, parameters_of}
 use Rattle.pc_rules.specs.Signatures.{signature_of}
-use Rattle.pc_rules.specs.SignaturesFound.{ItemsReached, with_name, param_findings, params_findings, function_findings, functions_findings, member_findings, members_findings, class_methods, signatures_of_methods, behind, behind_all, item_findings, items_findings}
+use Rattle.pc_rules.specs.Computed.Signatures.{ItemsReached, with_name, param_findings, params_findings, function_findings, functions_findings, member_findings, members_findings, class_methods, signatures_of_methods, behind, behind_all, item_findings, items_findings}
 
 -- one step of a walk that goes on with the rest
 pub stepped : {X : Type 0} (old mid these rest more total : List X) → old ++ rest ≡ total → rest ≡ these ++ more → mid ≡ old ++ these → mid ++ more ≡ total

@@ -5,7 +5,7 @@ use Rattle.std.specs.Global.{Global}
 use Rattle.pc_types.specs.Tree.{Tree}
 use Rattle.pc_rules.specs.declared.setting.Signature.{Signature as RustSignature}
 use Rattle.pc_rules.specs.Context.{Signature}
-use Rattle.pc_rules.specs.Standing.{HasSignature, signature_with}
+use Rattle.pc_rules.specs.Computed.Standing.{HasSignature, signature_with}
 
 -- the types of the constants, what the functions take and return, and what the methods of each class do, each in text
 -- order

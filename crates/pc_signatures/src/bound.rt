@@ -1,7 +1,7 @@
 //! Names that are bound already.
 
 ghost use Rattle.std.specs.Prelude.{◌≡◌, OnOk};
-ghost use Rattle.pc_rules.specs.SignaturesFound.{bound_in, with_name};
+ghost use Rattle.pc_rules.specs.Computed.Signatures.{bound_in, with_name};
 
 use indexmap::IndexSet;
 use pc_source::OutOfMemory;

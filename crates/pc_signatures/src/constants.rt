@@ -10,41 +10,35 @@ ghost use Rattle.pc_tree.specs.Stopping.{name_of_member};
 ghost use Rattle.pc_scope.specs.Bindings.{classes_in, methods_in};
 ghost use Rattle.pc_types.specs.Tree.{Tree as TypeTree};
 ghost use Rattle.pc_types.specs.Store.{Means};
+ghost use Rattle.pc_ann.specs.ModuleOutlines.{module_in, IsModuleOutline};
 ghost use Rattle.pc_class.specs.Facts.{base_facts, classes_of};
 ghost use Rattle.pc_class.specs.Tables.{classes_with};
 ghost use Rattle.pc_rules.specs.Signatures.{signature_of};
-ghost use Rattle.pc_rules.specs.SignaturesFound.{bound_in, base_has_member, binds_as_field, member_findings};
-ghost use Rattle.pc_rules.specs.SignaturesFound.{members_findings, class_methods, signatures_of_methods, initial};
-ghost use Rattle.pc_rules.specs.SignaturesFound.{type_of_constant, constant_findings, behind, item_findings};
-ghost use Rattle.pc_rules.specs.SignaturesFound.{items_findings, constants_of, method_signatures, no_name, with_name};
-ghost use Rattle.pc_rules.specs.SignaturesFound.{def_findings, field_findings, class_notes, value_findings};
-ghost use Rattle.pc_rules.specs.SignaturesFound.{nothing_reached};
-ghost use Rattle.pc_signatures.specs.Internal.SignaturesRead.{module_in, IsFrame, AreGlobals, AreSignatures};
+ghost use Rattle.pc_rules.specs.Computed.Signatures.{bound_in, base_has_member, binds_as_field, member_findings};
+ghost use Rattle.pc_rules.specs.Computed.Signatures.{members_findings, class_methods, signatures_of_methods, initial};
+ghost use Rattle.pc_rules.specs.Computed.Signatures.{type_of_constant, constant_findings, behind, item_findings};
+ghost use Rattle.pc_rules.specs.Computed.Signatures.{items_findings, constants_of, method_signatures, no_name, with_name};
+ghost use Rattle.pc_rules.specs.Computed.Signatures.{def_findings, field_findings, class_notes, value_findings};
+ghost use Rattle.pc_rules.specs.Computed.Signatures.{nothing_reached};
+ghost use Rattle.pc_signatures.specs.Internal.SignaturesRead.{AreGlobals, AreSignatures};
 ghost use Rattle.pc_signatures.specs.Internal.SignaturesRead.{HasSignatures};
 ghost use Rattle.pc_signatures.specs.Internal.SignaturesRead.{HasReached, signatures_with, methods_with, reached_with};
-ghost use Rattle.pc_rules.specs.Standing.{HasIfAny, mark_in, finds_in};
-ghost use Rattle.pc_rules.specs.Checkers.{Finds, GoesOn, IsLabel};
+ghost use Rattle.pc_rules.specs.Computed.Standing.{HasIfAny, label_in, finds_in};
+ghost use Rattle.pc_rules.specs.Computed.Checkers.{Finds, GoesOn, IsLabel};
 
 use crate::bound::{Texts, bind, is_bound};
 use crate::defaults::{binds, find_default, find_into, is_reserved};
-use crate::signatures::{Frame, read_annotation, read_signature};
+use crate::signatures::{read_annotation, read_signature};
 use indexmap::IndexSet;
+use pc_ann::ModuleOutline;
 use pc_class::ClassTable;
 use pc_expr::type_expr;
 use pc_flow::{DeclaredTypes, Env, OwnerNames};
-use pc_rules::{Checker, Label, Setting, Signature};
+use pc_rules::{Checker, Label, ModuleContext, Setting, Signature};
 use pc_scope::Owner;
 use pc_source::OutOfMemory;
 use pc_tree::{ClassDef, Constant, Expr, Field, FuncDef, Item, ItemKind, Member, Name};
 use pc_types::TypeStore;
-
-/// What members and initializers may name, but for constants: the classes of a module and its functions.
-#[derive(Drop)]
-pub(crate) struct Globals<'g, Ty: Drop> {
-    pub frame: &'g Frame<'g>,
-    pub classes: &'g ClassTable<Ty>,
-    pub functions: &'g [Signature<Ty>],
-}
 
 /// What a walk over items has reached: the types of the constants, the methods of each class, the names that are bound.
 #[derive(Drop)]
@@ -83,43 +77,43 @@ fn binds_as_field<Ty: Drop>(
 /// Reads a field of a class over this base: what is found in its annotation and at its default.
 fn read_field<S: TypeStore>(
     checker: &mut Checker<'_, S>,
-    globals: &Globals<'_, S::Ty>,
+    globals: &ModuleContext<'_, S::Ty>,
     base: Option<usize>,
     bound: &Texts,
     field: &Field,
 ) -> Result<(), OutOfMemory>
     requires { AreGlobals S.has S.tree checker.old.store.now globals.now }
     ensures found { OnOk result (Finds checker.old checker.new
-        (field_findings (module_in globals.now.frame.now)
-        (base_facts (classes_of (module_in globals.now.frame.now)) base) (bound_in bound.now) (field_of field.now))) }
+        (field_findings (module_in globals.now.outline.now)
+        (base_facts (classes_of (module_in globals.now.outline.now)) base) (bound_in bound.now) (field_of field.now))) }
     ensures goes_on { GoesOn S.TypeStore checker.old checker.new }
 {
-    let frame = globals.frame;
-    let ty = read_annotation(checker, frame, &field.annotation)?;
+    let outline = globals.outline;
+    let ty = read_annotation(checker, outline, &field.annotation)?;
     let binds = binds_as_field(globals.classes, base, bound, field.name.text.as_str());
-    find_default(checker, frame.parents, binds, &field.default, &ty)
+    find_default(checker, outline.parents, binds, &field.default, &ty)
 }
 
 /// Adds the signature of a method.
 fn add_method<S: TypeStore>(
     checker: &mut Checker<'_, S>,
-    frame: &Frame,
+    outline: &ModuleOutline,
     def: &FuncDef,
     methods: &mut Vec<Signature<S::Ty>>,
 ) -> Result<(), OutOfMemory>
-    requires frame { IsFrame frame.now }
+    requires outline { IsModuleOutline outline.now }
     requires held { HasSignatures (S.has checker.old.store.now) methods.old.items }
     ensures held { OnOk result (HasSignatures (S.has checker.new.store.now) methods.new.items) }
     ensures typed { OnOk result
         (signatures_with S.tree methods.new.items
-        ≡ signatures_with S.tree methods.old.items ++ signature_of (module_in frame.now) (func_of def.now) ∷ []) }
+        ≡ signatures_with S.tree methods.old.items ++ signature_of (module_in outline.now) (func_of def.now) ∷ []) }
     ensures found { OnOk result (Finds checker.old checker.new
-        (def_findings (module_in frame.now) (with_name no_name (codes "self")) (func_of def.now))) }
+        (def_findings (module_in outline.now) (with_name no_name (codes "self")) (func_of def.now))) }
     ensures goes_on { GoesOn S.TypeStore checker.old checker.new }
 {
     let mut bound = IndexSet::new(checker.alloc);
     bind(&mut bound, checker.alloc, "self")?;
-    let signature = read_signature(checker, frame, &mut bound, def)?;
+    let signature = read_signature(checker, outline, &mut bound, def)?;
     methods.push(signature)?;
     Ok(())
 }
@@ -127,7 +121,7 @@ fn add_method<S: TypeStore>(
 /// Reads a member of a class over this base: adds the signature of a method.
 fn add_member<S: TypeStore>(
     checker: &mut Checker<'_, S>,
-    globals: &Globals<'_, S::Ty>,
+    globals: &ModuleContext<'_, S::Ty>,
     base: Option<usize>,
     bound: &Texts,
     member: &Member,
@@ -139,15 +133,15 @@ fn add_member<S: TypeStore>(
     ensures typed { OnOk result
         (signatures_with S.tree methods.new.items
         ≡ signatures_with S.tree methods.old.items
-        ++ map (signature_of (module_in globals.now.frame.now)) (methods_in (member_of member.now ∷ []))) }
+        ++ map (signature_of (module_in globals.now.outline.now)) (methods_in (member_of member.now ∷ []))) }
     ensures found { OnOk result (Finds checker.old checker.new
-        (member_findings (module_in globals.now.frame.now)
-        (base_facts (classes_of (module_in globals.now.frame.now)) base) (bound_in bound.now) (member_of member.now))) }
+        (member_findings (module_in globals.now.outline.now)
+        (base_facts (classes_of (module_in globals.now.outline.now)) base) (bound_in bound.now) (member_of member.now))) }
     ensures goes_on { GoesOn S.TypeStore checker.old checker.new }
 {
     match member {
         Member::Field(field) => read_field(checker, globals, base, bound, field),
-        Member::Method(def) => add_method(checker, globals.frame, def, methods),
+        Member::Method(def) => add_method(checker, globals.outline, def, methods),
     }
 }
 
@@ -165,17 +159,17 @@ fn name_of(member: &Member) -> &Name
 /// members. Language Reference 3.12, 8.8 "Class definitions"; library reference, `dataclasses`.
 fn read_members<S: TypeStore>(
     checker: &mut Checker<'_, S>,
-    globals: &Globals<'_, S::Ty>,
+    globals: &ModuleContext<'_, S::Ty>,
     base: Option<usize>,
     members: &[Member],
 ) -> Result<Vec<Signature<S::Ty>>, OutOfMemory>
     requires { AreGlobals S.has S.tree checker.old.store.now globals.now }
     ensures typed { IfOk result
         (λ ss. AreSignatures S.has S.tree checker.new.store.now ss.items
-        (map (signature_of (module_in globals.now.frame.now)) (methods_in (map member_of members.now)))) }
+        (map (signature_of (module_in globals.now.outline.now)) (methods_in (map member_of members.now)))) }
     ensures found { OnOk result (Finds checker.old checker.new
-        (members_findings (module_in globals.now.frame.now)
-        (base_facts (classes_of (module_in globals.now.frame.now)) base) no_name (map member_of members.now))) }
+        (members_findings (module_in globals.now.outline.now)
+        (base_facts (classes_of (module_in globals.now.outline.now)) base) no_name (map member_of members.now))) }
     ensures goes_on { GoesOn S.TypeStore checker.old checker.new }
 {
     let mut methods = Vec::new(checker.alloc);
@@ -190,7 +184,7 @@ fn read_members<S: TypeStore>(
 /// The label of an initializer after this many classes, with what is found in it.
 fn type_initializer<S: TypeStore>(
     checker: &mut Checker<'_, S>,
-    globals: &Globals<'_, S::Ty>,
+    globals: &ModuleContext<'_, S::Ty>,
     walk: &Walk<S::Ty>,
     want: &Option<S::Ty>,
     value: &Expr,
@@ -198,27 +192,30 @@ fn type_initializer<S: TypeStore>(
     requires globals { AreGlobals S.has S.tree checker.old.store.now globals.now }
     requires constants { All (S.has checker.old.store.now) walk.now.constants.items }
     requires want { HasIfAny (S.has checker.old.store.now) want.now }
-    ensures marked { IfOk result
+    ensures labelled { IfOk result
         (λ l. IsLabel S.TypeStore checker.new l
-        (mark_in (initial (module_in globals.now.frame.now) (map S.tree walk.now.constants.items)
+        (label_in (initial (module_in globals.now.outline.now) (map S.tree walk.now.constants.items)
         (length walk.now.methods.items)) (option_map S.tree want.now) (expr_of value.now))) }
     ensures found { OnOk result (Finds checker.old checker.new
-        (finds_in (initial (module_in globals.now.frame.now) (map S.tree walk.now.constants.items)
+        (finds_in (initial (module_in globals.now.outline.now) (map S.tree walk.now.constants.items)
         (length walk.now.methods.items)) (option_map S.tree want.now) (expr_of value.now))) }
     ensures goes_on { GoesOn S.TypeStore checker.old checker.new }
 {
     let names = OwnerNames {
-        scopes: globals.frame.scopes,
+        scopes: globals.outline.scopes,
         owner: Owner::Module,
     };
     let declared = DeclaredTypes::new(checker.alloc, 0)?;
     let env = Env::new(checker.alloc, 0)?;
-    let setting = Setting {
-        parents: globals.frame.parents,
+    let so_far = ModuleContext {
+        outline: globals.outline,
         classes: globals.classes,
         functions: globals.functions,
         constants: &walk.constants,
         known: walk.methods.len(),
+    };
+    let setting = Setting {
+        globals: &so_far,
         in_body: false,
         names: &names,
         declared: &declared,
@@ -229,7 +226,7 @@ fn type_initializer<S: TypeStore>(
 /// Types the initializer of a constant with this annotation: it flows into it, where the constant binds its name.
 fn check_annotated<S: TypeStore>(
     checker: &mut Checker<'_, S>,
-    globals: &Globals<'_, S::Ty>,
+    globals: &ModuleContext<'_, S::Ty>,
     walk: &Walk<S::Ty>,
     binds: bool,
     ty: &S::Ty,
@@ -239,7 +236,7 @@ fn check_annotated<S: TypeStore>(
     requires constants { All (S.has checker.old.store.now) walk.now.constants.items }
     requires ty { S.has checker.old.store.now ty.now }
     ensures found { OnOk result (Finds checker.old checker.new
-        (value_findings (module_in globals.now.frame.now) (reached_with S.tree walk.now)
+        (value_findings (module_in globals.now.outline.now) (reached_with S.tree walk.now)
         (if binds then S.tree ty.now ∷ [] else []) (expr_of value.now))) }
     ensures goes_on { GoesOn S.TypeStore checker.old checker.new }
 {
@@ -249,14 +246,14 @@ fn check_annotated<S: TypeStore>(
     }
     let want = Some(checker.store.copy(checker.alloc, ty)?);
     let label = type_initializer(checker, globals, walk, &want, value)?;
-    find_into(checker, globals.frame.parents, value.place(), &label, ty)
+    find_into(checker, globals.outline.parents, value.place(), &label, ty)
 }
 
 /// The type of a constant, with what is found in its annotation and of its initializer. Language Reference 3.12, 7.2
 /// "Assignment statements"; typing specification, "Type annotations".
 fn read_constant<S: TypeStore>(
     checker: &mut Checker<'_, S>,
-    globals: &Globals<'_, S::Ty>,
+    globals: &ModuleContext<'_, S::Ty>,
     walk: &Walk<S::Ty>,
     constant: &Constant,
 ) -> Result<S::Ty, OutOfMemory>
@@ -264,10 +261,10 @@ fn read_constant<S: TypeStore>(
     requires constants { All (S.has checker.old.store.now) walk.now.constants.items }
     ensures typed { IfOk result
         (λ t. Means S.has S.tree checker.new.store.now t
-        (type_of_constant (module_in globals.now.frame.now) (reached_with S.tree walk.now)
+        (type_of_constant (module_in globals.now.outline.now) (reached_with S.tree walk.now)
         (constant_of constant.now))) }
     ensures found { OnOk result (Finds checker.old checker.new
-        (constant_findings (module_in globals.now.frame.now) (reached_with S.tree walk.now)
+        (constant_findings (module_in globals.now.outline.now) (reached_with S.tree walk.now)
         (constant_of constant.now))) }
     ensures goes_on { GoesOn S.TypeStore checker.old checker.new }
 {
@@ -278,7 +275,7 @@ fn read_constant<S: TypeStore>(
             Ok(label.ty)
         }
         Some(ann) => {
-            let ty = read_annotation(checker, globals.frame, ann)?;
+            let ty = read_annotation(checker, globals.outline, ann)?;
             let binds = binds(&walk.bound, constant.name.text.as_str());
             check_annotated(checker, globals, walk, binds, &ty, value)?;
             Ok(ty)
@@ -289,7 +286,7 @@ fn read_constant<S: TypeStore>(
 /// Goes over a constant: types its initializer, and adds it to those that are reached.
 fn add_constant<S: TypeStore>(
     checker: &mut Checker<'_, S>,
-    globals: &Globals<'_, S::Ty>,
+    globals: &ModuleContext<'_, S::Ty>,
     walk: &mut Walk<S::Ty>,
     constant: &Constant,
 ) -> Result<(), OutOfMemory>
@@ -299,10 +296,10 @@ fn add_constant<S: TypeStore>(
     ensures methods { OnOk result (walk.new.methods ≡ walk.old.methods) }
     ensures reached { (p : Place)
         → OnOk result (reached_with S.tree walk.new
-        ≡ behind (module_in globals.now.frame.now) (reached_with S.tree walk.old)
+        ≡ behind (module_in globals.now.outline.now) (reached_with S.tree walk.old)
         (constant_item p (constant_of constant.now))) }
     ensures found { OnOk result (Finds checker.old checker.new
-        (constant_findings (module_in globals.now.frame.now) (reached_with S.tree walk.old)
+        (constant_findings (module_in globals.now.outline.now) (reached_with S.tree walk.old)
         (constant_of constant.now))) }
     ensures goes_on { GoesOn S.TypeStore checker.old checker.new }
 {
@@ -314,7 +311,7 @@ fn add_constant<S: TypeStore>(
 /// Goes over a class: reads its members, and adds it to those that are reached.
 fn add_class<S: TypeStore>(
     checker: &mut Checker<'_, S>,
-    globals: &Globals<'_, S::Ty>,
+    globals: &ModuleContext<'_, S::Ty>,
     walk: &mut Walk<S::Ty>,
     class: &ClassDef,
 ) -> Result<(), OutOfMemory>
@@ -324,15 +321,15 @@ fn add_class<S: TypeStore>(
     ensures methods { OnOk result
         (map (methods_with S.tree) walk.new.methods.items
         ≡ map (methods_with S.tree) walk.old.methods.items
-        ++ class_methods (module_in globals.now.frame.now) (class_of class.now) ∷ []) }
+        ++ class_methods (module_in globals.now.outline.now) (class_of class.now) ∷ []) }
     ensures reached { (p : Place)
         → OnOk result (reached_with S.tree walk.new
-        ≡ behind (module_in globals.now.frame.now) (reached_with S.tree walk.old) (class_item p (class_of class.now))) }
+        ≡ behind (module_in globals.now.outline.now) (reached_with S.tree walk.old) (class_item p (class_of class.now))) }
     ensures found { OnOk result (Finds checker.old checker.new
-        (class_notes (module_in globals.now.frame.now) (length walk.old.methods.items) (class_of class.now))) }
+        (class_notes (module_in globals.now.outline.now) (length walk.old.methods.items) (class_of class.now))) }
     ensures goes_on { GoesOn S.TypeStore checker.old checker.new }
 {
-    let base = globals.frame.parents.base(walk.methods.len());
+    let base = globals.outline.parents.base(walk.methods.len());
     let methods = read_members(checker, globals, base, &class.members)?;
     walk.methods.push(methods)?;
     bind(&mut walk.bound, checker.alloc, class.name.text.as_str())
@@ -341,7 +338,7 @@ fn add_class<S: TypeStore>(
 /// Goes over an item, and adds it to those that are reached.
 fn add_item<S: TypeStore>(
     checker: &mut Checker<'_, S>,
-    globals: &Globals<'_, S::Ty>,
+    globals: &ModuleContext<'_, S::Ty>,
     walk: &mut Walk<S::Ty>,
     item: &Item,
 ) -> Result<(), OutOfMemory>
@@ -351,12 +348,12 @@ fn add_item<S: TypeStore>(
     ensures methods { OnOk result
         (map (methods_with S.tree) walk.new.methods.items
         ≡ map (methods_with S.tree) walk.old.methods.items
-        ++ signatures_of_methods (module_in globals.now.frame.now) (classes_in (item_of item.now ∷ []))) }
+        ++ signatures_of_methods (module_in globals.now.outline.now) (classes_in (item_of item.now ∷ []))) }
     ensures reached { OnOk result
         (reached_with S.tree walk.new
-        ≡ behind (module_in globals.now.frame.now) (reached_with S.tree walk.old) (item_of item.now)) }
+        ≡ behind (module_in globals.now.outline.now) (reached_with S.tree walk.old) (item_of item.now)) }
     ensures found { OnOk result (Finds checker.old checker.new
-        (item_findings (module_in globals.now.frame.now) (reached_with S.tree walk.old) (item_of item.now))) }
+        (item_findings (module_in globals.now.outline.now) (reached_with S.tree walk.old) (item_of item.now))) }
     ensures goes_on { GoesOn S.TypeStore checker.old checker.new }
 {
     match &item.kind {
@@ -368,19 +365,19 @@ fn add_item<S: TypeStore>(
 
 /// The types of the constants of a module, and what the methods of its classes take and return; what is found of its
 /// constants and classes.
-#[tactic(auto, using(pc_rules::proofs::Checkers::goes_further), unfolding(pc_rules::specs::SignaturesFound::constants_of, pc_rules::specs::SignaturesFound::method_signatures))]
+#[tactic(auto, using(pc_rules::proofs::Checkers::goes_further), unfolding(pc_rules::specs::Computed::Signatures::constants_of, pc_rules::specs::Computed::Signatures::method_signatures))]
 pub(crate) fn read_items<S: TypeStore>(
     checker: &mut Checker<'_, S>,
-    globals: &Globals<'_, S::Ty>,
+    globals: &ModuleContext<'_, S::Ty>,
 ) -> Result<Walk<S::Ty>, OutOfMemory>
     requires { AreGlobals S.has S.tree checker.old.store.now globals.now }
     ensures held { IfOk result (HasReached (S.has checker.new.store.now)) }
     ensures constants { IfOk result
-        (λ w. map S.tree w.constants.items ≡ constants_of (module_in globals.now.frame.now)) }
+        (λ w. map S.tree w.constants.items ≡ constants_of (module_in globals.now.outline.now)) }
     ensures methods { IfOk result
-        (λ w. map (methods_with S.tree) w.methods.items ≡ method_signatures (module_in globals.now.frame.now)) }
+        (λ w. map (methods_with S.tree) w.methods.items ≡ method_signatures (module_in globals.now.outline.now)) }
     ensures found { OnOk result (Finds checker.old checker.new
-        (items_findings (module_in globals.now.frame.now) nothing_reached (module_in globals.now.frame.now).items)) }
+        (items_findings (module_in globals.now.outline.now) nothing_reached (module_in globals.now.outline.now).items)) }
     ensures goes_on { GoesOn S.TypeStore checker.old checker.new }
 {
     let mut walk = Walk {
@@ -388,7 +385,7 @@ pub(crate) fn read_items<S: TypeStore>(
         methods: Vec::new(checker.alloc),
         bound: IndexSet::new(checker.alloc),
     };
-    let items = globals.frame.tree.items.as_slice();
+    let items = globals.outline.tree.items.as_slice();
     for item in items {
         add_item(checker, globals, &mut walk, item)?;
     }

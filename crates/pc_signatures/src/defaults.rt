@@ -5,13 +5,13 @@ ghost use Rattle.std.specs.Prelude.{◌≡◌, ◌∷◌, [], IfOk, OnOk};
 ghost use Rattle.pc_tree.specs.Tree.{literal_of, option_literal_of};
 ghost use Rattle.pc_scope.specs.Reserved.{is_builtin_name};
 ghost use Rattle.pc_types.specs.Store.{Means, KeepsTypes};
-ghost use Rattle.pc_rules.specs.Operations.{Mark, clean};
-ghost use Rattle.pc_rules.specs.Computed.{flows_of};
-ghost use Rattle.pc_rules.specs.Found.{brief, flows_at};
+ghost use Rattle.pc_rules.specs.Operations.{Label as LabelOf, clean};
+ghost use Rattle.pc_rules.specs.Computed.Expressions.{flows_of};
+ghost use Rattle.pc_rules.specs.Computed.Findings.{brief, flows_at};
 ghost use Rattle.pc_rules.specs.Signatures.{literal_type};
-ghost use Rattle.pc_rules.specs.SignaturesFound.{bound_in, binds_text, literal_findings, default_findings};
-ghost use Rattle.pc_rules.specs.Standing.{IsMark, mark_with};
-ghost use Rattle.pc_rules.specs.Checkers.{Finds, GoesOn};
+ghost use Rattle.pc_rules.specs.Computed.Signatures.{bound_in, binds_text, literal_findings, default_findings};
+ghost use Rattle.pc_rules.specs.Computed.Standing.{MeansLabel, label_with};
+ghost use Rattle.pc_rules.specs.Computed.Checkers.{Finds, GoesOn};
 
 use crate::bound::{Texts, is_bound};
 use pc_rules::{Checker, Label, find_flow};
@@ -59,8 +59,8 @@ fn literal_label<S: TypeStore>(
     alloc: Global,
     literal: &Literal,
 ) -> Result<Label<S::Ty>, OutOfMemory>
-    ensures marked { IfOk result
-        (λ l. IsMark S.has S.tree store.new l (clean (literal_type (literal_of literal.now)))) }
+    ensures labelled { IfOk result
+        (λ l. MeansLabel S.has S.tree store.new l (clean (literal_type (literal_of literal.now)))) }
     ensures kept { KeepsTypes S.has store.old store.new }
 {
     let ty = literal_type(store, alloc, literal)?;
@@ -80,7 +80,7 @@ pub(crate) fn find_into<S: TypeStore>(
 ) -> Result<(), OutOfMemory>
     requires label { S.has checker.old.store.now label.now.ty }
     requires into { S.has checker.old.store.now into.now }
-    ensures found { (m : Mark) → mark_with S.tree label.now ≡ brief m
+    ensures found { (m : LabelOf) → label_with S.tree label.now ≡ brief m
         → OnOk result (Finds checker.old checker.new
         (flows_at place (flows_of parents.now m (S.tree into.now ∷ [])))) }
     ensures goes_on { GoesOn S.TypeStore checker.old checker.new }

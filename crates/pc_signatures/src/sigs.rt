@@ -3,26 +3,23 @@
 
 ghost use Rattle.std.specs.Prelude.{◌≡◌, map, slice_get, IfOk, OnOk};
 ghost use Rattle.std.specs.Option.{option_copied};
-ghost use Rattle.pc_tree.specs.Tree.{module_of};
-ghost use Rattle.pc_scope.specs.ModuleScopes.{AreScopes};
-ghost use Rattle.pc_class.specs.Bases.{bases_of};
+ghost use Rattle.pc_ann.specs.ModuleOutlines.{module_in, IsModuleOutline};
 ghost use Rattle.pc_class.specs.Facts.{classes_of};
 ghost use Rattle.pc_class.specs.Tables.{HasEntries, classes_with};
 ghost use Rattle.pc_rules.specs.Signatures.{signatures_of};
-ghost use Rattle.pc_rules.specs.SignaturesFound.{constants_of, method_signatures, signatures_find};
+ghost use Rattle.pc_rules.specs.Computed.Signatures.{constants_of, method_signatures, signatures_find};
 ghost use Rattle.pc_signatures.specs.SignaturesHeld.{HeldSignatures, methods_seen, method_numbered, HasSigned};
 ghost use Rattle.pc_signatures.specs.SignaturesHeld.{all_signatures_with};
-ghost use Rattle.pc_rules.specs.Standing.{signature_with};
-ghost use Rattle.pc_rules.specs.Checkers.{Finds, GoesOn};
+ghost use Rattle.pc_rules.specs.Computed.Standing.{signature_with};
+ghost use Rattle.pc_rules.specs.Computed.Checkers.{Finds, GoesOn};
 
-use crate::constants::{Globals, read_items};
-use crate::signatures::{Frame, read_functions};
+use crate::constants::read_items;
+use crate::signatures::read_functions;
+use pc_ann::ModuleOutline;
 use pc_class::ClassTable;
-use pc_rules::{Checker, Signature};
-use pc_scope::Scopes;
+use pc_rules::{Checker, ModuleContext, Signature};
 use pc_source::OutOfMemory;
-use pc_tree::Module;
-use pc_types::{Parents, TypeStore};
+use pc_types::TypeStore;
 use std::marker::Model;
 
 /// The types of the constants of a module, and what its functions and the methods of its classes take and return, each
@@ -85,37 +82,31 @@ impl<Ty: Drop> Sigs<Ty> {
 ///
 /// Language Reference 3.12, 7.2 "Assignment statements" and 8.7 "Function definitions"; library reference,
 /// `dataclasses`; typing specification, "Type annotations"; own rules of the profile.
-#[tactic(auto, using(pc_rules::proofs::Checkers::goes_further), unfolding(pc_rules::specs::SignaturesFound::signatures_find))]
+#[tactic(auto, using(pc_rules::proofs::Checkers::goes_further), unfolding(pc_rules::specs::Computed::Signatures::signatures_find))]
 pub fn read_signatures<S: TypeStore>(
     checker: &mut Checker<'_, S>,
-    parents: &Parents,
-    tree: &Module,
-    scopes: &Scopes,
+    outline: &ModuleOutline,
     classes: &ClassTable<S::Ty>,
 ) -> Result<Sigs<S::Ty>, OutOfMemory>
-    requires scopes { AreScopes (module_of tree.now) scopes.now }
-    requires parents { parents.now ≡ bases_of (module_of tree.now) }
-    requires classes { classes_with S.tree classes.now ≡ classes_of (module_of tree.now) }
+    requires outline { IsModuleOutline outline.now }
+    requires classes { classes_with S.tree classes.now ≡ classes_of (module_in outline.now) }
     requires entries { HasEntries (S.has checker.old.store.now) classes.now }
     ensures held { IfOk result (HasSigned (S.has checker.new.store.now)) }
-    ensures constants { IfOk result (λ s. map S.tree s.constants ≡ constants_of (module_of tree.now)) }
+    ensures constants { IfOk result (λ s. map S.tree s.constants ≡ constants_of (module_in outline.now)) }
     ensures functions { IfOk result
-        (λ s. map (signature_with S.tree) s.functions ≡ signatures_of (module_of tree.now)) }
-    ensures methods { IfOk result (λ s. all_signatures_with S.tree s.methods ≡ method_signatures (module_of tree.now)) }
+        (λ s. map (signature_with S.tree) s.functions ≡ signatures_of (module_in outline.now)) }
+    ensures methods { IfOk result (λ s. all_signatures_with S.tree s.methods ≡ method_signatures (module_in outline.now)) }
     ensures found { OnOk result (Finds checker.old checker.new
-        (signatures_find (module_of tree.now))) }
+        (signatures_find (module_in outline.now))) }
     ensures goes_on { GoesOn S.TypeStore checker.old checker.new }
 {
-    let frame = Frame {
-        tree,
-        scopes,
-        parents,
-    };
-    let functions = read_functions(checker, &frame)?;
-    let globals = Globals {
-        frame: &frame,
+    let functions = read_functions(checker, outline)?;
+    let globals = ModuleContext {
+        outline,
         classes,
         functions: &functions,
+        constants: &[],
+        known: 0,
     };
     let walk = read_items(checker, &globals)?;
     Ok(Sigs {

@@ -4,7 +4,7 @@ use Rattle.std.specs.Prelude.{◌↔◌, ◌+◌, ℕ, List, length, Contains}
 use Rattle.pc_source.specs.declared.place.Place.{Place}
 use Rattle.pc_tree.specs.declared.code.Finding.{Finding}
 use Rattle.pc_tree.specs.Tree.{Name, Module}
-use Rattle.pc_labels.specs.Modules.{IsFinding}
+use Rattle.pc_module_rules.specs.Modules.{IsFinding}
 
 -- the findings of a module are just these
 abbrev pub FindsJust : Module → List Finding → Type 0

@@ -5,7 +5,7 @@ use Rattle.pc_source.specs.declared.place.Place.{Place}
 use Rattle.pc_tree.specs.declared.code.Finding.{Finding}
 use Rattle.pc_tree.specs.Code.{IsError}
 use Rattle.pc_tree.specs.Tree.{Module}
-use Rattle.pc_labels.specs.Modules.{IsFinding}
+use Rattle.pc_module_rules.specs.Modules.{IsFinding}
 use Rattle.pc_machine.specs.Runs.{Run, End, IsFaultyEnd}
 
 -- no finding is an error

@@ -1,6 +1,6 @@
 //! The example of the target of a `for` that is named after the loop.
 
-ghost use Rattle.pc_labels.specs.Modules.{HasLabelling};
+ghost use Rattle.pc_module_rules.specs.Modules.{HasLabelling};
 ghost use Rattle.pc_machine.specs.Runs.{Run};
 ghost use Rattle.pc_sound.specs.Examples.{FindsJust};
 ghost use Rattle.pc_sound.specs.AssignmentExample.{program, findings, events, end};

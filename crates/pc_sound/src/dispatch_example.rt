@@ -1,6 +1,6 @@
 //! The example of a method that is overridden twice.
 
-ghost use Rattle.pc_labels.specs.Modules.{HasLabelling};
+ghost use Rattle.pc_module_rules.specs.Modules.{HasLabelling};
 ghost use Rattle.pc_machine.specs.Runs.{Run};
 ghost use Rattle.pc_sound.specs.Examples.{FindsJust};
 ghost use Rattle.pc_sound.specs.DispatchExample.{end, events, findings, program};

@@ -1,6 +1,6 @@
 //! The example of a loop that rebinds a narrowed parameter.
 
-ghost use Rattle.pc_labels.specs.Modules.{HasLabelling};
+ghost use Rattle.pc_module_rules.specs.Modules.{HasLabelling};
 ghost use Rattle.pc_machine.specs.Runs.{Run};
 ghost use Rattle.pc_sound.specs.Examples.{FindsJust};
 ghost use Rattle.pc_sound.specs.LoopExample.{program, findings, events, end};

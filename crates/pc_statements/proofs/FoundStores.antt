@@ -5,9 +5,9 @@ use Rattle.pc_types.specs.Tree.{Tree}
 use Rattle.pc_types.specs.Below.{Bases}
 use Rattle.pc_flow.specs.WellFormed.{AreWellFormed, IsWellFormedIfAny}
 use Rattle.pc_rules.specs.Operations.{StoreOffer, only_type}
-use Rattle.pc_rules.specs.Standing.{HasIfAny}
-use Rattle.pc_frames.specs.StatementsHeld.{HoldsTypeIfAny}
-use Rattle.pc_labels.proofs.StoredTypes.{only_well_formed}
+use Rattle.pc_rules.specs.Computed.Standing.{HasIfAny}
+use Rattle.pc_walk.specs.StatementsHeld.{HoldsTypeIfAny}
+use Rattle.pc_module_rules.proofs.StoredTypes.{only_well_formed}
 
 -- what is expected of a stored value is held
 pub want_holds : {Ty : Type 0} (P : Ty → Type 0) (tree : Ty → Tree) (bases : Bases) (os : List StoreOffer)

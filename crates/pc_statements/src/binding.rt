@@ -1,20 +1,20 @@
 //! Names that are bound to the values of expressions, with an annotation or without one.
 
-#![tactic(auto, using(pc_frames::proofs::Walks::goes_further))]
+#![tactic(auto, using(pc_walk::proofs::Walks::goes_further))]
 
 ghost use Rattle.std.specs.Prelude.{IfOk};
 ghost use Rattle.std.specs.Option.{option_map};
 ghost use Rattle.pc_tree.specs.Tree.{expr_of, ann_of, name_of, option_expr_of};
-ghost use Rattle.pc_labels.specs.ComputedStatements.{bind_value, bind_annotated};
-ghost use Rattle.pc_frames.specs.Walks.{Stands, HoldsWant, GoesOn, Bound};
+ghost use Rattle.pc_module_rules.specs.Computed.Statements.{bind_value, bind_annotated};
+ghost use Rattle.pc_walk.specs.Walks.{Stands, HoldsWant, GoesOn, Bound};
 
 use crate::typing::type_in;
 use pc_flow::Env;
-use pc_frames::{Walk, annotated_type, bind_label, declare_alone, known_type};
 use pc_scope::Res;
 use pc_source::OutOfMemory;
 use pc_tree::{Ann, Expr, Name};
 use pc_types::TypeStore;
+use pc_walk::{Walk, annotated_type, bind_label, declare_alone, known_type};
 
 /// Binds a name to a value. What is reserved binds nothing.
 pub(crate) fn bind_value<S: TypeStore>(
@@ -60,7 +60,7 @@ pub fn bind_annotated<S: TypeStore>(
         (λ f t k. bind_annotated f t k (name_of name.now) (ann_of annotation.now) (option_expr_of value.now))) }
     ensures goes_on { GoesOn S.TypeStore walk.old walk.new }
 {
-    let meaning = walk.frame.names.resolve(name.text.as_str());
+    let meaning = walk.context.names.resolve(name.text.as_str());
     let ty = annotated_type(walk, meaning, name, annotation)?;
     match value {
         None => {

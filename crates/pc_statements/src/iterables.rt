@@ -1,29 +1,29 @@
 //! What a `for` goes over.
 
-#![tactic(auto, using(pc_frames::proofs::Walks::goes_further))]
+#![tactic(auto, using(pc_walk::proofs::Walks::goes_further))]
 
 ghost use Rattle.std.specs.Prelude.{◌≡◌, ◌++◌, IfOk, MatchOption, None, true, false, OnOk};
 ghost use Rattle.pc_source.specs.declared.place.Place.{Place as PlaceOf};
 ghost use Rattle.pc_tree.specs.Tree.{Expr as ExprOf, Exprs, Keywords, expr_of, call};
 ghost use Rattle.pc_tree.specs.Lists.{exprs_of_list, keywords_of_list};
 ghost use Rattle.pc_tree.specs.Depth.{place_of};
-ghost use Rattle.pc_rules.specs.Found.{codes_at};
-ghost use Rattle.pc_rules.specs.Standing.{finds_in};
-ghost use Rattle.pc_labels.specs.ComputedStatements.{item_mark_of, values_item, iterable_finds};
+ghost use Rattle.pc_rules.specs.Computed.Findings.{codes_at};
+ghost use Rattle.pc_rules.specs.Computed.Standing.{finds_in};
+ghost use Rattle.pc_module_rules.specs.Computed.Statements.{item_label_of, values_item, iterable_finds};
 ghost use Rattle.pc_statements.specs.Internal.Ranges.{over_range};
-ghost use Rattle.pc_frames.specs.Walks.{Stands, IsLabel, IsType, GoesOn, Found, frame_in, standing_in};
+ghost use Rattle.pc_walk.specs.Walks.{Stands, IsLabel, IsType, GoesOn, Found, body_context_in, standing_in};
 ghost use Rattle.pc_flow.specs.Naming.{meanings};
 
 use crate::typing::type_in;
-use pc_call::is_range;
+use pc_calls::is_range;
 use pc_expr::{RangeCall, type_range};
 use pc_flow::{Env, OwnerNames};
-use pc_frames::Walk;
-use pc_operate::item_label;
+use pc_operations::item_label;
 use pc_rules::{Checker, Label, Setting, find_codes};
 use pc_source::OutOfMemory;
 use pc_tree::Expr;
 use pc_types::TypeStore;
+use pc_walk::Walk;
 
 /// Whether an expression is a name that means `range`.
 fn means_range(names: &OwnerNames, e: &Expr) -> bool
@@ -65,19 +65,19 @@ fn label_values<S: TypeStore>(
 ) -> Result<Label<S::Ty>, OutOfMemory>
     requires { Stands S.TypeStore walk.old env.now }
     ensures labelled { IfOk result
-        (λ l. IsLabel S.TypeStore walk.new l (values_item (frame_in S.TypeStore walk.old)
+        (λ l. IsLabel S.TypeStore walk.new l (values_item (body_context_in S.TypeStore walk.old)
         (standing_in S.TypeStore walk.old env.now) (expr_of iterable.now))) }
     ensures finds { OnOk result (Found S.TypeStore walk.old env.now walk.new
         (λ f k. finds_in k None (expr_of iterable.now))) }
     ensures goes_on { GoesOn S.TypeStore walk.old walk.new }
 {
     let label = type_in(walk, env, &None, iterable)?;
-    let parents = walk.frame.parents;
+    let parents = walk.context.globals.outline.parents;
     let item = item_label(
         walk.store,
         walk.alloc,
         parents,
-        walk.frame.classes,
+        walk.context.globals.classes,
         &label.ty,
     )?;
     Ok(item)
@@ -90,11 +90,11 @@ fn label_range<S: TypeStore>(
     iterable: &RangeCall<'_>,
 ) -> Result<Label<S::Ty>, OutOfMemory>
     requires stands { Stands S.TypeStore walk.old env.now }
-    requires range { over_range (meanings walk.old.frame.names.now)
+    requires range { over_range (meanings walk.old.context.names.now)
         (call iterable.now.place (expr_of iterable.now.callee.now) (exprs_of_list iterable.now.arguments.now)
         (keywords_of_list iterable.now.by_name.now)) ≡ true }
     ensures labelled { IfOk result
-        (λ l. IsLabel S.TypeStore walk.new l (item_mark_of (frame_in S.TypeStore walk.old)
+        (λ l. IsLabel S.TypeStore walk.new l (item_label_of (body_context_in S.TypeStore walk.old)
         (standing_in S.TypeStore walk.old env.now)
         (call iterable.now.place (expr_of iterable.now.callee.now) (exprs_of_list iterable.now.arguments.now)
         (keywords_of_list iterable.now.by_name.now)))) }
@@ -105,13 +105,9 @@ fn label_range<S: TypeStore>(
     ensures goes_on { GoesOn S.TypeStore walk.old walk.new }
 {
     let setting = Setting {
-        parents: walk.frame.parents,
-        classes: walk.frame.classes,
-        functions: walk.frame.functions,
-        constants: walk.frame.constants,
-        known: walk.frame.known,
+        globals: walk.context.globals,
         in_body: true,
-        names: walk.frame.names,
+        names: walk.context.names,
         declared: walk.declared,
     };
     let mut checker = Checker {
@@ -131,13 +127,13 @@ fn label_item<S: TypeStore>(
 ) -> Result<Label<S::Ty>, OutOfMemory>
     requires { Stands S.TypeStore walk.old env.now }
     ensures labelled { IfOk result
-        (λ l. IsLabel S.TypeStore walk.new l (item_mark_of (frame_in S.TypeStore walk.old)
+        (λ l. IsLabel S.TypeStore walk.new l (item_label_of (body_context_in S.TypeStore walk.old)
         (standing_in S.TypeStore walk.old env.now) (expr_of iterable.now))) }
     ensures finds { OnOk result (Found S.TypeStore walk.old env.now walk.new
         (λ f k. iterable_finds f k (expr_of iterable.now))) }
     ensures goes_on { GoesOn S.TypeStore walk.old walk.new }
 {
-    match range_call(walk.frame.names, iterable) {
+    match range_call(walk.context.names, iterable) {
         Some(range) => label_range(walk, env, &range),
         None => label_values(walk, env, iterable),
     }
@@ -151,11 +147,11 @@ pub fn item_type<S: TypeStore>(
 ) -> Result<S::Ty, OutOfMemory>
     requires { Stands S.TypeStore walk.old env.now }
     ensures typed { IfOk result
-        (λ t. IsType S.TypeStore walk.new t (item_mark_of (frame_in S.TypeStore walk.old)
+        (λ t. IsType S.TypeStore walk.new t (item_label_of (body_context_in S.TypeStore walk.old)
         (standing_in S.TypeStore walk.old env.now) (expr_of iterable.now)).type) }
     ensures finds { OnOk result (Found S.TypeStore walk.old env.now walk.new
         (λ f k. iterable_finds f k (expr_of iterable.now)
-        ++ codes_at (place_of (expr_of iterable.now)) (item_mark_of f k (expr_of iterable.now)).codes)) }
+        ++ codes_at (place_of (expr_of iterable.now)) (item_label_of f k (expr_of iterable.now)).codes)) }
     ensures goes_on { GoesOn S.TypeStore walk.old walk.new }
 {
     let label = label_item(walk, env, iterable)?;

@@ -1,21 +1,21 @@
 //! What stands in a `return` and in an `assert`.
 
-#![tactic(auto, using(pc_frames::proofs::Walks::goes_further))]
+#![tactic(auto, using(pc_walk::proofs::Walks::goes_further))]
 
 ghost use Rattle.std.specs.Prelude.{◌++◌, IfOk, true, false, None, OnOk};
 ghost use Rattle.pc_tree.specs.Tree.{expr_of, option_expr_of};
 ghost use Rattle.pc_flow.specs.Stored.{env_of};
-ghost use Rattle.pc_rules.specs.Standing.{finds_in, narrowed_standing};
-ghost use Rattle.pc_labels.specs.ComputedStatements.{narrowed_at, return_finds, option_finds};
-ghost use Rattle.pc_frames.specs.Walks.{Stands, IsEnv, GoesOn, Found, frame_in};
+ghost use Rattle.pc_rules.specs.Computed.Standing.{finds_in, narrowed_standing};
+ghost use Rattle.pc_module_rules.specs.Computed.Statements.{narrowed_at, return_finds, option_finds};
+ghost use Rattle.pc_walk.specs.Walks.{Stands, IsEnv, GoesOn, Found, body_context_in};
 
 use crate::typing::{type_condition, type_in};
 use pc_flow::{BothWays, Env};
-use pc_frames::{Walk, find_flow_in};
 use pc_rules::Label;
 use pc_source::{OutOfMemory, Place};
 use pc_tree::Expr;
 use pc_types::TypeStore;
+use pc_walk::{Walk, find_flow_in};
 
 /// Finds what stands in a `return`: in its value, and of the flow into the return type. Without a value `None` flows.
 /// Language Reference 7.6 "The return statement".
@@ -30,7 +30,7 @@ pub fn find_return<S: TypeStore>(
         (λ f k. return_finds f k first (option_expr_of value.now))) }
     ensures goes_on { GoesOn S.TypeStore walk.old walk.new }
 {
-    let returned = walk.frame.returned;
+    let returned = walk.context.returned;
     match value {
         None => {
             let none = walk.store.none(walk.alloc)?;
@@ -80,7 +80,7 @@ pub fn check_assert<S: TypeStore>(
 ) -> Result<Env<S::Ty>, OutOfMemory>
     requires { Stands S.TypeStore walk.old env }
     ensures behind { IfOk result (λ e. IsEnv S.TypeStore walk.new e
-        (narrowed_at (frame_in S.TypeStore walk.old) (env_of S.tree walk.old.declared.now) true
+        (narrowed_at (body_context_in S.TypeStore walk.old) (env_of S.tree walk.old.declared.now) true
         (expr_of condition.now) (env_of S.tree env))) }
     ensures finds { OnOk result (Found S.TypeStore walk.old env walk.new
         (λ f k. finds_in k None (expr_of condition.now)

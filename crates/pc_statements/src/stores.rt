@@ -1,25 +1,25 @@
 //! Stores to attributes and items.
 
-#![tactic(auto, using(pc_frames::proofs::Walks::goes_further))]
+#![tactic(auto, using(pc_walk::proofs::Walks::goes_further))]
 
 ghost use Rattle.std.specs.Prelude.{All, map, OnOk};
 ghost use Rattle.pc_tree.specs.Tree.{expr_of, target_of, name_of, to_attribute, to_index};
 ghost use Rattle.pc_flow.specs.WellFormed.{AreWellFormed};
 ghost use Rattle.pc_rules.specs.Operations.{stored_types};
-ghost use Rattle.pc_operate.specs.Storing.{HasStoreOffer, store_offer_with};
-ghost use Rattle.pc_labels.specs.ComputedStatements.{store_finds, stored_finds};
-ghost use Rattle.pc_frames.specs.Walks.{Stands, GoesOn, Found};
+ghost use Rattle.pc_operations.specs.Storing.{HasStoreOffer, store_offer_with};
+ghost use Rattle.pc_module_rules.specs.Computed.Statements.{store_finds, stored_finds};
+ghost use Rattle.pc_walk.specs.Walks.{Stands, GoesOn, Found};
 
 use crate::typing::type_in;
 use pc_flow::Env;
-use pc_frames::{Walk, find_flows_in};
-use pc_operate::{
+use pc_operations::{
     StoreOffer, StoreTarget, only_type, store_codes, store_index_types, store_offers, stored_types,
 };
 use pc_rules::find_codes;
 use pc_source::{OutOfMemory, Place};
 use pc_tree::{Expr, Name, Target};
 use pc_types::TypeStore;
+use pc_walk::{Walk, find_flows_in};
 
 /// Finds what stands in a value that is stored with these offers at this place: it flows into what the members take.
 fn find_stored<S: TypeStore>(
@@ -31,7 +31,7 @@ fn find_stored<S: TypeStore>(
 ) -> Result<(), OutOfMemory>
     requires stands { Stands S.TypeStore walk.old env.now }
     requires offers { All (HasStoreOffer (S.has walk.old.store.now)) offers.now }
-    requires well_formed { AreWellFormed walk.old.frame.parents.now
+    requires well_formed { AreWellFormed walk.old.context.globals.now.outline.now.parents.now
         (stored_types (map (store_offer_with S.tree) offers.now)) }
     ensures finds { OnOk result (Found S.TypeStore walk.old env.now walk.new
         (λ f k. stored_finds f k (map (store_offer_with S.tree) offers.now) place (expr_of value.now))) }
@@ -65,7 +65,7 @@ fn find_attribute_store<S: TypeStore>(
     let offers = store_offers(
         walk.store,
         walk.alloc,
-        walk.frame.classes,
+        walk.context.globals.classes,
         target,
         &label.ty,
     )?;
@@ -88,7 +88,7 @@ fn find_item_store<S: TypeStore>(
     ensures goes_on { GoesOn S.TypeStore walk.old walk.new }
 {
     let label = type_in(walk, env, &None, object)?;
-    let classes = walk.frame.classes;
+    let classes = walk.context.globals.classes;
     let offers = store_offers(
         walk.store,
         walk.alloc,

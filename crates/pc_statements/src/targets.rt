@@ -1,19 +1,19 @@
 //! What is assigned to: a name, an attribute or an item.
 
-#![tactic(auto, using(pc_frames::proofs::Walks::goes_further))]
+#![tactic(auto, using(pc_walk::proofs::Walks::goes_further))]
 
 ghost use Rattle.std.specs.Prelude.{IfOk};
 ghost use Rattle.pc_tree.specs.Tree.{expr_of, target_of};
-ghost use Rattle.pc_labels.specs.ComputedStatements.{assign_target};
-ghost use Rattle.pc_frames.specs.Walks.{Stands, GoesOn, Bound};
+ghost use Rattle.pc_module_rules.specs.Computed.Statements.{assign_target};
+ghost use Rattle.pc_walk.specs.Walks.{Stands, GoesOn, Bound};
 
 use crate::binding::bind_value;
 use crate::stores::find_store;
 use pc_flow::Env;
-use pc_frames::Walk;
 use pc_source::OutOfMemory;
 use pc_tree::{Expr, Target};
 use pc_types::TypeStore;
+use pc_walk::Walk;
 
 /// Assigns a value: a name is bound, any other target is stored to. Language Reference 7.2 "Assignment statements".
 pub fn assign_target<S: TypeStore>(
@@ -29,7 +29,7 @@ pub fn assign_target<S: TypeStore>(
 {
     match target {
         Target::Name(name) => {
-            let meaning = walk.frame.names.resolve(name.text.as_str());
+            let meaning = walk.context.names.resolve(name.text.as_str());
             bind_value(walk, env, meaning, None, value)
         }
         Target::Attribute(_, _, _) | Target::Index(_, _, _) => {

@@ -1,22 +1,22 @@
 //! Expressions and conditions where a walk over statements stands.
 
-#![tactic(auto, using(pc_frames::proofs::Walks::goes_further))]
+#![tactic(auto, using(pc_walk::proofs::Walks::goes_further))]
 
 ghost use Rattle.std.specs.Prelude.{IfOk, OnOk, None, true, false};
 ghost use Rattle.std.specs.Option.{option_map};
 ghost use Rattle.pc_tree.specs.Tree.{expr_of};
 ghost use Rattle.pc_flow.specs.Stored.{env_of};
-ghost use Rattle.pc_rules.specs.Standing.{mark_in, finds_in};
-ghost use Rattle.pc_labels.specs.ComputedStatements.{narrowed_at};
-ghost use Rattle.pc_frames.specs.Walks.{Stands, HoldsWant, IsLabel, IsEnv, GoesOn, Found, frame_in, standing_in};
+ghost use Rattle.pc_rules.specs.Computed.Standing.{label_in, finds_in};
+ghost use Rattle.pc_module_rules.specs.Computed.Statements.{narrowed_at};
+ghost use Rattle.pc_walk.specs.Walks.{Stands, HoldsWant, IsLabel, IsEnv, GoesOn, Found, body_context_in, standing_in};
 
 use pc_expr::type_expr;
 use pc_flow::{BothWays, Env};
-use pc_frames::Walk;
 use pc_rules::{Checker, Label, Setting};
 use pc_source::OutOfMemory;
 use pc_tree::Expr;
 use pc_types::TypeStore;
+use pc_walk::Walk;
 
 /// The label of an expression in the body of a function, with what is found in it.
 pub fn type_in<S: TypeStore>(
@@ -29,19 +29,15 @@ pub fn type_in<S: TypeStore>(
     requires want { HoldsWant S.TypeStore walk.old want.now }
     ensures labelled { IfOk result
         (λ l. IsLabel S.TypeStore walk.new l
-        (mark_in (standing_in S.TypeStore walk.old env.now) (option_map S.tree want.now) (expr_of e.now))) }
+        (label_in (standing_in S.TypeStore walk.old env.now) (option_map S.tree want.now) (expr_of e.now))) }
     ensures finds { OnOk result (Found S.TypeStore walk.old env.now walk.new
         (λ f k. finds_in k (option_map S.tree want.now) (expr_of e.now))) }
     ensures goes_on { GoesOn S.TypeStore walk.old walk.new }
 {
     let setting = Setting {
-        parents: walk.frame.parents,
-        classes: walk.frame.classes,
-        functions: walk.frame.functions,
-        constants: walk.frame.constants,
-        known: walk.frame.known,
+        globals: walk.context.globals,
         in_body: true,
-        names: walk.frame.names,
+        names: walk.context.names,
         declared: walk.declared,
     };
     let mut checker = Checker {
@@ -64,23 +60,19 @@ pub fn type_condition<S: TypeStore>(
 ) -> Result<BothWays<S::Ty>, OutOfMemory>
     requires { Stands S.TypeStore walk.old env.now }
     ensures where_true { IfOk result (λ n. IsEnv S.TypeStore walk.new n.where_true
-        (narrowed_at (frame_in S.TypeStore walk.old) (env_of S.tree walk.old.declared.now) true
+        (narrowed_at (body_context_in S.TypeStore walk.old) (env_of S.tree walk.old.declared.now) true
         (expr_of condition.now) (env_of S.tree env.now))) }
     ensures where_false { IfOk result (λ n. IsEnv S.TypeStore walk.new n.where_false
-        (narrowed_at (frame_in S.TypeStore walk.old) (env_of S.tree walk.old.declared.now) false
+        (narrowed_at (body_context_in S.TypeStore walk.old) (env_of S.tree walk.old.declared.now) false
         (expr_of condition.now) (env_of S.tree env.now))) }
     ensures finds { OnOk result (Found S.TypeStore walk.old env.now walk.new
         (λ f k. finds_in k None (expr_of condition.now))) }
     ensures goes_on { GoesOn S.TypeStore walk.old walk.new }
 {
     let setting = Setting {
-        parents: walk.frame.parents,
-        classes: walk.frame.classes,
-        functions: walk.frame.functions,
-        constants: walk.frame.constants,
-        known: walk.frame.known,
+        globals: walk.context.globals,
         in_body: true,
-        names: walk.frame.names,
+        names: walk.context.names,
         declared: walk.declared,
     };
     let mut checker = Checker {

@@ -10,7 +10,7 @@ use Rattle.pc_token.specs.Keywords.{is_reserved}
 use Rattle.pc_tree.specs.Tree.{Name, ClassDef, Item, constant_item, class_item, def_item}
 use Rattle.pc_tree.specs.Stopping.{HeldMember, is_among, name_of_item, members_of, own_members, is_first_binding, option_text, clashes_among, clashing_in}
 use Rattle.pc_tree.proofs.Stops.{more_at}
-use Rattle.pc_names.specs.Names.{at_text, first_of, bound_as}
+use Rattle.pc_tree.specs.Names.{at_text, first_of, bound_as}
 use Rattle.pc_stop.specs.declared.holdings.Holdings.{Holdings}
 use Rattle.pc_stop.specs.Holdings.{HasIn, Keeps}
 use Rattle.pc_stop.specs.Members.{base_at, names_before, Stands, IsTableOf}

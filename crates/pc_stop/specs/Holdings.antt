@@ -4,7 +4,7 @@ use Rattle.std.specs.Prelude.{◌≡◌, ◌<◌, ◌^◌, ℕ, zero, suc, Bool,
 use Rattle.std.specs.Prelude.{slice_get}
 use Rattle.std.specs.List.{list_any}
 use Rattle.pc_tree.specs.Stopping.{HeldMember, held_text, is_field_of, is_among}
-use Rattle.pc_names.specs.Names.{texts_in}
+use Rattle.pc_tree.specs.Names.{texts_in}
 use Rattle.pc_stop.specs.declared.tables.Node.{Node}
 use Rattle.pc_stop.specs.declared.holdings.Holding.{Holding}
 use Rattle.pc_stop.specs.declared.holdings.Holding.TheVariants.{Nothing, Method, Field}

@@ -6,7 +6,7 @@ use Rattle.std.specs.Borrow.{Bor}
 use Rattle.indexmap.specs.IndexMap.{IndexMap}
 use Rattle.pc_tree.specs.Tree.{Member, Item}
 use Rattle.pc_tree.specs.Stopping.{HeldMember, held_by, is_among, name_of_item, members_of}
-use Rattle.pc_names.specs.Names.{at_text}
+use Rattle.pc_tree.specs.Names.{at_text}
 use Rattle.pc_stop.specs.declared.holdings.Holding.{Holding}
 use Rattle.pc_stop.specs.declared.holdings.Holding.TheVariants.{Nothing, Method, Field}
 use Rattle.pc_stop.specs.declared.holdings.Holdings.{Holdings}

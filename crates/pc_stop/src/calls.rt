@@ -13,10 +13,10 @@ ghost use Rattle.pc_tree.specs.Code.{at_code};
 
 use crate::found::find_if;
 use indexmap::IndexSet;
-use pc_names::put;
 use pc_source::OutOfMemory;
 use pc_tree::{
     Branch, Code, Entry, Expr, Findings, Item, ItemKind, KeywordArgument, Stmt, StmtKind, Target,
+    put,
 };
 use std::alloc::Global as Allocator;
 use std::hash::RandomState;

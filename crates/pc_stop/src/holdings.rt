@@ -2,15 +2,14 @@
 ghost use Rattle.std.specs.Prelude.{◌≡◌, ◌<◌, ◌^◌, ◌++◌, ◌∷◌, [], IfOk, OnOk, Some, slice_get, List, ℕ};
 ghost use Rattle.pc_tree.specs.Tree.{member_of};
 ghost use Rattle.pc_tree.specs.Stopping.{HeldMember, held_by, name_of_member, is_field};
-ghost use Rattle.pc_names.specs.Names.{texts_in};
+ghost use Rattle.pc_tree.specs.Names.{texts_in};
 ghost use Rattle.pc_stop.specs.Tables.{value_at};
 ghost use Rattle.pc_stop.specs.Holdings.{HasIn, IsReady, Keeps, number_of, holding_of, with_member};
 
 use crate::tables::{Node, table_with, value_in};
 use indexmap::IndexSet;
-use pc_names::NameSet;
 use pc_source::OutOfMemory;
-use pc_tree::Member;
+use pc_tree::{Member, NameSet};
 use std::alloc::Global as Allocator;
 use std::hash::RandomState;
 

@@ -5,7 +5,7 @@ ghost use Rattle.pc_tree.specs.declared.code.Code.TheVariants.{E06};
 ghost use Rattle.pc_tree.specs.Tree.{Item as ItemOf, item_of, member_of, module_of, option_name_of};
 ghost use Rattle.pc_tree.specs.Stopping.{HeldMember, is_field, is_among, is_reserved_member, name_of_member};
 ghost use Rattle.pc_tree.specs.Stopping.{clashes_among, clashing_in, clashing_members, own_members, option_text};
-ghost use Rattle.pc_names.specs.Names.{texts_in};
+ghost use Rattle.pc_tree.specs.Names.{texts_in};
 ghost use Rattle.pc_tree.specs.Code.{at_code};
 ghost use Rattle.pc_stop.specs.Holdings.{HasIn, IsReady, Keeps};
 ghost use Rattle.pc_stop.specs.Members.{clashes_with, held_unless, base_at, Stands, IsTableOf};
@@ -14,9 +14,11 @@ use crate::found::find_if;
 use crate::holdings::{DIGITS, EMPTY, Holding, Holdings};
 use crate::reserved::has_reserved_name;
 use indexmap::{IndexMap, IndexSet};
-use pc_names::{NameMap, NameSet, bind_first, put};
 use pc_source::OutOfMemory;
-use pc_tree::{Code, Findings, Item, ItemKind, Member, Module, Name, is_reserved};
+use pc_tree::{
+    Code, Findings, Item, ItemKind, Member, Module, Name, NameMap, NameSet, bind_first,
+    is_reserved, put,
+};
 use std::alloc::Global as Allocator;
 use std::hash::RandomState;
 

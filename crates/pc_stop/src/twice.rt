@@ -6,14 +6,13 @@ ghost use Rattle.pc_tree.specs.Lists.{name_seen};
 ghost use Rattle.pc_tree.specs.Tree.{name_of, param_of, item_of};
 ghost use Rattle.pc_tree.specs.Stopping.{is_among, one_if, bound_again, name_of_item, name_of_param, self_before};
 ghost use Rattle.pc_tree.specs.Code.{at_code};
-ghost use Rattle.pc_names.specs.Names.{texts_in};
+ghost use Rattle.pc_tree.specs.Names.{texts_in};
 
 use crate::found::find_if;
 use crate::names::{add_params, names_of};
 use indexmap::IndexSet;
-use pc_names::{NameSet, put};
 use pc_source::OutOfMemory;
-use pc_tree::{Code, Findings, Item, Name, Param, is_reserved};
+use pc_tree::{Code, Findings, Item, Name, NameSet, Param, is_reserved, put};
 use std::alloc::Global as Allocator;
 use std::hash::RandomState;
 

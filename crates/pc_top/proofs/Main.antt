@@ -7,8 +7,8 @@ use Rattle.pc_source.specs.declared.fault.Fault.TheVariants as fault
 use Rattle.pc_source.specs.Answers.{OnRefusal}
 use Rattle.pc_tree.specs.declared.code.Finding.{Finding}
 use Rattle.pc_tree.specs.Tree.{Module}
-use Rattle.pc_labels.specs.Modules.{IsFinding}
-use Rattle.pc_labels.proofs.LabelledModule.{every_module_has_a_labelling}
+use Rattle.pc_module_rules.specs.Modules.{IsFinding}
+use Rattle.pc_module_rules.proofs.LabelledModule.{every_module_has_a_labelling}
 use Rattle.pc_machine.specs.Runs.{Run, End, IsFaultyEnd}
 use Rattle.pc_sound.proofs.Modules.Soundness.{sound}
 use Rattle.pc_front.specs.Bytes.{IsModuleOf, IsRefusalOf}

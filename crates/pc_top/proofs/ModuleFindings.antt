@@ -14,12 +14,12 @@ use Rattle.pc_class.specs.Findings.{ClassFinds}
 use Rattle.pc_class.specs.OverrideFindings.{override_findings}
 use Rattle.pc_class.proofs.FoundClashes.{just_their_lists}
 use Rattle.pc_notes.specs.Notes.{Note, plain_note, findings_of, is_same_place, flow_or, flow_noted}
-use Rattle.pc_labels.specs.DynamicFlows.{dynamic_flow}
-use Rattle.pc_labels.specs.Modules.{IsFinding}
-use Rattle.pc_labels.specs.ComputedModules.{module_finds}
-use Rattle.pc_labels.proofs.WalkedModule.{findings_computed}
-use Rattle.pc_dynamic.specs.FlowLaw.{TellsFlows}
-use Rattle.pc_dynamic.proofs.StandingFlows.{flows_computed}
+use Rattle.pc_module_rules.specs.Computed.DynamicFlows.{dynamic_flow}
+use Rattle.pc_module_rules.specs.Modules.{IsFinding}
+use Rattle.pc_module_rules.specs.Computed.Modules.{module_finds}
+use Rattle.pc_module_rules.proofs.WalkedModule.{findings_computed}
+use Rattle.pc_module_rules.specs.Laws.Flows.{TellsFlows}
+use Rattle.pc_module_rules.proofs.StandingFlows.{flows_computed}
 
 -- ---- findings
 

@@ -11,8 +11,8 @@ use Rattle.pc_tree.specs.Code.{IsError}
 use Rattle.pc_tree.specs.Tree.{Module}
 use Rattle.pc_types.specs.Tree.{Tree}
 use Rattle.pc_ann.specs.Text.{type_text}
-use Rattle.pc_labels.specs.Modules.{HasLabelling, IsFinding}
-use Rattle.pc_dynamic.specs.FlowLaw.{FlowsDynamically}
+use Rattle.pc_module_rules.specs.Modules.{HasLabelling, IsFinding}
+use Rattle.pc_module_rules.specs.Laws.Flows.{FlowsDynamically}
 use Rattle.pc_machine.specs.Runs.{Run, End, IsFaultyEnd}
 use Rattle.pc_front.specs.Bytes.{IsModuleOf}
 use Rattle.pc_report.specs.declared.flow.FlowTexts.{FlowTexts}

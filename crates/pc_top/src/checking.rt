@@ -5,10 +5,9 @@ ghost use Rattle.pc_tree.specs.declared.code.Finding.{Finding};
 ghost use Rattle.pc_tree.specs.Tree.{module_of};
 ghost use Rattle.pc_scope.specs.ModuleScopes.{AreScopes};
 ghost use Rattle.pc_types.specs.Store.{KeepsTypes};
-ghost use Rattle.pc_class.specs.Bases.{bases_of};
 ghost use Rattle.pc_notes.specs.Notes.{findings_of, notes_of};
-ghost use Rattle.pc_labels.specs.Modules.{IsFinding};
-ghost use Rattle.pc_dynamic.specs.FlowLaw.{TellsFlows};
+ghost use Rattle.pc_module_rules.specs.Modules.{IsFinding};
+ghost use Rattle.pc_module_rules.specs.Laws.Flows.{TellsFlows};
 
 use pc_ann::parents_of;
 use pc_check::check_module;
@@ -19,7 +18,7 @@ use pc_scope::{Scopes, scopes};
 use pc_scope_findings::scope_findings;
 use pc_source::OutOfMemory;
 use pc_tree::Module;
-use pc_types::{Parents, TypeStore};
+use pc_types::TypeStore;
 use std::alloc::Global;
 
 /// What is found in a module, over any store of types: in its signatures, constants and bodies, each dynamic flow with
@@ -32,20 +31,18 @@ use std::alloc::Global;
 pub fn findings_by<S: TypeStore>(
     store: &mut S,
     alloc: Global,
-    parents: &Parents,
     module: &Module,
     scopes: &Scopes,
 ) -> Result<Notes, OutOfMemory>
-    requires scopes { AreScopes (module_of «module».now) scopes.now }
-    requires parents { parents.now ≡ bases_of (module_of «module».now) }
+    requires { AreScopes (module_of «module».now) scopes.now }
     ensures found { IfOk result
         (λ v. (f : Finding) → Contains (findings_of (notes_of v)) f ↔ IsFinding (module_of «module».now) f) }
     ensures flows { IfOk result (λ v. TellsFlows (module_of «module».now) (notes_of v)) }
     ensures kept { KeepsTypes S.has store.old store.new }
 {
     let mut of_classes = Vec::new(alloc);
-    let classes = class_table(store, alloc, parents, module, scopes, &mut of_classes)?;
-    override_findings(store, parents, module, &classes, &mut of_classes)?;
+    let classes = class_table(store, alloc, module, scopes, &mut of_classes)?;
+    override_findings(store, module, &classes, &mut of_classes)?;
     let mut found = Notes::new(alloc);
     check_module(store, alloc, module, scopes, &classes, &mut found)?;
     let of_scopes = scope_findings(alloc, module, scopes)?;
@@ -62,7 +59,6 @@ pub(crate) fn findings(alloc: Global, module: &Module) -> Result<Notes, OutOfMem
 {
     let scopes = scopes(alloc, module)?;
     let parents = parents_of(alloc, module, &scopes)?;
-    let own_parents = parents_of(alloc, module, &scopes)?;
-    let mut store = InternStore::new(alloc, own_parents)?;
-    findings_by(&mut store, alloc, &parents, module, &scopes)
+    let mut store = InternStore::new(alloc, parents)?;
+    findings_by(&mut store, alloc, module, &scopes)
 }

@@ -1,14 +1,16 @@
 pub mod Among
+pub mod CompleteAnnotations
+pub mod CompleteBrackets
 pub mod CompleteExpressions
 pub mod CompleteModules
 pub mod CompleteStatements
-pub mod CompleteAnnotations
-pub mod CompleteBrackets
 pub mod Ending
 pub mod Examples
 pub mod ExamplesOfStops
 pub mod Finds
 pub mod Front
+pub mod InMaps
+pub mod InSets
 pub mod Joints
 pub mod Operators
 pub mod Runs
@@ -23,4 +25,5 @@ pub mod SoundLines
 pub mod Starts
 pub mod Stood
 pub mod Stops
+pub mod Texts
 pub mod Trees

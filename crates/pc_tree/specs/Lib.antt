@@ -5,5 +5,6 @@ pub mod Fronts
 pub mod Grammar
 pub mod Lists
 pub mod Machine
+pub mod Names
 pub mod Stopping
 pub mod Tree

@@ -20,9 +20,9 @@ pub fn add_bound<'m>(names: &mut Vec<&'m Name>, body: &'m [Stmt]) -> Result<(), 
     Ok(())
 }
 
-/// Adds those that a statement binds.
+/// Adds the names that a statement binds, in text order. Language Reference 4.2.1 "Binding of names".
 #[cycle(bound)]
-fn add_bound_by<'m>(names: &mut Vec<&'m Name>, kind: &'m StmtKind) -> Result<(), OutOfMemory>
+pub fn add_bound_by<'m>(names: &mut Vec<&'m Name>, kind: &'m StmtKind) -> Result<(), OutOfMemory>
     ensures { (p : PlaceOf) → OnOk result
         (map name_seen names.new.items ≡ map name_seen names.old.items ++ bound_by_stmt (stmt_of_kind p kind.now)) }
 {
@@ -47,9 +47,12 @@ fn add_bound_by<'m>(names: &mut Vec<&'m Name>, kind: &'m StmtKind) -> Result<(),
     }
 }
 
-/// Adds those that the suites of conditions bind.
+/// Adds the names that the suites of conditions bind, in text order. Language Reference 4.2.1 "Binding of names".
 #[cycle(bound)]
-fn add_bound_in<'m>(names: &mut Vec<&'m Name>, branches: &'m [Branch]) -> Result<(), OutOfMemory>
+pub fn add_bound_in<'m>(
+    names: &mut Vec<&'m Name>,
+    branches: &'m [Branch],
+) -> Result<(), OutOfMemory>
     ensures { OnOk result (map name_seen names.new.items
         ≡ map name_seen names.old.items ++ bound_by_branches (branches_of_list branches.now)) }
 {

@@ -3,16 +3,22 @@
 
 mod bound;
 mod code;
+mod keys;
 mod laws;
+mod maps;
 mod names;
 mod places;
 mod reserved;
+mod sets;
 mod tree;
 
-pub use bound::add_bound;
+pub use bound::{add_bound, add_bound_by, add_bound_in};
 pub use code::{Code, Finding, Findings};
+pub use keys::fixed_keys;
 pub use laws::{fronts, one_module};
+pub use maps::{NameMap, bind_first};
 pub use reserved::is_reserved;
+pub use sets::{NameSet, put};
 pub use tree::{
     Ann, BinaryOperator, Branch, ClassDef, ComparisonOperator, Constant, Entry, Expr, Field,
     FuncDef, Item, ItemKind, KeywordArgument, Literal, LiteralKind, Member, Module, Name, Param,

@@ -2,19 +2,18 @@
 ghost use Rattle.std.specs.Prelude.{◌≡◌, All};
 ghost use Rattle.pc_tree.specs.Tree.{module_of};
 ghost use Rattle.pc_scope.specs.ModuleScopes.{AreScopes};
-ghost use Rattle.pc_ann.specs.Bases.{bases_of};
 ghost use Rattle.pc_types.specs.Boxed.{IsGiven};
 ghost use Rattle.pc_class.specs.Tables.{HasParameter, HasMethod, HasEntries};
 
-use pc_ann::{parents_of, type_text};
+use pc_ann::type_text;
 use pc_class::{ClassTable, Method, Parameter, class_table, override_findings};
 use pc_front::module_in;
 use pc_scope::{Scopes, scopes};
 use pc_source::{Fault, Source, read_source};
-use pc_tables::{BETWEEN, ROW, TableFault, Tally};
 use pc_tree::{Finding, ItemKind, Member, Module};
-use pc_types::{BoxStore, BoxType, Parents};
+use pc_types::{BoxStore, BoxType};
 use std::alloc::{AllocError, Global};
+use worked_rows::{BETWEEN, ROW, TableFault, Tally};
 
 /// What stands first in each module of a table, three lines.
 const HEADERS: &str = "\
@@ -70,8 +69,8 @@ fn parameter_text(
     requires { HasParameter IsGiven parameter.now }
 {
     let ty = type_text(&BoxStore::new(), alloc, tree, &parameter.ty)?;
-    let mark = if parameter.has_default { " =" } else { "" };
-    Ok(format!(in alloc; "{}: {ty}{mark}", parameter.name)?)
+    let label = if parameter.has_default { " =" } else { "" };
+    Ok(format!(in alloc; "{}: {ty}{label}", parameter.name)?)
 }
 
 /// Parameters, with commas between them.
@@ -246,15 +245,13 @@ fn described(
     source: &Source,
     tree: &Module,
     scopes: &Scopes,
-    parents: &Parents,
 ) -> Result<String, Fault>
-    requires scopes { AreScopes (module_of tree.now) scopes.now }
-    requires parents { parents.now ≡ bases_of (module_of tree.now) }
+    requires { AreScopes (module_of tree.now) scopes.now }
 {
     let mut store = BoxStore::new();
     let mut found = Vec::new(alloc);
-    let table = class_table(&mut store, alloc, parents, tree, scopes, &mut found)?;
-    override_findings(&mut store, parents, tree, &table, &mut found)?;
+    let table = class_table(&mut store, alloc, tree, scopes, &mut found)?;
+    override_findings(&mut store, tree, &table, &mut found)?;
     let mut out = String::new(alloc);
     add_table(alloc, tree, &table, &mut out)?;
     add_findings(source, &found, &mut out)?;
@@ -266,8 +263,7 @@ fn reading(alloc: Global, text: &str) -> Result<String, Fault> {
     let source = read_source(alloc, text.as_bytes())?;
     let tree = module_in(alloc, &source)?;
     let scopes = scopes(alloc, &tree)?;
-    let parents = parents_of(alloc, &tree, &scopes)?;
-    described(alloc, &source, &tree, &scopes, &parents)
+    described(alloc, &source, &tree, &scopes)
 }
 
 /// What the classes of a module come to, or why it is none.

@@ -1,32 +1,30 @@
 //! What is known of locals, by `pc_flow`: where two ways meet, at heads of loops, after assignments.
 ghost use Rattle.std.specs.Prelude.{IfOk};
 ghost use Rattle.std.specs.Option.{option_copied};
-ghost use Rattle.pc_tree.specs.Tree.{module_of};
 ghost use Rattle.pc_scope.specs.ModuleScopes.{AreScopes};
+ghost use Rattle.pc_ann.specs.ModuleOutlines.{module_in};
 ghost use Rattle.pc_types.specs.Boxed.{IsGiven};
 ghost use Rattle.pc_flow.specs.Stored.{HasOne, HasEach};
 
-use pc_ann::{parents_of, read_option, type_text};
+use pc_ann::{ModuleOutline, parents_of, read_option, type_text};
 use pc_flow::{
     Declarations, DeclaredTypes, Env, OwnerNames, assigned_type, copy_env, join_env,
     join_or_object, loop_head,
 };
 use pc_front::read_module;
-use pc_scope::{Owner, Res, Scopes, scopes};
+use pc_scope::{Owner, Res, scopes};
 use pc_source::Fault;
 use pc_tree::{Ann, Code, FuncDef, ItemKind, Module, Param};
-use pc_types::{BoxStore, BoxType, Parents, TypeStore};
+use pc_types::{BoxStore, BoxType, TypeStore};
 use std::alloc::{AllocError, Global};
 
 /// The most locals of a row.
 const LOCALS: usize = 3;
 
-/// The module of a row, with its scopes and the parents of its classes.
+/// What the environments of a row stand in.
 #[derive(Drop)]
-struct Setting<'a> {
-    tree: &'a Module,
-    scopes: &'a Scopes,
-    parents: &'a Parents,
+struct Environment<'a> {
+    outline: &'a ModuleOutline<'a>,
     /// The function whose parameters are the locals, as they are declared.
     declared: &'a FuncDef,
 }
@@ -52,8 +50,8 @@ fn is_never(annotation: &Option<Ann>) -> bool {
 }
 
 /// The type that a parameter's annotation says, and `Never` where it names that.
-fn type_of(setting: &Setting, alloc: Global, annotation: &Option<Ann>) -> Result<BoxType, Fault>
-    requires { AreScopes (module_of setting.now.tree.now) setting.now.scopes.now }
+fn type_of(row: &Environment, alloc: Global, annotation: &Option<Ann>) -> Result<BoxType, Fault>
+    requires { AreScopes (module_in row.now.outline.now) row.now.outline.now.scopes.now }
     ensures { IfOk result IsGiven }
 {
     let mut store = BoxStore::new();
@@ -61,35 +59,27 @@ fn type_of(setting: &Setting, alloc: Global, annotation: &Option<Ann>) -> Result
         return Ok(store.never(alloc)?);
     }
     let mut aside = Vec::new(alloc);
-    Ok(read_option(
-        &mut store,
-        alloc,
-        setting.parents,
-        setting.tree,
-        setting.scopes,
-        &mut aside,
-        annotation,
-    )?)
+    Ok(read_option(&mut store, alloc, row.outline, &mut aside, annotation)?)
 }
 
 /// The local that a parameter's name means to the function of the locals.
-fn local_of(setting: &Setting, param: &Param) -> Option<usize> {
+fn local_of(row: &Environment, param: &Param) -> Option<usize> {
     let name = param.name.text.as_str();
-    match setting.scopes.resolve(Owner::Func(0), name) {
+    match row.outline.scopes.resolve(Owner::Func(0), name) {
         Res::Local(local) => Some(local),
         _ => None,
     }
 }
 
 /// The environment in which just the locals are assigned that are parameters of a function.
-fn assigned(setting: &Setting, alloc: Global, def: &FuncDef) -> Result<Env<BoxType>, Fault>
-    requires { AreScopes (module_of setting.now.tree.now) setting.now.scopes.now }
+fn assigned(row: &Environment, alloc: Global, def: &FuncDef) -> Result<Env<BoxType>, Fault>
+    requires { AreScopes (module_in row.now.outline.now) row.now.outline.now.scopes.now }
     ensures { IfOk result (λ e. HasEach IsGiven e) }
 {
     let mut env = Env::new(alloc, LOCALS)?;
     for param in &def.params {
-        let ty = type_of(setting, alloc, &param.annotation)?;
-        if let Some(local) = local_of(setting, param) {
+        let ty = type_of(row, alloc, &param.annotation)?;
+        if let Some(local) = local_of(row, param) {
             env.assign(alloc, local, ty)?;
         }
     }
@@ -97,15 +87,15 @@ fn assigned(setting: &Setting, alloc: Global, def: &FuncDef) -> Result<Env<BoxTy
 }
 
 /// The declared types of the locals: of those that have an annotation.
-fn declared_types(setting: &Setting, alloc: Global) -> Result<DeclaredTypes<BoxType>, Fault>
-    requires { AreScopes (module_of setting.now.tree.now) setting.now.scopes.now }
+fn declared_types(row: &Environment, alloc: Global) -> Result<DeclaredTypes<BoxType>, Fault>
+    requires { AreScopes (module_in row.now.outline.now) row.now.outline.now.scopes.now }
     ensures { IfOk result (λ d. HasEach IsGiven d) }
 {
     let mut declared = DeclaredTypes::new(alloc, LOCALS)?;
-    for param in &setting.declared.params {
-        let ty = type_of(setting, alloc, &param.annotation)?;
+    for param in &row.declared.params {
+        let ty = type_of(row, alloc, &param.annotation)?;
         if param.annotation.is_some()
-            && let Some(local) = local_of(setting, param)
+            && let Some(local) = local_of(row, param)
         {
             declared.declare(local, ty);
         }
@@ -115,7 +105,7 @@ fn declared_types(setting: &Setting, alloc: Global) -> Result<DeclaredTypes<BoxT
 
 /// Adds a local with its type, if it has one.
 fn add_local(
-    setting: &Setting,
+    row: &Environment,
     alloc: Global,
     param: &Param,
     ty: Option<&BoxType>,
@@ -127,19 +117,19 @@ fn add_local(
     if !out.is_empty() {
         out.push_str(", ")?;
     }
-    let text = type_text(&BoxStore::new(), alloc, setting.tree, ty)?;
+    let text = type_text(&BoxStore::new(), alloc, row.outline.tree, ty)?;
     write!(out, "{}: {text}", param.name.text.as_str())?;
     Ok(())
 }
 
 /// The locals that are assigned, with their current types.
-fn env_text(setting: &Setting, alloc: Global, env: &Env<BoxType>) -> Result<String, Fault>
+fn env_text(row: &Environment, alloc: Global, env: &Env<BoxType>) -> Result<String, Fault>
     requires { HasEach IsGiven env.now }
 {
     let mut out = String::new(alloc);
-    for param in &setting.declared.params {
-        if let Some(local) = local_of(setting, param) {
-            add_local(setting, alloc, param, env.current(local), &mut out)?;
+    for param in &row.declared.params {
+        if let Some(local) = local_of(row, param) {
+            add_local(row, alloc, param, env.current(local), &mut out)?;
         }
     }
     if out.is_empty() {
@@ -149,9 +139,9 @@ fn env_text(setting: &Setting, alloc: Global, env: &Env<BoxType>) -> Result<Stri
 }
 
 /// The numbers of the locals that are among words.
-fn numbers(setting: &Setting, alloc: Global, words: &str) -> Result<Vec<usize>, AllocError> {
+fn numbers(row: &Environment, alloc: Global, words: &str) -> Result<Vec<usize>, AllocError> {
     let mut numbers = Vec::new(alloc);
-    let params = &setting.declared.params;
+    let params = &row.declared.params;
     for local in 0..params.len() {
         let name = params[local].name.text.as_str();
         if words.split(' ').any(|word| word == name) {
@@ -164,33 +154,33 @@ fn numbers(setting: &Setting, alloc: Global, words: &str) -> Result<Vec<usize>, 
 /// What is known behind a row: where its two ways meet (`join`), at the head of a loop that binds the locals among its
 /// words (`loop`), or of a copy of the first way.
 fn known(
-    setting: &Setting,
+    row: &Environment,
     alloc: Global,
     words: &str,
     one: &Env<BoxType>,
     other: &Env<BoxType>,
 ) -> Result<Env<BoxType>, Fault>
-    requires scopes { AreScopes (module_of setting.now.tree.now) setting.now.scopes.now }
+    requires scopes { AreScopes (module_in row.now.outline.now) row.now.outline.now.scopes.now }
     requires one { HasEach IsGiven one.now }
     requires other { HasEach IsGiven other.now }
     ensures { IfOk result (λ e. HasEach IsGiven e) }
 {
-    let declared = declared_types(setting, alloc)?;
+    let declared = declared_types(row, alloc)?;
     let mut store = BoxStore::new();
     if words == "join" {
         let names = OwnerNames {
-            scopes: setting.scopes,
+            scopes: row.outline.scopes,
             owner: Owner::Func(0),
         };
         let declarations = Declarations {
-            parents: setting.parents,
+            parents: row.outline.parents,
             declared: &declared,
             names: &names,
         };
         return Ok(join_env(&mut store, alloc, &declarations, one, other)?);
     }
     if words.starts_with("loop") {
-        let bound = numbers(setting, alloc, words)?;
+        let bound = numbers(row, alloc, words)?;
         return Ok(loop_head(&mut store, alloc, &bound, &declared, one)?);
     }
     Ok(copy_env(&store, alloc, one)?)
@@ -207,54 +197,54 @@ fn found_in(words: &str) -> Option<Code> {
 
 /// The type of the first local after its type on the one way is assigned to it, of its declared type.
 fn assigned_text(
-    setting: &Setting,
+    row: &Environment,
     alloc: Global,
     words: &str,
     from: &Env<BoxType>,
 ) -> Result<String, Fault>
-    requires scopes { AreScopes (module_of setting.now.tree.now) setting.now.scopes.now }
+    requires scopes { AreScopes (module_in row.now.outline.now) row.now.outline.now.scopes.now }
     requires from { HasEach IsGiven from.now }
 {
-    let declared = declared_types(setting, alloc)?;
+    let declared = declared_types(row, alloc)?;
     let (Some(into), Some(ty)) = (declared.declared(0), from.current(0)) else {
         return Ok(String::from_str(alloc, "no types")?);
     };
     let ty = assigned_type(&BoxStore::new(), alloc, into, ty, found_in(words))?;
-    Ok(type_text(&BoxStore::new(), alloc, setting.tree, &ty)?)
+    Ok(type_text(&BoxStore::new(), alloc, row.outline.tree, &ty)?)
 }
 
 /// The join of the types of the first two locals, or `object`.
-fn either_text(setting: &Setting, alloc: Global, env: &Env<BoxType>) -> Result<String, Fault>
+fn either_text(row: &Environment, alloc: Global, env: &Env<BoxType>) -> Result<String, Fault>
     requires { HasEach IsGiven env.now }
 {
     let (Some(s), Some(t)) = (env.current(0), env.current(1)) else {
         return Ok(String::from_str(alloc, "no types")?);
     };
     let mut store = BoxStore::new();
-    let ty = join_or_object(&mut store, alloc, setting.parents, s, t)?;
-    Ok(type_text(&store, alloc, setting.tree, &ty)?)
+    let ty = join_or_object(&mut store, alloc, row.outline.parents, s, t)?;
+    Ok(type_text(&store, alloc, row.outline.tree, &ty)?)
 }
 
 /// What comes of the words of a row and of its two ways.
 fn done(
-    setting: &Setting,
+    row: &Environment,
     alloc: Global,
     words: &str,
     one: &FuncDef,
     other: &FuncDef,
 ) -> Result<String, Fault>
-    requires { AreScopes (module_of setting.now.tree.now) setting.now.scopes.now }
+    requires { AreScopes (module_in row.now.outline.now) row.now.outline.now.scopes.now }
 {
-    let one = assigned(setting, alloc, one)?;
+    let one = assigned(row, alloc, one)?;
     if words.starts_with("assign") {
-        return assigned_text(setting, alloc, words, &one);
+        return assigned_text(row, alloc, words, &one);
     }
     if words == "either" {
-        return either_text(setting, alloc, &one);
+        return either_text(row, alloc, &one);
     }
-    let other = assigned(setting, alloc, other)?;
-    let env = known(setting, alloc, words, &one, &other)?;
-    env_text(setting, alloc, &env)
+    let other = assigned(row, alloc, other)?;
+    let env = known(row, alloc, words, &one, &other)?;
+    env_text(row, alloc, &env)
 }
 
 /// What comes of the words of a row in the module of this text.
@@ -269,13 +259,16 @@ fn reading(alloc: Global, text: &str, words: &str) -> Result<String, Fault> {
     ) else {
         return Ok(String::from_str(alloc, "no functions")?);
     };
-    let setting = Setting {
+    let outline = ModuleOutline {
         tree: &tree,
         scopes: &scopes,
         parents: &parents,
+    };
+    let row = Environment {
+        outline: &outline,
         declared,
     };
-    done(&setting, alloc, words, one, other)
+    done(&row, alloc, words, one, other)
 }
 
 /// What comes of a row behind what stands before it: its words, the parameters that declare its locals, and those that

@@ -1,12 +1,11 @@
 //! What is found of a module's names, what stops each of its runs, and the names that it has, by layers alone.
 use crate::conditions::condition_text;
 use pc_front::read_module;
-use pc_names::fixed_keys;
 use pc_scope::scopes;
 use pc_scope_findings::scope_findings;
 use pc_source::{Fault, OutOfMemory};
 use pc_stop::{find_in_classes, find_in_scopes, stops};
-use pc_tree::{Findings, FuncDef, ItemKind, Module, Name, add_bound};
+use pc_tree::{Findings, FuncDef, ItemKind, Module, Name, add_bound, fixed_keys};
 use std::alloc::{AllocError, Global};
 
 /// What a layer finds in a module, which the part of the table names: of its names and of the places of its statements

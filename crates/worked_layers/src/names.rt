@@ -1,10 +1,9 @@
 //! What names mean in a module, by `pc_scope`; sets and maps of names, by `pc_names`.
 use indexmap::{IndexMap, IndexSet};
 use pc_front::read_module;
-use pc_names::{bind_first, fixed_keys, put};
 use pc_scope::{Owner, scopes};
 use pc_source::Fault;
-use pc_tree::is_reserved;
+use pc_tree::{bind_first, fixed_keys, is_reserved, put};
 use std::alloc::{AllocError, Global};
 
 /// Whose names are looked up, as a row says it: `Module`, `Func 0` or `Method 0 1`.

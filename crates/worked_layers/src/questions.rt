@@ -1,12 +1,11 @@
 //! What is asked of types, over any store: how two compare, their join, and what one is made of.
 ghost use Rattle.std.specs.Prelude.{◌≡◌, All, IfOk, IfSome};
-ghost use Rattle.pc_tree.specs.Tree.{module_of};
 ghost use Rattle.pc_scope.specs.ModuleScopes.{AreScopes};
 ghost use Rattle.pc_types.specs.Store.{KeepsTypes};
+ghost use Rattle.pc_ann.specs.ModuleOutlines.{module_in};
 
-use pc_ann::{read_ann, type_text};
+use pc_ann::{ModuleOutline, read_ann, type_text};
 use pc_notes::transfer;
-use pc_scope::Scopes;
 use pc_source::OutOfMemory;
 use pc_tree::{Ann, Findings, ItemKind, Module};
 use pc_types::{BoxStore, Parents, TypeStore};
@@ -33,14 +32,6 @@ pub enum Question {
     Made,
 }
 
-/// A module whose first two constants are annotated with the types that are asked of.
-#[derive(Drop)]
-pub struct Setting<'a> {
-    pub tree: &'a Module,
-    pub scopes: &'a Scopes,
-    pub parents: &'a Parents,
-}
-
 /// The annotation of the module's constant of this number, if it has one.
 fn annotation(module: &Module, number: usize) -> Option<&Ann> {
     let mut before = number;
@@ -59,21 +50,16 @@ fn annotation(module: &Module, number: usize) -> Option<&Ann> {
 fn type_of<S: TypeStore>(
     store: &mut S,
     alloc: Global,
-    setting: &Setting,
+    outline: &ModuleOutline,
     number: usize,
     found: &mut Findings,
 ) -> Result<S::Ty, OutOfMemory>
-    requires { AreScopes (module_of setting.now.tree.now) setting.now.scopes.now }
+    requires { AreScopes (module_in outline.now) outline.now.scopes.now }
     ensures held { IfOk result (S.has store.new) }
     ensures kept { KeepsTypes S.has store.old store.new }
 {
-    let Setting {
-        tree,
-        scopes,
-        parents,
-    } = setting;
-    match annotation(tree, number) {
-        Some(annotation) => read_ann(store, alloc, parents, tree, scopes, found, annotation),
+    match annotation(outline.tree, number) {
+        Some(annotation) => read_ann(store, alloc, outline, found, annotation),
         None => store.never(alloc),
     }
 }
@@ -103,15 +89,15 @@ fn flow<S: TypeStore>(
 fn join<S: TypeStore>(
     store: &mut S,
     alloc: Global,
-    setting: &Setting,
+    outline: &ModuleOutline,
     s: &S::Ty,
     t: &S::Ty,
 ) -> Result<String, OutOfMemory>
     requires left { S.has store.old s.now }
     requires right { S.has store.old t.now }
 {
-    match store.join(alloc, setting.parents, s, t)? {
-        Some(joined) => type_text(store, alloc, setting.tree, &joined),
+    match store.join(alloc, outline.parents, s, t)? {
+        Some(joined) => type_text(store, alloc, outline.tree, &joined),
         None => Ok(String::from_str(alloc, "none")?),
     }
 }
@@ -255,21 +241,21 @@ pub fn made<S: TypeStore>(
 pub fn answer<S: TypeStore>(
     store: &mut S,
     alloc: Global,
-    setting: &Setting,
+    outline: &ModuleOutline,
     question: Question,
 ) -> Result<String, OutOfMemory>
-    requires { AreScopes (module_of setting.now.tree.now) setting.now.scopes.now }
+    requires { AreScopes (module_in outline.now) outline.now.scopes.now }
 {
     let mut found = Vec::new(alloc);
-    let s = type_of(store, alloc, setting, 0, &mut found)?;
-    let t = type_of(store, alloc, setting, 1, &mut found)?;
+    let s = type_of(store, alloc, outline, 0, &mut found)?;
+    let t = type_of(store, alloc, outline, 1, &mut found)?;
     if !found.is_empty() {
         return Ok(String::from_str(alloc, "an annotation with findings")?);
     }
-    let tree = setting.tree;
+    let tree = outline.tree;
     let text = match question {
-        Question::Flow => flow(store, alloc, setting.parents, &s, &t),
-        Question::Join => join(store, alloc, setting, &s, &t),
+        Question::Flow => flow(store, alloc, outline.parents, &s, &t),
+        Question::Join => join(store, alloc, outline, &s, &t),
         Question::Nodes => Ok(format!(in alloc; "{}", store.nodes(&s))?),
         Question::Parts => parts(store, alloc, tree, &s),
         Question::Members => listed(store, alloc, tree, &store.members(alloc, &s)?),

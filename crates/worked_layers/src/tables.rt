@@ -6,8 +6,8 @@ use crate::names::{meaning_text, words_text};
 use crate::notes::note_text;
 use crate::types::count_types;
 use pc_source::Fault;
-use pc_tables::{Row, TableFault, Tally, rows};
 use std::alloc::{AllocError, Global};
+use worked_rows::{Row, TableFault, Tally, rows};
 
 /// What stands between the lines before each row of a table and its rows.
 const ROWS: &str = "----\n";

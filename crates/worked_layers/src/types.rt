@@ -1,13 +1,13 @@
 //! Types as annotations spell them, by both stores.
-use crate::questions::{Question, Setting, answer, made};
-use pc_ann::parents_of;
+use crate::questions::{Question, answer, made};
+use pc_ann::{ModuleOutline, parents_of};
 use pc_front::read_module;
 use pc_intern::InternStore;
 use pc_scope::scopes;
 use pc_source::Fault;
-use pc_tables::{BETWEEN, TableFault, Tally};
 use pc_types::{BoxStore, TypeStore};
 use std::alloc::{AllocError, Global};
+use worked_rows::{BETWEEN, TableFault, Tally};
 
 /// What stands after the types of a row in its module.
 const TAIL: &str = "def main():\n    pass\nmain()\n";
@@ -89,14 +89,14 @@ fn answer_of<S: TypeStore>(
     let module = read_module(alloc, text.as_bytes())?;
     let scopes = scopes(alloc, &module)?;
     let parents = parents_of(alloc, &module, &scopes)?;
-    let setting = Setting {
+    let outline = ModuleOutline {
         tree: &module,
         scopes: &scopes,
         parents: &parents,
     };
     match row.question {
         Question::Made => Ok(made(store, alloc, &module, row.first)?),
-        question => Ok(answer(store, alloc, &setting, question)?),
+        question => Ok(answer(store, alloc, &outline, question)?),
     }
 }
 

@@ -1,9 +1,9 @@
 //! Tables of actions on values, with ample memory, and what each comes to.
 use crate::values::named;
-use pc_tables::{TableFault, Tally, rows};
 use pc_tree::{BinaryOperator, ComparisonOperator};
 use pc_value::{Action, Entry, Heap, Iteration, Value, act, takes_choice};
 use std::alloc::{AllocError, Global};
+use worked_rows::{TableFault, Tally, rows};
 
 /// The binary operator that is written so.
 fn binary_of(word: &str) -> Option<BinaryOperator> {

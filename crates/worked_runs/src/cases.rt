@@ -1,7 +1,7 @@
 //! The cases of a table of runs.
 
-use pc_tables::TableFault;
 use std::alloc::Global;
+use worked_rows::TableFault;
 
 /// More fuel than a case needs that names none.
 const AMPLE: u64 = 1_000_000;

@@ -1,8 +1,8 @@
 //! The statuses of runs, and the reasons of devices, by `pc_commands`.
 use crate::options::fault_text;
 use pc_commands::{Explained, OptionFault, reason_of, status_of, traced};
-use pc_names::fixed_keys;
 use pc_source::Fault;
+use pc_tree::fixed_keys;
 use std::alloc::{AllocError, Global};
 use std::io;
 use std::io::Write;

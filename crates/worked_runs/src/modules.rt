@@ -2,9 +2,9 @@
 
 use crate::cases::Case;
 use pc_front::read_module;
-use pc_names::fixed_keys;
 use pc_run::{Trace, run, trace_text};
 use pc_source::Fault;
+use pc_tree::fixed_keys;
 use std::alloc::{AllocError, Global};
 
 /// The first line of each module.

@@ -1,7 +1,7 @@
 //! What the words of the command lines come to, by `pc_commands`.
 use pc_commands::{CheckOptions, OptionFault, RunOptions, check_options, run_options};
-use pc_tables::in_one_line;
 use std::alloc::{AllocError, Global};
+use worked_rows::in_one_line;
 
 /// What a row says of words that ask for nothing by a mistake, where it says no more of them.
 const MISTAKEN: &str = "mistaken";

@@ -5,8 +5,8 @@ use crate::cases::{Case, cases};
 use crate::devices::{reason_text, status_text};
 use crate::modules::{module_of_lines, module_of_statements, trace_of};
 use crate::options::{check_text, run_text};
-use pc_tables::{Row, TableFault, Tally, rows};
 use std::alloc::{AllocError, Global};
+use worked_rows::{Row, TableFault, Tally, rows};
 
 /// What stands before the heading of a part of a table.
 const HEADING: &str = "\n==== ";

@@ -1,7 +1,7 @@
 //! Values, as tables of actions name them.
-use pc_tables::TableFault;
 use pc_value::{Action, Entry, Heap, Outcome, Slot, Value, act};
 use std::alloc::{AllocError, Global};
+use worked_rows::TableFault;
 
 /// A text as a value.
 fn text(alloc: Global, characters: &str) -> Result<Value, AllocError> {

@@ -1,8 +1,8 @@
 //! The program that counts the cases of the tables in its files.
 use crate::tables::judge;
-use pc_tables::{TableFault, Tally};
 use std::rt::{Env, Files};
 use std::{env, fs, io};
+use worked_rows::{TableFault, Tally};
 
 /// What comes of the table in a file.
 fn judged<R: Files + AllocGlobal>(rt: &R, file: &str) -> Result<Tally, TableFault> {

@@ -1,10 +1,8 @@
 //! What the check of a module explains and finds, by `pc_check` and `pc_signatures`, over any store of types.
-ghost use Rattle.std.specs.Prelude.{◌≡◌};
 ghost use Rattle.pc_tree.specs.Tree.{module_of};
 ghost use Rattle.pc_scope.specs.ModuleScopes.{AreScopes};
-ghost use Rattle.pc_class.specs.Bases.{bases_of};
 
-use pc_ann::{parents_of, type_text};
+use pc_ann::{ModuleOutline, parents_of, type_text};
 use pc_check::{check_module, explain_flow};
 use pc_class::class_table;
 use pc_front::read_module;
@@ -15,7 +13,7 @@ use pc_scope::{Scopes, scopes};
 use pc_signatures::read_signatures;
 use pc_source::{Fault, OutOfMemory, Place};
 use pc_tree::Module;
-use pc_types::{BoxStore, Parents, TypeStore};
+use pc_types::{BoxStore, TypeStore};
 use std::alloc::Global;
 
 /// The two types of the dynamic flow at a place of a module, or `none`.
@@ -24,14 +22,12 @@ fn flow_text<S: TypeStore>(
     alloc: Global,
     tree: &Module,
     scopes: &Scopes,
-    parents: &Parents,
     place: Place,
 ) -> Result<String, OutOfMemory>
-    requires scopes { AreScopes (module_of tree.now) scopes.now }
-    requires parents { parents.now ≡ bases_of (module_of tree.now) }
+    requires { AreScopes (module_of tree.now) scopes.now }
 {
     let mut aside = Vec::new(alloc);
-    let classes = class_table(store, alloc, parents, tree, scopes, &mut aside)?;
+    let classes = class_table(store, alloc, tree, scopes, &mut aside)?;
     match explain_flow(store, alloc, tree, scopes, &classes, place)? {
         None => Ok(String::from_str(alloc, "none")?),
         Some((from, into)) => {
@@ -63,13 +59,11 @@ fn checked_text<S: TypeStore>(
     alloc: Global,
     tree: &Module,
     scopes: &Scopes,
-    parents: &Parents,
 ) -> Result<String, OutOfMemory>
-    requires scopes { AreScopes (module_of tree.now) scopes.now }
-    requires parents { parents.now ≡ bases_of (module_of tree.now) }
+    requires { AreScopes (module_of tree.now) scopes.now }
 {
     let mut aside = Vec::new(alloc);
-    let classes = class_table(store, alloc, parents, tree, scopes, &mut aside)?;
+    let classes = class_table(store, alloc, tree, scopes, &mut aside)?;
     let mut notes = Notes::new(alloc);
     check_module(store, alloc, tree, scopes, &classes, &mut notes)?;
     listed(alloc, &notes)
@@ -81,20 +75,23 @@ fn signed_text<S: TypeStore>(
     alloc: Global,
     tree: &Module,
     scopes: &Scopes,
-    parents: &Parents,
 ) -> Result<String, OutOfMemory>
-    requires scopes { AreScopes (module_of tree.now) scopes.now }
-    requires parents { parents.now ≡ bases_of (module_of tree.now) }
+    requires { AreScopes (module_of tree.now) scopes.now }
 {
     let mut aside = Vec::new(alloc);
-    let classes = class_table(store, alloc, parents, tree, scopes, &mut aside)?;
+    let classes = class_table(store, alloc, tree, scopes, &mut aside)?;
     let mut notes = Notes::new(alloc);
     let mut checker = Checker {
         store,
         alloc,
         found: &mut notes,
     };
-    let signed = read_signatures(&mut checker, parents, tree, scopes, &classes)?;
+    let outline = ModuleOutline {
+        tree,
+        scopes,
+        parents: classes.parents(),
+    };
+    let signed = read_signatures(&mut checker, &outline, &classes)?;
     let (constants, functions) = (signed.constants().len(), signed.functions().len());
     let found = listed(alloc, &notes)?;
     Ok(format!(in alloc; "{constants} {functions}; {found}")?)
@@ -110,11 +107,10 @@ fn answer<S: TypeStore>(
     place: Place,
 ) -> Result<String, OutOfMemory> {
     let scopes = scopes(alloc, tree)?;
-    let parents = parents_of(alloc, tree, &scopes)?;
     match part {
-        "FLOWS" => flow_text(store, alloc, tree, &scopes, &parents, place),
-        "FOUND" => checked_text(store, alloc, tree, &scopes, &parents),
-        _ => signed_text(store, alloc, tree, &scopes, &parents),
+        "FLOWS" => flow_text(store, alloc, tree, &scopes, place),
+        "FOUND" => checked_text(store, alloc, tree, &scopes),
+        _ => signed_text(store, alloc, tree, &scopes),
     }
 }
 

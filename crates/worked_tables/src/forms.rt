@@ -1,9 +1,9 @@
 //! Modules that are checked as streams, with their reports as text and as JSON.
 use crate::modules::HEADER;
 use pc_source::Counted;
-use pc_tables::{BETWEEN, ROW, TableFault, Tally};
 use pc_top::{CheckFault, Format, check_stream};
 use std::alloc::{AllocError, Global};
+use worked_rows::{BETWEEN, ROW, TableFault, Tally};
 
 /// How the JSON of a report in format two ends.
 const FORMAT_TWO: &str = "\"format\":2}\n";

@@ -1,8 +1,8 @@
 //! Modules with their reports.
 use crate::stores::answer_to;
-use pc_tables::{BETWEEN, ROW, TableFault, Tally, written_out};
 use pc_top::Format;
 use std::alloc::{AllocError, Global};
+use worked_rows::{BETWEEN, ROW, TableFault, Tally, written_out};
 
 /// What stands first in each module of a table.
 pub const HEADER: &str = "from __future__ import annotations\n";

@@ -1,10 +1,10 @@
 //! Reports of findings that a row lists, in all forms, by `pc_report`.
 use pc_report::{Format, Report};
 use pc_source::{Counted, Fault, Place, read_source};
-use pc_tables::in_one_line;
 use pc_tree::{Code, Finding};
 use serde_json::Value;
 use std::alloc::{AllocError, Global};
+use worked_rows::in_one_line;
 
 /// The codes that rows list.
 const CODES: [Code; 7] = [

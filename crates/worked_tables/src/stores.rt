@@ -1,12 +1,11 @@
 //! What both stores of types make of a module: the reports are to be the same.
-use pc_ann::parents_of;
 use pc_front::module_in;
 use pc_scope::scopes;
 use pc_source::read_source;
-use pc_tables::{BETWEEN, TableFault, Tally};
 use pc_top::{CheckFault, Format, Report, check, findings_by};
 use pc_types::BoxStore;
 use std::alloc::{AllocError, Global};
+use worked_rows::{BETWEEN, TableFault, Tally};
 
 /// What stands before the report by types in boxes, where it is another one.
 const BY_BOXES: &str = "by types in boxes: ";
@@ -19,9 +18,8 @@ fn report_by_boxes(alloc: Global, bytes: &[u8]) -> Result<Report, CheckFault> {
     let source = read_source(alloc, bytes)?;
     let module = module_in(alloc, &source)?;
     let scopes = scopes(alloc, &module)?;
-    let parents = parents_of(alloc, &module, &scopes)?;
     let mut store = BoxStore::new();
-    let notes = findings_by(&mut store, alloc, &parents, &module, &scopes)?;
+    let notes = findings_by(&mut store, alloc, &module, &scopes)?;
     let flows = notes.texts(alloc, &module)?;
     let found = notes.findings(alloc)?;
     Ok(Report::of(alloc, &source, &found, &flows)?)

@@ -1,11 +1,11 @@
 //! Modules that are checked as streams, from readers and to writers that fail.
 use pc_report::read_at_most;
 use pc_source::Counted;
-use pc_tables::{TableFault, Tally, bytes_of};
 use pc_top::{Format, check_stream};
 use std::alloc::{AllocError, Global};
 use std::io;
 use std::io::{Read, Write};
+use worked_rows::{TableFault, Tally, bytes_of};
 
 /// What stands before each text of a table.
 const TEXT: &str = "====\n";

@@ -7,9 +7,9 @@ use crate::stores::count_stores;
 use crate::streams::count_streams;
 use crate::texts::{end_text, fault_text, report_text};
 use pc_source::Fault;
-use pc_tables::{Row, TableFault, Tally, rows};
 use pc_top::Format;
 use std::alloc::{AllocError, Global};
+use worked_rows::{Row, TableFault, Tally, rows};
 
 /// What is told by layers alone, or the fault.
 fn told(alloc: Global, answer: Result<String, Fault>) -> Result<String, AllocError> {

@@ -1,9 +1,9 @@
 //! Whole texts, byte for byte, with their reports or refusals.
 use crate::stores::answer_to_bytes;
 use pc_report::{ReadFault, WriteFault};
-use pc_tables::{TableFault, bytes_of, in_one_line};
 use pc_top::{CheckFault, Format};
 use std::alloc::{AllocError, Global};
+use worked_rows::{TableFault, bytes_of, in_one_line};
 
 /// The report or the refusal of the bytes that a text stands for, its lines behind one another.
 pub fn report_text(alloc: Global, text: &str) -> Result<String, TableFault> {

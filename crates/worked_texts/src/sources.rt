@@ -1,7 +1,7 @@
 //! Bytes that are read as texts, and the lines and columns of texts.
 use pc_source::{Fault, read_source};
-use pc_tables::bytes_of;
 use std::alloc::Global;
+use worked_rows::bytes_of;
 
 /// What comes of the bytes that a text stands for: that they are read as that text, or the refusal.
 pub fn source_text(alloc: Global, text: &str) -> Result<String, Fault> {

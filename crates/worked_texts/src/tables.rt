@@ -10,8 +10,8 @@ use crate::random::random_text;
 use crate::refusals::reading_text;
 use crate::sources::{place_text, source_text};
 use pc_source::{Fault, Refusal};
-use pc_tables::{Row, TableFault, Tally, rows};
 use std::alloc::{AllocError, Global};
+use worked_rows::{Row, TableFault, Tally, rows};
 
 /// A fault as tables say it: the code of a refusal, and its byte, counted from behind so many bytes.
 pub fn fault_text(alloc: Global, fault: Fault, before: usize) -> Result<String, AllocError> {

@@ -5,9 +5,9 @@ use Rattle.pc_types.specs.declared.store.TypeStore.{Ghosts as StoreOf}
 use Rattle.pc_class.specs.declared.table.Parameter.{Parameter}
 use Rattle.pc_flow.specs.Environment.{Env}
 use Rattle.pc_notes.specs.Notes.{Note}
-use Rattle.pc_labels.specs.ComputedStatements.{BindingResult, Table}
-use Rattle.pc_frames.specs.declared.walk.Walk.{Walk}
-use Rattle.pc_frames.specs.Walks.{HoldsOne}
+use Rattle.pc_module_rules.specs.Computed.Statements.{BindingResult, Table}
+use Rattle.pc_walk.specs.declared.walk.Walk.{Walk}
+use Rattle.pc_walk.specs.Walks.{HoldsOne}
 
 -- the types of parameters are types of the walk
 abbrev pub HoldsParameters : {Store Ty : Type 0} (S : StoreOf Store Ty) → Walk Store Ty → List (Parameter Ty) → Type 0

@@ -7,10 +7,10 @@ use Rattle.pc_scope.specs.declared.resolution.Res.{Res}
 use Rattle.pc_types.specs.declared.store.TypeStore.{Ghosts as StoreOf}
 use Rattle.pc_flow.specs.Stored.{env_of}
 use Rattle.pc_notes.specs.Notes.{notes_of}
-use Rattle.pc_labels.specs.ComputedStatements.{BodyFrame, Walk as Reached, BranchesResult}
-use Rattle.pc_frames.specs.StatementsHeld.{HoldsFrame}
-use Rattle.pc_frames.specs.declared.walk.Walk.{Walk}
-use Rattle.pc_frames.specs.Walks.{HoldsEnv, HoldsWay, frame_in}
+use Rattle.pc_module_rules.specs.Computed.Statements.{BodyContext, Walk as Reached, BranchesResult}
+use Rattle.pc_walk.specs.StatementsHeld.{HoldsContext}
+use Rattle.pc_walk.specs.declared.walk.Walk.{Walk}
+use Rattle.pc_walk.specs.Walks.{HoldsEnv, HoldsWay, body_context_in}
 use Rattle.pc_check.specs.Internal.StatementWalk.{walk_with, forked_with, BreaksAgree}
 
 module _ {Store Ty : Type 0} (S : StoreOf Store Ty) where
@@ -27,7 +27,7 @@ module _ {Store Ty : Type 0} (S : StoreOf Store Ty) where
   -- the walk stands, with this environment and this way out of the loop around, if there are such: the store gave all
   -- types, all are well-formed, and names mean what the scopes say
   pub record StandsIn (w : Walk Store Ty) (env way : Option (List (Option Ty))) : Type 0 where
-    pub frame : HoldsFrame (S.has w.store.now) S.tree w.frame
+    pub context : HoldsContext (S.has w.store.now) S.tree w.context
     pub declared : HoldsEnv S w w.declared.now
     pub current : HoldsWay S w env
     pub out : HoldsWay S w way
@@ -36,20 +36,20 @@ module _ {Store Ty : Type 0} (S : StoreOf Store Ty) where
   -- the way out of the loop so far at each other local
   abbrev pub Breaks : Walk Store Ty → List ℕ → (env way : Option (List (Option Ty)))
       → (touched : (List ℕ → Res) → List ℕ) → Type 0
-  Breaks w locals env way touched = BreaksAgree locals (touched (meanings w.frame.names.now))
+  Breaks w locals env way touched = BreaksAgree locals (touched (meanings w.context.names.now))
       (option_map (env_of S.tree) way) (option_map (env_of S.tree) env)
 
   -- the walk went over statements, from an environment and a way out of the loop around to others
   pub record Walked (old : Walk Store Ty) (env way : Option (List (Option Ty))) (new : Walk Store Ty)
-      (behind later : Option (List (Option Ty))) (walks : BodyFrame → Reached → Reached) : Type 0 where
-    pub is : reached S new behind later ≡ walks (frame_in S old) (reached S old env way)
+      (behind later : Option (List (Option Ty))) (walks : BodyContext → Reached → Reached) : Type 0 where
+    pub is : reached S new behind later ≡ walks (body_context_in S old) (reached S old env way)
     pub stands : StandsIn new behind later
 
   -- the walk went over branches, from the environment where all conditions so far are false, the ways out of suites
   -- joined and a way out of the loop around to others
   pub record Forked (old : Walk Store Ty) (last : List (Option Ty)) (ways way : Option (List (Option Ty)))
       (new : Walk Store Ty) (next : List (Option Ty)) (joined later : Option (List (Option Ty)))
-      (walks : BodyFrame → BranchesResult → BranchesResult) : Type 0 where
-    pub is : forked S new next joined later ≡ walks (frame_in S old) (forked S old last ways way)
+      (walks : BodyContext → BranchesResult → BranchesResult) : Type 0 where
+    pub is : forked S new next joined later ≡ walks (body_context_in S old) (forked S old last ways way)
     pub stands : StandsIn new (Some next) later
     pub met : HoldsWay S new joined

@@ -3,9 +3,9 @@ use Rattle.std.specs.Prelude.{◌||◌, vec_len}
 use Rattle.pc_tree.specs.Lists.{exprs_of_list, entries_of_list, keywords_of_list}
 use Rattle.pc_notes.specs.Notes.{notes_of}
 use Rattle.pc_rules.specs.Calls.{positional_seat, named_seat}
-use Rattle.pc_rules.specs.Standing.{standing_of, types_in, items_find, keys_in, values_in, entries_find, HasGivenAll, keywords_find}
-use Rattle.pc_call.specs.JudgedCalls.{offer_called, HasCallOffer, names_in}
-use Rattle.pc_rules.specs.Checkers.{GoesOn}
+use Rattle.pc_rules.specs.Computed.Standing.{standing_of, types_in, items_find, keys_in, values_in, entries_find, HasGivenAll, keywords_find}
+use Rattle.pc_calls.specs.JudgedCalls.{offer_called, HasCallOffer, names_in}
+use Rattle.pc_rules.specs.Computed.Checkers.{GoesOn}
 use Rattle.pc_expr.specs.Typing.{early_in}
 use Rattle.pc_expr.specs.Internal.Seats.{seats_of, seat_with, HasSeats, HasEntrySeats}
 use Rattle.pc_expr.proofs.Steps.{seats_from, types_from, finds_from, early_from}

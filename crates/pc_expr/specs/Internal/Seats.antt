@@ -6,13 +6,13 @@ use Rattle.pc_tree.specs.Tree.{Exprs, Entries}
 use Rattle.pc_types.specs.Tree.{Tree}
 use Rattle.pc_rules.specs.Calls.{Seat}
 use Rattle.pc_rules.specs.Lawful.{item_seat, part_seat}
-use Rattle.pc_rules.specs.Standing.{Standing, types_in, keys_in, values_in, HasIfAny}
+use Rattle.pc_rules.specs.Computed.Standing.{Standing, types_in, keys_in, values_in, HasIfAny}
 use Rattle.pc_expr.specs.declared.items.Seats.{Seats}
 use Rattle.pc_expr.specs.declared.items.Seats.TheVariants.{Same, Parts}
 use Rattle.pc_expr.specs.declared.items.Typed.{Typed}
 use Rattle.pc_expr.specs.declared.entries.EntrySeats.{EntrySeats}
 use Rattle.pc_expr.specs.declared.entries.EntryTypes.{EntryTypes}
-use Rattle.pc_call.specs.declared.seats.Seat.{Seat as RustSeat}
+use Rattle.pc_calls.specs.declared.seats.Seat.{Seat as RustSeat}
 use Rattle.pc_expr.specs.Typing.{early_in}
 
 module _ {Ty : Type 0} (tree : Ty → Tree) where

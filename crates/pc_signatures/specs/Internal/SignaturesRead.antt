@@ -2,30 +2,18 @@
 -- Own rule of the profile.
 use Rattle.std.specs.Prelude.{◌≡◌, List, map, length, All, Vec}
 use Rattle.std.specs.Global.{Global}
-use Rattle.pc_tree.specs.Tree.{Module, module_of}
-use Rattle.pc_scope.specs.ModuleScopes.{AreScopes}
 use Rattle.pc_types.specs.Tree.{Tree}
-use Rattle.pc_class.specs.Bases.{bases_of}
+use Rattle.pc_ann.specs.ModuleOutlines.{module_in, IsModuleOutline}
 use Rattle.pc_class.specs.Facts.{TypedParameter, classes_of}
 use Rattle.pc_class.specs.Tables.{HasParameter, HasEntries, parameter_with, parameters_with, classes_with}
 use Rattle.pc_class.specs.declared.table.Parameter.{Parameter as RustParameter}
 use Rattle.pc_rules.specs.declared.setting.Signature.{Signature as RustSignature}
-use Rattle.pc_signatures.specs.declared.signatures.Frame.{Frame}
-use Rattle.pc_signatures.specs.declared.constants.Globals.{Globals}
+use Rattle.pc_rules.specs.declared.setting.ModuleContext.{ModuleContext}
 use Rattle.pc_signatures.specs.declared.constants.Walk.{Walk}
 use Rattle.pc_rules.specs.Context.{Signature}
 use Rattle.pc_rules.specs.Signatures.{signatures_of}
-use Rattle.pc_rules.specs.SignaturesFound.{ItemsReached, bound_in}
-use Rattle.pc_rules.specs.Standing.{HasSignature, signature_with}
-
--- the module in which annotations are read
-abbrev pub module_in : Frame → Module
-module_in f = module_of f.tree.now
-
--- annotations are read in a module, with its scopes and the bases of its classes
-pub record IsFrame (f : Frame) : Type 0 where
-  pub scopes : AreScopes (module_in f) f.scopes.now
-  pub parents : f.parents.now ≡ bases_of (module_in f)
+use Rattle.pc_rules.specs.Computed.Signatures.{ItemsReached, bound_in}
+use Rattle.pc_rules.specs.Computed.Standing.{HasSignature, signature_with}
 
 module _ {Ty : Type 0} (tree : Ty → Tree) where
   -- the signatures that these mean
@@ -80,8 +68,8 @@ module _ {Store Ty : Type 0} (has : Store → Ty → Type 0) (tree : Ty → Tree
     pub are : signatures_with tree ss ≡ are_of
 
   -- what members and initializers may name but for constants: the classes and the functions of the module
-  pub record AreGlobals (store : Store) (g : Globals Ty) : Type 0 where
-    pub frame : IsFrame g.frame.now
-    pub classes : classes_with tree g.classes.now ≡ classes_of (module_in g.frame.now)
+  pub record AreGlobals (store : Store) (g : ModuleContext Ty) : Type 0 where
+    pub outline : IsModuleOutline g.outline.now
+    pub classes : classes_with tree g.classes.now ≡ classes_of (module_in g.outline.now)
     pub entries : HasEntries (has store) g.classes.now
-    pub functions : AreSignatures store g.functions.now (signatures_of (module_in g.frame.now))
+    pub functions : AreSignatures store g.functions.now (signatures_of (module_in g.outline.now))

@@ -21,10 +21,10 @@ use Rattle.pc_class.specs.Bases.{bases_of}
 use Rattle.pc_class.specs.Facts.{Method, parameters_of, return_type, classes_of, class_facts_at, method_by_name}
 use Rattle.pc_flow.specs.Environment.{Env}
 use Rattle.pc_rules.specs.Operations.{in_error}
-use Rattle.pc_rules.specs.Context.{Context, name_mark}
+use Rattle.pc_rules.specs.Context.{Context, name_label}
 use Rattle.pc_rules.specs.Signatures.{signature_of, signatures_of}
-use Rattle.pc_rules.specs.Calls.{arguments_given, signature_offer, function_offer, class_signature, good_callee, value_callee, name_callee, value_offers, method_callee, CalleeLabel, member_rule, call_mark, positional_seat, named_seat}
-use Rattle.pc_rules.specs.Labels.{Marks, mark_of, type_of, with_mark, item_types, Finds, ItemsFind}
+use Rattle.pc_rules.specs.Calls.{arguments_given, signature_offer, function_offer, class_signature, good_callee, value_callee, name_callee, value_offers, method_callee, CalleeLabel, member_rule, call_label, positional_seat, named_seat}
+use Rattle.pc_rules.specs.Labels.{Labels, whole_label, type_of, with_label, item_types, Finds, ItemsFind}
 use Rattle.pc_rules.specs.Lawful.{Lawful, LawfulItems, LawfulKeywords, callee_of}
 use Rattle.pc_value.specs.Value.{Gives}
 use Rattle.pc_machine.specs.Names.{meaning_of_global}
@@ -49,7 +49,7 @@ use Rattle.pc_sound.proofs.Calls.FilledParameters.{Distinct}
 use Rattle.pc_sound.proofs.Modules.ModuleNames.{function_named, class_named}
 use Rattle.pc_sound.proofs.Calls.CallNodes.{function_node_safe, class_node_safe}
 use Rattle.pc_sound.proofs.Calls.MethodNodes.{method_node_safe}
-use Rattle.pc_sound.proofs.Calls.CallRules.{ordinary_mark}
+use Rattle.pc_sound.proofs.Calls.CallRules.{ordinary_label}
 use Rattle.pc_sound.proofs.Calls.ValueCalls.{with_own, ordinary_call, values_quiet, fails_safe, value_callee_safe, named_value_safe, arguments_covered}
 
 -- a name that is no local means what the module says
@@ -88,34 +88,34 @@ module _ (m : Module) (constants : List Tree) (listed : Place → Type 0) (facts
     Fit = fits_of m constants listed owner d lab
 
     -- what a whole call is
-    abbrev CallSafe : (p : Place) (c : Expr) (args : Exprs) (kws : Keywords) → Marks (call p c args kws) → Type 0
+    abbrev CallSafe : (p : Place) (c : Expr) (args : Exprs) (kws : Keywords) → Labels (call p c args kws) → Type 0
     CallSafe p c args kws k = IsSafe Here env (λ j. Unit {0}) (eval_node Step free parts (call p c args kws)) (λ j v. HasType (bases_of m) j k.here.type v)
 
     -- ---- values
 
     -- the callee is a value, and so labelled
-    value_node : (want : Option Tree) (p : Place) (c : Expr) (args : Exprs) (kws : Keywords) (k : Marks (call p c args kws)) (law : Lawful Ctx lab.marks.declared env want (call p c args kws) k) → callee_of Ctx env (arguments_given args kws) c law.value ≡ value_callee (mark_of c law.value) → is_instance_test c args kws ≡ false → Covered Here (Finds (call p c args kws) k) → Keyed (call p c args kws) k
+    value_node : (want : Option Tree) (p : Place) (c : Expr) (args : Exprs) (kws : Keywords) (k : Labels (call p c args kws)) (law : Lawful Ctx lab.labels.declared env want (call p c args kws) k) → callee_of Ctx env (arguments_given args kws) c law.value ≡ value_callee (whole_label c law.value) → is_instance_test c args kws ≡ false → Covered Here (Finds (call p c args kws) k) → Keyed (call p c args kws) k
         → IsSafe Here env (λ j. Unit {0}) ((parts.eval c >>= λ v. comes (Gives (calls_value v))) >>= λ signature_offer. eval_all Step free parts.eval args >>= λ values. eval_keywords Step free parts.eval kws >>= λ more. Emits p >>= λ u. call_callee Step free parts signature_offer values more) (λ j v. HasType (bases_of m) j k.here.type v)
     value_node want p c args kws k law is no_test covered keyed =
-        let own : k.callee ≡ law.value = law.callee ∙ ap (λ x. with_mark c law.value x.mark) is ∙ with_own c law.value in
+        let own : k.callee ≡ law.value = law.callee ∙ ap (λ x. with_label c law.value x.label) is ∙ with_own c law.value in
         fails_safe Here Ctx Fit parts good evaluates env p _ (value_offers (type_of c law.value)) (values_quiet (type_of c law.value))
         (value_callee_safe Here Ctx parts good env c law.value law.lawful (subst (λ x. Covered Here (Finds c x)) own (λ f h. covered f (inr (inl h)))) (subst (λ x. Keyed c x) own keyed.1.0))
         args k.arguments kws k.keywords k.here
-        (ordinary_mark Ctx env (callee_of Ctx env (arguments_given args kws) c law.value) args (item_types args k.arguments) k.here (ap (λ x. x.rule) is) law.here ∙ ap (λ x. call_mark (bases_of m) x.offers) is)
-        (subst (λ x. LawfulItems Ctx lab.marks.declared env (positional_seat x.offers) args k.arguments) is law.arguments)
-        (subst (λ x. LawfulKeywords Ctx lab.marks.declared env (named_seat x.offers) [] kws k.keywords) is law.keywords)
+        (ordinary_label Ctx env (callee_of Ctx env (arguments_given args kws) c law.value) args (item_types args k.arguments) k.here (ap (λ x. x.rule) is) law.here ∙ ap (λ x. call_label (bases_of m) x.offers) is)
+        (subst (λ x. LawfulItems Ctx lab.labels.declared env (positional_seat x.offers) args k.arguments) is law.arguments)
+        (subst (λ x. LawfulKeywords Ctx lab.labels.declared env (named_seat x.offers) [] kws k.keywords) is law.keywords)
         (arguments_covered Here c args kws k.arguments no_test (λ f h. covered f (inr (inr (inr (inl h)))))) (λ f h. covered f (inr (inr (inr (inr h))))) (λ f h. covered f (inl h)) keyed.1.1.0 keyed.1.1.1
 
     -- ---- `e.m`
 
-    attribute_node : (want : Option Tree) (p q : Place) (e : Expr) (w : Name) (args : Exprs) (kws : Keywords) (k : Marks (call p (attribute q e w) args kws)) → Lawful Ctx lab.marks.declared env want (call p (attribute q e w) args kws) k → Covered Here (Finds (call p (attribute q e w) args kws) k) → Keyed (call p (attribute q e w) args kws) k → CallSafe p (attribute q e w) args kws k
+    attribute_node : (want : Option Tree) (p q : Place) (e : Expr) (w : Name) (args : Exprs) (kws : Keywords) (k : Labels (call p (attribute q e w) args kws)) → Lawful Ctx lab.labels.declared env want (call p (attribute q e w) args kws) k → Covered Here (Finds (call p (attribute q e w) args kws) k) → Keyed (call p (attribute q e w) args kws) k → CallSafe p (attribute q e w) args kws k
     attribute_node want p q e w args kws k law covered keyed =
         let found = subst (λ x. Covered Here (Finds (attribute q e w) x)) law.callee (λ f h. covered f (inr (inl h))) in
         let keys = subst (λ x. Keyed (attribute q e w) x) law.callee keyed.1.0 in
-        method_node_safe m facts.inherits constants listed facts.dispatched facts.owner_above (locals owner d) lab.marks.declared Ctx Fit parts good evaluates env facts.labelled runs facts.distinct_methods
-        p q e w args kws law.value.object (method_callee Ctx (arguments_given args kws) w.text (type_of e law.value.object)).mark.codes k.arguments k.keywords k.here law.lawful.object
+        method_node_safe m facts.inherits constants listed facts.dispatched facts.owner_above (locals owner d) lab.labels.declared Ctx Fit parts good evaluates env facts.labelled runs facts.distinct_methods
+        p q e w args kws law.value.object (method_callee Ctx (arguments_given args kws) w.text (type_of e law.value.object)).label.codes k.arguments k.keywords k.here law.lawful.object
         (λ f h. found f (inr h)) keys.1 refl (λ f h. found f (inl h))
-        (ordinary_mark Ctx env (callee_of Ctx env (arguments_given args kws) (attribute q e w) law.value) args (item_types args k.arguments) k.here refl law.here)
+        (ordinary_label Ctx env (callee_of Ctx env (arguments_given args kws) (attribute q e w) law.value) args (item_types args k.arguments) k.here refl law.here)
         law.arguments law.keywords
         (arguments_covered Here (attribute q e w) args kws k.arguments refl (λ f h. covered f (inr (inr (inr (inl h)))))) (λ f h. covered f (inr (inr (inr (inr h))))) (λ f h. covered f (inl h)) keyed.1.1.0 keyed.1.1.1
 
@@ -137,13 +137,13 @@ module _ (m : Module) (constants : List Tree) (listed : Place → Type 0) (facts
     no_local : (word : List ℕ) (r : Res) → Ctx.resolve word ≡ r → ((x : ℕ) → r ≡ res.Local x → ⊥) → (x : ℕ) → Ctx.resolve word ≡ res.Local x → ⊥
     no_local word r e n x f = n x (sym e ∙ f)
 
-    module _ (want : Option Tree) (p : Place) (n : Name) (args : Exprs) (kws : Keywords) (k : Marks (call p (name n) args kws)) (law : Lawful Ctx lab.marks.declared env want (call p (name n) args kws) k) (no_test : is_instance_test (name n) args kws ≡ false) (covered : Covered Here (Finds (call p (name n) args kws) k)) (keyed : Keyed (call p (name n) args kws) k) where
+    module _ (want : Option Tree) (p : Place) (n : Name) (args : Exprs) (kws : Keywords) (k : Labels (call p (name n) args kws)) (law : Lawful Ctx lab.labels.declared env want (call p (name n) args kws) k) (no_test : is_instance_test (name n) args kws ≡ false) (covered : Covered Here (Finds (call p (name n) args kws) k)) (keyed : Keyed (call p (name n) args kws) k) where
       found_args : Covered Here (ItemsFind args k.arguments)
       found_args = arguments_covered Here (name n) args kws k.arguments no_test (λ f h. covered f (inr (inr (inr (inl h)))))
 
       -- the offers and the label of the call, by what the name means
-      offers_are : (c : CalleeLabel) → name_callee Ctx env (arguments_given args kws) (Ctx.resolve n.text) ≡ c → c.rule ≡ member_rule → k.here ≡ call_mark (bases_of m) c.offers
-      offers_are c e member = ordinary_mark Ctx env (name_callee Ctx env (arguments_given args kws) (Ctx.resolve n.text)) args (item_types args k.arguments) k.here (ap (λ x. x.rule) e ∙ member) law.here ∙ ap (λ x. call_mark (bases_of m) x.offers) e
+      offers_are : (c : CalleeLabel) → name_callee Ctx env (arguments_given args kws) (Ctx.resolve n.text) ≡ c → c.rule ≡ member_rule → k.here ≡ call_label (bases_of m) c.offers
+      offers_are c e member = ordinary_label Ctx env (name_callee Ctx env (arguments_given args kws) (Ctx.resolve n.text)) args (item_types args k.arguments) k.here (ap (λ x. x.rule) e ∙ member) law.here ∙ ap (λ x. call_label (bases_of m) x.offers) e
 
       as_ordinary : IsSafe Here env (λ j. Unit {0}) (eval_call Step free parts p (name n) args kws ordinary) (λ j v. HasType (bases_of m) j k.here.type v) → CallSafe p (name n) args kws k
       as_ordinary h = subst (λ form. IsSafe Here env (λ j. Unit {0}) (eval_call Step free parts p (name n) args kws form) (λ j v. HasType (bases_of m) j k.here.type v)) (sym (ordinary_call n args kws no_test)) h
@@ -155,12 +155,12 @@ module _ (m : Module) (constants : List Tree) (listed : Place → Type 0) (facts
           let is : name_callee Ctx env (arguments_given args kws) (Ctx.resolve n.text) ≡ good_callee (signature_offer (arguments_given args kws) (signature_of m a.def) ∷ []) = ap (name_callee Ctx env (arguments_given args kws)) e ∙ ap (λ o. good_callee (function_offer (arguments_given args kws) o ∷ [])) (signature_at m i a.def a.at) in
           let l = facts.labelled (owners.Func i) a.def a.at in
           as_ordinary
-          (function_node_safe m facts.inherits listed (locals owner d) lab.marks.declared (World m constants) (λ j j' made globals grows w. world_later m constants j j' made globals grows w) Ctx Fit parts good evaluates env constants (λ j made globals w. w)
+          (function_node_safe m facts.inherits listed (locals owner d) lab.labels.declared (World m constants) (λ j j' made globals grows w. world_later m constants j j' made globals grows w) Ctx Fit parts good evaluates env constants (λ j made globals w. w)
           p n args kws k.arguments k.keywords k.here i a.def l (runs (owners.Func i) a.def l)
           (λ j st stands. let f = stands.outside.function n.text i a.def a.resolves a.at in
           (f.function, meaning_outside Here Ctx Fit n.text (no_local n.text (res.Func i) e (λ x g. grind (arith, g))) env j st stands ∙ ap (meaning_of_global (is_reserved n.text)) f.is, f.made))
           (offers_are (good_callee (signature_offer (arguments_given args kws) (signature_of m a.def) ∷ [])) is refl) (facts.distinct_functions i a.def a.at)
-          (subst (λ x. LawfulItems Ctx lab.marks.declared env (positional_seat x.offers) args k.arguments) is law.arguments) (subst (λ x. LawfulKeywords Ctx lab.marks.declared env (named_seat x.offers) [] kws k.keywords) is law.keywords)
+          (subst (λ x. LawfulItems Ctx lab.labels.declared env (positional_seat x.offers) args k.arguments) is law.arguments) (subst (λ x. LawfulKeywords Ctx lab.labels.declared env (named_seat x.offers) [] kws k.keywords) is law.keywords)
           found_args (λ f h. covered f (inr (inr (inr (inr h))))) (λ f h. covered f (inl h)) keyed.1.1.0 keyed.1.1.1)
 
       -- a class
@@ -170,46 +170,46 @@ module _ (m : Module) (constants : List Tree) (listed : Place → Type 0) (facts
           go : (b : Test) → nat_lt c Ctx.known ≡ b → CallSafe p (name n) args kws k
           go false t =
               let is : name_callee Ctx env (arguments_given args kws) (Ctx.resolve n.text) ≡ value_callee (in_error E03) = ap (name_callee Ctx env (arguments_given args kws)) e ∙ ap (λ x. if x then good_callee (signature_offer (arguments_given args kws) (class_signature (classes_of m) c) ∷ []) else value_callee (in_error E03)) t in
-              absurd (no_error_at Here Ctx Fit knows env n.place k.callee E03 [] (ap (λ x. x.codes) (law.callee ∙ ap (λ x. x.mark) is)) refl (λ f h. covered f (inr (inl h))))
+              absurd (no_error_at Here Ctx Fit knows env n.place k.callee E03 [] (ap (λ x. x.codes) (law.callee ∙ ap (λ x. x.label) is)) refl (λ f h. covered f (inr (inl h))))
           go true t =
               let is : name_callee Ctx env (arguments_given args kws) (Ctx.resolve n.text) ≡ good_callee (signature_offer (arguments_given args kws) (class_signature (classes_of m) c) ∷ []) = ap (name_callee Ctx env (arguments_given args kws)) e ∙ ap (λ x. if x then good_callee (signature_offer (arguments_given args kws) (class_signature (classes_of m) c) ∷ []) else value_callee (in_error E03)) t in
               let h = class_named m n.text c (outside_class (index_of n.text (locals owner d)) (resolve_in_module m n.text) c e) in
               let b = h.behind in
               let at : c ≡ h.at = omega arith in
               as_ordinary
-              (class_node_safe m facts.inherits listed (locals owner d) lab.marks.declared (World m constants) (λ j j' made globals grows w. world_later m constants j j' made globals grows w) Ctx Fit parts good evaluates env
+              (class_node_safe m facts.inherits listed (locals owner d) lab.labels.declared (World m constants) (λ j j' made globals grows w. world_later m constants j j' made globals grows w) Ctx Fit parts good evaluates env
               p n args kws k.arguments k.keywords k.here c (λ j st stands. means_a_class Here Ctx Fit knows env n.text c e t j st stands) (λ j made globals w. w.classes c h.class (ap (slice_get (classes_in m.items)) at ∙ h.is))
               (offers_are (good_callee (signature_offer (arguments_given args kws) (class_signature (classes_of m) c) ∷ [])) is refl) (facts.distinct_fields c)
-              (subst (λ x. LawfulItems Ctx lab.marks.declared env (positional_seat x.offers) args k.arguments) is law.arguments) (subst (λ x. LawfulKeywords Ctx lab.marks.declared env (named_seat x.offers) [] kws k.keywords) is law.keywords)
+              (subst (λ x. LawfulItems Ctx lab.labels.declared env (positional_seat x.offers) args k.arguments) is law.arguments) (subst (λ x. LawfulKeywords Ctx lab.labels.declared env (named_seat x.offers) [] kws k.keywords) is law.keywords)
               found_args (λ f h. covered f (inr (inr (inr (inr h))))) (λ f h. covered f (inl h)) keyed.1.1.0 keyed.1.1.1)
 
       -- a value
-      named_node : (r : Res) → Ctx.resolve n.text ≡ r → name_callee Ctx env (arguments_given args kws) (Ctx.resolve n.text) ≡ value_callee (name_mark Ctx env (Ctx.resolve n.text)) → CallSafe p (name n) args kws k
+      named_node : (r : Res) → Ctx.resolve n.text ≡ r → name_callee Ctx env (arguments_given args kws) (Ctx.resolve n.text) ≡ value_callee (name_label Ctx env (Ctx.resolve n.text)) → CallSafe p (name n) args kws k
       named_node r e is =
-          let own : k.callee ≡ name_mark Ctx env (Ctx.resolve n.text) = law.callee ∙ ap (λ x. x.mark) is in
-          let same : value_offers (name_mark Ctx env (Ctx.resolve n.text)).type ≡ value_offers k.callee.type = ap (λ x. value_offers x.type) (sym own) in
+          let own : k.callee ≡ name_label Ctx env (Ctx.resolve n.text) = law.callee ∙ ap (λ x. x.label) is in
+          let same : value_offers (name_label Ctx env (Ctx.resolve n.text)).type ≡ value_offers k.callee.type = ap (λ x. value_offers x.type) (sym own) in
           as_ordinary
           (fails_safe Here Ctx Fit parts good evaluates env p _ (value_offers k.callee.type) (values_quiet k.callee.type)
           (named_value_safe Here Ctx Fit knows env parts n k.callee own (λ f h. covered f (inr (inl h))))
           args k.arguments kws k.keywords k.here
-          (offers_are (value_callee (name_mark Ctx env (Ctx.resolve n.text))) is refl ∙ ap (call_mark (bases_of m)) same)
-          (subst (λ x. LawfulItems Ctx lab.marks.declared env (positional_seat x) args k.arguments) (ap (λ x. x.offers) is ∙ same) law.arguments) (subst (λ x. LawfulKeywords Ctx lab.marks.declared env (named_seat x) [] kws k.keywords) (ap (λ x. x.offers) is ∙ same) law.keywords)
+          (offers_are (value_callee (name_label Ctx env (Ctx.resolve n.text))) is refl ∙ ap (call_label (bases_of m)) same)
+          (subst (λ x. LawfulItems Ctx lab.labels.declared env (positional_seat x) args k.arguments) (ap (λ x. x.offers) is ∙ same) law.arguments) (subst (λ x. LawfulKeywords Ctx lab.labels.declared env (named_seat x) [] kws k.keywords) (ap (λ x. x.offers) is ∙ same) law.keywords)
           found_args (λ f h. covered f (inr (inr (inr (inr h))))) (λ f h. covered f (inl h)) keyed.1.1.0 keyed.1.1.1)
 
       name_node : NotReserved Ctx (name n) → CallSafe p (name n) args kws k
       name_node unreserved = go (Ctx.resolve n.text) refl
         where
           go : (r : Res) → Ctx.resolve n.text ≡ r → CallSafe p (name n) args kws k
-          go (res.Local x) e = named_node (res.Local x) e (ap (name_callee Ctx env (arguments_given args kws)) e ∙ ap (λ r. value_callee (name_mark Ctx env r)) (sym e))
-          go (res.Const i) e = named_node (res.Const i) e (ap (name_callee Ctx env (arguments_given args kws)) e ∙ ap (λ r. value_callee (name_mark Ctx env r)) (sym e))
+          go (res.Local x) e = named_node (res.Local x) e (ap (name_callee Ctx env (arguments_given args kws)) e ∙ ap (λ r. value_callee (name_label Ctx env r)) (sym e))
+          go (res.Const i) e = named_node (res.Const i) e (ap (name_callee Ctx env (arguments_given args kws)) e ∙ ap (λ r. value_callee (name_label Ctx env r)) (sym e))
           go (res.Func i) e = function_node i e
           go (res.Class c) e = class_node c e
           go (res.Builtin b) e = absurd (unreserved b e)
-          go res.None e = named_node res.None e (ap (name_callee Ctx env (arguments_given args kws)) e ∙ ap (λ r. value_callee (name_mark Ctx env r)) (sym e))
+          go res.None e = named_node res.None e (ap (name_callee Ctx env (arguments_given args kws)) e ∙ ap (λ r. value_callee (name_label Ctx env r)) (sym e))
 
     -- ---- all other calls
 
-    others_safe : (want : Option Tree) (p : Place) (c : Expr) (args : Exprs) (kws : Keywords) (k : Marks (call p c args kws)) → NotReserved Ctx c → is_instance_test c args kws ≡ false → Lawful Ctx lab.marks.declared env want (call p c args kws) k → Covered Here (Finds (call p c args kws) k) → Keyed (call p c args kws) k → CallSafe p c args kws k
+    others_safe : (want : Option Tree) (p : Place) (c : Expr) (args : Exprs) (kws : Keywords) (k : Labels (call p c args kws)) → NotReserved Ctx c → is_instance_test c args kws ≡ false → Lawful Ctx lab.labels.declared env want (call p c args kws) k → Covered Here (Finds (call p c args kws) k) → Keyed (call p c args kws) k → CallSafe p c args kws k
     others_safe want p (name n) args kws k unreserved no_test law covered keyed = name_node want p n args kws k law no_test covered keyed unreserved
     others_safe want p (attribute q e w) args kws k unreserved no_test law covered keyed = attribute_node want p q e w args kws k law covered keyed
     others_safe want p (number q x) args kws k unreserved no_test law covered keyed = value_node want p (number q x) args kws k law refl refl covered keyed

@@ -14,7 +14,7 @@ use Rattle.pc_class.specs.Facts as facts
 use Rattle.pc_flow.specs.Environment.{Env, join_or_object}
 use Rattle.pc_rules.specs.Context.{Signature}
 use Rattle.pc_rules.specs.Calls.{GivenArguments, arguments_given, count_exprs, is_suited, CallOffer, signature_offer, fails_at_callee, builtin_signature, type_at, list_offers, dict_offers, Seat}
-use Rattle.pc_rules.specs.Labels.{ItemsMarks, KeywordsMarks}
+use Rattle.pc_rules.specs.Labels.{ItemsLabels, KeywordsLabels}
 use Rattle.pc_value.specs.Value as value
 use Rattle.pc_value.specs.Value.{Value, Gives, location, list_cell, Heap, seen, class_seen}
 use Rattle.pc_value.specs.Actions as action
@@ -215,37 +215,37 @@ HasSeat bases k seat s i = (w : Value) → HasEach bases k seat.into w → HasEa
 
 pub suited_performs :
     (bases : Bases) → AreSmaller bases → (k : HeapTyping) (v : Value) (method : BuiltinMethod) (s : Signature) → BuiltinCall bases k v method s
-    → (seat : ℕ → Seat) (named : List ℕ → Seat) (args : Exprs) (marks : ItemsMarks args) (kws : Keywords) (kmarks : KeywordsMarks kws) (values : List Value) (more : List NamedValue)
-    → is_suited (arguments_given args kws) s ≡ true → HasSeat bases k (seat 0) s 0 → ArgumentsHave bases k seat args marks values → KeywordsHave bases k named [] kws kmarks more
+    → (seat : ℕ → Seat) (named : List ℕ → Seat) (args : Exprs) (labels : ItemsLabels args) (kws : Keywords) (klabels : KeywordsLabels kws) (values : List Value) (more : List NamedValue)
+    → is_suited (arguments_given args kws) s ≡ true → HasSeat bases k (seat 0) s 0 → ArgumentsHave bases k seat args labels values → KeywordsHave bases k named [] kws klabels more
     → (t : Tree) → Holds bases k s.returns t → Performs bases k v method values more t
-suited_performs bases ordered k v _ _ (appends u h) seat named args marks kws kmarks values more suited has hv hm t holds = go args marks kws kmarks values more (one_suits u NoneType args kws suited) hv hm
+suited_performs bases ordered k v _ _ (appends u h) seat named args labels kws klabels values more suited has hv hm t holds = go args labels kws klabels values more (one_suits u NoneType args kws suited) hv hm
   where
-    go : (args : Exprs) (marks : ItemsMarks args) (kws : Keywords) (kmarks : KeywordsMarks kws) (values : List Value) (more : List NamedValue) → IsOneArgument args kws → ArgumentsHave bases k seat args marks values → KeywordsHave bases k named [] kws kmarks more → Performs bases k v list_append values more t
-    go (more_exprs e no_exprs) marks no_keywords kmarks (w ∷ []) [] one hv hm = record { of = u; is_list = h; has = (has w hv.0.1).0; gives = holds }
-    go (more_exprs e no_exprs) marks no_keywords kmarks (w ∷ []) (a ∷ rest) one hv hm = absurd hm
-    go (more_exprs e no_exprs) marks no_keywords kmarks (w ∷ x ∷ rest) more one hv hm = absurd hv.1
-    go (more_exprs e no_exprs) marks no_keywords kmarks [] more one hv hm = absurd hv
-    go no_exprs marks kws kmarks values more one hv hm = absurd one
-    go (more_exprs e (more_exprs f rest)) marks kws kmarks values more one hv hm = absurd one
-    go (more_exprs e no_exprs) marks (more_keywords a f rest) kmarks values more one hv hm = absurd one
-suited_performs bases ordered k v _ _ (gets a b key h) seat named args marks kws kmarks values more suited has hv hm t holds = go args marks kws kmarks values more (one_suits a (join_or_object bases b NoneType) args kws suited) hv hm
+    go : (args : Exprs) (labels : ItemsLabels args) (kws : Keywords) (klabels : KeywordsLabels kws) (values : List Value) (more : List NamedValue) → IsOneArgument args kws → ArgumentsHave bases k seat args labels values → KeywordsHave bases k named [] kws klabels more → Performs bases k v list_append values more t
+    go (more_exprs e no_exprs) labels no_keywords klabels (w ∷ []) [] one hv hm = record { of = u; is_list = h; has = (has w hv.0.1).0; gives = holds }
+    go (more_exprs e no_exprs) labels no_keywords klabels (w ∷ []) (a ∷ rest) one hv hm = absurd hm
+    go (more_exprs e no_exprs) labels no_keywords klabels (w ∷ x ∷ rest) more one hv hm = absurd hv.1
+    go (more_exprs e no_exprs) labels no_keywords klabels [] more one hv hm = absurd hv
+    go no_exprs labels kws klabels values more one hv hm = absurd one
+    go (more_exprs e (more_exprs f rest)) labels kws klabels values more one hv hm = absurd one
+    go (more_exprs e no_exprs) labels (more_keywords a f rest) klabels values more one hv hm = absurd one
+suited_performs bases ordered k v _ _ (gets a b key h) seat named args labels kws klabels values more suited has hv hm t holds = go args labels kws klabels values more (one_suits a (join_or_object bases b NoneType) args kws suited) hv hm
   where
-    go : (args : Exprs) (marks : ItemsMarks args) (kws : Keywords) (kmarks : KeywordsMarks kws) (values : List Value) (more : List NamedValue) → IsOneArgument args kws → ArgumentsHave bases k seat args marks values → KeywordsHave bases k named [] kws kmarks more → Performs bases k v dict_get values more t
-    go (more_exprs e no_exprs) marks no_keywords kmarks (w ∷ []) [] one hv hm = record { keys = a; values = b; is_key = key; is_dict = h; has = (has w hv.0.1).0; gives = λ j grows x y. holds j grows x (either_holds bases ordered j b NoneType x y) }
-    go (more_exprs e no_exprs) marks no_keywords kmarks (w ∷ []) (c ∷ rest) one hv hm = absurd hm
-    go (more_exprs e no_exprs) marks no_keywords kmarks (w ∷ x ∷ rest) more one hv hm = absurd hv.1
-    go (more_exprs e no_exprs) marks no_keywords kmarks [] more one hv hm = absurd hv
-    go no_exprs marks kws kmarks values more one hv hm = absurd one
-    go (more_exprs e (more_exprs f rest)) marks kws kmarks values more one hv hm = absurd one
-    go (more_exprs e no_exprs) marks (more_keywords c f rest) kmarks values more one hv hm = absurd one
-suited_performs bases ordered k v _ _ (pops u h) seat named args marks kws kmarks values more suited has hv hm t holds = go args marks kws kmarks values more (none_suits u args kws suited) hv hm
+    go : (args : Exprs) (labels : ItemsLabels args) (kws : Keywords) (klabels : KeywordsLabels kws) (values : List Value) (more : List NamedValue) → IsOneArgument args kws → ArgumentsHave bases k seat args labels values → KeywordsHave bases k named [] kws klabels more → Performs bases k v dict_get values more t
+    go (more_exprs e no_exprs) labels no_keywords klabels (w ∷ []) [] one hv hm = record { keys = a; values = b; is_key = key; is_dict = h; has = (has w hv.0.1).0; gives = λ j grows x y. holds j grows x (either_holds bases ordered j b NoneType x y) }
+    go (more_exprs e no_exprs) labels no_keywords klabels (w ∷ []) (c ∷ rest) one hv hm = absurd hm
+    go (more_exprs e no_exprs) labels no_keywords klabels (w ∷ x ∷ rest) more one hv hm = absurd hv.1
+    go (more_exprs e no_exprs) labels no_keywords klabels [] more one hv hm = absurd hv
+    go no_exprs labels kws klabels values more one hv hm = absurd one
+    go (more_exprs e (more_exprs f rest)) labels kws klabels values more one hv hm = absurd one
+    go (more_exprs e no_exprs) labels (more_keywords c f rest) klabels values more one hv hm = absurd one
+suited_performs bases ordered k v _ _ (pops u h) seat named args labels kws klabels values more suited has hv hm t holds = go args labels kws klabels values more (none_suits u args kws suited) hv hm
   where
-    go : (args : Exprs) (marks : ItemsMarks args) (kws : Keywords) (kmarks : KeywordsMarks kws) (values : List Value) (more : List NamedValue) → IsNoArgument args kws → ArgumentsHave bases k seat args marks values → KeywordsHave bases k named [] kws kmarks more → Performs bases k v list_pop values more t
-    go no_exprs marks no_keywords kmarks [] [] one hv hm = record { of = u; is_list = h; gives = holds }
-    go no_exprs marks no_keywords kmarks [] (c ∷ rest) one hv hm = absurd hm
-    go no_exprs marks no_keywords kmarks (w ∷ rest) more one hv hm = absurd hv
-    go (more_exprs e rest) marks kws kmarks values more one hv hm = absurd one
-    go no_exprs marks (more_keywords c f rest) kmarks values more one hv hm = absurd one
+    go : (args : Exprs) (labels : ItemsLabels args) (kws : Keywords) (klabels : KeywordsLabels kws) (values : List Value) (more : List NamedValue) → IsNoArgument args kws → ArgumentsHave bases k seat args labels values → KeywordsHave bases k named [] kws klabels more → Performs bases k v list_pop values more t
+    go no_exprs labels no_keywords klabels [] [] one hv hm = record { of = u; is_list = h; gives = holds }
+    go no_exprs labels no_keywords klabels [] (c ∷ rest) one hv hm = absurd hm
+    go no_exprs labels no_keywords klabels (w ∷ rest) more one hv hm = absurd hv
+    go (more_exprs e rest) labels kws klabels values more one hv hm = absurd one
+    go no_exprs labels (more_keywords c f rest) klabels values more one hv hm = absurd one
 
 -- ---- the step
 

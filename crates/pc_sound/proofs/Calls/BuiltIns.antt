@@ -18,11 +18,11 @@ use Rattle.pc_types.specs.Below.{Bases}
 use Rattle.pc_types.specs.Shape.{members}
 use Rattle.pc_class.specs.Facts as facts
 use Rattle.pc_flow.specs.Environment.{Env}
-use Rattle.pc_rules.specs.Operations.{Mark, in_error, offers_mark, length_member}
+use Rattle.pc_rules.specs.Operations.{Label, in_error, offers_label, length_member}
 use Rattle.pc_rules.specs.Context.{Context}
-use Rattle.pc_rules.specs.Calls.{GivenArguments, arguments_given, count_exprs, is_one, is_two, CallOffer, plain_call, fails_at_call, Seat, length_rule, test_rule, own_callee, builtin_callee, good_callee, value_callee, name_callee, call_mark, length_mark, positional_seat, named_seat}
-use Rattle.pc_rules.specs.Labels.{Marks, type_of, item_types, ItemsMarks, KeywordsMarks, Finds, ItemsFind, ArgumentsFind, IsFoundAt}
-use Rattle.pc_rules.specs.Lawful.{Lawful, callee_of, whole_call_mark}
+use Rattle.pc_rules.specs.Calls.{GivenArguments, arguments_given, count_exprs, is_one, is_two, CallOffer, plain_call, fails_at_call, Seat, length_rule, test_rule, own_callee, builtin_callee, good_callee, value_callee, name_callee, call_label, length_label, positional_seat, named_seat}
+use Rattle.pc_rules.specs.Labels.{Labels, type_of, item_types, ItemsLabels, KeywordsLabels, Finds, ItemsFind, ArgumentsFind, IsFoundAt}
+use Rattle.pc_rules.specs.Lawful.{Lawful, callee_of, whole_call_label}
 use Rattle.pc_rules.proofs.SaidInLabels.{as_arguments}
 use Rattle.pc_value.specs.Value as value
 use Rattle.pc_value.specs.Value.{Value, Gives, whole, boolean, string, tuple_of, location, Heap, seen}
@@ -111,7 +111,7 @@ no_test _ o x = absurd o
 
 module _ (around : Around) (ctx : Context) (fits : IsContextOf around ctx) (knows : KnowsNames around ctx) (parts : Parts Step) (good : GoodEval around ctx parts.eval) (evaluates : (e : Expr) → Evaluates (place_of e) (parts.eval e)) (env : Env) where
   -- a reserved name as a callee
-  reserved_callee_safe : (n : Name) (b : Builtin) → ctx.resolve n.text ≡ res.Builtin b → (callee : Mark) → Covered around (IsFoundAt n.place callee.codes) → IsSafe around env (λ k. Unit {0}) (eval_callee Step free parts (name n)) (λ k c. c ≡ calls_reserved n.text)
+  reserved_callee_safe : (n : Name) (b : Builtin) → ctx.resolve n.text ≡ res.Builtin b → (callee : Label) → Covered around (IsFoundAt n.place callee.codes) → IsSafe around env (λ k. Unit {0}) (eval_callee Step free parts (name n)) (λ k c. c ≡ calls_reserved n.text)
   reserved_callee_safe n b is callee covered =
       bind_safe around env _ _ _ (λ k u. Unit {0}) _ (λ k k' x h. tt) (may_stop_safe around env _)
       λ u. bind_safe around env _ _ _ (λ k w. callee.codes ≡ []) _ (λ k k' x h. (tt, tt)) (emits_safe around env _ n.place callee.codes (allowed around n.place callee.codes covered))
@@ -128,16 +128,16 @@ module _ (around : Around) (ctx : Context) (fits : IsContextOf around ctx) (know
     offered g = ap (name_callee ctx env g) is
 
     -- the label of the call, by what it comes to
-    pub plain_mark : (args : Exprs) (kws : Keywords) (types : List Tree) (here : Mark) (offers : List CallOffer) → builtin_callee (arguments_given args kws) b ≡ good_callee offers → here ≡ whole_call_mark ctx env (name_callee ctx env (arguments_given args kws) (ctx.resolve n.text)).rule (name_callee ctx env (arguments_given args kws) (ctx.resolve n.text)).offers args types → here ≡ call_mark around.bases offers
-    plain_mark args kws types here offers plain law = law ∙ ap (λ c. whole_call_mark ctx env c.rule c.offers args types) (offered (arguments_given args kws) ∙ plain) ∙ ap (λ x. call_mark x offers) (sym fits.bases)
+    pub plain_label : (args : Exprs) (kws : Keywords) (types : List Tree) (here : Label) (offers : List CallOffer) → builtin_callee (arguments_given args kws) b ≡ good_callee offers → here ≡ whole_call_label ctx env (name_callee ctx env (arguments_given args kws) (ctx.resolve n.text)).rule (name_callee ctx env (arguments_given args kws) (ctx.resolve n.text)).offers args types → here ≡ call_label around.bases offers
+    plain_label args kws types here offers plain law = law ∙ ap (λ c. whole_call_label ctx env c.rule c.offers args types) (offered (arguments_given args kws) ∙ plain) ∙ ap (λ x. call_label x offers) (sym fits.bases)
 
     -- the label of `len` of one argument
-    length_here : (args : Exprs) (kws : Keywords) (types : List Tree) (here : Mark) → builtin_callee (arguments_given args kws) b ≡ own_callee length_rule → here ≡ whole_call_mark ctx env (name_callee ctx env (arguments_given args kws) (ctx.resolve n.text)).rule (name_callee ctx env (arguments_given args kws) (ctx.resolve n.text)).offers args types → here ≡ length_mark around.bases types
-    length_here args kws types here one law = law ∙ ap (λ c. whole_call_mark ctx env c.rule c.offers args types) (offered (arguments_given args kws) ∙ one) ∙ ap (λ x. length_mark x types) (sym fits.bases)
+    length_here : (args : Exprs) (kws : Keywords) (types : List Tree) (here : Label) → builtin_callee (arguments_given args kws) b ≡ own_callee length_rule → here ≡ whole_call_label ctx env (name_callee ctx env (arguments_given args kws) (ctx.resolve n.text)).rule (name_callee ctx env (arguments_given args kws) (ctx.resolve n.text)).offers args types → here ≡ length_label around.bases types
+    length_here args kws types here one law = law ∙ ap (λ c. whole_call_label ctx env c.rule c.offers args types) (offered (arguments_given args kws) ∙ one) ∙ ap (λ x. length_label x types) (sym fits.bases)
 
     -- the call, where what the reserved name does with its arguments is safe
     reserved_safe :
-        (want : Option Tree) (args : Exprs) (kws : Keywords) (m : Marks (call p (name n) args kws)) (law : Lawful ctx around.declared env want (call p (name n) args kws) m) → Covered around (Finds (call p (name n) args kws) m) → Keyed (call p (name n) args kws) m
+        (want : Option Tree) (args : Exprs) (kws : Keywords) (m : Labels (call p (name n) args kws)) (law : Lawful ctx around.declared env want (call p (name n) args kws) m) → Covered around (Finds (call p (name n) args kws) m) → Keyed (call p (name n) args kws) m
         → ((values : List Value) (more : List NamedValue) → IsSafe around env (λ k. (ArgumentsHave around.bases k (positional_seat (callee_of ctx env (arguments_given args kws) (name n) law.value).offers) args m.arguments values × KeywordsHave around.bases k (named_seat (callee_of ctx env (arguments_given args kws) (name n) law.value).offers) [] kws m.keywords more) × (m.here.codes ≡ [])) (call_callee Step free parts (calls_reserved (builtin_text b)) values more) (λ k v. HasType around.bases k m.here.type v))
         → IsSafe around env (λ k. Unit {0}) (eval_node Step free parts (call p (name n) args kws)) (λ k v. HasType around.bases k m.here.type v)
     reserved_safe want args kws m law covered keyed calls =
@@ -153,22 +153,22 @@ module _ (around : Around) (ctx : Context) (fits : IsContextOf around ctx) (know
 
   -- ---- labels of calls
 
-  pub wrong_call : (p : Place) (here : Mark) (code : Code) → here ≡ call_mark around.bases (fails_at_call code ∷ []) → IsError code → Covered around (IsFoundAt p here.codes) → ⊥
+  pub wrong_call : (p : Place) (here : Label) (code : Code) → here ≡ call_label around.bases (fails_at_call code ∷ []) → IsError code → Covered around (IsFoundAt p here.codes) → ⊥
   wrong_call p here code e err covered = no_error_at around ctx fits knows env p here code [] (ap (λ x. x.codes) e) err covered
 
-  of_plain : (k : HeapTyping) (here : Mark) (t : Tree) → here ≡ call_mark around.bases (plain_call t ∷ []) → (w : Value) → HasType around.bases k t w → HasType around.bases k here.type w
+  of_plain : (k : HeapTyping) (here : Label) (t : Tree) → here ≡ call_label around.bases (plain_call t ∷ []) → (w : Value) → HasType around.bases k t w → HasType around.bases k here.type w
   of_plain k here t e w h = subst (λ u. HasType around.bases k u w) (ap (λ x. x.type) (sym e)) (all_hold around.bases fits.smaller k (t ∷ []) w (inl h))
 
-  no_more : (k : HeapTyping) (seat : List ℕ → Seat) (marks : KeywordsMarks no_keywords) (more : List NamedValue) → KeywordsHave around.bases k seat [] no_keywords marks more → more ≡ []
-  no_more k seat marks [] h = refl
-  no_more k seat marks (a ∷ rest) h = absurd h
+  no_more : (k : HeapTyping) (seat : List ℕ → Seat) (labels : KeywordsLabels no_keywords) (more : List NamedValue) → KeywordsHave around.bases k seat [] no_keywords labels more → more ≡ []
+  no_more k seat labels [] h = refl
+  no_more k seat labels (a ∷ rest) h = absurd h
 
-  module _ (seat : ℕ → Seat) (named : List ℕ → Seat) (args : Exprs) (marks : ItemsMarks args) (kws : Keywords) (kmarks : KeywordsMarks kws) (here : Mark) where
+  module _ (seat : ℕ → Seat) (named : List ℕ → Seat) (args : Exprs) (labels : ItemsLabels args) (kws : Keywords) (klabels : KeywordsLabels kws) (here : Label) where
     abbrev Known : List Value → List NamedValue → HeapTyping → Type 0
-    Known values more k = (ArgumentsHave around.bases k seat args marks values × KeywordsHave around.bases k named [] kws kmarks more) × (here.codes ≡ [])
+    Known values more k = (ArgumentsHave around.bases k seat args labels values × KeywordsHave around.bases k named [] kws klabels more) × (here.codes ≡ [])
 
     known_stays : (values : List Value) (more : List NamedValue) → Stays (Known values more)
-    known_stays values more k k' x h = ((arguments_later around.bases x seat args marks values h.0.0, keywords_later around.bases x named [] kws kmarks more h.0.1), h.1)
+    known_stays values more k k' x h = ((arguments_later around.bases x seat args labels values h.0.0, keywords_later around.bases x named [] kws klabels more h.0.1), h.1)
 
     -- what a reserved name does, where it is known to do this
     does_safe : (w : List ℕ) (values : List Value) (more : List NamedValue) (r : ReservedCall) (P : HeapTyping → Value → Type 0) → ((k : HeapTyping) → Known values more k → reserved_call w values more ≡ Gives r) → IsSafe around env (Known values more) (do_reserved Step free r) P → IsSafe around env (Known values more) (call_callee Step free parts (calls_reserved w) values more) P
@@ -179,13 +179,13 @@ module _ (around : Around) (ctx : Context) (fits : IsContextOf around ctx) (know
 
   -- ---- `print`
 
-  pub print_safe : (want : Option Tree) (p : Place) (n : Name) → ctx.resolve n.text ≡ res.Builtin builtin.Print → (args : Exprs) (kws : Keywords) (m : Marks (call p (name n) args kws)) → Lawful ctx around.declared env want (call p (name n) args kws) m → Covered around (Finds (call p (name n) args kws) m) → Keyed (call p (name n) args kws) m → IsSafe around env (λ k. Unit {0}) (eval_node Step free parts (call p (name n) args kws)) (λ k v. HasType around.bases k m.here.type v)
+  pub print_safe : (want : Option Tree) (p : Place) (n : Name) → ctx.resolve n.text ≡ res.Builtin builtin.Print → (args : Exprs) (kws : Keywords) (m : Labels (call p (name n) args kws)) → Lawful ctx around.declared env want (call p (name n) args kws) m → Covered around (Finds (call p (name n) args kws) m) → Keyed (call p (name n) args kws) m → IsSafe around env (λ k. Unit {0}) (eval_node Step free parts (call p (name n) args kws)) (λ k v. HasType around.bases k m.here.type v)
   print_safe want p n is args (more_keywords w e rest) m law covered keyed =
-      absurd (wrong_call p m.here E14 (plain_mark p n builtin.Print is tt args (more_keywords w e rest) (item_types args m.arguments) m.here (fails_at_call E14 ∷ []) refl law.here) refl (λ f h. covered f (inl h)))
+      absurd (wrong_call p m.here E14 (plain_label p n builtin.Print is tt args (more_keywords w e rest) (item_types args m.arguments) m.here (fails_at_call E14 ∷ []) refl law.here) refl (λ f h. covered f (inl h)))
   print_safe want p n is args no_keywords m law covered keyed = reserved_safe p n builtin.Print is tt want args no_keywords m law covered keyed each
     where
-      here : m.here ≡ call_mark around.bases (plain_call NoneType ∷ [])
-      here = plain_mark p n builtin.Print is tt args no_keywords (item_types args m.arguments) m.here (plain_call NoneType ∷ []) refl law.here
+      here : m.here ≡ call_label around.bases (plain_call NoneType ∷ [])
+      here = plain_label p n builtin.Print is tt args no_keywords (item_types args m.arguments) m.here (plain_call NoneType ∷ []) refl law.here
 
       seat : ℕ → Seat
       seat = positional_seat (callee_of ctx env (arguments_given args no_keywords) (name n) law.value).offers
@@ -200,17 +200,17 @@ module _ (around : Around) (ctx : Context) (fits : IsContextOf around ctx) (know
 
   -- ---- `str`
 
-  pub str_safe : (want : Option Tree) (p : Place) (n : Name) → ctx.resolve n.text ≡ res.Builtin builtin.Str → (args : Exprs) (kws : Keywords) (m : Marks (call p (name n) args kws)) → Lawful ctx around.declared env want (call p (name n) args kws) m → Covered around (Finds (call p (name n) args kws) m) → Keyed (call p (name n) args kws) m → IsSafe around env (λ k. Unit {0}) (eval_node Step free parts (call p (name n) args kws)) (λ k v. HasType around.bases k m.here.type v)
+  pub str_safe : (want : Option Tree) (p : Place) (n : Name) → ctx.resolve n.text ≡ res.Builtin builtin.Str → (args : Exprs) (kws : Keywords) (m : Labels (call p (name n) args kws)) → Lawful ctx around.declared env want (call p (name n) args kws) m → Covered around (Finds (call p (name n) args kws) m) → Keyed (call p (name n) args kws) m → IsSafe around env (λ k. Unit {0}) (eval_node Step free parts (call p (name n) args kws)) (λ k v. HasType around.bases k m.here.type v)
   str_safe want p n is no_exprs kws m law covered keyed =
-      absurd (wrong_call p m.here E14 (plain_mark p n builtin.Str is tt no_exprs kws (item_types no_exprs m.arguments) m.here (fails_at_call E14 ∷ []) refl law.here) refl (λ f h. covered f (inl h)))
+      absurd (wrong_call p m.here E14 (plain_label p n builtin.Str is tt no_exprs kws (item_types no_exprs m.arguments) m.here (fails_at_call E14 ∷ []) refl law.here) refl (λ f h. covered f (inl h)))
   str_safe want p n is (more_exprs a (more_exprs c rest)) kws m law covered keyed =
-      absurd (wrong_call p m.here E14 (plain_mark p n builtin.Str is tt (more_exprs a (more_exprs c rest)) kws (item_types (more_exprs a (more_exprs c rest)) m.arguments) m.here (fails_at_call E14 ∷ []) (ap (λ x. good_callee ((if x then plain_call Str else fails_at_call E14) ∷ [])) (two_are_not_one a c rest kws)) law.here) refl (λ f h. covered f (inl h)))
+      absurd (wrong_call p m.here E14 (plain_label p n builtin.Str is tt (more_exprs a (more_exprs c rest)) kws (item_types (more_exprs a (more_exprs c rest)) m.arguments) m.here (fails_at_call E14 ∷ []) (ap (λ x. good_callee ((if x then plain_call Str else fails_at_call E14) ∷ [])) (two_are_not_one a c rest kws)) law.here) refl (λ f h. covered f (inl h)))
   str_safe want p n is (more_exprs a no_exprs) (more_keywords w e rest) m law covered keyed =
-      absurd (wrong_call p m.here E14 (plain_mark p n builtin.Str is tt (more_exprs a no_exprs) (more_keywords w e rest) (item_types (more_exprs a no_exprs) m.arguments) m.here (fails_at_call E14 ∷ []) refl law.here) refl (λ f h. covered f (inl h)))
+      absurd (wrong_call p m.here E14 (plain_label p n builtin.Str is tt (more_exprs a no_exprs) (more_keywords w e rest) (item_types (more_exprs a no_exprs) m.arguments) m.here (fails_at_call E14 ∷ []) refl law.here) refl (λ f h. covered f (inl h)))
   str_safe want p n is (more_exprs a no_exprs) no_keywords m law covered keyed = reserved_safe p n builtin.Str is tt want (more_exprs a no_exprs) no_keywords m law covered keyed each
     where
-      here : m.here ≡ call_mark around.bases (plain_call Str ∷ [])
-      here = plain_mark p n builtin.Str is tt (more_exprs a no_exprs) no_keywords (item_types (more_exprs a no_exprs) m.arguments) m.here (plain_call Str ∷ []) refl law.here
+      here : m.here ≡ call_label around.bases (plain_call Str ∷ [])
+      here = plain_label p n builtin.Str is tt (more_exprs a no_exprs) no_keywords (item_types (more_exprs a no_exprs) m.arguments) m.here (plain_call Str ∷ []) refl law.here
 
       seat : ℕ → Seat
       seat = positional_seat (callee_of ctx env (arguments_given (more_exprs a no_exprs) no_keywords) (name n) law.value).offers
@@ -228,19 +228,19 @@ module _ (around : Around) (ctx : Context) (fits : IsContextOf around ctx) (know
 
   -- ---- `len`
 
-  pub len_safe : (want : Option Tree) (p : Place) (n : Name) → ctx.resolve n.text ≡ res.Builtin builtin.Len → (args : Exprs) (kws : Keywords) (m : Marks (call p (name n) args kws)) → Lawful ctx around.declared env want (call p (name n) args kws) m → Covered around (Finds (call p (name n) args kws) m) → Keyed (call p (name n) args kws) m → IsSafe around env (λ k. Unit {0}) (eval_node Step free parts (call p (name n) args kws)) (λ k v. HasType around.bases k m.here.type v)
+  pub len_safe : (want : Option Tree) (p : Place) (n : Name) → ctx.resolve n.text ≡ res.Builtin builtin.Len → (args : Exprs) (kws : Keywords) (m : Labels (call p (name n) args kws)) → Lawful ctx around.declared env want (call p (name n) args kws) m → Covered around (Finds (call p (name n) args kws) m) → Keyed (call p (name n) args kws) m → IsSafe around env (λ k. Unit {0}) (eval_node Step free parts (call p (name n) args kws)) (λ k v. HasType around.bases k m.here.type v)
   len_safe want p n is no_exprs kws m law covered keyed =
-      absurd (wrong_call p m.here E14 (plain_mark p n builtin.Len is tt no_exprs kws (item_types no_exprs m.arguments) m.here (fails_at_call E14 ∷ []) refl law.here) refl (λ f h. covered f (inl h)))
+      absurd (wrong_call p m.here E14 (plain_label p n builtin.Len is tt no_exprs kws (item_types no_exprs m.arguments) m.here (fails_at_call E14 ∷ []) refl law.here) refl (λ f h. covered f (inl h)))
   len_safe want p n is (more_exprs a (more_exprs c rest)) kws m law covered keyed =
-      absurd (wrong_call p m.here E14 (plain_mark p n builtin.Len is tt (more_exprs a (more_exprs c rest)) kws (item_types (more_exprs a (more_exprs c rest)) m.arguments) m.here (fails_at_call E14 ∷ []) (ap (λ x. if x then own_callee length_rule else good_callee (fails_at_call E14 ∷ [])) (two_are_not_one a c rest kws)) law.here) refl (λ f h. covered f (inl h)))
+      absurd (wrong_call p m.here E14 (plain_label p n builtin.Len is tt (more_exprs a (more_exprs c rest)) kws (item_types (more_exprs a (more_exprs c rest)) m.arguments) m.here (fails_at_call E14 ∷ []) (ap (λ x. if x then own_callee length_rule else good_callee (fails_at_call E14 ∷ [])) (two_are_not_one a c rest kws)) law.here) refl (λ f h. covered f (inl h)))
   len_safe want p n is (more_exprs a no_exprs) (more_keywords w e rest) m law covered keyed =
-      absurd (wrong_call p m.here E14 (plain_mark p n builtin.Len is tt (more_exprs a no_exprs) (more_keywords w e rest) (item_types (more_exprs a no_exprs) m.arguments) m.here (fails_at_call E14 ∷ []) refl law.here) refl (λ f h. covered f (inl h)))
+      absurd (wrong_call p m.here E14 (plain_label p n builtin.Len is tt (more_exprs a no_exprs) (more_keywords w e rest) (item_types (more_exprs a no_exprs) m.arguments) m.here (fails_at_call E14 ∷ []) refl law.here) refl (λ f h. covered f (inl h)))
   len_safe want p n is (more_exprs a no_exprs) no_keywords m law covered keyed = reserved_safe p n builtin.Len is tt want (more_exprs a no_exprs) no_keywords m law covered keyed each
     where
       object : Tree
       object = type_of a m.arguments.first
 
-      here : m.here ≡ offers_mark around.bases (map length_member (members object))
+      here : m.here ≡ offers_label around.bases (map length_member (members object))
       here = length_here p n builtin.Len is tt (more_exprs a no_exprs) no_keywords (item_types (more_exprs a no_exprs) m.arguments) m.here refl law.here
 
       seat : ℕ → Seat
@@ -259,27 +259,27 @@ module _ (around : Around) (ctx : Context) (fits : IsContextOf around ctx) (know
 
   -- ---- `range` outside a `for`, and reserved names that are not called
 
-  pub range_error : (p : Place) (n : Name) → ctx.resolve n.text ≡ res.Builtin builtin.Range → (want : Option Tree) (args : Exprs) (kws : Keywords) (m : Marks (call p (name n) args kws)) → Lawful ctx around.declared env want (call p (name n) args kws) m → Covered around (Finds (call p (name n) args kws) m) → ⊥
-  range_error p n is want args kws m law covered = go (is_one (arguments_given args kws)) (plain_mark p n builtin.Range is tt args kws (item_types args m.arguments) m.here _ refl law.here)
+  pub range_error : (p : Place) (n : Name) → ctx.resolve n.text ≡ res.Builtin builtin.Range → (want : Option Tree) (args : Exprs) (kws : Keywords) (m : Labels (call p (name n) args kws)) → Lawful ctx around.declared env want (call p (name n) args kws) m → Covered around (Finds (call p (name n) args kws) m) → ⊥
+  range_error p n is want args kws m law covered = go (is_one (arguments_given args kws)) (plain_label p n builtin.Range is tt args kws (item_types args m.arguments) m.here _ refl law.here)
     where
-      go : (x : Test) → m.here ≡ call_mark around.bases ((if x then fails_at_call E27 else fails_at_call E14) ∷ []) → ⊥
+      go : (x : Test) → m.here ≡ call_label around.bases ((if x then fails_at_call E27 else fails_at_call E14) ∷ []) → ⊥
       go true e = wrong_call p m.here E27 e refl (λ f h. covered f (inl h))
       go false e = wrong_call p m.here E14 e refl (λ f h. covered f (inl h))
 
-  pub not_callable : (b : Builtin) → ((g : GivenArguments) → builtin_callee g b ≡ value_callee (in_error E20)) → (p : Place) (n : Name) → ctx.resolve n.text ≡ res.Builtin b → (want : Option Tree) (args : Exprs) (kws : Keywords) (m : Marks (call p (name n) args kws)) → Lawful ctx around.declared env want (call p (name n) args kws) m → Covered around (Finds (call p (name n) args kws) m) → ⊥
+  pub not_callable : (b : Builtin) → ((g : GivenArguments) → builtin_callee g b ≡ value_callee (in_error E20)) → (p : Place) (n : Name) → ctx.resolve n.text ≡ res.Builtin b → (want : Option Tree) (args : Exprs) (kws : Keywords) (m : Labels (call p (name n) args kws)) → Lawful ctx around.declared env want (call p (name n) args kws) m → Covered around (Finds (call p (name n) args kws) m) → ⊥
   not_callable b other p n is want args kws m law covered =
       no_error_at around ctx fits knows env n.place m.callee E20 []
-      (ap (λ x. x.codes) (law.callee ∙ ap (λ r. (name_callee ctx env (arguments_given args kws) r).mark) is ∙ ap (λ x. x.mark) (other (arguments_given args kws))))
+      (ap (λ x. x.codes) (law.callee ∙ ap (λ r. (name_callee ctx env (arguments_given args kws) r).label) is ∙ ap (λ x. x.label) (other (arguments_given args kws))))
       refl (λ f h. covered f (inr (inl h)))
 
   -- `isinstance` on other arguments than two by position
-  pub test_error : (p : Place) (n : Name) → ctx.resolve n.text ≡ res.Builtin builtin.IsInstance → (want : Option Tree) (args : Exprs) (kws : Keywords) (m : Marks (call p (name n) args kws)) → is_instance_test (name n) args kws ≡ false → Lawful ctx around.declared env want (call p (name n) args kws) m → Covered around (Finds (call p (name n) args kws) m) → ⊥
+  pub test_error : (p : Place) (n : Name) → ctx.resolve n.text ≡ res.Builtin builtin.IsInstance → (want : Option Tree) (args : Exprs) (kws : Keywords) (m : Labels (call p (name n) args kws)) → is_instance_test (name n) args kws ≡ false → Lawful ctx around.declared env want (call p (name n) args kws) m → Covered around (Finds (call p (name n) args kws) m) → ⊥
   test_error p n is want args kws m no_test_here law covered =
       let g = arguments_given args kws in
       let named : is_instance_test (name n) args kws ≡ are_two args kws = ap (λ w. bytes_eq (codes "isinstance") w && are_two args kws) (reserved_is around ctx fits knows env n.text builtin.IsInstance is) in
       let other : is_two g ≡ false = two_are_two args kws ∙ sym named ∙ no_test_here in
       wrong_call p m.here E14 (
       law.here
-      ∙ ap (λ c. whole_call_mark ctx env c.rule c.offers args (item_types args m.arguments)) (ap (name_callee ctx env g) is ∙ ap (λ x. if x then own_callee test_rule else good_callee (fails_at_call E14 ∷ [])) other)
-      ∙ ap (λ x. call_mark x (fails_at_call E14 ∷ [])) (sym fits.bases)
+      ∙ ap (λ c. whole_call_label ctx env c.rule c.offers args (item_types args m.arguments)) (ap (name_callee ctx env g) is ∙ ap (λ x. if x then own_callee test_rule else good_callee (fails_at_call E14 ∷ [])) other)
+      ∙ ap (λ x. call_label x (fails_at_call E14 ∷ [])) (sym fits.bases)
       ) refl (λ f h. covered f (inl h))

@@ -13,11 +13,11 @@ use Rattle.pc_types.specs.Below.{Bases}
 use Rattle.pc_class.specs.Bases.{bases_of}
 use Rattle.pc_class.specs.Facts.{parameters_of, return_type, classes_of, class_facts_at}
 use Rattle.pc_flow.specs.Environment.{Env}
-use Rattle.pc_rules.specs.Operations.{Mark}
+use Rattle.pc_rules.specs.Operations.{Label}
 use Rattle.pc_rules.specs.Context.{Context, Signature}
 use Rattle.pc_rules.specs.Signatures.{signature_of}
-use Rattle.pc_rules.specs.Calls.{GivenArguments, arguments_given, is_suited, Seat, signature_offer, fails_at_call, class_signature, all_codes, call_mark, positional_seat, named_seat}
-use Rattle.pc_rules.specs.Labels.{ItemsMarks, KeywordsMarks, ItemsFind, KeywordsFind, IsFoundAt}
+use Rattle.pc_rules.specs.Calls.{GivenArguments, arguments_given, is_suited, Seat, signature_offer, fails_at_call, class_signature, all_codes, call_label, positional_seat, named_seat}
+use Rattle.pc_rules.specs.Labels.{ItemsLabels, KeywordsLabels, ItemsFind, KeywordsFind, IsFoundAt}
 use Rattle.pc_rules.specs.Lawful.{LawfulItems, LawfulKeywords}
 use Rattle.pc_value.specs.Value.{Value}
 use Rattle.pc_machine.specs.State.{State, Function, Class, Globals}
@@ -51,7 +51,7 @@ callee_quiet g s = go (is_suited g s) refl
     go false t = ap (λ b. (if b then record { at_callee = []; at_call = []; gives = s.returns; calls = s ∷ [] } else fails_at_call E14).at_callee) t
 
 -- one signature that is called: nothing is found at its callee, and at the call nothing where no code stands there
-one_quiet : (g : GivenArguments) (s : Signature) (bases : Bases) (here : Mark) → here ≡ call_mark bases (signature_offer g s ∷ []) → here.codes ≡ [] → all_codes (signature_offer g s ∷ []) ≡ []
+one_quiet : (g : GivenArguments) (s : Signature) (bases : Bases) (here : Label) → here ≡ call_label bases (signature_offer g s ∷ []) → here.codes ≡ [] → all_codes (signature_offer g s ∷ []) ≡ []
 one_quiet g s bases here is none = all_quiet (signature_offer g s ∷ []) (λ i. callee_quiet g s i ++ []) (ap (λ x. x.codes) (sym is) ∙ none)
 
 module _ (m : Module) (inherits : Inherits (bases_of m) (classes_of m)) (listed : Place → Type 0) (names : List (List ℕ)) (declared : List Tree) (outside : HeapTyping → List Class → Globals → Type 0) (outside_stays : (k k' : HeapTyping) (made : List Class) (globals : Globals) → Extends k k' → outside k made globals → outside k' made globals) where
@@ -59,13 +59,13 @@ module _ (m : Module) (inherits : Inherits (bases_of m) (classes_of m)) (listed 
   Here = Caller m inherits listed names declared outside outside_stays
 
   module _ (ctx : Context) (fits : IsContextOf (Caller m inherits listed names declared outside outside_stays) ctx) (parts : Parts Step) (good : GoodEval (Caller m inherits listed names declared outside outside_stays) ctx parts.eval) (evaluates : (e : Expr) → Evaluates (place_of e) (parts.eval e)) (env : Env) where
-    known_stays : (Q : HeapTyping → Callee → Type 0) → ((c : Callee) → Stays (λ k. Q k c)) → (seat : ℕ → Seat) (named : List ℕ → Seat) (args : Exprs) (im : ItemsMarks args) (kws : Keywords) (km : KeywordsMarks kws) (here : Mark) (c : Callee) (values : List Value) (more : List NamedValue) → Stays (KnownCall Here ctx fits parts good evaluates env Q seat named args im kws km here c values more)
+    known_stays : (Q : HeapTyping → Callee → Type 0) → ((c : Callee) → Stays (λ k. Q k c)) → (seat : ℕ → Seat) (named : List ℕ → Seat) (args : Exprs) (im : ItemsLabels args) (kws : Keywords) (km : KeywordsLabels kws) (here : Label) (c : Callee) (values : List Value) (more : List NamedValue) → Stays (KnownCall Here ctx fits parts good evaluates env Q seat named args im kws km here c values more)
     known_stays Q stays seat named args im kws km here c values more k k' x h = ((((tt, stays c k k' x h.0.0.0.1), arguments_later (bases_of m) x seat args im values h.0.0.1), keywords_later (bases_of m) x named [] kws km more h.0.1), h.1)
 
     -- a call of one signature: it is safe where what is called is, whose parameters the arguments suit
     one_called :
-        (p : Place) (n : Name) (args : Exprs) (kws : Keywords) (im : ItemsMarks args) (km : KeywordsMarks kws) (here : Mark) (s : Signature)
-        → here ≡ call_mark (bases_of m) (signature_offer (arguments_given args kws) s ∷ []) → Distinct [] s.parameters
+        (p : Place) (n : Name) (args : Exprs) (kws : Keywords) (im : ItemsLabels args) (km : KeywordsLabels kws) (here : Label) (s : Signature)
+        → here ≡ call_label (bases_of m) (signature_offer (arguments_given args kws) s ∷ []) → Distinct [] s.parameters
         → (Q : HeapTyping → Callee → Type 0) → ((c : Callee) → Stays (λ k. Q k c)) → ((k : HeapTyping) (st : State) → IsWellTyped Here env k st → EndsWell (λ c. Q k c) (callee_of_meaning n.text (meaning_in_run n.text st)))
         → LawfulItems ctx declared env (positional_seat (signature_offer (arguments_given args kws) s ∷ [])) args im → LawfulKeywords ctx declared env (named_seat (signature_offer (arguments_given args kws) s ∷ [])) [] kws km
         → Covered Here (ItemsFind args im) → Covered Here (KeywordsFind kws km) → Covered Here (IsFoundAt p here.codes) → ItemsKeyed args im → KeywordsKeyed kws km
@@ -106,9 +106,9 @@ module _ (m : Module) (inherits : Inherits (bases_of m) (classes_of m)) (listed 
 
     -- a class called by its name
     pub class_node_safe :
-        (p : Place) (n : Name) (args : Exprs) (kws : Keywords) (im : ItemsMarks args) (km : KeywordsMarks kws) (here : Mark) (c : ℕ)
+        (p : Place) (n : Name) (args : Exprs) (kws : Keywords) (im : ItemsLabels args) (km : KeywordsLabels kws) (here : Label) (c : ℕ)
         → ((k : HeapTyping) (st : State) → IsWellTyped Here env k st → meaning_in_run n.text st ≡ means_class c) → ((k : HeapTyping) (made : List Class) (globals : Globals) → outside k made globals → ClassIs m k made c)
-        → here ≡ call_mark (bases_of m) (signature_offer (arguments_given args kws) (class_signature (classes_of m) c) ∷ []) → Distinct [] (class_facts_at (classes_of m) c).fields
+        → here ≡ call_label (bases_of m) (signature_offer (arguments_given args kws) (class_signature (classes_of m) c) ∷ []) → Distinct [] (class_facts_at (classes_of m) c).fields
         → LawfulItems ctx declared env (positional_seat (signature_offer (arguments_given args kws) (class_signature (classes_of m) c) ∷ [])) args im → LawfulKeywords ctx declared env (named_seat (signature_offer (arguments_given args kws) (class_signature (classes_of m) c) ∷ [])) [] kws km
         → Covered Here (ItemsFind args im) → Covered Here (KeywordsFind kws km) → Covered Here (IsFoundAt p here.codes) → ItemsKeyed args im → KeywordsKeyed kws km
         → IsSafe Here env (λ k. Unit {0}) (eval_callee Step free parts (name n) >>= λ c. eval_all Step free parts.eval args >>= λ values. eval_keywords Step free parts.eval kws >>= λ more. Emits p >>= λ u. call_callee Step free parts c values more) (λ k v. HasType (bases_of m) k here.type v)
@@ -140,10 +140,10 @@ module _ (m : Module) (inherits : Inherits (bases_of m) (classes_of m)) (listed 
     module _ (constants : List Tree) (world : (k : HeapTyping) (made : List Class) (globals : Globals) → outside k made globals → World m constants k made globals) where
       -- a function called by its name
       pub function_node_safe :
-          (p : Place) (n : Name) (args : Exprs) (kws : Keywords) (im : ItemsMarks args) (km : KeywordsMarks kws) (here : Mark) (i : ℕ) (d : FuncDef) (lab : Labelled m constants listed (owners.Func i) d)
+          (p : Place) (n : Name) (args : Exprs) (kws : Keywords) (im : ItemsLabels args) (km : KeywordsLabels kws) (here : Label) (i : ℕ) (d : FuncDef) (lab : Labelled m constants listed (owners.Func i) d)
           → GoodExec (around_of m constants listed (owners.Func i) d lab) (context_of m constants listed (owners.Func i) d) m (return_type m d) parts.exec
           → ((k : HeapTyping) (st : State) → IsWellTyped Here env k st → (f : Function) × (meaning_in_run n.text st ≡ means_function f) × MadeOf m k f d)
-          → here ≡ call_mark (bases_of m) (signature_offer (arguments_given args kws) (signature_of m d) ∷ []) → Distinct [] (parameters_of m d.params)
+          → here ≡ call_label (bases_of m) (signature_offer (arguments_given args kws) (signature_of m d) ∷ []) → Distinct [] (parameters_of m d.params)
           → LawfulItems ctx declared env (positional_seat (signature_offer (arguments_given args kws) (signature_of m d) ∷ [])) args im → LawfulKeywords ctx declared env (named_seat (signature_offer (arguments_given args kws) (signature_of m d) ∷ [])) [] kws km
           → Covered Here (ItemsFind args im) → Covered Here (KeywordsFind kws km) → Covered Here (IsFoundAt p here.codes) → ItemsKeyed args im → KeywordsKeyed kws km
           → IsSafe Here env (λ k. Unit {0}) (eval_callee Step free parts (name n) >>= λ c. eval_all Step free parts.eval args >>= λ values. eval_keywords Step free parts.eval kws >>= λ more. Emits p >>= λ u. call_callee Step free parts c values more) (λ k v. HasType (bases_of m) k here.type v)

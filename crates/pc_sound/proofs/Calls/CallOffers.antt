@@ -8,7 +8,7 @@ use Rattle.pc_types.specs.Below.{Bases, AreSmaller}
 use Rattle.pc_flow.specs.Environment.{join_all}
 use Rattle.pc_rules.specs.Operations.{has_error}
 use Rattle.pc_rules.specs.Context.{Signature}
-use Rattle.pc_rules.specs.Calls.{GivenArguments, is_suited, CallOffer, signature_offer, fails_at_call, call_codes, all_codes, call_mark, signatures}
+use Rattle.pc_rules.specs.Calls.{GivenArguments, is_suited, CallOffer, signature_offer, fails_at_call, call_codes, all_codes, call_label, signatures}
 use Rattle.pc_value.specs.Value.{Value}
 use Rattle.pc_sound.specs.Values.{HeapTyping, HasType}
 use Rattle.pc_sound.proofs.Lists.{front_empty, not_empty, rest_empty}
@@ -92,5 +92,5 @@ module _ (bases : Bases) (smaller : AreSmaller bases) (k : HeapTyping) where
   given_of o (p ∷ ps) h v has = elim h [ inl is ↦ inl (subst (λ x. HasType bases k x.gives v) (sym is) has) | inr r ↦ inr (given_of o ps r v has) ]
 
   -- what one of the offers gives is of the call's type
-  pub gives_call_type : (o : CallOffer) (offers : List CallOffer) → IsOffer o offers → all_codes offers ≡ [] → (v : Value) → HasType bases k o.gives v → HasType bases k (call_mark bases offers).type v
+  pub gives_call_type : (o : CallOffer) (offers : List CallOffer) → IsOffer o offers → all_codes offers ≡ [] → (v : Value) → HasType bases k o.gives v → HasType bases k (call_label bases offers).type v
   gives_call_type o offers h quiet v has = subst (λ codes. HasType bases k (if has_error codes then Any else join_all bases (map (λ o. o.gives) offers)) v) (sym quiet) (all_hold bases smaller k (map (λ o. o.gives) offers) v (given_of o offers h v has))

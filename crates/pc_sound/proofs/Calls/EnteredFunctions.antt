@@ -22,9 +22,9 @@ use Rattle.pc_class.specs.Bases.{bases_of}
 use Rattle.pc_class.specs.Facts.{TypedParameter, return_type, classes_of}
 use Rattle.pc_ann.proofs.Earlier.{smaller}
 use Rattle.pc_flow.specs.Environment.{Env, none_assigned}
-use Rattle.pc_labels.specs.StatementLabels.{breaks_in_suite}
+use Rattle.pc_module_rules.specs.StatementLabels.{breaks_in_suite}
 use Rattle.pc_rules.specs.Labels.{IsCodeAt}
-use Rattle.pc_labels.specs.Modules.{entry_parameters, names_entered, entry_env, ReturnsWell, leaves as never_completes, may_complete, may_not}
+use Rattle.pc_module_rules.specs.Modules.{entry_parameters, names_entered, entry_env, ReturnsWell, leaves as never_completes, may_complete, may_not}
 use Rattle.pc_value.specs.Value.{none, Out}
 use Rattle.pc_machine.specs.State.{State, Frame, Local, Function}
 use Rattle.pc_machine.specs.Names.{names_bound, unbound, frame_of}
@@ -142,14 +142,14 @@ module _ (m : Module) (constants : List Tree) (listed : Place → Type 0) where
     entry = entry_env (resolve_among m (locals owner d)) [] (entry_parameters m owner d) (none_assigned (length (locals owner d)))
 
     abbrev pub body_ways : Ways
-    body_ways = ways_out (around_of m constants listed owner d lab) (context_of m constants listed owner d) m (return_type m d) lab.marks.out (breaks_in_suite d.body lab.marks.body) (loose_in d.body)
+    body_ways = ways_out (around_of m constants listed owner d lab) (context_of m constants listed owner d) m (return_type m d) lab.labels.out (breaks_in_suite d.body lab.labels.body) (loose_in d.body)
 
     -- the state in which the body begins
     pub entry_stands : (k : HeapTyping) (s : State) (f : Function) (arguments : List Local) → f.body ≡ d.body → ParametersHave (bases_of m) k (entry_parameters m owner d) arguments → map (λ (p : TypedParameter). p.name) (entry_parameters m owner d) ≡ entry_texts owner d → IsWell (bases_of m) (classes_of m) k s.heap → World m constants k s.classes s.globals → IsWellTyped (around_of m constants listed owner d lab) entry k (record s { frame = frame_of f arguments })
     entry_stands k s f arguments same args texts_are well world = record {
       well = well;
       frame = entry_has_names (entry_texts owner d ++ texts (bound_by d.body)) (frame_of f arguments) names_are lab.free;
-      locals = entry_holds (bases_of m) k (locals owner d) lab.marks.declared (resolve_among m (locals owner d)) fits_of.local (frame_of f arguments) (entry_parameters m owner d) arguments (map unbound (names_bound f.body)) (none_assigned (length (locals owner d))) refl args lab.lawful.entry
+      locals = entry_holds (bases_of m) k (locals owner d) lab.labels.declared (resolve_among m (locals owner d)) fits_of.local (frame_of f arguments) (entry_parameters m owner d) arguments (map unbound (names_bound f.body)) (none_assigned (length (locals owner d))) refl args lab.lawful.entry
           (record { each = λ word x t named e. absurd (none_current (length (locals owner d)) x t e) });
       outside = world;
     }
@@ -162,7 +162,7 @@ module _ (m : Module) (constants : List Tree) (listed : Place → Type 0) where
     body_leads exec good =
         leads_from (around_of m constants listed owner d lab) _ (λ k s. IsWellTypedAnd (around_of m constants listed owner d lab) entry (λ k frame. Unit {0}) k s) _ _ (λ k s st. record { stands = st; known = tt })
         (leads_to (around_of m constants listed owner d lab) _ _ (λ k flow s. FlowEnds (around_of m constants listed owner d lab) body_ways k flow s × Unit {0}) _ (λ k flow s h. h.0)
-        (good.runs (names_entered [] (entry_parameters m owner d)) entry d.body lab.marks.body lab.marks.out lab.lawful.body (λ f h. lab.covered f (inr (inr (inr h)))) lab.keyed (λ k frame. Unit {0}) lasts_bare))
+        (good.runs (names_entered [] (entry_parameters m owner d)) entry d.body lab.labels.body lab.labels.out lab.lawful.body (λ f h. lab.covered f (inr (inr (inr h)))) lab.keyed (λ k frame. Unit {0}) lasts_bare))
 
     -- where the body can complete, None is of the return type
     completes_well : (k : HeapTyping) (out : Option Env) (env : Env) (code : Option Code) → ReturnsWell (bases_of m) (return_type m d) out code → out ≡ Some env → ((c : Code) → code ≡ Some c → c ≡ E21 → ⊥) → HasType (bases_of m) k (return_type m d) none
@@ -172,14 +172,14 @@ module _ (m : Module) (constants : List Tree) (listed : Place → Type 0) where
 
     -- a call gives a value of the return type
     pub gives_returned : (k : HeapTyping) (s : State) (flow : StatementEnd) → FlowEnds (around_of m constants listed owner d lab) body_ways k flow s → HasType (bases_of m) k (return_type m d) (value_of_flow flow)
-    gives_returned k s next h = completes_well k lab.marks.out h.env lab.marks.completing lab.lawful.completing h.is clean
+    gives_returned k s next h = completes_well k lab.labels.out h.env lab.labels.completing lab.lawful.completing h.is clean
       where
         at_name : (code : Option Code) (c : Code) → code ≡ Some c → IsCodeAt d.name.place code (finding d.name.place c)
         at_name None c e = absurd (grind (arith, e))
         at_name (Some x) c e = ap (finding d.name.place) (sym (same_Some _ _ e))
 
-        clean : (c : Code) → lab.marks.completing ≡ Some c → c ≡ E21 → ⊥
-        clean c e is = (lab.covered (finding d.name.place c) (inr (inr (inl (at_name lab.marks.completing c e))))).1 (subst (λ x. IsError x) (sym is) refl)
+        clean : (c : Code) → lab.labels.completing ≡ Some c → c ≡ E21 → ⊥
+        clean c e is = (lab.covered (finding d.name.place c) (inr (inr (inl (at_name lab.labels.completing c e))))).1 (subst (λ x. IsError x) (sym is) refl)
     gives_returned k s breaking h = absurd (lab.in_loops h.1.place h.1.is)
     gives_returned k s continuing h = absurd (lab.in_loops h.1.place h.1.is)
     gives_returned k s (leaves v) h = h

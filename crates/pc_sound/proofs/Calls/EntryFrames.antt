@@ -15,8 +15,8 @@ use Rattle.pc_types.specs.Tree.{Tree}
 use Rattle.pc_types.specs.Below.{Bases}
 use Rattle.pc_class.specs.Facts.{TypedParameter}
 use Rattle.pc_flow.specs.Environment.{Env, current, declared_type, assign}
-use Rattle.pc_labels.specs.Modules.{DeclaredEntry, LawfulEntry, assigned_at_entry, entry_env}
-use Rattle.pc_labels.specs.Statements.{NamesBound}
+use Rattle.pc_module_rules.specs.Modules.{DeclaredEntry, LawfulEntry, assigned_at_entry, entry_env}
+use Rattle.pc_module_rules.specs.Statements.{NamesBound}
 use Rattle.pc_value.specs.Value.{Value}
 use Rattle.pc_value.specs.Texts.{same_text}
 use Rattle.pc_machine.specs.State.{Local, Frame}

@@ -17,10 +17,10 @@ use Rattle.pc_class.specs.Facts.{classes_of, class_facts_at}
 use Rattle.pc_ann.proofs.Earlier.{smaller}
 use Rattle.pc_flow.specs.Environment.{Env}
 use Rattle.pc_rules.specs.Operations.{in_error}
-use Rattle.pc_rules.specs.Context.{Context, name_mark}
+use Rattle.pc_rules.specs.Context.{Context, name_label}
 use Rattle.pc_rules.specs.Signatures.{initializer_context}
-use Rattle.pc_rules.specs.Calls.{arguments_given, CalleeLabel, member_rule, signature_offer, class_signature, good_callee, value_callee, name_callee, value_offers, call_mark, positional_seat, named_seat}
-use Rattle.pc_rules.specs.Labels.{Marks, mark_of, with_mark, item_types, Finds, ItemsFind}
+use Rattle.pc_rules.specs.Calls.{arguments_given, CalleeLabel, member_rule, signature_offer, class_signature, good_callee, value_callee, name_callee, value_offers, call_label, positional_seat, named_seat}
+use Rattle.pc_rules.specs.Labels.{Labels, whole_label, with_label, item_types, Finds, ItemsFind}
 use Rattle.pc_rules.specs.Lawful.{Lawful, LawfulItems, LawfulKeywords, callee_of}
 use Rattle.pc_machine.specs.Steps.{Parts}
 use Rattle.pc_machine.specs.Free.{Step, free}
@@ -29,7 +29,7 @@ use Rattle.pc_sound.specs.Values.{HasType}
 use Rattle.pc_sound.proofs.Steps.Judgment.{Around, IsSafe, IsContextOf}
 use Rattle.pc_sound.proofs.Keyed.KeyedDicts.{Keyed}
 use Rattle.pc_sound.proofs.Expressions.SimpleExpressions.{Covered, GoodEval}
-use Rattle.pc_rules.proofs.Saying.{found_here, own_mark}
+use Rattle.pc_rules.proofs.Saying.{found_here, own_label}
 use Rattle.pc_sound.proofs.Values.Flows.{Evaluates}
 use Rattle.pc_sound.proofs.Heap.Fields.{Inherits}
 use Rattle.pc_sound.proofs.Expressions.NameReads.{KnowsNames, means_a_class, no_error_at}
@@ -39,7 +39,7 @@ use Rattle.pc_sound.proofs.Calls.FilledParameters.{Distinct}
 use Rattle.pc_sound.proofs.Modules.ModuleNames.{class_named}
 use Rattle.pc_sound.proofs.Modules.ModuleOrder.{BoundSoFar, bound_later, around_items}
 use Rattle.pc_sound.proofs.Calls.CallNodes.{class_node_safe}
-use Rattle.pc_sound.proofs.Calls.CallRules.{ordinary_mark}
+use Rattle.pc_sound.proofs.Calls.CallRules.{ordinary_label}
 use Rattle.pc_sound.proofs.Calls.ValueCalls.{ordinary_call, values_quiet, fails_safe, named_value_safe, arguments_covered}
 
 module _ (m : Module) (listed : Place → Type 0) (types : List Tree) (defs : List FuncDef) (n : ℕ) (names : List (List ℕ)) where
@@ -60,28 +60,28 @@ module _ (m : Module) (listed : Place → Type 0) (types : List Tree) (defs : Li
   }
 
   module _ (inherits : Inherits (bases_of m) (classes_of m)) (distinct_fields : (c : ℕ) → Distinct [] (class_facts_at (classes_of m) c).fields) (knows : KnowsNames (around_items m listed types defs n names) (initializer_context m types n)) (parts : Parts Step) (good : GoodEval (around_items m listed types defs n names) (initializer_context m types n) parts.eval) (evaluates : (e : Expr) → Evaluates (place_of e) (parts.eval e)) (env : Env) where
-    abbrev CallSafe : (p : Place) (c : Expr) (args : Exprs) (kws : Keywords) → Marks (call p c args kws) → Type 0
+    abbrev CallSafe : (p : Place) (c : Expr) (args : Exprs) (kws : Keywords) → Labels (call p c args kws) → Type 0
     CallSafe p c args kws k = IsSafe Here env (λ j. Unit {0}) (eval_node Step free parts (call p c args kws)) (λ j v. HasType (bases_of m) j k.here.type v)
 
     -- a callee that is no name is in error
-    late_callee : (want : Option Tree) (p : Place) (c : Expr) (args : Exprs) (kws : Keywords) (k : Marks (call p c args kws)) (law : Lawful Ctx [] env want (call p c args kws) k) → callee_of Ctx env (arguments_given args kws) c law.value ≡ value_callee (in_error E03) → Covered Here (Finds (call p c args kws) k) → ⊥
+    late_callee : (want : Option Tree) (p : Place) (c : Expr) (args : Exprs) (kws : Keywords) (k : Labels (call p c args kws)) (law : Lawful Ctx [] env want (call p c args kws) k) → callee_of Ctx env (arguments_given args kws) c law.value ≡ value_callee (in_error E03) → Covered Here (Finds (call p c args kws) k) → ⊥
     late_callee want p c args kws k law is covered =
-        let own : mark_of c k.callee ≡ in_error E03 = ap (mark_of c) (law.callee ∙ ap (λ x. with_mark c law.value x.mark) is) ∙ own_mark c law.value (in_error E03) in
+        let own : whole_label c k.callee ≡ in_error E03 = ap (whole_label c) (law.callee ∙ ap (λ x. with_label c law.value x.label) is) ∙ own_label c law.value (in_error E03) in
         (covered (finding (place_of c) E03) (inr (inl (found_here c k.callee (finding (place_of c) E03) (record { code = E03; among = subst (λ l. Contains l E03) (ap (λ x. x.codes) (sym own)) (0, omega arith, refl); is = refl }))))).1 refl
 
-    module _ (want : Option Tree) (p : Place) (w : Name) (args : Exprs) (kws : Keywords) (k : Marks (call p (name w) args kws)) (law : Lawful Ctx [] env want (call p (name w) args kws) k) (no_test : is_instance_test (name w) args kws ≡ false) (covered : Covered Here (Finds (call p (name w) args kws) k)) (keyed : Keyed (call p (name w) args kws) k) where
+    module _ (want : Option Tree) (p : Place) (w : Name) (args : Exprs) (kws : Keywords) (k : Labels (call p (name w) args kws)) (law : Lawful Ctx [] env want (call p (name w) args kws) k) (no_test : is_instance_test (name w) args kws ≡ false) (covered : Covered Here (Finds (call p (name w) args kws) k)) (keyed : Keyed (call p (name w) args kws) k) where
       found_args : Covered Here (ItemsFind args k.arguments)
       found_args = arguments_covered Here (name w) args kws k.arguments no_test (λ f h. covered f (inr (inr (inr (inl h)))))
 
-      offers_are : (c : CalleeLabel) → name_callee Ctx env (arguments_given args kws) (Ctx.resolve w.text) ≡ c → c.rule ≡ member_rule → k.here ≡ call_mark (bases_of m) c.offers
-      offers_are c e member = ordinary_mark Ctx env (name_callee Ctx env (arguments_given args kws) (Ctx.resolve w.text)) args (item_types args k.arguments) k.here (ap (λ x. x.rule) e ∙ member) law.here ∙ ap (λ x. call_mark (bases_of m) x.offers) e
+      offers_are : (c : CalleeLabel) → name_callee Ctx env (arguments_given args kws) (Ctx.resolve w.text) ≡ c → c.rule ≡ member_rule → k.here ≡ call_label (bases_of m) c.offers
+      offers_are c e member = ordinary_label Ctx env (name_callee Ctx env (arguments_given args kws) (Ctx.resolve w.text)) args (item_types args k.arguments) k.here (ap (λ x. x.rule) e ∙ member) law.here ∙ ap (λ x. call_label (bases_of m) x.offers) e
 
       as_ordinary : IsSafe Here env (λ j. Unit {0}) (eval_call Step free parts p (name w) args kws ordinary) (λ j v. HasType (bases_of m) j k.here.type v) → CallSafe p (name w) args kws k
       as_ordinary h = subst (λ form. IsSafe Here env (λ j. Unit {0}) (eval_call Step free parts p (name w) args kws form) (λ j v. HasType (bases_of m) j k.here.type v)) (sym (ordinary_call w args kws no_test)) h
 
       -- a name in error
       late_name : name_callee Ctx env (arguments_given args kws) (Ctx.resolve w.text) ≡ value_callee (in_error E03) → ⊥
-      late_name is = no_error_at Here Ctx items_fit knows env w.place k.callee E03 [] (ap (λ x. x.codes) (law.callee ∙ ap (λ x. x.mark) is)) refl (λ f h. covered f (inr (inl h)))
+      late_name is = no_error_at Here Ctx items_fit knows env w.place k.callee E03 [] (ap (λ x. x.codes) (law.callee ∙ ap (λ x. x.label) is)) refl (λ f h. covered f (inr (inl h)))
 
       -- a class
       class_node : (c : ℕ) → Ctx.resolve w.text ≡ res.Class c → CallSafe p (name w) args kws k
@@ -102,15 +102,15 @@ module _ (m : Module) (listed : Place → Type 0) (types : List Tree) (defs : Li
               found_args (λ f h. covered f (inr (inr (inr (inr h))))) (λ f h. covered f (inl h)) keyed.1.1.0 keyed.1.1.1)
 
       -- a value
-      named_node : (r : Res) → Ctx.resolve w.text ≡ r → name_callee Ctx env (arguments_given args kws) (Ctx.resolve w.text) ≡ value_callee (name_mark Ctx env (Ctx.resolve w.text)) → CallSafe p (name w) args kws k
+      named_node : (r : Res) → Ctx.resolve w.text ≡ r → name_callee Ctx env (arguments_given args kws) (Ctx.resolve w.text) ≡ value_callee (name_label Ctx env (Ctx.resolve w.text)) → CallSafe p (name w) args kws k
       named_node r e is =
-          let own : k.callee ≡ name_mark Ctx env (Ctx.resolve w.text) = law.callee ∙ ap (λ x. x.mark) is in
-          let same : value_offers (name_mark Ctx env (Ctx.resolve w.text)).type ≡ value_offers k.callee.type = ap (λ x. value_offers x.type) (sym own) in
+          let own : k.callee ≡ name_label Ctx env (Ctx.resolve w.text) = law.callee ∙ ap (λ x. x.label) is in
+          let same : value_offers (name_label Ctx env (Ctx.resolve w.text)).type ≡ value_offers k.callee.type = ap (λ x. value_offers x.type) (sym own) in
           as_ordinary
           (fails_safe Here Ctx items_fit parts good evaluates env p _ (value_offers k.callee.type) (values_quiet k.callee.type)
           (named_value_safe Here Ctx items_fit knows env parts w k.callee own (λ f h. covered f (inr (inl h))))
           args k.arguments kws k.keywords k.here
-          (offers_are (value_callee (name_mark Ctx env (Ctx.resolve w.text))) is refl ∙ ap (call_mark (bases_of m)) same)
+          (offers_are (value_callee (name_label Ctx env (Ctx.resolve w.text))) is refl ∙ ap (call_label (bases_of m)) same)
           (subst (λ x. LawfulItems Ctx [] env (positional_seat x) args k.arguments) (ap (λ x. x.offers) is ∙ same) law.arguments) (subst (λ x. LawfulKeywords Ctx [] env (named_seat x) [] kws k.keywords) (ap (λ x. x.offers) is ∙ same) law.keywords)
           found_args (λ f h. covered f (inr (inr (inr (inr h))))) (λ f h. covered f (inl h)) keyed.1.1.0 keyed.1.1.1)
 
@@ -119,13 +119,13 @@ module _ (m : Module) (listed : Place → Type 0) (types : List Tree) (defs : Li
         where
           go : (r : Res) → Ctx.resolve w.text ≡ r → CallSafe p (name w) args kws k
           go (res.Local x) e = absurd (module_local m w.text x e)
-          go (res.Const i) e = named_node (res.Const i) e (ap (name_callee Ctx env (arguments_given args kws)) e ∙ ap (λ r. value_callee (name_mark Ctx env r)) (sym e))
+          go (res.Const i) e = named_node (res.Const i) e (ap (name_callee Ctx env (arguments_given args kws)) e ∙ ap (λ r. value_callee (name_label Ctx env r)) (sym e))
           go (res.Func i) e = absurd (late_name (ap (name_callee Ctx env (arguments_given args kws)) e))
           go (res.Class c) e = class_node c e
           go (res.Builtin b) e = absurd (unreserved b e)
-          go res.None e = named_node res.None e (ap (name_callee Ctx env (arguments_given args kws)) e ∙ ap (λ r. value_callee (name_mark Ctx env r)) (sym e))
+          go res.None e = named_node res.None e (ap (name_callee Ctx env (arguments_given args kws)) e ∙ ap (λ r. value_callee (name_label Ctx env r)) (sym e))
 
-    others_safe : (want : Option Tree) (p : Place) (c : Expr) (args : Exprs) (kws : Keywords) (k : Marks (call p c args kws)) → NotReserved Ctx c → is_instance_test c args kws ≡ false → Lawful Ctx [] env want (call p c args kws) k → Covered Here (Finds (call p c args kws) k) → Keyed (call p c args kws) k → CallSafe p c args kws k
+    others_safe : (want : Option Tree) (p : Place) (c : Expr) (args : Exprs) (kws : Keywords) (k : Labels (call p c args kws)) → NotReserved Ctx c → is_instance_test c args kws ≡ false → Lawful Ctx [] env want (call p c args kws) k → Covered Here (Finds (call p c args kws) k) → Keyed (call p c args kws) k → CallSafe p c args kws k
     others_safe want p (name w) args kws k unreserved no_test law covered keyed = name_node want p w args kws k law no_test covered keyed unreserved
     others_safe want p (attribute q e f) args kws k unreserved no_test law covered keyed = absurd (late_callee want p (attribute q e f) args kws k law refl covered)
     others_safe want p (number q x) args kws k unreserved no_test law covered keyed = absurd (late_callee want p (number q x) args kws k law refl covered)

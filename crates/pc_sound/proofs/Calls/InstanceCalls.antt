@@ -17,11 +17,11 @@ use Rattle.pc_types.specs.Tree.{Tree, Bool}
 use Rattle.pc_flow.specs.Environment.{Env}
 use Rattle.pc_flow.specs.Narrowing as narrowing
 use Rattle.pc_flow.specs.Narrowing.{Tested, test_named}
-use Rattle.pc_rules.specs.Operations.{Mark, in_error}
-use Rattle.pc_rules.specs.Context.{Context, name_mark, is_early}
+use Rattle.pc_rules.specs.Operations.{Label, in_error}
+use Rattle.pc_rules.specs.Context.{Context, name_label, is_early}
 use Rattle.pc_rules.specs.Calls.{arguments_given, Seat, second_code, positional_seat, test_rule, own_callee}
-use Rattle.pc_rules.specs.Labels.{Marks, mark_of, type_of, item_types, Finds, ArgumentsFind, IsCodeAt}
-use Rattle.pc_rules.specs.Lawful.{Lawful, callee_of, whole_call_mark, whole_second_code}
+use Rattle.pc_rules.specs.Labels.{Labels, whole_label, type_of, item_types, Finds, ArgumentsFind, IsCodeAt}
+use Rattle.pc_rules.specs.Lawful.{Lawful, callee_of, whole_call_label, whole_second_code}
 use Rattle.pc_value.specs.Value.{boolean}
 use Rattle.pc_machine.specs.State.{State}
 use Rattle.pc_machine.specs.Names.{meaning_in_run}
@@ -52,7 +52,7 @@ module _ (around : Around) (ctx : Context) (fits : IsContextOf around ctx) (know
       go _ e = absurd (none-some _ e)
 
   -- a class that is tested for is bound where no E03 stands
-  class_known : (c : ℕ) (m : Mark) → m ≡ name_mark ctx env (res.Class c) → is_early m.codes ≡ false → nat_lt c ctx.known ≡ true
+  class_known : (c : ℕ) (m : Label) → m ≡ name_label ctx env (res.Class c) → is_early m.codes ≡ false → nat_lt c ctx.known ≡ true
   class_known c m law early = go (nat_lt c ctx.known) refl law
     where
       go : (x : Test) → nat_lt c ctx.known ≡ x → m ≡ (if x then in_error E20 else in_error E03) → nat_lt c ctx.known ≡ true
@@ -60,10 +60,10 @@ module _ (around : Around) (ctx : Context) (fits : IsContextOf around ctx) (know
       go false is e = absurd (false≢true (sym early ∙ ap (λ y. is_early y.codes) e))
 
   -- what a name tests for is found
-  name_tests : (word : List ℕ) (test : Tested) (m : Mark) → test_named (ctx.resolve word) ≡ Some test → m ≡ name_mark ctx env (ctx.resolve word) → is_early m.codes ≡ false → (k : HeapTyping) (s : State) → IsWellTyped around env k s → EndsWell (λ t. Unit {0}) (test_of_meaning word (meaning_in_run word s))
+  name_tests : (word : List ℕ) (test : Tested) (m : Label) → test_named (ctx.resolve word) ≡ Some test → m ≡ name_label ctx env (ctx.resolve word) → is_early m.codes ≡ false → (k : HeapTyping) (s : State) → IsWellTyped around env k s → EndsWell (λ t. Unit {0}) (test_of_meaning word (meaning_in_run word s))
   name_tests word test m named law early k s st = go (ctx.resolve word) refl named law
     where
-      go : (r : Res) → ctx.resolve word ≡ r → test_named r ≡ Some test → m ≡ name_mark ctx env r → EndsWell (λ t. Unit {0}) (test_of_meaning word (meaning_in_run word s))
+      go : (r : Res) → ctx.resolve word ≡ r → test_named r ≡ Some test → m ≡ name_label ctx env r → EndsWell (λ t. Unit {0}) (test_of_meaning word (meaning_in_run word s))
       go (res.Class c) is e law' = subst (λ x. EndsWell (λ t. Unit {0}) (test_of_meaning word x)) (sym (means_a_class around ctx fits knows env word c is (class_known c m law' early) k s st)) tt
       go (res.Builtin b) is e law' = subst (λ x. EndsWell (λ t. Unit {0}) (test_of_meaning word x)) (sym (means_a_builtin around ctx fits knows env word b is k s st)) (reserved_test word b test is e)
       go (res.Local x) is e law' = absurd (none-some _ e)
@@ -71,12 +71,12 @@ module _ (around : Around) (ctx : Context) (fits : IsContextOf around ctx) (know
       go (res.Func i) is e law' = absurd (none-some _ e)
       go res.None is e law' = absurd (none-some _ e)
 
-  second_tests : (want : Option Tree) (t : Expr) (m : Marks t) (test : Tested) → narrowing.test_of ctx.resolve t ≡ Some test → Lawful ctx around.declared env want t m → is_early (mark_of t m).codes ≡ false → (k : HeapTyping) (s : State) → IsWellTyped around env k s → EndsWell (λ x. Unit {0}) (instance_test_of t s)
+  second_tests : (want : Option Tree) (t : Expr) (m : Labels t) (test : Tested) → narrowing.test_of ctx.resolve t ≡ Some test → Lawful ctx around.declared env want t m → is_early (whole_label t m).codes ≡ false → (k : HeapTyping) (s : State) → IsWellTyped around env k s → EndsWell (λ x. Unit {0}) (instance_test_of t s)
   second_tests want (name w) m test named law early k s st = name_tests w.text test m named law early k s st
   second_tests want _ m test named law early k s st = absurd (none-some _ named)
 
   module _ (parts : Parts Step) (good : GoodEval around ctx parts.eval) where
-    two_safe : (want : Option Tree) (p : Place) (n : Name) (e t : Expr) (m : Marks (call p (name n) (more_exprs e (more_exprs t no_exprs)) no_keywords)) → bytes_eq (codes "isinstance") n.text ≡ true → Lawful ctx around.declared env want (call p (name n) (more_exprs e (more_exprs t no_exprs)) no_keywords) m → Covered around (Finds (call p (name n) (more_exprs e (more_exprs t no_exprs)) no_keywords) m) → Keyed (call p (name n) (more_exprs e (more_exprs t no_exprs)) no_keywords) m → IsSafe around env (λ k. Unit {0}) (eval_node Step free parts (call p (name n) (more_exprs e (more_exprs t no_exprs)) no_keywords)) (λ k v. HasType around.bases k m.here.type v)
+    two_safe : (want : Option Tree) (p : Place) (n : Name) (e t : Expr) (m : Labels (call p (name n) (more_exprs e (more_exprs t no_exprs)) no_keywords)) → bytes_eq (codes "isinstance") n.text ≡ true → Lawful ctx around.declared env want (call p (name n) (more_exprs e (more_exprs t no_exprs)) no_keywords) m → Covered around (Finds (call p (name n) (more_exprs e (more_exprs t no_exprs)) no_keywords) m) → Keyed (call p (name n) (more_exprs e (more_exprs t no_exprs)) no_keywords) m → IsSafe around env (λ k. Unit {0}) (eval_node Step free parts (call p (name n) (more_exprs e (more_exprs t no_exprs)) no_keywords)) (λ k v. HasType around.bases k m.here.type v)
     two_safe want p n e t m named law covered keyed = subst (λ form. IsSafe around env (λ k. Unit {0}) (eval_call Step free parts p (name n) args no_keywords form) (λ k v. HasType around.bases k m.here.type v)) (sym form_is) (
         bind_safe around env _ _ _ (λ k u. Unit {0}) _ (λ k k' x h. tt) (may_stop_safe around env _)
         λ u. bind_safe around env _ _ _ (λ k w. m.callee.codes ≡ []) _ (λ k k' x h. (tt, tt)) (emits_safe around env _ n.place m.callee.codes (allowed around n.place m.callee.codes (λ f h. covered f (inr (inl h)))))
@@ -104,9 +104,9 @@ module _ (around : Around) (ctx : Context) (fits : IsContextOf around ctx) (know
         callee = test_callee ctx (knows.reserved (codes "isinstance") builtin.IsInstance test_reserved) env (name n) args no_keywords law.value test_is
 
         type : m.here.type ≡ Bool
-        type = ap (λ x. x.type) (law.here ∙ ap (λ x. whole_call_mark ctx env x.rule x.offers args (item_types args m.arguments)) callee)
+        type = ap (λ x. x.type) (law.here ∙ ap (λ x. whole_call_label ctx env x.rule x.offers args (item_types args m.arguments)) callee)
 
-        early : is_early (mark_of t m.arguments.rest.first).codes ≡ false
+        early : is_early (whole_label t m.arguments.rest.first).codes ≡ false
         early = keyed.0.1 test_is
 
         second : m.second ≡ second_code (narrowing.test_of ctx.resolve t) false
@@ -120,7 +120,7 @@ module _ (around : Around) (ctx : Context) (fits : IsContextOf around ctx) (know
             go (Some test) is e = second_tests _ t m.arguments.rest.first test is law.arguments.rest.first early k s st
 
     -- a test of an instance is safe
-    pub instance_safe : (want : Option Tree) (p : Place) (c : Expr) (args : Exprs) (kws : Keywords) (m : Marks (call p c args kws)) → is_instance_test c args kws ≡ true → Lawful ctx around.declared env want (call p c args kws) m → Covered around (Finds (call p c args kws) m) → Keyed (call p c args kws) m → IsSafe around env (λ k. Unit {0}) (eval_node Step free parts (call p c args kws)) (λ k v. HasType around.bases k m.here.type v)
+    pub instance_safe : (want : Option Tree) (p : Place) (c : Expr) (args : Exprs) (kws : Keywords) (m : Labels (call p c args kws)) → is_instance_test c args kws ≡ true → Lawful ctx around.declared env want (call p c args kws) m → Covered around (Finds (call p c args kws) m) → Keyed (call p c args kws) m → IsSafe around env (λ k. Unit {0}) (eval_node Step free parts (call p c args kws)) (λ k v. HasType around.bases k m.here.type v)
     instance_safe want p (name n) (more_exprs e (more_exprs t no_exprs)) no_keywords m is law covered keyed = two_safe want p n e t m (and_parts (bytes_eq (codes "isinstance") n.text) true is).0 law covered keyed
     instance_safe want p (name n) _ _ m is law covered keyed = absurd (false≢true (and_parts _ _ is).1)
     instance_safe want p _ args kws m is law covered keyed = absurd (false≢true is)

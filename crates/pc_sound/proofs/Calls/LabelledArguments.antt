@@ -17,7 +17,7 @@ use Rattle.pc_class.specs.Facts.{TypedParameter, field_by_name}
 use Rattle.pc_class.specs.Overrides.{has_shape_of}
 use Rattle.pc_rules.specs.Context.{Signature}
 use Rattle.pc_rules.specs.Calls.{count_exprs, once_each, arguments_given, position_of, is_free, are_filled, parameter_names, is_suited, Seat, nowhere, type_at, CallOffer, signatures, positional_seat, named_seat}
-use Rattle.pc_rules.specs.Labels.{ItemsMarks, KeywordsMarks}
+use Rattle.pc_rules.specs.Labels.{ItemsLabels, KeywordsLabels}
 use Rattle.pc_value.specs.Value.{Value}
 use Rattle.pc_value.specs.Texts.{same_text}
 use Rattle.pc_machine.specs.State as state
@@ -56,20 +56,20 @@ given_once word before (n ∷ ns) e = go (is_one_of n.text before) e (given_once
     ]
 
 module _ (bases : Bases) (k : HeapTyping) where
-  keyword_texts : (seat : List ℕ → Seat) (before : List (List ℕ)) (es : Keywords) (m : KeywordsMarks es) (named : List NamedValue) → KeywordsHave bases k seat before es m named → names_of named ≡ texts (keyword_names es)
+  keyword_texts : (seat : List ℕ → Seat) (before : List (List ℕ)) (es : Keywords) (m : KeywordsLabels es) (named : List NamedValue) → KeywordsHave bases k seat before es m named → names_of named ≡ texts (keyword_names es)
   keyword_texts seat before no_keywords m [] h = refl
   keyword_texts seat before no_keywords m (a ∷ more) h = absurd h
   keyword_texts seat before (more_keywords parameter value rest) m [] h = absurd h
   keyword_texts seat before (more_keywords parameter value rest) m (a ∷ more) h = λ i. h.0 i ∷ keyword_texts seat (parameter.text ∷ before) rest m.rest more h.1.1 i
 
-  count_is : (seat : ℕ → Seat) (es : Exprs) (m : ItemsMarks es) (vs : List Value) → ArgumentsHave bases k seat es m vs → count_exprs es ≡ length vs
+  count_is : (seat : ℕ → Seat) (es : Exprs) (m : ItemsLabels es) (vs : List Value) → ArgumentsHave bases k seat es m vs → count_exprs es ≡ length vs
   count_is seat no_exprs m [] h = refl
   count_is seat no_exprs m (v ∷ vs) h = absurd h
   count_is seat (more_exprs e rest) m [] h = absurd h
   count_is seat (more_exprs e rest) m (v ∷ vs) h = ap suc (count_is (λ i. seat (suc i)) rest m.rest vs h.1)
 
   -- the first value of a name goes into the types of its seat
-  value_seated : (seat : List ℕ → Seat) (before : List (List ℕ)) (es : Keywords) (m : KeywordsMarks es) (named : List NamedValue) → KeywordsHave bases k seat before es m named → (word : List ℕ) (w : Value) → is_one_of word before ≡ false → value_named word named ≡ Some w → HasEach bases k (seat word).into w
+  value_seated : (seat : List ℕ → Seat) (before : List (List ℕ)) (es : Keywords) (m : KeywordsLabels es) (named : List NamedValue) → KeywordsHave bases k seat before es m named → (word : List ℕ) (w : Value) → is_one_of word before ≡ false → value_named word named ≡ Some w → HasEach bases k (seat word).into w
   value_seated seat before no_keywords m [] h word w new e = absurd (grind (arith, e))
   value_seated seat before no_keywords m (a ∷ more) h word w new e = absurd h
   value_seated seat before (more_keywords parameter value rest) m [] h word w new e = absurd h
@@ -94,7 +94,7 @@ module _ (bases : Bases) (k : HeapTyping) where
               test false c = c
 
   -- the values by position go into the types of the parameters there
-  positional_have : (seat : ℕ → Seat) (es : Exprs) (m : ItemsMarks es) (vs : List Value) (ps : List TypedParameter) → ArgumentsHave bases k seat es m vs → ((i : ℕ) (v : Value) → HasEach bases k (seat i).into v → HasEach bases k (type_at (slice_get ps i)) v) → length vs ≤ length ps → PositionalHave bases k ps vs
+  positional_have : (seat : ℕ → Seat) (es : Exprs) (m : ItemsLabels es) (vs : List Value) (ps : List TypedParameter) → ArgumentsHave bases k seat es m vs → ((i : ℕ) (v : Value) → HasEach bases k (seat i).into v → HasEach bases k (type_at (slice_get ps i)) v) → length vs ≤ length ps → PositionalHave bases k ps vs
   positional_have seat no_exprs m [] ps h into short = tt
   positional_have seat no_exprs m (v ∷ vs) ps h into short = absurd h
   positional_have seat (more_exprs e rest) m [] ps h into short = tt
@@ -108,7 +108,7 @@ module _ (bases : Bases) (k : HeapTyping) where
     pub fills : Fills bases k params vs named
     pub all_for : AllFor bases k named named params
 
-  pub suits : (offers : List CallOffer) (s : Signature) (es : Exprs) (kws : Keywords) (im : ItemsMarks es) (km : KeywordsMarks kws) (vs : List Value) (named : List NamedValue) → is_suited (arguments_given es kws) s ≡ true → Distinct [] s.parameters → IsOneOf s (signatures offers) → ArgumentsHave bases k (positional_seat offers) es im vs → KeywordsHave bases k (named_seat offers) [] kws km named → Suits s.parameters vs named
+  pub suits : (offers : List CallOffer) (s : Signature) (es : Exprs) (kws : Keywords) (im : ItemsLabels es) (km : KeywordsLabels kws) (vs : List Value) (named : List NamedValue) → is_suited (arguments_given es kws) s ≡ true → Distinct [] s.parameters → IsOneOf s (signatures offers) → ArgumentsHave bases k (positional_seat offers) es im vs → KeywordsHave bases k (named_seat offers) [] kws km named → Suits s.parameters vs named
   suits offers s es kws im km vs named suited distinct one args kwargs = record {
     fills = suited_fills bases k named words given_are are_given [] s.parameters vs distinct positional free have (subst (λ n. are_filled words (parameter_names (take n s.parameters)) (drop n s.parameters) ≡ true) (count_is (positional_seat offers) es im vs args) parts.1.1.1);
     all_for = all_for bases k named words given_are are_given (length vs) s.parameters named (λ word e. free word (given_are word e));

@@ -16,10 +16,10 @@ use Rattle.pc_class.specs.Bases.{bases_of}
 use Rattle.pc_class.specs.Facts.{TypedParameter, Method, return_type, classes_of, class_facts_at, method_by_name, field_by_name}
 use Rattle.pc_class.specs.Overrides.{has_shape_of, IsStatic}
 use Rattle.pc_flow.specs.Environment.{Env}
-use Rattle.pc_rules.specs.Operations.{Mark, attribute_found, attribute_member}
+use Rattle.pc_rules.specs.Operations.{Label, attribute_found, attribute_member}
 use Rattle.pc_rules.specs.Context.{Context, Signature}
-use Rattle.pc_rules.specs.Calls.{GivenArguments, arguments_given, is_suited, CallOffer, signature_offer, value_offer, value_offers, method_signature, class_offers, list_offers, dict_offers, method_offers, all_codes, call_mark, signatures, positional_seat, named_seat, type_at}
-use Rattle.pc_rules.specs.Labels.{Marks, type_of, Finds, ItemsMarks, KeywordsMarks, ItemsFind, KeywordsFind, IsFoundAt}
+use Rattle.pc_rules.specs.Calls.{GivenArguments, arguments_given, is_suited, CallOffer, signature_offer, value_offer, value_offers, method_signature, class_offers, list_offers, dict_offers, method_offers, all_codes, call_label, signatures, positional_seat, named_seat, type_at}
+use Rattle.pc_rules.specs.Labels.{Labels, type_of, Finds, ItemsLabels, KeywordsLabels, ItemsFind, KeywordsFind, IsFoundAt}
 use Rattle.pc_rules.specs.Lawful.{Lawful, LawfulItems, LawfulKeywords}
 use Rattle.pc_value.specs.Value.{Value, location, seen, Out, Gives}
 use Rattle.pc_value.specs.Actions as action
@@ -249,7 +249,7 @@ module _ (m : Module) (inherits : Inherits (bases_of m) (classes_of m)) (constan
           ends k s c well = attribute_ends (bases_of m) (classes_of m) inherits k s.heap well word false (ClassType c.class) v c.object (ap (λ o. (attribute_found o (method_by_name (class_facts_at (classes_of m) c.class).methods word)).found) c.is)
 
       -- what `e.m` is, where nothing is found at it
-      pub callee_safe : (p : Place) (e : Expr) (w : Name) (g : GivenArguments) (om : Marks e) (codes : List Code) → Lawful ctx declared env None e om → Covered Here (Finds e om) → Keyed e om → codes ≡ CalleeCodes (flat_map (method_offers ctx g w.text) (members (type_of e om))) → Covered Here (IsFoundAt p codes)
+      pub callee_safe : (p : Place) (e : Expr) (w : Name) (g : GivenArguments) (om : Labels e) (codes : List Code) → Lawful ctx declared env None e om → Covered Here (Finds e om) → Keyed e om → codes ≡ CalleeCodes (flat_map (method_offers ctx g w.text) (members (type_of e om))) → Covered Here (IsFoundAt p codes)
           → IsSafe Here env (λ k. Unit {0}) (eval_callee Step free parts (attribute p e w)) (λ k c. Ready (flat_map (method_offers ctx g w.text) (members (type_of e om))) g k c)
       callee_safe p e w g om codes law covered keyed is found =
           bind_safe Here env _ _ _ (λ k u. Unit {0}) _ (λ k k' x h. tt) (may_stop_safe Here env _)
@@ -271,7 +271,7 @@ module _ (m : Module) (inherits : Inherits (bases_of m) (classes_of m)) (constan
 
       -- ---- the call
 
-      module _ (labelled : (owner : Owner) (d : FuncDef) → function_of m owner ≡ Some d → Labelled m constants listed owner d) (runs : (owner : Owner) (d : FuncDef) (lab : Labelled m constants listed owner d) → GoodExec (around_of m constants listed owner d lab) (context_of m constants listed owner d) m (return_type m d) parts.exec) (distinct : (c : ℕ) (word : List ℕ) (old : Method) → method_by_name (class_facts_at (classes_of m) c).methods word ≡ Some old → Distinct [] old.parameters) (offers : List CallOffer) (args : Exprs) (kws : Keywords) (im : ItemsMarks args) (km : KeywordsMarks kws) (here : Mark) (is_mark : here ≡ call_mark (bases_of m) offers) (quiet : all_codes offers ≡ []) where
+      module _ (labelled : (owner : Owner) (d : FuncDef) → function_of m owner ≡ Some d → Labelled m constants listed owner d) (runs : (owner : Owner) (d : FuncDef) (lab : Labelled m constants listed owner d) → GoodExec (around_of m constants listed owner d lab) (context_of m constants listed owner d) m (return_type m d) parts.exec) (distinct : (c : ℕ) (word : List ℕ) (old : Method) → method_by_name (class_facts_at (classes_of m) c).methods word ≡ Some old → Distinct [] old.parameters) (offers : List CallOffer) (args : Exprs) (kws : Keywords) (im : ItemsLabels args) (km : KeywordsLabels kws) (here : Label) (is_label : here ≡ call_label (bases_of m) offers) (quiet : all_codes offers ≡ []) where
         abbrev Given_args : HeapTyping → List Value → List NamedValue → Type 0
         Given_args k values more = ArgumentsHave (bases_of m) k (positional_seat offers) args im values × KeywordsHave (bases_of m) k (named_seat offers) [] kws km more
 
@@ -280,7 +280,7 @@ module _ (m : Module) (inherits : Inherits (bases_of m) (classes_of m)) (constan
 
         -- what a signature that is offered gives is of the call's type
         of_call : (s : Signature) → IsOffer (signature_offer (arguments_given args kws) s) offers → is_suited (arguments_given args kws) s ≡ true → (k : HeapTyping) (v : Value) → HasType (bases_of m) k s.returns v → HasType (bases_of m) k here.type v
-        of_call s among suited k v h = subst (λ t. HasType (bases_of m) k t v) (ap (λ x. x.type) (sym is_mark)) (gives_call_type (bases_of m) fits.smaller k (signature_offer (arguments_given args kws) s) offers among quiet v (subst (λ t. HasType (bases_of m) k t v) (sym (suited_gives (arguments_given args kws) s suited)) h))
+        of_call s among suited k v h = subst (λ t. HasType (bases_of m) k t v) (ap (λ x. x.type) (sym is_label)) (gives_call_type (bases_of m) fits.smaller k (signature_offer (arguments_given args kws) s) offers among quiet v (subst (λ t. HasType (bases_of m) k t v) (sym (suited_gives (arguments_given args kws) s suited)) h))
 
         suited_offer : (s : Signature) → IsOffer (signature_offer (arguments_given args kws) s) offers → is_suited (arguments_given args kws) s ≡ true
         suited_offer s among = suited_where_quiet (arguments_given args kws) s (offer_quiet (signature_offer (arguments_given args kws) s) offers among quiet).1
@@ -335,19 +335,19 @@ module _ (m : Module) (inherits : Inherits (bases_of m) (classes_of m)) (constan
       module _ (labelled : (owner : Owner) (d : FuncDef) → function_of m owner ≡ Some d → Labelled m constants listed owner d) (runs : (owner : Owner) (d : FuncDef) (lab : Labelled m constants listed owner d) → GoodExec (around_of m constants listed owner d lab) (context_of m constants listed owner d) m (return_type m d) parts.exec) (distinct : (c : ℕ) (word : List ℕ) (old : Method) → method_by_name (class_facts_at (classes_of m) c).methods word ≡ Some old → Distinct [] old.parameters) where
         -- a call of `e.m`
         pub method_node_safe :
-            (p q : Place) (e : Expr) (w : Name) (args : Exprs) (kws : Keywords) (om : Marks e) (codes : List Code) (im : ItemsMarks args) (km : KeywordsMarks kws) (here : Mark)
+            (p q : Place) (e : Expr) (w : Name) (args : Exprs) (kws : Keywords) (om : Labels e) (codes : List Code) (im : ItemsLabels args) (km : KeywordsLabels kws) (here : Label)
             → Lawful ctx declared env None e om → Covered Here (Finds e om) → Keyed e om
             → codes ≡ CalleeCodes (flat_map (method_offers ctx (arguments_given args kws) w.text) (members (type_of e om))) → Covered Here (IsFoundAt q codes)
-            → here ≡ call_mark (bases_of m) (flat_map (method_offers ctx (arguments_given args kws) w.text) (members (type_of e om)))
+            → here ≡ call_label (bases_of m) (flat_map (method_offers ctx (arguments_given args kws) w.text) (members (type_of e om)))
             → LawfulItems ctx declared env (positional_seat (flat_map (method_offers ctx (arguments_given args kws) w.text) (members (type_of e om)))) args im → LawfulKeywords ctx declared env (named_seat (flat_map (method_offers ctx (arguments_given args kws) w.text) (members (type_of e om)))) [] kws km
             → Covered Here (ItemsFind args im) → Covered Here (KeywordsFind kws km) → Covered Here (IsFoundAt p here.codes) → ItemsKeyed args im → KeywordsKeyed kws km
             → IsSafe Here env (λ k. Unit {0}) (eval_callee Step free parts (attribute q e w) >>= λ c. eval_all Step free parts.eval args >>= λ values. eval_keywords Step free parts.eval kws >>= λ more. Emits p >>= λ u. call_callee Step free parts c values more) (λ k v. HasType (bases_of m) k here.type v)
-        method_node_safe p q e w args kws om codes im km here olaw ocovered okeyed is found is_mark law klaw covered kcovered hcovered keyed kkeyed =
+        method_node_safe p q e w args kws om codes im km here olaw ocovered okeyed is found is_label law klaw covered kcovered hcovered keyed kkeyed =
             ordinary_safe Here ctx fits parts good evaluates env p (eval_callee Step free parts (attribute q e w)) (λ k c. Ready (flat_map (method_offers ctx (arguments_given args kws) w.text) (members (type_of e om))) (arguments_given args kws) k c) (ready_later (flat_map (method_offers ctx (arguments_given args kws) w.text) (members (type_of e om))) (arguments_given args kws))
             (callee_safe q e w (arguments_given args kws) om codes olaw ocovered okeyed is found)
             (positional_seat (flat_map (method_offers ctx (arguments_given args kws) w.text) (members (type_of e om)))) (named_seat (flat_map (method_offers ctx (arguments_given args kws) w.text) (members (type_of e om)))) args im kws km here law klaw covered kcovered hcovered keyed kkeyed _
             λ c values more. record {
               run = λ k s s' events out knows st r.
-                  (named_call_safe labelled runs distinct (flat_map (method_offers ctx (arguments_given args kws) w.text) (members (type_of e om))) args kws im km here is_mark
-                  (all_quiet (flat_map (method_offers ctx (arguments_given args kws) w.text) (members (type_of e om))) knows.0.0.0.1.0 (ap (λ x. x.codes) (sym is_mark) ∙ knows.1)) c values more).run k s s' events out (knows.0.0.0.1, (knows.0.0.1, knows.0.1)) st r;
+                  (named_call_safe labelled runs distinct (flat_map (method_offers ctx (arguments_given args kws) w.text) (members (type_of e om))) args kws im km here is_label
+                  (all_quiet (flat_map (method_offers ctx (arguments_given args kws) w.text) (members (type_of e om))) knows.0.0.0.1.0 (ap (λ x. x.codes) (sym is_label) ∙ knows.1)) c values more).run k s s' events out (knows.0.0.0.1, (knows.0.0.1, knows.0.1)) st r;
             }

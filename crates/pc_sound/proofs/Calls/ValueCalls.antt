@@ -9,10 +9,10 @@ use Rattle.pc_scope.specs.Expressions.{is_instance_test}
 use Rattle.pc_types.specs.Tree.{Tree, Any, Object, Never, Int, Bool, Str, NoneType, Class, ListOf, DictOf, TupleOf, Union}
 use Rattle.pc_types.specs.Shape.{members}
 use Rattle.pc_flow.specs.Environment.{Env}
-use Rattle.pc_rules.specs.Operations.{Mark}
-use Rattle.pc_rules.specs.Context.{Context, name_mark}
-use Rattle.pc_rules.specs.Calls.{CallOffer, value_offer, value_offers, call_mark, positional_seat, named_seat}
-use Rattle.pc_rules.specs.Labels.{Marks, ItemsMarks, KeywordsMarks, mark_of, type_of, with_mark, Finds, ItemsFind, ArgumentsFind, KeywordsFind, IsFoundAt}
+use Rattle.pc_rules.specs.Operations.{Label}
+use Rattle.pc_rules.specs.Context.{Context, name_label}
+use Rattle.pc_rules.specs.Calls.{CallOffer, value_offer, value_offers, call_label, positional_seat, named_seat}
+use Rattle.pc_rules.specs.Labels.{Labels, ItemsLabels, KeywordsLabels, whole_label, type_of, with_label, Finds, ItemsFind, ArgumentsFind, KeywordsFind, IsFoundAt}
 use Rattle.pc_rules.specs.Lawful.{Lawful, LawfulItems, LawfulKeywords}
 use Rattle.pc_rules.proofs.SaidInLabels.{as_arguments}
 use Rattle.pc_value.specs.Value.{Value, Stop, Raised, Other, Outside, Cut, Out, Gives, Stops}
@@ -39,7 +39,7 @@ use Rattle.pc_sound.proofs.Calls.MethodNodes.{Fails, values_fail}
 -- ---- labels of calls
 
 -- labels with their own label are the same
-pub with_own : (e : Expr) (m : Marks e) → with_mark e m (mark_of e m) ≡ m
+pub with_own : (e : Expr) (m : Labels e) → with_label e m (whole_label e m) ≡ m
 with_own (name n) m = refl
 with_own (number p d) m = refl
 with_own (text p d) m = refl
@@ -95,16 +95,16 @@ values_quiet t = go (members t)
 pub fails_safe :
     (around : Around) (ctx : Context) (fits : IsContextOf around ctx) (parts : Parts Step) (good : GoodEval around ctx parts.eval) (evaluates : (e : Expr) → Evaluates (place_of e) (parts.eval e)) (env : Env)
     → (p : Place) (callee : Step Callee) (offers : List CallOffer) → CalleeCodes offers ≡ [] → IsSafe around env (λ k. Unit {0}) callee (λ k c. Fails offers)
-    → (args : Exprs) (marks : ItemsMarks args) (kws : Keywords) (kmarks : KeywordsMarks kws) (here : Mark) → here ≡ call_mark around.bases offers
-    → LawfulItems ctx around.declared env (positional_seat offers) args marks → LawfulKeywords ctx around.declared env (named_seat offers) [] kws kmarks
-    → Covered around (ItemsFind args marks) → Covered around (KeywordsFind kws kmarks) → Covered around (IsFoundAt p here.codes) → ItemsKeyed args marks → KeywordsKeyed kws kmarks
+    → (args : Exprs) (labels : ItemsLabels args) (kws : Keywords) (klabels : KeywordsLabels kws) (here : Label) → here ≡ call_label around.bases offers
+    → LawfulItems ctx around.declared env (positional_seat offers) args labels → LawfulKeywords ctx around.declared env (named_seat offers) [] kws klabels
+    → Covered around (ItemsFind args labels) → Covered around (KeywordsFind kws klabels) → Covered around (IsFoundAt p here.codes) → ItemsKeyed args labels → KeywordsKeyed kws klabels
     → IsSafe around env (λ k. Unit {0}) (callee >>= λ c. eval_all Step free parts.eval args >>= λ values. eval_keywords Step free parts.eval kws >>= λ more. Emits p >>= λ u. call_callee Step free parts c values more) (λ k v. HasType around.bases k here.type v)
-fails_safe around ctx fits parts good evaluates env p callee offers quiet safe args marks kws kmarks here is law klaw covered kcovered hcovered keyed kkeyed =
-    ordinary_safe around ctx fits parts good evaluates env p callee (λ k c. Fails offers) (λ c k k' x h. h) safe (positional_seat offers) (named_seat offers) args marks kws kmarks here law klaw covered kcovered hcovered keyed kkeyed _
+fails_safe around ctx fits parts good evaluates env p callee offers quiet safe args labels kws klabels here is law klaw covered kcovered hcovered keyed kkeyed =
+    ordinary_safe around ctx fits parts good evaluates env p callee (λ k c. Fails offers) (λ c k k' x h. h) safe (positional_seat offers) (named_seat offers) args labels kws klabels here law klaw covered kcovered hcovered keyed kkeyed _
     λ c values more. impossible_safe around env _ _ _ λ k h. let f = h.0.0.0.1 in f.found (offer_quiet f.offer offers f.among (all_quiet offers quiet (ap (λ x. x.codes) (sym is) ∙ h.1))).1
 
 -- a value that is called
-pub value_callee_safe : (around : Around) (ctx : Context) (parts : Parts Step) (good : GoodEval around ctx parts.eval) (env : Env) (e : Expr) (m : Marks e) → Lawful ctx around.declared env None e m → Covered around (Finds e m) → Keyed e m → IsSafe around env (λ k. Unit {0}) (parts.eval e >>= λ v. comes (Gives (calls_value v))) (λ k c. Fails (value_offers (type_of e m)))
+pub value_callee_safe : (around : Around) (ctx : Context) (parts : Parts Step) (good : GoodEval around ctx parts.eval) (env : Env) (e : Expr) (m : Labels e) → Lawful ctx around.declared env None e m → Covered around (Finds e m) → Keyed e m → IsSafe around env (λ k. Unit {0}) (parts.eval e >>= λ v. comes (Gives (calls_value v))) (λ k c. Fails (value_offers (type_of e m)))
 value_callee_safe around ctx parts good env e m law covered keyed =
     bind_safe around env _ _ _ (λ k v. HasType around.bases k (type_of e m) v) _ (λ k k' x h. tt) (part around ctx parts good env _ None e m law covered keyed)
     λ v. comes_safe around env _ (Gives (calls_value v)) _ λ k h. values_fail around.bases k (type_of e m) v h.1
@@ -118,7 +118,7 @@ meant around k word t (means_class c) h = absurd h
 meant around k word t means_reserved h = absurd h
 meant around k word t means_nothing h = h
 
-pub named_value_safe : (around : Around) (ctx : Context) (fits : IsContextOf around ctx) (knows : KnowsNames around ctx) (env : Env) (parts : Parts Step) (n : Name) (m : Mark) → m ≡ name_mark ctx env (ctx.resolve n.text) → Covered around (IsFoundAt n.place m.codes) → IsSafe around env (λ k. Unit {0}) (eval_callee Step free parts (name n)) (λ k c. Fails (value_offers m.type))
+pub named_value_safe : (around : Around) (ctx : Context) (fits : IsContextOf around ctx) (knows : KnowsNames around ctx) (env : Env) (parts : Parts Step) (n : Name) (m : Label) → m ≡ name_label ctx env (ctx.resolve n.text) → Covered around (IsFoundAt n.place m.codes) → IsSafe around env (λ k. Unit {0}) (eval_callee Step free parts (name n)) (λ k c. Fails (value_offers m.type))
 named_value_safe around ctx fits knows env parts n m law covered =
     bind_safe around env _ _ _ (λ k u. Unit {0}) _ (λ k k' x h. tt) (may_stop_safe around env _)
     λ u. weaken around env _ (λ k. Unit {0}) _ _ _ (λ k h. tt) (λ k c h. h) (record { run = go })
@@ -158,5 +158,5 @@ named_value_safe around ctx fits knows env parts n m law covered =
         stopped Cut h = h
 
 -- what is found in the arguments of an ordinary call
-pub arguments_covered : (around : Around) (c : Expr) (args : Exprs) (kws : Keywords) (marks : ItemsMarks args) → is_instance_test c args kws ≡ false → Covered around (ArgumentsFind (is_instance_test c args kws) args marks) → Covered around (ItemsFind args marks)
-arguments_covered around c args kws marks no_test covered f h = covered f (subst (λ t. ArgumentsFind t args marks f) (sym no_test) (as_arguments args marks f h))
+pub arguments_covered : (around : Around) (c : Expr) (args : Exprs) (kws : Keywords) (labels : ItemsLabels args) → is_instance_test c args kws ≡ false → Covered around (ArgumentsFind (is_instance_test c args kws) args labels) → Covered around (ItemsFind args labels)
+arguments_covered around c args kws labels no_test covered f h = covered f (subst (λ t. ArgumentsFind t args labels f) (sym no_test) (as_arguments args labels f h))

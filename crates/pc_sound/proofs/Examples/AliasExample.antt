@@ -13,7 +13,7 @@ use Rattle.pc_flow.specs.Environment.{Env}
 use Rattle.pc_rules.specs.Operations.{clean, in_error}
 use Rattle.pc_rules.specs.Context.{static, dynamic, wrong}
 use Rattle.pc_rules.specs.Signatures.{signatures_of}
-use Rattle.pc_labels.specs.Modules.{Labelling, IsLawful, HasLabelling, may_complete}
+use Rattle.pc_module_rules.specs.Modules.{Labelling, IsLawful, HasLabelling, may_complete}
 use Rattle.pc_machine.specs.Runs.{Run}
 use Rattle.pc_sound.specs.Examples.{FindsJust}
 use Rattle.pc_sound.specs.AliasExample.{program, findings, events, end}
@@ -49,8 +49,8 @@ not_assignable bases h = wider_items bases h.filled_left h.filled_right h.fills_
 abbrev held : Env
 held = Some (ListOf Int) ∷ []
 
-marks : Labelling program
-marks = record {
+labels : Labelling program
+labels = record {
   first = record {
     params = record { default = []; rest = tt };
     declared = ListOf (Union Int Str) ∷ [];
@@ -139,8 +139,8 @@ marks = record {
   };
 }
 
-lawful : IsLawful program marks
-unfolding marks builtin_of bases_of classes_of signatures_of
+lawful : IsLawful program labels
+unfolding labels builtin_of bases_of classes_of signatures_of
 lawful = (
   record { params = record { default = refl; rest = tt }; each_local = refl; entry = (refl, tt); body = (refl, refl); completing = may_complete object },
   (
@@ -178,11 +178,11 @@ lawful = (
 )
 
 pub alias_labelled : HasLabelling program
-alias_labelled = record { marks = marks; lawful = lawful }
+alias_labelled = record { labels = labels; lawful = lawful }
 
 pub alias_found : FindsJust program findings
-unfolding marks builtin_of bases_of classes_of signatures_of
-alias_found = finds_just program refl marks (no_classes_listed program refl refl) lawful
+unfolding labels builtin_of bases_of classes_of signatures_of
+alias_found = finds_just program refl labels (no_classes_listed program refl refl) lawful
 
 pub alias_runs : Run program events end
 alias_runs = runs_plainly program 40 events end refl (λ rest. (refl, refl))

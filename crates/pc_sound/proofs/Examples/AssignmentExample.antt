@@ -11,7 +11,7 @@ use Rattle.pc_flow.specs.Environment.{Env}
 use Rattle.pc_rules.specs.Operations.{clean, in_error}
 use Rattle.pc_rules.specs.Context.{static}
 use Rattle.pc_rules.specs.Signatures.{signatures_of}
-use Rattle.pc_labels.specs.Modules.{Labelling, IsLawful, HasLabelling, may_complete}
+use Rattle.pc_module_rules.specs.Modules.{Labelling, IsLawful, HasLabelling, may_complete}
 use Rattle.pc_machine.specs.Runs.{Run}
 use Rattle.pc_sound.specs.Examples.{FindsJust}
 use Rattle.pc_sound.specs.AssignmentExample.{program, findings, events, end}
@@ -26,8 +26,8 @@ outside = Some (ListOf Int) ∷ None ∷ []
 abbrev inside : Env
 inside = Some (ListOf Int) ∷ Some Int ∷ []
 
-marks : Labelling program
-marks = record {
+labels : Labelling program
+labels = record {
   first = record {
     params = tt;
     declared = ListOf Int ∷ Int ∷ [];
@@ -66,8 +66,8 @@ marks = record {
   rest = tt;
 }
 
-lawful : IsLawful program marks
-unfolding marks builtin_of bases_of classes_of signatures_of
+lawful : IsLawful program labels
+unfolding labels builtin_of bases_of classes_of signatures_of
 lawful = (
   record {
     params = tt;
@@ -111,11 +111,11 @@ lawful = (
 )
 
 pub assignment_labelled : HasLabelling program
-assignment_labelled = record { marks = marks; lawful = lawful }
+assignment_labelled = record { labels = labels; lawful = lawful }
 
 pub assignment_found : FindsJust program findings
-unfolding marks builtin_of bases_of classes_of signatures_of
-assignment_found = finds_just program refl marks (no_classes_listed program refl refl) lawful
+unfolding labels builtin_of bases_of classes_of signatures_of
+assignment_found = finds_just program refl labels (no_classes_listed program refl refl) lawful
 
 pub assignment_runs : Run program events end
 assignment_runs = runs_plainly program 40 events end refl (λ rest. (refl, refl))

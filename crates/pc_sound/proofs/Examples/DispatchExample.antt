@@ -24,7 +24,7 @@ use Rattle.pc_class.specs.Findings.{IsOverride, ClassFinds, base_class}
 use Rattle.pc_rules.specs.Operations.{clean, in_error}
 use Rattle.pc_rules.specs.Context.{static}
 use Rattle.pc_rules.specs.Signatures.{signatures_of}
-use Rattle.pc_labels.specs.Modules.{Labelling, IsLawful, HasLabelling, may_complete, leaves}
+use Rattle.pc_module_rules.specs.Modules.{Labelling, IsLawful, HasLabelling, may_complete, leaves}
 use Rattle.pc_machine.specs.Runs.{Run}
 use Rattle.pc_sound.specs.Examples.{FindsJust}
 use Rattle.pc_sound.specs.DispatchExample.{m_of_a, m_of_b, m_of_c, class_a, class_b, class_c, program, findings, events, end}
@@ -87,8 +87,8 @@ c_is_good bases =
 
 -- ---- the labelling
 
-marks : Labelling program
-marks = record {
+labels : Labelling program
+labels = record {
   first = record {
     method = record {
       params = record { default = []; rest = tt };
@@ -172,8 +172,8 @@ marks = record {
   };
 }
 
-lawful : IsLawful program marks
-unfolding marks builtin_of bases_of classes_of signatures_of
+lawful : IsLawful program labels
+unfolding labels builtin_of bases_of classes_of signatures_of
 lawful = (
   record {
     method = record { params = record { default = refl; rest = tt }; each_local = refl; entry = (refl, (refl, tt)); body = (((refl, (with_types (static same), tt)), refl), tt, refl); completing = leaves };
@@ -255,7 +255,7 @@ lawful = (
 )
 
 pub labelled : HasLabelling program
-labelled = record { marks = marks; lawful = lawful }
+labelled = record { labels = labels; lawful = lawful }
 
 -- ---- the findings
 
@@ -335,8 +335,8 @@ of_overrides = classes_listed program refl nothing_else findings overrides_into 
 
 -- what is found of classes is all that is found
 pub found : FindsJust program findings
-unfolding marks builtin_of bases_of classes_of signatures_of
-found = finds_just program refl marks of_overrides lawful
+unfolding labels builtin_of bases_of classes_of signatures_of
+found = finds_just program refl labels of_overrides lawful
 
 pub runs : Run program events end
 runs = runs_plainly program 40 events end refl (λ rest. (refl, refl))

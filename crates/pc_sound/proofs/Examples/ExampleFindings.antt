@@ -26,11 +26,11 @@ use Rattle.pc_types.specs.Tree.{Tree}
 use Rattle.pc_types.specs.Below.{Bases}
 use Rattle.pc_class.specs.Findings as class
 use Rattle.pc_class.specs.Findings.{ClassFinds}
-use Rattle.pc_rules.specs.Operations.{Mark, FlowMark}
+use Rattle.pc_rules.specs.Operations.{Label, FlowLabel}
 use Rattle.pc_rules.specs.Context.{FlowUnless, FlowAt, is_early}
-use Rattle.pc_labels.specs.Modules.{Labelling, IsLawful, LabelsSay, LabelsFind, IsFinding, constant_types, nothing_before}
-use Rattle.pc_labels.proofs.Scopes.{said_is_found}
-use Rattle.pc_labels.proofs.OneModule.{one_labelling}
+use Rattle.pc_module_rules.specs.Modules.{Labelling, IsLawful, LabelsSay, LabelsFind, IsFinding, constant_types, nothing_before}
+use Rattle.pc_module_rules.proofs.Scopes.{said_is_found}
+use Rattle.pc_module_rules.proofs.OneModule.{one_labelling}
 use Rattle.pc_sound.specs.Examples.{FindsJust}
 use Rattle.pc_sound.proofs.Lists.{among_first, first_among, later_among, none_among}
 use Rattle.pc_sound.proofs.Examples.FindingLists.{Listing, none_listed, nothing_listed, equal_listed, both_listed, like, all_items_listed}
@@ -38,11 +38,11 @@ use Rattle.pc_sound.proofs.Examples.FindingLists.{Listing, none_listed, nothing_
 -- ---- flows in labels
 
 -- a flow in which nothing is found
-abbrev pub quiet_flow : Tree → Tree → FlowMark
+abbrev pub quiet_flow : Tree → Tree → FlowLabel
 quiet_flow s t = record { from = s; into = t; code = None }
 
 -- the label of a flow with its types
-pub with_types : {bases : Bases} {m : Mark} {t : Tree} {code : Option Code} → FlowUnless (is_early m.codes) bases m.type t code → FlowAt bases m t (record { from = m.type; into = t; code = code })
+pub with_types : {bases : Bases} {m : Label} {t : Tree} {code : Option Code} → FlowUnless (is_early m.codes) bases m.type t code → FlowAt bases m t (record { from = m.type; into = t; code = code })
 with_types h = record { from = refl; into = refl; code = h }
 
 -- ---- of each element of a list
@@ -269,26 +269,26 @@ module _ (m : Module) where
 
     -- ---- all of a module
 
-    module _ (marks : Labelling m) (classes : Listing (ClassFinds m)) where
+    module _ (labels : Labelling m) (classes : Listing (ClassFinds m)) where
       abbrev pub Found : Finding → Type 0
-      Found f = ScopeFinds m f ⊎ (ClassFinds m f ⊎ LabelsSay m marks f)
+      Found f = ScopeFinds m f ⊎ (ClassFinds m f ⊎ LabelsSay m labels f)
 
       abbrev pub module_listed : Listing Found
-      module_listed = both_listed scope_listed (both_listed classes (all_items_listed m (constant_types m m.items marks) nothing_before m.items marks))
+      module_listed = both_listed scope_listed (both_listed classes (all_items_listed m (constant_types m m.items labels) nothing_before m.items labels))
 
       -- what is found under one lawful labelling is found of the module
-      pub found_of_one : IsLawful m marks → (f : Finding) → Found f → IsFinding m f
-      found_of_one lawful f (inl h) = record { marks = marks; lawful = lawful; found = inl h }
-      found_of_one lawful f (inr (inl h)) = record { marks = marks; lawful = lawful; found = inr (inl h) }
-      found_of_one lawful f (inr (inr h)) = said_is_found m marks lawful f h
+      pub found_of_one : IsLawful m labels → (f : Finding) → Found f → IsFinding m f
+      found_of_one lawful f (inl h) = record { labels = labels; lawful = lawful; found = inl h }
+      found_of_one lawful f (inr (inl h)) = record { labels = labels; lawful = lawful; found = inr (inl h) }
+      found_of_one lawful f (inr (inr h)) = said_is_found m labels lawful f h
 
       -- and nothing else, since there is no other lawful labelling
-      pub found_under_one : IsLawful m marks → (f : Finding) → IsFinding m f → Found f
-      found_under_one lawful f h = elim (subst (λ ms. ScopeFinds m f ⊎ (ClassFinds m f ⊎ LabelsFind m ms f)) (one_labelling m h.marks marks h.lawful lawful) h.found) [
+      pub found_under_one : IsLawful m labels → (f : Finding) → IsFinding m f → Found f
+      found_under_one lawful f h = elim (subst (λ ms. ScopeFinds m f ⊎ (ClassFinds m f ⊎ LabelsFind m ms f)) (one_labelling m h.labels labels h.lawful lawful) h.found) [
         | inl a ↦ inl a
         | inr b ↦ elim b [ inl c ↦ inr (inl c) | inr d ↦ inr (inr d.said) ]
       ]
 
       -- the findings of a module with this lawful labelling are just those of the list
-      pub finds_just : IsLawful m marks → FindsJust m module_listed.all
+      pub finds_just : IsLawful m labels → FindsJust m module_listed.all
       finds_just lawful f = ((λ h. module_listed.into f (found_under_one lawful f h)), (λ c. found_of_one lawful f (module_listed.from f c)))

@@ -27,14 +27,14 @@ use Rattle.pc_types.specs.Shape.{nodes, node_limit}
 use Rattle.pc_ann.specs.Annotations as ann
 use Rattle.pc_ann.specs.Annotations.{named_type, applied_type, empty_type, union_type, reading, readings, PartFinds, PartsFind, IsTooLarge, AnnFinds}
 use Rattle.pc_class.specs.Bases.{bases_of}
-use Rattle.pc_rules.specs.Operations.{FlowMark}
+use Rattle.pc_rules.specs.Operations.{FlowLabel}
 use Rattle.pc_rules.specs.Context.{Context}
-use Rattle.pc_rules.specs.Labels.{FlowMarks, Marks, ItemsMarks, EntriesMarks, KeywordsMarks, IsFoundAt, IsFlowAt, IsCodeAt, second_place, Finds, ItemsFind, ArgumentsFind, EntriesFind, KeywordsFind}
-use Rattle.pc_rules.specs.Signatures.{body_context, literal_place, DefaultFinds, ParamsMarks, ParamsFind}
-use Rattle.pc_labels.specs.StatementLabels.{OptionMarks, TargetMarks, Behind, BehindRule, StmtMarks, SuiteMarks, BranchesMarks}
-use Rattle.pc_labels.specs.Statements.{NamesBound, is_first, option_place, OptionFinds, TargetFinds, AnnotationFinds, StmtFinds, SuiteFinds, BranchesFind}
-use Rattle.pc_labels.specs.Modules as modules
-use Rattle.pc_labels.specs.Modules.{FunctionMarks, FunctionFinds, names_entered, entry_parameters, MembersMarks, MembersFind, ItemMarks, BeforeItem, before_next, ItemFinds}
+use Rattle.pc_rules.specs.Labels.{FlowLabels, Labels, ItemsLabels, EntriesLabels, KeywordsLabels, IsFoundAt, IsFlowAt, IsCodeAt, second_place, Finds, ItemsFind, ArgumentsFind, EntriesFind, KeywordsFind}
+use Rattle.pc_rules.specs.Signatures.{body_context, literal_place, DefaultFinds, ParamsLabels, ParamsFind}
+use Rattle.pc_module_rules.specs.StatementLabels.{OptionLabels, TargetLabels, Behind, BehindRule, StmtLabels, SuiteLabels, BranchesLabels}
+use Rattle.pc_module_rules.specs.Statements.{NamesBound, is_first, option_place, OptionFinds, TargetFinds, AnnotationFinds, StmtFinds, SuiteFinds, BranchesFind}
+use Rattle.pc_module_rules.specs.Modules as modules
+use Rattle.pc_module_rules.specs.Modules.{FunctionLabels, FunctionFinds, names_entered, entry_parameters, MembersLabels, MembersFind, ItemLabels, BeforeItem, before_next, ItemFinds}
 use Rattle.pc_sound.proofs.Lists.{among_first, first_among, later_among, none_among}
 
 -- what is found by a rule, as a list
@@ -111,7 +111,7 @@ abbrev at_flow : Place → Option Code → List Finding → List Finding
 at_flow p None rest = rest
 at_flow p (Some c) rest = finding p c ∷ rest
 
-abbrev pub at_flows : Place → FlowMarks → List Finding
+abbrev pub at_flows : Place → FlowLabels → List Finding
 at_flows p [] = []
 at_flows p (x ∷ xs) = at_flow p x.code (at_flows p xs)
 
@@ -123,17 +123,17 @@ later_flow : (p : Place) (o : Option Code) (f : Finding) (rest : List Finding) �
 later_flow p None f rest c = c
 later_flow p (Some d) f rest c = later_among (finding p d) rest f c
 
-flow_code_into : (p : Place) (xs : FlowMarks) (x : FlowMark) (code : Code) → Contains xs x → x.code ≡ Some code → Contains (at_flows p xs) (finding p code)
+flow_code_into : (p : Place) (xs : FlowLabels) (x : FlowLabel) (code : Code) → Contains xs x → x.code ≡ Some code → Contains (at_flows p xs) (finding p code)
 flow_code_into p [] x code c e = absurd (none_among x c)
 flow_code_into p (y ∷ ys) x code c e = elim (among_first y ys x c) [
   | inl a ↦ first_flow p y.code code (at_flows p ys) (ap (λ z. z.code) a ∙ e)
   | inr b ↦ later_flow p y.code (finding p code) (at_flows p ys) (flow_code_into p ys x code b e)
 ]
 
-pub flow_into : (p : Place) (xs : FlowMarks) (f : Finding) → IsFlowAt p xs f → Contains (at_flows p xs) f
+pub flow_into : (p : Place) (xs : FlowLabels) (f : Finding) → IsFlowAt p xs f → Contains (at_flows p xs) f
 flow_into p xs f h = subst (λ x. Contains (at_flows p xs) x) (sym h.is) (flow_code_into p xs h.flow h.code h.among h.found)
 
-pub flow_from : (p : Place) (xs : FlowMarks) (f : Finding) → Contains (at_flows p xs) f → IsFlowAt p xs f
+pub flow_from : (p : Place) (xs : FlowLabels) (f : Finding) → Contains (at_flows p xs) f → IsFlowAt p xs f
 flow_from p [] f c = absurd (none_among f c)
 flow_from p (x ∷ xs) f c = go x.code refl c (flow_from p xs f)
   where
@@ -147,7 +147,7 @@ flow_from p (x ∷ xs) f c = go x.code refl c (flow_from p xs f)
       | inr b ↦ behind (rest b)
     ]
 
-abbrev pub flow_listed : (p : Place) (cs : FlowMarks) → Listing (IsFlowAt p cs)
+abbrev pub flow_listed : (p : Place) (cs : FlowLabels) → Listing (IsFlowAt p cs)
 flow_listed p cs = record { all = at_flows p cs; into = flow_into p cs; from = flow_from p cs }
 
 abbrev pub code_listed : (p : Place) (c : Option Code) → Listing (IsCodeAt p c)
@@ -157,7 +157,7 @@ code_listed p (Some code) = equal_listed (finding p code)
 -- ---- expressions
 
 abbrev mutual
-  pub expr_listed : (e : Expr) (m : Marks e) → Listing (Finds e m)
+  pub expr_listed : (e : Expr) (m : Labels e) → Listing (Finds e m)
   expr_listed (name n) m = found_listed n.place m.codes
   expr_listed (number p digits) m = found_listed p m.codes
   expr_listed (text p characters) m = found_listed p m.codes
@@ -180,21 +180,21 @@ abbrev mutual
       both_listed (found_listed p m.here.codes) (both_listed (expr_listed callee m.callee) (both_listed (code_listed (second_place arguments p) m.second)
       (both_listed (arguments_listed (is_instance_test callee arguments keywords) arguments m.arguments) (keywords_listed keywords m.keywords))))
 
-  pub items_listed : (es : Exprs) (m : ItemsMarks es) → Listing (ItemsFind es m)
+  pub items_listed : (es : Exprs) (m : ItemsLabels es) → Listing (ItemsFind es m)
   items_listed no_exprs m = nothing_listed
   items_listed (more_exprs e rest) m = both_listed (flow_listed (place_of e) m.flows) (both_listed (expr_listed e m.first) (items_listed rest m.rest))
 
-  pub arguments_listed : (is_test : Test) (es : Exprs) (m : ItemsMarks es) → Listing (ArgumentsFind is_test es m)
+  pub arguments_listed : (is_test : Test) (es : Exprs) (m : ItemsLabels es) → Listing (ArgumentsFind is_test es m)
   arguments_listed is_test no_exprs m = nothing_listed
   arguments_listed true (more_exprs e rest) m = expr_listed e m.first
   arguments_listed false (more_exprs e rest) m = both_listed (flow_listed (place_of e) m.flows) (both_listed (expr_listed e m.first) (arguments_listed false rest m.rest))
 
-  pub entries_listed : (es : Entries) (m : EntriesMarks es) → Listing (EntriesFind es m)
+  pub entries_listed : (es : Entries) (m : EntriesLabels es) → Listing (EntriesFind es m)
   entries_listed no_entries m = nothing_listed
   entries_listed (more_entries key value rest) m =
       both_listed (both_listed (flow_listed (place_of key) m.key_flows) (expr_listed key m.key)) (both_listed (both_listed (flow_listed (place_of value) m.value_flows) (expr_listed value m.value)) (entries_listed rest m.rest))
 
-  pub keywords_listed : (es : Keywords) (m : KeywordsMarks es) → Listing (KeywordsFind es m)
+  pub keywords_listed : (es : Keywords) (m : KeywordsLabels es) → Listing (KeywordsFind es m)
   keywords_listed no_keywords m = nothing_listed
   keywords_listed (more_keywords parameter value rest) m = both_listed (flow_listed (place_of value) m.flows) (both_listed (expr_listed value m.first) (keywords_listed rest m.rest))
 
@@ -247,72 +247,72 @@ behind_listed true r P each = each r
 behind_listed false r P each = nothing_listed
 
 module _ (m : Module) (ctx : Context) where
-  abbrev pub option_listed : (e : Option Expr) (marks : OptionMarks e) → Listing (OptionFinds m ctx e marks)
-  option_listed None marks = nothing_listed
-  option_listed (Some e) marks = expr_listed e marks
+  abbrev pub option_listed : (e : Option Expr) (labels : OptionLabels e) → Listing (OptionFinds m ctx e labels)
+  option_listed None labels = nothing_listed
+  option_listed (Some e) labels = expr_listed e labels
 
-  abbrev pub target_listed : (t : Target) (marks : TargetMarks t) → Listing (TargetFinds m ctx t marks)
-  target_listed (to_name n) marks = nothing_listed
-  target_listed (to_attribute p o field) marks = both_listed (found_listed p marks.codes) (expr_listed o marks.object)
-  target_listed (to_index p o i) marks = both_listed (found_listed p marks.codes) (both_listed (flow_listed (place_of i) marks.key_flows) (both_listed (expr_listed o marks.object) (expr_listed i marks.key)))
+  abbrev pub target_listed : (t : Target) (labels : TargetLabels t) → Listing (TargetFinds m ctx t labels)
+  target_listed (to_name n) labels = nothing_listed
+  target_listed (to_attribute p o field) labels = both_listed (found_listed p labels.codes) (expr_listed o labels.object)
+  target_listed (to_index p o i) labels = both_listed (found_listed p labels.codes) (both_listed (flow_listed (place_of i) labels.key_flows) (both_listed (expr_listed o labels.object) (expr_listed i labels.key)))
 
   abbrev pub annotation_listed : (r : Res) (first : Test) (n : Name) (a : Ann) → Listing (AnnotationFinds m ctx r first n a)
   annotation_listed (res.Local x) false n a = equal_listed (finding n.place E24)
   annotation_listed r first n a = ann_listed m ctx.bases a
 
   abbrev mutual
-    pub stmt_listed : (seen : NamesBound) (s : Stmt) (marks : StmtMarks s) → Listing (StmtFinds m ctx seen s marks)
-    stmt_listed seen (pass p) marks = nothing_listed
-    stmt_listed seen (breaks p) marks = nothing_listed
-    stmt_listed seen (continues p) marks = nothing_listed
-    stmt_listed seen (returns p e) marks = both_listed (flow_listed (option_place m ctx p e) marks.flows) (option_listed e marks.value)
-    stmt_listed seen (asserts p c e) marks = both_listed (expr_listed c marks.condition) (option_listed e marks.message)
-    stmt_listed seen (annotated p n a e) marks =
-        both_listed (annotation_listed (ctx.resolve n.text) (is_first seen n) n a) (both_listed (flow_listed (option_place m ctx p e) marks.flows) (option_listed e marks.value))
-    stmt_listed seen (assigns p t e) marks = both_listed (flow_listed (place_of e) marks.flows) (both_listed (expr_listed e marks.value) (target_listed t marks.target))
-    stmt_listed seen (evaluates p e) marks = expr_listed e marks
-    stmt_listed seen (while_loop p c b) marks = both_listed (expr_listed c marks.condition) (suite_listed seen b marks.body)
-    stmt_listed seen (for_loop p n e b) marks =
-        both_listed (found_listed (place_of e) marks.item.codes) (both_listed (flow_listed (place_of e) marks.flows) (both_listed (expr_listed e marks.iterable) (suite_listed (n.text ∷ seen) b marks.body)))
-    stmt_listed seen (conditional p bs o) marks = both_listed (branches_listed seen bs marks.branches) (suite_listed (texts (bound_by_branches bs) ++ seen) o marks.otherwise)
+    pub stmt_listed : (seen : NamesBound) (s : Stmt) (labels : StmtLabels s) → Listing (StmtFinds m ctx seen s labels)
+    stmt_listed seen (pass p) labels = nothing_listed
+    stmt_listed seen (breaks p) labels = nothing_listed
+    stmt_listed seen (continues p) labels = nothing_listed
+    stmt_listed seen (returns p e) labels = both_listed (flow_listed (option_place m ctx p e) labels.flows) (option_listed e labels.value)
+    stmt_listed seen (asserts p c e) labels = both_listed (expr_listed c labels.condition) (option_listed e labels.message)
+    stmt_listed seen (annotated p n a e) labels =
+        both_listed (annotation_listed (ctx.resolve n.text) (is_first seen n) n a) (both_listed (flow_listed (option_place m ctx p e) labels.flows) (option_listed e labels.value))
+    stmt_listed seen (assigns p t e) labels = both_listed (flow_listed (place_of e) labels.flows) (both_listed (expr_listed e labels.value) (target_listed t labels.target))
+    stmt_listed seen (evaluates p e) labels = expr_listed e labels
+    stmt_listed seen (while_loop p c b) labels = both_listed (expr_listed c labels.condition) (suite_listed seen b labels.body)
+    stmt_listed seen (for_loop p n e b) labels =
+        both_listed (found_listed (place_of e) labels.item.codes) (both_listed (flow_listed (place_of e) labels.flows) (both_listed (expr_listed e labels.iterable) (suite_listed (n.text ∷ seen) b labels.body)))
+    stmt_listed seen (conditional p bs o) labels = both_listed (branches_listed seen bs labels.branches) (suite_listed (texts (bound_by_branches bs) ++ seen) o labels.otherwise)
 
-    pub suite_listed : (seen : NamesBound) (b : Stmts) (marks : SuiteMarks b) → Listing (SuiteFinds m ctx seen b marks)
-    suite_listed seen no_stmts marks = nothing_listed
-    suite_listed seen (more_stmts s rest) marks =
-        both_listed (stmt_listed seen s marks.first) (behind_listed (completes s) marks.behind (λ r. SuiteFinds m ctx (texts (bound_by_stmt s) ++ seen) rest r.rest) (λ r. suite_listed (texts (bound_by_stmt s) ++ seen) rest r.rest))
+    pub suite_listed : (seen : NamesBound) (b : Stmts) (labels : SuiteLabels b) → Listing (SuiteFinds m ctx seen b labels)
+    suite_listed seen no_stmts labels = nothing_listed
+    suite_listed seen (more_stmts s rest) labels =
+        both_listed (stmt_listed seen s labels.first) (behind_listed (completes s) labels.behind (λ r. SuiteFinds m ctx (texts (bound_by_stmt s) ++ seen) rest r.rest) (λ r. suite_listed (texts (bound_by_stmt s) ++ seen) rest r.rest))
 
-    pub branches_listed : (seen : NamesBound) (bs : Branches) (marks : BranchesMarks bs) → Listing (BranchesFind m ctx seen bs marks)
-    branches_listed seen no_branches marks = nothing_listed
-    branches_listed seen (more_branches c b rest) marks =
-        both_listed (expr_listed c marks.condition) (both_listed (suite_listed seen b marks.body) (branches_listed (texts (bound_by b) ++ seen) rest marks.rest))
+    pub branches_listed : (seen : NamesBound) (bs : Branches) (labels : BranchesLabels bs) → Listing (BranchesFind m ctx seen bs labels)
+    branches_listed seen no_branches labels = nothing_listed
+    branches_listed seen (more_branches c b rest) labels =
+        both_listed (expr_listed c labels.condition) (both_listed (suite_listed seen b labels.body) (branches_listed (texts (bound_by b) ++ seen) rest labels.rest))
 
 -- ---- functions, classes, items
 
-abbrev pub default_listed : (l : Option Literal) (flows : FlowMarks) → Listing (DefaultFinds l flows)
+abbrev pub default_listed : (l : Option Literal) (flows : FlowLabels) → Listing (DefaultFinds l flows)
 default_listed None flows = nothing_listed
 default_listed (Some l) flows = flow_listed (literal_place l) flows
 
 module _ (m : Module) where
-  abbrev pub params_listed : (ps : List Param) (marks : ParamsMarks ps) → Listing (ParamsFind m ps marks)
-  params_listed [] marks = nothing_listed
-  params_listed (p ∷ ps) marks = both_listed (option_ann_listed m (bases_of m) p.annotation) (both_listed (default_listed p.default marks.default) (params_listed ps marks.rest))
+  abbrev pub params_listed : (ps : List Param) (labels : ParamsLabels ps) → Listing (ParamsFind m ps labels)
+  params_listed [] labels = nothing_listed
+  params_listed (p ∷ ps) labels = both_listed (option_ann_listed m (bases_of m) p.annotation) (both_listed (default_listed p.default labels.default) (params_listed ps labels.rest))
 
   module _ (constants : List Tree) where
-    abbrev pub function_listed : (owner : Owner) (f : FuncDef) (marks : FunctionMarks f) → Listing (FunctionFinds m constants owner f marks)
-    function_listed owner f marks =
-        both_listed (params_listed f.params marks.params) (both_listed (option_ann_listed m (bases_of m) f.returns) (both_listed (code_listed f.name.place marks.completing)
-        (suite_listed m (body_context m constants (locals owner f)) (names_entered [] (entry_parameters m owner f)) f.body marks.body)))
+    abbrev pub function_listed : (owner : Owner) (f : FuncDef) (labels : FunctionLabels f) → Listing (FunctionFinds m constants owner f labels)
+    function_listed owner f labels =
+        both_listed (params_listed f.params labels.params) (both_listed (option_ann_listed m (bases_of m) f.returns) (both_listed (code_listed f.name.place labels.completing)
+        (suite_listed m (body_context m constants (locals owner f)) (names_entered [] (entry_parameters m owner f)) f.body labels.body)))
 
-    abbrev pub members_listed : (c k : ℕ) (ms : List Member) (marks : MembersMarks ms) → Listing (MembersFind m constants c k ms marks)
-    members_listed c k [] marks = nothing_listed
-    members_listed c k (field_member d ∷ rest) marks = both_listed (ann_listed m (bases_of m) d.annotation) (both_listed (default_listed d.default marks.default) (members_listed c k rest marks.rest))
-    members_listed c k (method_member d ∷ rest) marks = both_listed (function_listed (owners.Method c k) d marks.method) (members_listed c (suc k) rest marks.rest)
+    abbrev pub members_listed : (c k : ℕ) (ms : List Member) (labels : MembersLabels ms) → Listing (MembersFind m constants c k ms labels)
+    members_listed c k [] labels = nothing_listed
+    members_listed c k (field_member d ∷ rest) labels = both_listed (ann_listed m (bases_of m) d.annotation) (both_listed (default_listed d.default labels.default) (members_listed c k rest labels.rest))
+    members_listed c k (method_member d ∷ rest) labels = both_listed (function_listed (owners.Method c k) d labels.method) (members_listed c (suc k) rest labels.rest)
 
-    abbrev pub item_listed : (b : BeforeItem) (i : Item) (marks : ItemMarks i) → Listing (ItemFinds m constants b i marks)
-    item_listed b (constant_item p c) marks = both_listed (option_ann_listed m (bases_of m) c.annotation) (both_listed (flow_listed (place_of c.value) marks.flows) (expr_listed c.value marks.value))
-    item_listed b (class_item p c) marks = members_listed b.classes 0 c.members marks
-    item_listed b (def_item p f) marks = function_listed (owners.Func b.functions) f marks
+    abbrev pub item_listed : (b : BeforeItem) (i : Item) (labels : ItemLabels i) → Listing (ItemFinds m constants b i labels)
+    item_listed b (constant_item p c) labels = both_listed (option_ann_listed m (bases_of m) c.annotation) (both_listed (flow_listed (place_of c.value) labels.flows) (expr_listed c.value labels.value))
+    item_listed b (class_item p c) labels = members_listed b.classes 0 c.members labels
+    item_listed b (def_item p f) labels = function_listed (owners.Func b.functions) f labels
 
-    abbrev pub all_items_listed : (b : BeforeItem) (items : List Item) (marks : modules.ItemsMarks items) → Listing (modules.ItemsFind m constants b items marks)
-    all_items_listed b [] marks = nothing_listed
-    all_items_listed b (i ∷ rest) marks = both_listed (item_listed b i marks.first) (all_items_listed (before_next m b i marks.first) rest marks.rest)
+    abbrev pub all_items_listed : (b : BeforeItem) (items : List Item) (labels : modules.ItemsLabels items) → Listing (modules.ItemsFind m constants b items labels)
+    all_items_listed b [] labels = nothing_listed
+    all_items_listed b (i ∷ rest) labels = both_listed (item_listed b i labels.first) (all_items_listed (before_next m b i labels.first) rest labels.rest)

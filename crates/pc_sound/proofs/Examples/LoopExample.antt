@@ -11,7 +11,7 @@ use Rattle.pc_flow.specs.Environment.{Env}
 use Rattle.pc_rules.specs.Operations.{clean, in_error}
 use Rattle.pc_rules.specs.Context.{static}
 use Rattle.pc_rules.specs.Signatures.{signatures_of}
-use Rattle.pc_labels.specs.Modules.{Labelling, IsLawful, HasLabelling, may_complete}
+use Rattle.pc_module_rules.specs.Modules.{Labelling, IsLawful, HasLabelling, may_complete}
 use Rattle.pc_machine.specs.Runs.{Run}
 use Rattle.pc_sound.specs.Examples.{FindsJust}
 use Rattle.pc_sound.specs.LoopExample.{program, findings, events, end}
@@ -21,8 +21,8 @@ use Rattle.pc_sound.proofs.Examples.ExampleRuns.{runs_plainly}
 abbrev wide : Env
 wide = Some (Union Int NoneType) ∷ []
 
-marks : Labelling program
-marks = record {
+labels : Labelling program
+labels = record {
   first = record {
     params = record { default = []; rest = tt };
     declared = Union Int NoneType ∷ [];
@@ -84,8 +84,8 @@ marks = record {
   };
 }
 
-lawful : IsLawful program marks
-unfolding marks builtin_of bases_of classes_of signatures_of
+lawful : IsLawful program labels
+unfolding labels builtin_of bases_of classes_of signatures_of
 lawful = (
   record {
     params = record { default = refl; rest = tt };
@@ -143,11 +143,11 @@ lawful = (
 )
 
 pub loop_labelled : HasLabelling program
-loop_labelled = record { marks = marks; lawful = lawful }
+loop_labelled = record { labels = labels; lawful = lawful }
 
 pub loop_found : FindsJust program findings
-unfolding marks builtin_of bases_of classes_of signatures_of
-loop_found = finds_just program refl marks (no_classes_listed program refl refl) lawful
+unfolding labels builtin_of bases_of classes_of signatures_of
+loop_found = finds_just program refl labels (no_classes_listed program refl refl) lawful
 
 pub loop_runs : Run program events end
 loop_runs = runs_plainly program 40 events end refl (λ rest. (refl, refl))

@@ -8,10 +8,10 @@ use Rattle.pc_types.specs.Below.{same, left, object}
 use Rattle.pc_class.specs.Bases.{bases_of}
 use Rattle.pc_class.specs.Facts.{classes_of}
 use Rattle.pc_flow.specs.Environment.{Env}
-use Rattle.pc_rules.specs.Operations.{Mark, clean, in_error}
+use Rattle.pc_rules.specs.Operations.{Label, clean, in_error}
 use Rattle.pc_rules.specs.Context.{static}
 use Rattle.pc_rules.specs.Signatures.{signatures_of}
-use Rattle.pc_labels.specs.Modules.{Labelling, IsLawful, HasLabelling, may_complete}
+use Rattle.pc_module_rules.specs.Modules.{Labelling, IsLawful, HasLabelling, may_complete}
 use Rattle.pc_machine.specs.Runs.{Run}
 use Rattle.pc_sound.specs.Examples.{FindsJust}
 use Rattle.pc_sound.specs.NarrowingExample.{program, findings, events, end}
@@ -26,11 +26,11 @@ list_or_none = Union NoneType (ListOf Int)
 abbrev where_are : Tree → Tree → Env
 where_are x y = Some x ∷ Some y ∷ []
 
-abbrev test_of_any : Mark
+abbrev test_of_any : Label
 test_of_any = record { type = Bool; codes = A7 ∷ [] }
 
-marks : Labelling program
-marks = record {
+labels : Labelling program
+labels = record {
   first = record {
     params = record { default = []; rest = record { default = []; rest = tt } };
     declared = Any ∷ list_or_none ∷ [];
@@ -122,8 +122,8 @@ marks = record {
   };
 }
 
-lawful : IsLawful program marks
-unfolding marks builtin_of bases_of classes_of signatures_of
+lawful : IsLawful program labels
+unfolding labels builtin_of bases_of classes_of signatures_of
 lawful = (
   record {
     params = record { default = refl; rest = record { default = refl; rest = tt } };
@@ -229,11 +229,11 @@ lawful = (
 )
 
 pub labelled : HasLabelling program
-labelled = record { marks = marks; lawful = lawful }
+labelled = record { labels = labels; lawful = lawful }
 
 pub found : FindsJust program findings
-unfolding marks builtin_of bases_of classes_of signatures_of
-found = finds_just program refl marks (no_classes_listed program refl refl) lawful
+unfolding labels builtin_of bases_of classes_of signatures_of
+found = finds_just program refl labels (no_classes_listed program refl refl) lawful
 
 pub runs : Run program events end
 runs = runs_plainly program 40 events end refl (λ rest. (refl, refl))

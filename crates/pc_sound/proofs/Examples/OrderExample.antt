@@ -11,7 +11,7 @@ use Rattle.pc_class.specs.Facts.{classes_of}
 use Rattle.pc_rules.specs.Operations.{clean, in_error}
 use Rattle.pc_rules.specs.Context.{static}
 use Rattle.pc_rules.specs.Signatures.{signatures_of}
-use Rattle.pc_labels.specs.Modules.{Labelling, IsLawful, HasLabelling, may_complete}
+use Rattle.pc_module_rules.specs.Modules.{Labelling, IsLawful, HasLabelling, may_complete}
 use Rattle.pc_machine.specs.Runs.{Run}
 use Rattle.pc_sound.specs.Examples.{FindsJust}
 use Rattle.pc_sound.specs.OrderExample.{program, findings, events, end}
@@ -19,8 +19,8 @@ use Rattle.pc_sound.proofs.Examples.ClassFindings.{just_these}
 use Rattle.pc_sound.proofs.Examples.ExampleFindings.{quiet_flow, with_types, no_classes_listed, finds_just, module_listed}
 use Rattle.pc_sound.proofs.Examples.ExampleRuns.{runs_plainly}
 
-marks : Labelling program
-marks = record {
+labels : Labelling program
+labels = record {
   first = record { value = in_error E03; flows = quiet_flow Any Int ∷ [] };
   rest = record {
     first = record { value = clean Int; flows = quiet_flow Int Int ∷ [] };
@@ -46,8 +46,8 @@ marks = record {
   };
 }
 
-lawful : IsLawful program marks
-unfolding marks builtin_of bases_of classes_of signatures_of
+lawful : IsLawful program labels
+unfolding labels builtin_of bases_of classes_of signatures_of
 lawful = (
   record { value = refl; flow = (with_types refl, tt) },
   (
@@ -80,15 +80,15 @@ lawful = (
 )
 
 pub labelled : HasLabelling program
-labelled = record { marks = marks; lawful = lawful }
+labelled = record { labels = labels; lawful = lawful }
 
 abbrev all_found : List Finding
-all_found = (module_listed program refl marks (no_classes_listed program refl refl)).all
+all_found = (module_listed program refl labels (no_classes_listed program refl refl)).all
 
 -- the finding of scopes and that of the label are one
 pub found : FindsJust program findings
-unfolding marks builtin_of bases_of classes_of signatures_of
-found = just_these program all_found findings (finds_just program refl marks (no_classes_listed program refl refl) lawful) ((0, omega arith, refl), ((0, omega arith, refl), tt)) ((0, omega arith, refl), tt)
+unfolding labels builtin_of bases_of classes_of signatures_of
+found = just_these program all_found findings (finds_just program refl labels (no_classes_listed program refl refl) lawful) ((0, omega arith, refl), ((0, omega arith, refl), tt)) ((0, omega arith, refl), tt)
 
 pub runs : Run program events end
 runs = runs_plainly program 2 events end refl (λ rest. (refl, refl))

@@ -19,9 +19,9 @@ use Rattle.pc_flow.specs.Environment.{Env, current, join_or_object}
 use Rattle.pc_flow.specs.Narrowing.{Tested, for_none, for_type, for_list, as_local, local_named, test_named, first_argument, second_argument, local_of_argument, test_of_argument, narrow_current, narrow_local, narrow_instance, narrow}
 use Rattle.pc_flow.specs.Narrowing as narrowing
 use Rattle.pc_rules.specs.Context.{Context}
-use Rattle.pc_rules.specs.Labels.{Marks, type_of, item_types, Finds, IsFoundAt}
-use Rattle.pc_rules.specs.Lawful.{Lawful, whole_call_mark}
-use Rattle.pc_rules.specs.Calls.{is_object_or_any, any_list_codes, current_of, test_codes, test_mark}
+use Rattle.pc_rules.specs.Labels.{Labels, type_of, item_types, Finds, IsFoundAt}
+use Rattle.pc_rules.specs.Lawful.{Lawful, whole_call_label}
+use Rattle.pc_rules.specs.Calls.{is_object_or_any, any_list_codes, current_of, test_codes, test_label}
 use Rattle.pc_value.specs.Value as value
 use Rattle.pc_value.specs.Value.{Value, boolean, Out, Gives, Stops, Cut, Heap, is_true}
 use Rattle.pc_value.specs.Actions as action
@@ -52,7 +52,7 @@ use Rattle.pc_sound.proofs.Steps.InformingSteps.{shows_charge, shows_leads, Show
 
 -- a condition comes to a value of its type, and its truth tells of the locals
 pub record Decides (around : Around) (ctx : Context) (eval : Expr → Step Value) : Type 0 where
-  pub decides : (env : Env) (want : Option Tree) (e : Expr) (m : Marks e) → Lawful ctx around.declared env want e m → Covered around (Finds e m) → Keyed e m → (frame : Frame) → Leads around (λ k s. IsWellTyped around env k s × (s.frame ≡ frame)) (eval e) (λ k v s. (IsWellTyped around env k s × (s.frame ≡ frame)) × (HasType around.bases k (type_of e m) v × TellsLocals around ctx env e k v s))
+  pub decides : (env : Env) (want : Option Tree) (e : Expr) (m : Labels e) → Lawful ctx around.declared env want e m → Covered around (Finds e m) → Keyed e m → (frame : Frame) → Leads around (λ k s. IsWellTyped around env k s × (s.frame ≡ frame)) (eval e) (λ k v s. (IsWellTyped around env k s × (s.frame ≡ frame)) × (HasType around.bases k (type_of e m) v × TellsLocals around ctx env e k v s))
 
 -- a name comes to what it means, and leaves the state as it is
 pub record Reads (eval : Expr → Step Value) : Type 0 where
@@ -177,7 +177,7 @@ module _ (around : Around) (ctx : Context) (fits : IsContextOf around ctx) (part
       ]
 
   -- a part, as what it tells is used
-  part_shows : (env' : Env) (want : Option Tree) (e : Expr) (m : Marks e) → Lawful ctx around.declared env' want e m → Covered around (Finds e m) → Keyed e m → TellsSafely env' e (type_of e m) (parts.eval e)
+  part_shows : (env' : Env) (want : Option Tree) (e : Expr) (m : Labels e) → Lawful ctx around.declared env' want e m → Covered around (Finds e m) → Keyed e m → TellsSafely env' e (type_of e m) (parts.eval e)
   part_shows env' want e m law covered keyed = shows_of around env' (parts.eval e) (λ k v. HasType around.bases k (type_of e m) v) (λ k v s. HasType around.bases k (type_of e m) v × TellsLocals around ctx env' e k v s) (good.safe env' want e m law covered keyed) (λ frame. decides.decides env' want e m law covered keyed frame)
 
   read_as : (e : Expr) (s s' : State) (events : List Place) (v : Value) → parts.eval e s events (Gives v) s' → IsReadAs e v s'
@@ -219,7 +219,7 @@ module _ (around : Around) (ctx : Context) (fits : IsContextOf around ctx) (part
   not_tells : (p : Place) (e : Expr) (k : HeapTyping) (v : Value) (s : State) → TellsLocals around ctx env e k v s → TellsLocals around ctx env (negation p e) k (boolean (not (is_true s.heap v))) s
   not_tells p e k v s tells = record { by = λ holds is. tells.by (not holds) (not_back (is_true s.heap v) holds (sym (truth_is s.heap (not (is_true s.heap v))) ∙ is)) }
 
-  pub negation_told : (want : Option Tree) (p : Place) (e : Expr) (m : Marks (negation p e)) → Lawful ctx around.declared env want (negation p e) m → Covered around (Finds (negation p e) m) → Keyed (negation p e) m → TellsSafely env (negation p e) m.here.type (Node (negation p e))
+  pub negation_told : (want : Option Tree) (p : Place) (e : Expr) (m : Labels (negation p e)) → Lawful ctx around.declared env want (negation p e) m → Covered around (Finds (negation p e) m) → Keyed (negation p e) m → TellsSafely env (negation p e) m.here.type (Node (negation p e))
   negation_told want p e m law covered keyed = shows_bind around _ _ _ _ _ (part_shows env None e m.operand law.operand (λ f h. covered f (inr h)) keyed.1)
       λ v. shows_bind around _ _ _ _ _ (shows_emits around _ p m.here.codes (allowed around p m.here.codes (λ f h. covered f (inl h))))
       λ u. shows_act around _ value_out (action.negation v) _ λ f k s b. (refl, (b.0.0, (subst (λ t. HasType around.bases k t (boolean (not (is_true s.heap v)))) (ap (λ x. x.type) (sym law.here)) tt, not_tells p e k v s b.0.1.1)))
@@ -265,7 +265,7 @@ module _ (around : Around) (ctx : Context) (fits : IsContextOf around ctx) (part
 
   module _ (p : Place) (l r : Expr) where
     -- the right side where the left one was true, or was false
-    right_shows : (holds : Truth) (m : Marks r) → Lawful ctx around.declared (narrow around.bases around.declared ctx.resolve holds l env) None r m → Covered around (Finds r m) → Keyed r m → (s : Tree) (v : Value) → Shows around (Side l s v holds) (parts.eval r) (λ k w x. IsWellTyped around env k x × (HasType around.bases k (type_of r m) w × TellsLocals around ctx (narrow around.bases around.declared ctx.resolve holds l env) r k w x))
+    right_shows : (holds : Truth) (m : Labels r) → Lawful ctx around.declared (narrow around.bases around.declared ctx.resolve holds l env) None r m → Covered around (Finds r m) → Keyed r m → (s : Tree) (v : Value) → Shows around (Side l s v holds) (parts.eval r) (λ k w x. IsWellTyped around env k x × (HasType around.bases k (type_of r m) w × TellsLocals around ctx (narrow around.bases around.declared ctx.resolve holds l env) r k w x))
     right_shows holds m law covered keyed s v =
         let env' = narrow around.bases around.declared ctx.resolve holds l env in
         shows_as around _ _ _ _ _
@@ -273,14 +273,14 @@ module _ (around : Around) (ctx : Context) (fits : IsContextOf around ctx) (part
         (λ k w x a. (a.0, a.1.1))
         (shows_standing around env (λ k x. IsWellTyped around env' k x) (parts.eval r) (λ k w x. IsWellTyped around env' k x × (HasType around.bases k (type_of r m) w × TellsLocals around ctx env' r k w x)) (part_shows env' None r m law covered keyed))
 
-    and_side : (m : Marks (conjunction p l r)) (s : Tree) → join_or_object around.bases s (type_of r m.right) ≡ m.here.type → Lawful ctx around.declared (narrow around.bases around.declared ctx.resolve true l env) None r m.right → Covered around (Finds r m.right) → Keyed r m.right → (v : Value) (b : Truth) → Shows around (Side l s v b) (choose Step free b (parts.eval r) (comes (Gives v))) (λ k w x. IsWellTyped around env k x × (HasType around.bases k m.here.type w × TellsLocals around ctx env (conjunction p l r) k w x))
+    and_side : (m : Labels (conjunction p l r)) (s : Tree) → join_or_object around.bases s (type_of r m.right) ≡ m.here.type → Lawful ctx around.declared (narrow around.bases around.declared ctx.resolve true l env) None r m.right → Covered around (Finds r m.right) → Keyed r m.right → (v : Value) (b : Truth) → Shows around (Side l s v b) (choose Step free b (parts.eval r) (comes (Gives v))) (λ k w x. IsWellTyped around env k x × (HasType around.bases k m.here.type w × TellsLocals around ctx env (conjunction p l r) k w x))
     and_side m s here law covered keyed v true = shows_as around _ _ _ _ _ (λ k x b. b)
         (λ k w x a. (a.0, let h = and_true p l r s (type_of r m.right) k w x a.0 a.1.0 a.1.1 in (subst (λ y. HasType around.bases k y w) here h.0, h.1)))
         (right_shows true m.right law covered keyed s v)
     and_side m s here law covered keyed v false = shows_comes around _ (Gives v) _
         λ k x b. (b.0.0, let h = and_false p l r s (type_of r m.right) k v x b in (subst (λ y. HasType around.bases k y v) here h.0, h.1))
 
-    pub conjunction_told : (want : Option Tree) (m : Marks (conjunction p l r)) → Lawful ctx around.declared env want (conjunction p l r) m → Covered around (Finds (conjunction p l r) m) → Keyed (conjunction p l r) m → TellsSafely env (conjunction p l r) m.here.type (Node (conjunction p l r))
+    pub conjunction_told : (want : Option Tree) (m : Labels (conjunction p l r)) → Lawful ctx around.declared env want (conjunction p l r) m → Covered around (Finds (conjunction p l r) m) → Keyed (conjunction p l r) m → TellsSafely env (conjunction p l r) m.here.type (Node (conjunction p l r))
     conjunction_told want m law covered keyed =
         let s = type_of l m.left in
         let here : join_or_object around.bases s (type_of r m.right) ≡ m.here.type = ap (λ b. join_or_object b s (type_of r m.right)) fits.bases ∙ ap (λ x. x.type) (sym law.here) in
@@ -290,14 +290,14 @@ module _ (around : Around) (ctx : Context) (fits : IsContextOf around ctx) (part
         λ b. shows_bind around _ _ _ _ _ (and_side m s here behind (λ f h. covered f (inr (inr h))) keyed.1.1 v b)
         λ w. ends_so p (conjunction p l r) m.here.type m.here.codes (λ f h. covered f (inl h)) w
 
-    or_side : (m : Marks (disjunction p l r)) (s : Tree) → join_or_object around.bases s (type_of r m.right) ≡ m.here.type → Lawful ctx around.declared (narrow around.bases around.declared ctx.resolve false l env) None r m.right → Covered around (Finds r m.right) → Keyed r m.right → (v : Value) (b : Truth) → Shows around (Side l s v b) (choose Step free b (comes (Gives v)) (parts.eval r)) (λ k w x. IsWellTyped around env k x × (HasType around.bases k m.here.type w × TellsLocals around ctx env (disjunction p l r) k w x))
+    or_side : (m : Labels (disjunction p l r)) (s : Tree) → join_or_object around.bases s (type_of r m.right) ≡ m.here.type → Lawful ctx around.declared (narrow around.bases around.declared ctx.resolve false l env) None r m.right → Covered around (Finds r m.right) → Keyed r m.right → (v : Value) (b : Truth) → Shows around (Side l s v b) (choose Step free b (comes (Gives v)) (parts.eval r)) (λ k w x. IsWellTyped around env k x × (HasType around.bases k m.here.type w × TellsLocals around ctx env (disjunction p l r) k w x))
     or_side m s here law covered keyed v false = shows_as around _ _ _ _ _ (λ k x b. b)
         (λ k w x a. (a.0, let h = or_false p l r s (type_of r m.right) k w x a.0 a.1.0 a.1.1 in (subst (λ y. HasType around.bases k y w) here h.0, h.1)))
         (right_shows false m.right law covered keyed s v)
     or_side m s here law covered keyed v true = shows_comes around _ (Gives v) _
         λ k x b. (b.0.0, let h = or_true p l r s (type_of r m.right) k v x b in (subst (λ y. HasType around.bases k y v) here h.0, h.1))
 
-    pub disjunction_told : (want : Option Tree) (m : Marks (disjunction p l r)) → Lawful ctx around.declared env want (disjunction p l r) m → Covered around (Finds (disjunction p l r) m) → Keyed (disjunction p l r) m → TellsSafely env (disjunction p l r) m.here.type (Node (disjunction p l r))
+    pub disjunction_told : (want : Option Tree) (m : Labels (disjunction p l r)) → Lawful ctx around.declared env want (disjunction p l r) m → Covered around (Finds (disjunction p l r) m) → Keyed (disjunction p l r) m → TellsSafely env (disjunction p l r) m.here.type (Node (disjunction p l r))
     disjunction_told want m law covered keyed =
         let s = type_of l m.left in
         let here : join_or_object around.bases s (type_of r m.right) ≡ m.here.type = ap (λ b. join_or_object b s (type_of r m.right)) fits.bases ∙ ap (λ x. x.type) (sym law.here) in
@@ -312,10 +312,10 @@ module _ (around : Around) (ctx : Context) (fits : IsContextOf around ctx) (part
   told_safe : (e : Expr) (t : Tree) → TellsSafely env e t (Node e) → IsSafe around env (λ k. Unit {0}) (Node e) (λ k v. HasType around.bases k t v)
   told_safe e t h = shows_safe around env (λ k. Unit {0}) (Node e) (λ k v. HasType around.bases k t v) (shows_as around _ _ _ _ _ (λ k s b. b.0) (λ k v s a. a.1.0) h)
 
-  pub conjunction_safe : (want : Option Tree) (p : Place) (l r : Expr) (m : Marks (conjunction p l r)) → Lawful ctx around.declared env want (conjunction p l r) m → Covered around (Finds (conjunction p l r) m) → Keyed (conjunction p l r) m → IsSafe around env (λ k. Unit {0}) (Node (conjunction p l r)) (λ k v. HasType around.bases k m.here.type v)
+  pub conjunction_safe : (want : Option Tree) (p : Place) (l r : Expr) (m : Labels (conjunction p l r)) → Lawful ctx around.declared env want (conjunction p l r) m → Covered around (Finds (conjunction p l r) m) → Keyed (conjunction p l r) m → IsSafe around env (λ k. Unit {0}) (Node (conjunction p l r)) (λ k v. HasType around.bases k m.here.type v)
   conjunction_safe want p l r m law covered keyed = told_safe (conjunction p l r) m.here.type (conjunction_told p l r want m law covered keyed)
 
-  pub disjunction_safe : (want : Option Tree) (p : Place) (l r : Expr) (m : Marks (disjunction p l r)) → Lawful ctx around.declared env want (disjunction p l r) m → Covered around (Finds (disjunction p l r) m) → Keyed (disjunction p l r) m → IsSafe around env (λ k. Unit {0}) (Node (disjunction p l r)) (λ k v. HasType around.bases k m.here.type v)
+  pub disjunction_safe : (want : Option Tree) (p : Place) (l r : Expr) (m : Labels (disjunction p l r)) → Lawful ctx around.declared env want (disjunction p l r) m → Covered around (Finds (disjunction p l r) m) → Keyed (disjunction p l r) m → IsSafe around env (λ k. Unit {0}) (Node (disjunction p l r)) (λ k v. HasType around.bases k m.here.type v)
   disjunction_safe want p l r m law covered keyed = told_safe (disjunction p l r) m.here.type (disjunction_told p l r want m law covered keyed)
 
   -- ---- tests of instances
@@ -420,7 +420,7 @@ module _ (around : Around) (ctx : Context) (fits : IsContextOf around ctx) (part
             (λ m x l. as_answers holds k test tr.operand (passes_agree around.bases around.classes k s st.well test tr.test tr.operand (right m x l) holds passed))
     instance_tells e _ k v s st tr found holds is = st.locals
 
-    name_run : (p : Place) (n : Name) (args : Exprs) (kws : Keywords) (found : List Code) → AreListedCodes around.listed p found → found ≡ (test_mark ctx env args).codes → is_instance_test (name n) args kws ≡ true → (k : HeapTyping) (s s' : State) (events : List Place) (v : Value) → IsWellTyped around env k s' → Node (call p (name n) args kws) s events (Gives v) s' → HasListed around.listed events ⊎ TellsLocals around ctx env (call p (name n) args kws) k v s'
+    name_run : (p : Place) (n : Name) (args : Exprs) (kws : Keywords) (found : List Code) → AreListedCodes around.listed p found → found ≡ (test_label ctx env args).codes → is_instance_test (name n) args kws ≡ true → (k : HeapTyping) (s s' : State) (events : List Place) (v : Value) → IsWellTyped around env k s' → Node (call p (name n) args kws) s events (Gives v) s' → HasListed around.listed events ⊎ TellsLocals around ctx env (call p (name n) args kws) k v s'
     name_run p n (more_exprs e (more_exprs t no_exprs)) no_keywords found allow codes_are is k s s' events v st r = go found allow codes_are
       where
         text_is : codes "isinstance" ≡ n.text
@@ -432,27 +432,27 @@ module _ (around : Around) (ctx : Context) (fits : IsContextOf around ctx) (part
         run : Trying p n e t s events (Gives v) s'
         run = subst (λ f. eval_call Step free parts p (name n) (more_exprs e (more_exprs t no_exprs)) no_keywords f s events (Gives v) s') form r
 
-        go : (found : List Code) → AreListedCodes around.listed p found → found ≡ (test_mark ctx env (more_exprs e (more_exprs t no_exprs))).codes → HasListed around.listed events ⊎ TellsLocals around ctx env (call p (name n) (more_exprs e (more_exprs t no_exprs)) no_keywords) k v s'
+        go : (found : List Code) → AreListedCodes around.listed p found → found ≡ (test_label ctx env (more_exprs e (more_exprs t no_exprs))).codes → HasListed around.listed events ⊎ TellsLocals around ctx env (call p (name n) (more_exprs e (more_exprs t no_exprs)) no_keywords) k v s'
         go (c ∷ cs) allow codes_are = inl (record { place = p; is = allow; event = (trying_evaluates p n e t).place s s' events v run })
         go [] allow codes_are = inr (record { by = λ holds h. subst (λ b. Narrowed holds b (local_named ctx.resolve e) (narrowing.test_of ctx.resolve t) k s') (sym is) (instance_tells e t k v s' st (tried p n e t v s s' events run) (sym codes_are) holds h) })
     name_run p n _ _ found allow codes_are is k s s' events v st r = absurd (not_both (and_parts _ _ is).1 refl)
 
-    instance_run : (p : Place) (c : Expr) (args : Exprs) (kws : Keywords) (found : List Code) → AreListedCodes around.listed p found → found ≡ (test_mark ctx env args).codes → is_instance_test c args kws ≡ true → (k : HeapTyping) (s s' : State) (events : List Place) (v : Value) → IsWellTyped around env k s' → Node (call p c args kws) s events (Gives v) s' → HasListed around.listed events ⊎ TellsLocals around ctx env (call p c args kws) k v s'
+    instance_run : (p : Place) (c : Expr) (args : Exprs) (kws : Keywords) (found : List Code) → AreListedCodes around.listed p found → found ≡ (test_label ctx env args).codes → is_instance_test c args kws ≡ true → (k : HeapTyping) (s s' : State) (events : List Place) (v : Value) → IsWellTyped around env k s' → Node (call p c args kws) s events (Gives v) s' → HasListed around.listed events ⊎ TellsLocals around ctx env (call p c args kws) k v s'
     instance_run p (name n) args kws found allow codes_are is k s s' events v st r = name_run p n args kws found allow codes_are is k s s' events v st r
     instance_run p _ args kws found allow codes_are is k s s' events v st r = absurd (not_both is refl)
 
-    pub call_told : (want : Option Tree) (p : Place) (c : Expr) (args : Exprs) (kws : Keywords) (m : Marks (call p c args kws)) → Lawful ctx around.declared env want (call p c args kws) m → Covered around (Finds (call p c args kws) m) → (t : Tree) → IsSafe around env (λ k. Unit {0}) (Node (call p c args kws)) (λ k v. HasType around.bases k t v) → TellsSafely env (call p c args kws) t (Node (call p c args kws))
+    pub call_told : (want : Option Tree) (p : Place) (c : Expr) (args : Exprs) (kws : Keywords) (m : Labels (call p c args kws)) → Lawful ctx around.declared env want (call p c args kws) m → Covered around (Finds (call p c args kws) m) → (t : Tree) → IsSafe around env (λ k. Unit {0}) (Node (call p c args kws)) (λ k v. HasType around.bases k t v) → TellsSafely env (call p c args kws) t (Node (call p c args kws))
     call_told want p c args kws m law covered t safe = told (Node (call p c args kws)) (λ k v. HasType around.bases k t v) (λ k v s. TellsLocals around ctx env (call p c args kws) k v s) safe λ k s s' events v st r. go (is_instance_test c args kws) refl k s s' events v st r
       where
         go : (b : Truth) → is_instance_test c args kws ≡ b → (k : HeapTyping) (s s' : State) (events : List Place) (v : Value) → IsWellTyped around env k s' → Node (call p c args kws) s events (Gives v) s' → HasListed around.listed events ⊎ TellsLocals around ctx env (call p c args kws) k v s'
-        go true is k s s' events v st r = instance_run p c args kws m.here.codes (allowed around p m.here.codes (λ f h. covered f (inl h))) (ap (λ x. x.codes) law.here ∙ ap (λ x. (whole_call_mark ctx env x.rule x.offers args (item_types args m.arguments)).codes) (test_callee ctx tests.means env c args kws law.value is)) is k s s' events v st r
+        go true is k s s' events v st r = instance_run p c args kws m.here.codes (allowed around p m.here.codes (λ f h. covered f (inl h))) (ap (λ x. x.codes) law.here ∙ ap (λ x. (whole_call_label ctx env x.rule x.offers args (item_types args m.arguments)).codes) (test_callee ctx tests.means env c args kws law.value is)) is k s s' events v st r
         go false is k s s' events v st r = inr (record { by = λ holds h. subst (λ b. Narrowed holds b (local_of_argument ctx.resolve (first_argument args)) (test_of_argument ctx.resolve (second_argument args)) k s') (sym is) st.locals })
 
     unchanged_told : (e : Expr) (t : Tree) → ((k : HeapTyping) (v : Value) (s : State) → IsWellTyped around env k s → TellsLocals around ctx env e k v s) → IsSafe around env (λ k. Unit {0}) (Node e) (λ k v. HasType around.bases k t v) → TellsSafely env e t (Node e)
     unchanged_told e t tells safe = told (Node e) (λ k v. HasType around.bases k t v) (λ k v s. TellsLocals around ctx env e k v s) safe (λ k s s' events v st r. inr (tells k v s' st))
 
     -- each form tells what it does of the locals; forms that are no test tell nothing
-    pub node_told : (want : Option Tree) (e : Expr) (m : Marks e) → Lawful ctx around.declared env want e m → Covered around (Finds e m) → Keyed e m → IsSafe around env (λ k. Unit {0}) (Node e) (λ k v. HasType around.bases k (type_of e m) v) → TellsSafely env e (type_of e m) (Node e)
+    pub node_told : (want : Option Tree) (e : Expr) (m : Labels e) → Lawful ctx around.declared env want e m → Covered around (Finds e m) → Keyed e m → IsSafe around env (λ k. Unit {0}) (Node e) (λ k v. HasType around.bases k (type_of e m) v) → TellsSafely env e (type_of e m) (Node e)
     node_told want (is_none p e) m law covered keyed safe = is_none_told p e m.here.type safe
     node_told want (is_not_none p e) m law covered keyed safe = is_not_none_told p e m.here.type safe
     node_told want (negation p e) m law covered keyed safe = negation_told want p e m law covered keyed

@@ -15,7 +15,7 @@ use Rattle.pc_rules.specs.Context.{Context}
 use Rattle.pc_tree.specs.declared.code.Code.TheVariants.{E20}
 use Rattle.pc_rules.specs.Operations.{in_error}
 use Rattle.pc_rules.specs.Calls.{GivenArguments, builtin_callee, value_callee}
-use Rattle.pc_rules.specs.Labels.{Marks, type_of, Finds}
+use Rattle.pc_rules.specs.Labels.{Labels, type_of, Finds}
 use Rattle.pc_rules.specs.Lawful.{Lawful}
 use Rattle.pc_machine.specs.Steps.{Parts}
 use Rattle.pc_machine.specs.Evaluation.{eval_node}
@@ -41,18 +41,18 @@ NotReserved ctx _ = Unit {0}
 
 -- the other calls are safe: of functions, classes, methods and values
 pub record OtherCalls (around : Around) (ctx : Context) (parts : Parts Step) : Type 0 where
-  pub safe : (env : Env) (want : Option Tree) (p : Place) (c : Expr) (args : Exprs) (kws : Keywords) (m : Marks (call p c args kws)) → NotReserved ctx c → is_instance_test c args kws ≡ false → Lawful ctx around.declared env want (call p c args kws) m → Covered around (Finds (call p c args kws) m) → Keyed (call p c args kws) m → IsSafe around env (λ k. Unit {0}) (eval_node Step free parts (call p c args kws)) (λ k v. HasType around.bases k m.here.type v)
+  pub safe : (env : Env) (want : Option Tree) (p : Place) (c : Expr) (args : Exprs) (kws : Keywords) (m : Labels (call p c args kws)) → NotReserved ctx c → is_instance_test c args kws ≡ false → Lawful ctx around.declared env want (call p c args kws) m → Covered around (Finds (call p c args kws) m) → Keyed (call p c args kws) m → IsSafe around env (λ k. Unit {0}) (eval_node Step free parts (call p c args kws)) (λ k v. HasType around.bases k m.here.type v)
 
 module _
     (around : Around) (ctx : Context) (fits : IsContextOf around ctx) (inherits : Inherits around.bases around.classes) (knows : KnowsNames around ctx) (parts : Parts Step) (good : GoodEval around ctx parts.eval)
     (evaluates : (e : Expr) → Evaluates (place_of e) (parts.eval e)) (numbers : ReadsNumbers parts.eval) (decides : Decides around ctx parts.eval) (reads : Reads parts.eval) (others : OtherCalls around ctx parts) where
-  abbrev SafeCall : Env → (p : Place) (c : Expr) (args : Exprs) (kws : Keywords) → Marks (call p c args kws) → Type 0
+  abbrev SafeCall : Env → (p : Place) (c : Expr) (args : Exprs) (kws : Keywords) → Labels (call p c args kws) → Type 0
   SafeCall env p c args kws m = IsSafe around env (λ k. Unit {0}) (eval_node Step free parts (call p c args kws)) (λ k v. HasType around.bases k m.here.type v)
 
-  call_safe : (env : Env) (want : Option Tree) (p : Place) (c : Expr) (args : Exprs) (kws : Keywords) (m : Marks (call p c args kws)) → Lawful ctx around.declared env want (call p c args kws) m → Covered around (Finds (call p c args kws) m) → Keyed (call p c args kws) m → SafeCall env p c args kws m
+  call_safe : (env : Env) (want : Option Tree) (p : Place) (c : Expr) (args : Exprs) (kws : Keywords) (m : Labels (call p c args kws)) → Lawful ctx around.declared env want (call p c args kws) m → Covered around (Finds (call p c args kws) m) → Keyed (call p c args kws) m → SafeCall env p c args kws m
   call_safe env want p c args kws m law covered keyed = by_test (is_instance_test c args kws) refl
     where
-      by_callee : (c : Expr) (m : Marks (call p c args kws)) → is_instance_test c args kws ≡ false → Lawful ctx around.declared env want (call p c args kws) m → Covered around (Finds (call p c args kws) m) → Keyed (call p c args kws) m → SafeCall env p c args kws m
+      by_callee : (c : Expr) (m : Labels (call p c args kws)) → is_instance_test c args kws ≡ false → Lawful ctx around.declared env want (call p c args kws) m → Covered around (Finds (call p c args kws) m) → Keyed (call p c args kws) m → SafeCall env p c args kws m
       by_callee (name n) m no_test law covered keyed = by_name (ctx.resolve n.text) refl
         where
           other : ((b : Builtin) → ctx.resolve n.text ≡ res.Builtin b → ⊥) → SafeCall env p (name n) args kws m
@@ -86,7 +86,7 @@ module _
   pub forms_good : GoodEval around ctx (eval_node Step free parts)
   forms_good = record { safe = go }
     where
-      go : (env : Env) (want : Option Tree) (e : Expr) (m : Marks e) → Lawful ctx around.declared env want e m → Covered around (Finds e m) → Keyed e m → IsSafe around env (λ k. Unit {0}) (eval_node Step free parts e) (λ k v. HasType around.bases k (type_of e m) v)
+      go : (env : Env) (want : Option Tree) (e : Expr) (m : Labels e) → Lawful ctx around.declared env want e m → Covered around (Finds e m) → Keyed e m → IsSafe around env (λ k. Unit {0}) (eval_node Step free parts e) (λ k v. HasType around.bases k (type_of e m) v)
       go env want (name n) m law covered keyed = name_safe around ctx fits knows env parts n m law covered
       go env want (number p d) m law covered keyed = number_safe around ctx parts good env p d m law covered
       go env want (text p d) m law covered keyed = text_safe around ctx parts good env p d m law covered

@@ -11,9 +11,9 @@ use Rattle.pc_types.specs.Below.{Bases, AreSmaller}
 use Rattle.pc_types.specs.Shape.{members, list_of_trees}
 use Rattle.pc_class.specs.Facts as facts
 use Rattle.pc_flow.specs.Environment.{Env, join_all}
-use Rattle.pc_rules.specs.Operations.{offers_mark, operand_types, index_member}
+use Rattle.pc_rules.specs.Operations.{offers_label, operand_types, index_member}
 use Rattle.pc_rules.specs.Context.{Context, FlowsInto}
-use Rattle.pc_rules.specs.Labels.{Marks, mark_of, type_of, Finds}
+use Rattle.pc_rules.specs.Labels.{Labels, whole_label, type_of, Finds}
 use Rattle.pc_rules.specs.Lawful as lawful
 use Rattle.pc_rules.specs.Lawful.{Lawful, int_literal}
 use Rattle.pc_value.specs.Value as value
@@ -179,18 +179,18 @@ module _ (bases : Bases) (k : HeapTyping) where
     index_ends literal _ v key keyed h e each is = absurd (not_empty e)
 
 module _ (around : Around) (ctx : Context) (fits : IsContextOf around ctx) (parts : Parts Step) (good : GoodEval around ctx parts.eval) (evaluates : (e : Expr) → Evaluates (place_of e) (parts.eval e)) (reads : ReadsNumbers parts.eval) (env : Env) where
-  pub index_safe : (want : Option Tree) (p : Place) (e i : Expr) (m : Marks (index p e i)) → Lawful ctx around.declared env want (index p e i) m → Covered around (Finds (index p e i) m) → Keyed (index p e i) m → IsSafe around env (λ k. Unit {0}) (eval_node Step free parts (index p e i)) (λ k v. HasType around.bases k m.here.type v)
+  pub index_safe : (want : Option Tree) (p : Place) (e i : Expr) (m : Labels (index p e i)) → Lawful ctx around.declared env want (index p e i) m → Covered around (Finds (index p e i) m) → Keyed (index p e i) m → IsSafe around env (λ k. Unit {0}) (eval_node Step free parts (index p e i)) (λ k v. HasType around.bases k m.here.type v)
   index_safe want p e i m law covered keyed =
       let object = type_of e m.object in
       let key = type_of i m.key in
       let literal = int_literal i in
       let types = operand_types (map (index_member around.bases literal) (members object)) in
-      let here : m.here ≡ offers_mark around.bases (map (index_member around.bases literal) (members object)) = subst (λ b. m.here ≡ offers_mark b (map (index_member b literal) (members object))) (sym fits.bases) law.here in
+      let here : m.here ≡ offers_label around.bases (map (index_member around.bases literal) (members object)) = subst (λ b. m.here ≡ offers_label b (map (index_member b literal) (members object))) (sym fits.bases) law.here in
       bind_safe around env _ _ _ (λ k v. HasType around.bases k object v) _ (λ k k' x h. tt)
       (part around ctx parts good env _ None e m.object law.object (λ f h. covered f (inr (inr (inl h)))) keyed.1.0)
       λ v. bind_safe around env _ _ _ (λ k w. (HasType around.bases k key w × HasEach around.bases k types w) × IsLiteral literal w) _ (λ k k' x h. (tt, later around.bases x object v h.1))
       (also_safe around env _ (parts.eval i) (λ k w. HasType around.bases k key w × HasEach around.bases k types w) (IsLiteral literal) (literal_value parts.eval reads i)
-      (flows_safe around ctx parts.eval good evaluates env _ None i m.key types m.flows law.key (λ f h. covered f (inr (inr (inr h)))) (subst (λ b. FlowsInto b (mark_of i m.key) (operand_types (map (index_member b literal) (members object))) m.flows) (sym fits.bases) law.flows) (λ f h. covered f (inr (inl h))) keyed.1.1))
+      (flows_safe around ctx parts.eval good evaluates env _ None i m.key types m.flows law.key (λ f h. covered f (inr (inr (inr h)))) (subst (λ b. FlowsInto b (whole_label i m.key) (operand_types (map (index_member b literal) (members object))) m.flows) (sym fits.bases) law.flows) (λ f h. covered f (inr (inl h))) keyed.1.1))
       λ w. bind_safe around env _ _ _ (λ k u. m.here.codes ≡ []) _ (λ k k' x h. ((tt, later around.bases x object v h.0.1), ((later around.bases x key w h.1.0.0, each_later around.bases x types w h.1.0.1), h.1.1)))
       (emits_safe around env _ p m.here.codes (allowed around p m.here.codes (λ f h. covered f (inl h))))
       λ u. act_safe around env _ value_out (action.read_item v w) _ λ f k s h st. (

@@ -18,8 +18,8 @@ use Rattle.pc_scope.specs.Resolution.{index_of}
 use Rattle.pc_types.specs.Tree.{Tree}
 use Rattle.pc_types.specs.Below.{Bases}
 use Rattle.pc_flow.specs.Environment.{Env}
-use Rattle.pc_rules.specs.Operations.{Mark, in_error}
-use Rattle.pc_rules.specs.Context.{Context, name_mark, constant_mark}
+use Rattle.pc_rules.specs.Operations.{Label, in_error}
+use Rattle.pc_rules.specs.Context.{Context, name_label, constant_label}
 use Rattle.pc_rules.specs.Labels.{IsFoundAt}
 use Rattle.pc_value.specs.Value.{Value}
 use Rattle.pc_machine.specs.State.{State, Class, Globals, a_value, a_class}
@@ -144,24 +144,24 @@ module _ (around : Around) (ctx : Context) (fits : IsContextOf around ctx) where
     -- ---- reads of names
 
     -- an error at a place is not allowed
-    pub no_error_at : (p : Place) (m : Mark) (code : Code) (rest : List Code) → m.codes ≡ code ∷ rest → IsError code → Covered around (IsFoundAt p m.codes) → ⊥
+    pub no_error_at : (p : Place) (m : Label) (code : Code) (rest : List Code) → m.codes ≡ code ∷ rest → IsError code → Covered around (IsFoundAt p m.codes) → ⊥
     no_error_at p m code rest is err covered = (covered (finding p code) (record { code = code; among = subst (λ l. Contains l code) (sym is) (0, omega arith, refl); is = refl })).1 err
 
-    constant_safe : (parts : Parts Step) (n : Name) (i : ℕ) (m : Mark) (o : Option Tree) → ctx.resolve n.text ≡ res.Const i → slice_get ctx.constants i ≡ o → m ≡ constant_mark o → Covered around (IsFoundAt n.place m.codes) → IsSafe around env (λ k. Unit {0}) (eval_node Step free parts (name n)) (λ k v. HasType around.bases k m.type v)
+    constant_safe : (parts : Parts Step) (n : Name) (i : ℕ) (m : Label) (o : Option Tree) → ctx.resolve n.text ≡ res.Const i → slice_get ctx.constants i ≡ o → m ≡ constant_label o → Covered around (IsFoundAt n.place m.codes) → IsSafe around env (λ k. Unit {0}) (eval_node Step free parts (name n)) (λ k v. HasType around.bases k m.type v)
     constant_safe parts n i m None is known law covered = absurd (no_error_at n.place m E03 [] (ap (λ x. x.codes) law) refl covered)
     constant_safe parts n i m (Some t) is known law covered = bind_safe around env _ _ _ (λ k u. m.codes ≡ []) _ (λ k k' grows h. tt)
         (emits_safe around env _ n.place m.codes (allowed around n.place m.codes covered))
         λ u. looks_safe around env _ (λ s. value_of_meaning (meaning_in_run n.text s)) _ λ k s h st.
         subst (λ u. EndsWell (λ v. HasType around.bases k u v) (value_of_meaning (meaning_in_run n.text s))) (ap (λ x. x.type) (sym law)) (means_constant n.text i t is known k s st)
 
-    pub name_safe : (parts : Parts Step) (n : Name) (m : Mark) → m ≡ name_mark ctx env (ctx.resolve n.text) → Covered around (IsFoundAt n.place m.codes) → IsSafe around env (λ k. Unit {0}) (eval_node Step free parts (name n)) (λ k v. HasType around.bases k m.type v)
+    pub name_safe : (parts : Parts Step) (n : Name) (m : Label) → m ≡ name_label ctx env (ctx.resolve n.text) → Covered around (IsFoundAt n.place m.codes) → IsSafe around env (λ k. Unit {0}) (eval_node Step free parts (name n)) (λ k v. HasType around.bases k m.type v)
     name_safe parts n m law covered = go (ctx.resolve n.text) refl law
       where
         late_or : (b : Test) (code : Code) → IsError code → m ≡ (if b then in_error code else in_error E03) → ⊥
         late_or true code err is = no_error_at n.place m code [] (ap (λ x. x.codes) is) err covered
         late_or false code err is = no_error_at n.place m E03 [] (ap (λ x. x.codes) is) refl covered
 
-        go : (r : Res) → ctx.resolve n.text ≡ r → m ≡ name_mark ctx env r → IsSafe around env (λ k. Unit {0}) (eval_node Step free parts (name n)) (λ k v. HasType around.bases k m.type v)
+        go : (r : Res) → ctx.resolve n.text ≡ r → m ≡ name_label ctx env r → IsSafe around env (λ k. Unit {0}) (eval_node Step free parts (name n)) (λ k v. HasType around.bases k m.type v)
         go (res.Local x) is law' = local_safe around ctx parts env n x m is (fits.local n.text x is) law (allowed around n.place m.codes covered)
         go (res.Const i) is law' = constant_safe parts n i m (slice_get ctx.constants i) is refl law' covered
         go (res.Func i) is law' = absurd (late_or ctx.in_body E20 refl law')

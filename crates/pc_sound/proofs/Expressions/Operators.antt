@@ -16,10 +16,10 @@ use Rattle.pc_types.specs.Below.{Bases, AreSmaller}
 use Rattle.pc_types.specs.Shape.{members}
 use Rattle.pc_class.specs.Facts.{ClassFacts}
 use Rattle.pc_flow.specs.Environment.{Env}
-use Rattle.pc_rules.specs.Operations.{Mark, Offer, clean, in_error, found_of, offers_mark, negative_member, Kind, whole_kind, text_kind, kind_of, kind_type, takes_kind, row_of_kinds, pair_found, pair_offers, pairs_mark, is_never, is_any, is_dynamic, binary_mark, contain_member}
+use Rattle.pc_rules.specs.Operations.{Label, Offer, clean, in_error, found_of, offers_label, negative_member, Kind, whole_kind, text_kind, kind_of, kind_type, takes_kind, row_of_kinds, pair_found, pair_offers, pairs_label, is_never, is_any, is_dynamic, binary_label, contain_member}
 use Rattle.pc_rules.specs.Context.{Context, FlowsInto}
-use Rattle.pc_rules.specs.Labels.{Marks, mark_of, type_of, Finds}
-use Rattle.pc_rules.specs.Lawful.{Lawful, compare_mark, compare_types}
+use Rattle.pc_rules.specs.Labels.{Labels, whole_label, type_of, Finds}
+use Rattle.pc_rules.specs.Lawful.{Lawful, compare_label, compare_types}
 use Rattle.pc_value.specs.Value as value
 use Rattle.pc_value.specs.Value.{Value, Out, whole, boolean, string, Values, tuple_of, location, Entry, Seen, a_number, a_text, Heap, seen}
 use Rattle.pc_value.specs.Actions as action
@@ -214,10 +214,10 @@ module _ (bases : Bases) (k : HeapTyping) (heap : Heap) where
       go false is e = not_never t w e g
 
   -- an operator that ends well on each pair of members on which nothing is found ends well on the types
-  pub pairs_end : (ordered : AreSmaller bases) (m : Mark) (takes : Kind → Test) (result : Kind → Tree) (dynamic s t : Tree) (v w : Value) → m ≡ pairs_mark bases takes result dynamic s t → m.codes ≡ [] → HasType bases k s v → HasType bases k t w → (out : Out Value) → ((a b : Tree) → HasType bases k a v → HasType bases k b w → (Pair takes result a b).found ≡ [] → EndsWell (λ x. HasType bases k (Pair takes result a b).gives x) out) → EndsWell (λ x. HasType bases k m.type x) out
+  pub pairs_end : (ordered : AreSmaller bases) (m : Label) (takes : Kind → Test) (result : Kind → Tree) (dynamic s t : Tree) (v w : Value) → m ≡ pairs_label bases takes result dynamic s t → m.codes ≡ [] → HasType bases k s v → HasType bases k t w → (out : Out Value) → ((a b : Tree) → HasType bases k a v → HasType bases k b w → (Pair takes result a b).found ≡ [] → EndsWell (λ x. HasType bases k (Pair takes result a b).gives x) out) → EndsWell (λ x. HasType bases k m.type x) out
   pairs_end ordered m takes result dynamic s t v w is none h g out ends = go (is_never s || is_never t) (is_dynamic takes s t) (is_any s || is_any t) refl is
     where
-      go : (x y z : Test) → (is_never s || is_never t) ≡ x → m ≡ (if x then clean Never else (if y then record { type = dynamic; codes = A2 ∷ [] } else (if z then in_error E13 else offers_mark bases (pair_offers takes result (members s) (members t))))) → EndsWell (λ x. HasType bases k m.type x) out
+      go : (x y z : Test) → (is_never s || is_never t) ≡ x → m ≡ (if x then clean Never else (if y then record { type = dynamic; codes = A2 ∷ [] } else (if z then in_error E13 else offers_label bases (pair_offers takes result (members s) (members t))))) → EndsWell (λ x. HasType bases k m.type x) out
       go true y z never is = absurd (either_never s t v w never h g)
       go false true z never is = absurd (not_empty (ap (λ x. x.codes) (sym is) ∙ none))
       go false false true never is = absurd (not_empty (ap (λ x. x.codes) (sym is) ∙ none))
@@ -273,7 +273,7 @@ module _ (bases : Bases) (k : HeapTyping) (heap : Heap) where
 
     -- ---- comparisons
 
-    compare_ends : (ordered : AreSmaller bases) (o : ComparisonOperator) (m : Mark) (s t : Tree) (v w : Value) → m ≡ compare_mark bases o s t → m.codes ≡ [] → HasType bases k s v → HasType bases k t w → HasEach bases k (compare_types o t) v → EndsWell (λ x. HasType bases k m.type x) (value_out (compare_outcome answers o (seen heap v) (seen heap w)))
+    compare_ends : (ordered : AreSmaller bases) (o : ComparisonOperator) (m : Label) (s t : Tree) (v w : Value) → m ≡ compare_label bases o s t → m.codes ≡ [] → HasType bases k s v → HasType bases k t w → HasEach bases k (compare_types o t) v → EndsWell (λ x. HasType bases k m.type x) (value_out (compare_outcome answers o (seen heap v) (seen heap w)))
     compare_ends ordered Equal m s t v w is none h g each = subst (λ u. HasType bases k u (boolean (is_equal answers (seen heap v) (seen heap w)))) (ap (λ x. x.type) (sym is)) tt
     compare_ends ordered NotEqual m s t v w is none h g each = subst (λ u. HasType bases k u (boolean (not (is_equal answers (seen heap v) (seen heap w))))) (ap (λ x. x.type) (sym is)) tt
     compare_ends ordered In m s t v w is none h g each = offers_end bases k ordered m contain_member t w is none g (value_out (membership_of answers (seen heap v) (seen heap w))) λ n x e takes. in_ends n v w x e (takes v each)
@@ -284,9 +284,9 @@ module _ (bases : Bases) (k : HeapTyping) (heap : Heap) where
     compare_ends ordered GreaterEqual m s t v w is none h g each = pairs_end ordered m (λ c. true) (λ c. Bool) Bool s t v w is none h g (value_out (compare_outcome answers GreaterEqual (seen heap v) (seen heap w))) λ a b x y e. order_ends answers GreaterEqual tt a b v w x y e
 
 module _ (around : Around) (ctx : Context) (fits : IsContextOf around ctx) (parts : Parts Step) (good : GoodEval around ctx parts.eval) (env : Env) where
-  pub negative_safe : (want : Option Tree) (p : Place) (e : Expr) (m : Marks (negative p e)) → Lawful ctx around.declared env want (negative p e) m → Covered around (Finds (negative p e) m) → Keyed (negative p e) m → IsSafe around env (λ k. Unit {0}) (eval_node Step free parts (negative p e)) (λ k v. HasType around.bases k m.here.type v)
+  pub negative_safe : (want : Option Tree) (p : Place) (e : Expr) (m : Labels (negative p e)) → Lawful ctx around.declared env want (negative p e) m → Covered around (Finds (negative p e) m) → Keyed (negative p e) m → IsSafe around env (λ k. Unit {0}) (eval_node Step free parts (negative p e)) (λ k v. HasType around.bases k m.here.type v)
   negative_safe want p e m law covered keyed =
-      let here : m.here ≡ offers_mark around.bases (map negative_member (members (type_of e m.operand))) = subst (λ b. m.here ≡ offers_mark b (map negative_member (members (type_of e m.operand)))) (sym fits.bases) law.here in
+      let here : m.here ≡ offers_label around.bases (map negative_member (members (type_of e m.operand))) = subst (λ b. m.here ≡ offers_label b (map negative_member (members (type_of e m.operand)))) (sym fits.bases) law.here in
       bind_safe around env _ _ _ (λ k v. HasType around.bases k (type_of e m.operand) v) _ (λ k k' x h. tt)
       (part around ctx parts good env _ None e m.operand law.operand (λ f h. covered f (inr h)) keyed.1)
       λ v. bind_safe around env _ _ _ (λ k u. m.here.codes ≡ []) _ (λ k k' x h. (tt, later around.bases x (type_of e m.operand) v h.1))
@@ -294,9 +294,9 @@ module _ (around : Around) (ctx : Context) (fits : IsContextOf around ctx) (part
       λ u. act_safe around env _ value_out (action.negative v) _ λ f k s h st.
       (refl, offers_end around.bases k fits.smaller m.here negative_member (type_of e m.operand) v here h.1 h.0.1 (value_out (negative_of (seen s.heap v))) λ n x e takes. negative_ends around.bases k s.heap n v x e)
 
-  pub binary_safe : (want : Option Tree) (p : Place) (o : BinaryOperator) (l r : Expr) (m : Marks (binary p o l r)) → Lawful ctx around.declared env want (binary p o l r) m → Covered around (Finds (binary p o l r) m) → Keyed (binary p o l r) m → IsSafe around env (λ k. Unit {0}) (eval_node Step free parts (binary p o l r)) (λ k v. HasType around.bases k m.here.type v)
+  pub binary_safe : (want : Option Tree) (p : Place) (o : BinaryOperator) (l r : Expr) (m : Labels (binary p o l r)) → Lawful ctx around.declared env want (binary p o l r) m → Covered around (Finds (binary p o l r) m) → Keyed (binary p o l r) m → IsSafe around env (λ k. Unit {0}) (eval_node Step free parts (binary p o l r)) (λ k v. HasType around.bases k m.here.type v)
   binary_safe want p o l r m law covered keyed =
-      let here : m.here ≡ binary_mark around.bases o (type_of l m.left) (type_of r m.right) = subst (λ b. m.here ≡ binary_mark b o (type_of l m.left) (type_of r m.right)) (sym fits.bases) law.here in
+      let here : m.here ≡ binary_label around.bases o (type_of l m.left) (type_of r m.right) = subst (λ b. m.here ≡ binary_label b o (type_of l m.left) (type_of r m.right)) (sym fits.bases) law.here in
       bind_safe around env _ _ _ (λ k v. HasType around.bases k (type_of l m.left) v) _ (λ k k' x h. tt)
       (part around ctx parts good env _ None l m.left law.left (λ f h. covered f (inr (inl h))) keyed.1.0)
       λ v. bind_safe around env _ _ _ (λ k w. HasType around.bases k (type_of r m.right) w) _ (λ k k' x h. (tt, later around.bases x (type_of l m.left) v h.1))
@@ -306,12 +306,12 @@ module _ (around : Around) (ctx : Context) (fits : IsContextOf around ctx) (part
       λ u. act_safe around env _ value_out (action.binary o v w) _ λ f k s h st.
       (refl, pairs_end around.bases k s.heap fits.smaller m.here (takes_kind o) kind_type Any (type_of l m.left) (type_of r m.right) v w here h.1 h.0.0.1 h.0.1 (value_out (binary_outcome o (seen s.heap v) (seen s.heap w))) λ a b x y e. binary_ends around.bases k s.heap o a b v w x y e)
 
-  pub compare_safe : (evaluates : (e : Expr) → Evaluates (place_of e) (parts.eval e)) (want : Option Tree) (p : Place) (o : ComparisonOperator) (l r : Expr) (m : Marks (compare p o l r)) → Lawful ctx around.declared env want (compare p o l r) m → Covered around (Finds (compare p o l r) m) → Keyed (compare p o l r) m → IsSafe around env (λ k. Unit {0}) (eval_node Step free parts (compare p o l r)) (λ k v. HasType around.bases k m.here.type v)
+  pub compare_safe : (evaluates : (e : Expr) → Evaluates (place_of e) (parts.eval e)) (want : Option Tree) (p : Place) (o : ComparisonOperator) (l r : Expr) (m : Labels (compare p o l r)) → Lawful ctx around.declared env want (compare p o l r) m → Covered around (Finds (compare p o l r) m) → Keyed (compare p o l r) m → IsSafe around env (λ k. Unit {0}) (eval_node Step free parts (compare p o l r)) (λ k v. HasType around.bases k m.here.type v)
   compare_safe evaluates want p o l r m law covered keyed =
       let types = compare_types o (type_of r m.right) in
-      let here : m.here ≡ compare_mark around.bases o (type_of l m.left) (type_of r m.right) = subst (λ b. m.here ≡ compare_mark b o (type_of l m.left) (type_of r m.right)) (sym fits.bases) law.here in
+      let here : m.here ≡ compare_label around.bases o (type_of l m.left) (type_of r m.right) = subst (λ b. m.here ≡ compare_label b o (type_of l m.left) (type_of r m.right)) (sym fits.bases) law.here in
       bind_safe around env _ _ _ (λ k v. HasType around.bases k (type_of l m.left) v × HasEach around.bases k types v) _ (λ k k' x h. tt)
-      (flows_safe around ctx parts.eval good evaluates env _ None l m.left types m.flows law.left (λ f h. covered f (inr (inr (inl h)))) (subst (λ b. FlowsInto b (mark_of l m.left) types m.flows) (sym fits.bases) law.flows) (λ f h. covered f (inr (inl h))) keyed.1.0)
+      (flows_safe around ctx parts.eval good evaluates env _ None l m.left types m.flows law.left (λ f h. covered f (inr (inr (inl h)))) (subst (λ b. FlowsInto b (whole_label l m.left) types m.flows) (sym fits.bases) law.flows) (λ f h. covered f (inr (inl h))) keyed.1.0)
       λ v. bind_safe around env _ _ _ (λ k w. HasType around.bases k (type_of r m.right) w) _ (λ k k' x h. (tt, (later around.bases x (type_of l m.left) v h.1.0, each_later around.bases x types v h.1.1)))
       (part around ctx parts good env _ None r m.right law.right (λ f h. covered f (inr (inr (inr h)))) keyed.1.1)
       λ w. bind_safe around env _ _ _ (λ k u. m.here.codes ≡ []) _ (λ k k' x h. ((tt, (later around.bases x (type_of l m.left) v h.0.1.0, each_later around.bases x types v h.0.1.1)), later around.bases x (type_of r m.right) w h.1))

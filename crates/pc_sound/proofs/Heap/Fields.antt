@@ -11,9 +11,9 @@ use Rattle.pc_types.proofs.Structural.{Chain, here, up, Sub, s_class, sub_of}
 use Rattle.pc_class.specs.Facts as facts
 use Rattle.pc_class.specs.Facts.{TypedParameter, Method, field_by_name, method_by_name, class_facts_at}
 use Rattle.pc_flow.specs.Environment.{Env}
-use Rattle.pc_rules.specs.Operations.{offers_mark, attribute_found, attribute_member}
+use Rattle.pc_rules.specs.Operations.{offers_label, attribute_found, attribute_member}
 use Rattle.pc_rules.specs.Context.{Context}
-use Rattle.pc_rules.specs.Labels.{Marks, type_of, Finds}
+use Rattle.pc_rules.specs.Labels.{Labels, type_of, Finds}
 use Rattle.pc_rules.specs.Lawful.{Lawful}
 use Rattle.pc_value.specs.Value.{Value, location, Slot, instance_cell, Heap, seen}
 use Rattle.pc_value.specs.Actions as action
@@ -144,11 +144,11 @@ module _ (bases : Bases) (classes : List facts.ClassFacts) (inherits : Inherits 
   }
 
 module _ (around : Around) (ctx : Context) (fits : IsContextOf around ctx) (inherits : Inherits around.bases around.classes) (parts : Parts Step) (good : GoodEval around ctx parts.eval) (env : Env) where
-  pub attribute_safe : (want : Option Tree) (p : Place) (e : Expr) (field : Name) (m : Marks (attribute p e field)) → Lawful ctx around.declared env want (attribute p e field) m → Covered around (Finds (attribute p e field) m) → Keyed (attribute p e field) m → IsSafe around env (λ k. Unit {0}) (eval_node Step free parts (attribute p e field)) (λ k v. HasType around.bases k m.here.type v)
+  pub attribute_safe : (want : Option Tree) (p : Place) (e : Expr) (field : Name) (m : Labels (attribute p e field)) → Lawful ctx around.declared env want (attribute p e field) m → Covered around (Finds (attribute p e field) m) → Keyed (attribute p e field) m → IsSafe around env (λ k. Unit {0}) (eval_node Step free parts (attribute p e field)) (λ k v. HasType around.bases k m.here.type v)
   attribute_safe want p e field m law covered keyed =
       let object = type_of e m.object in
-      let here : m.here ≡ offers_mark around.bases (map (attribute_member around.classes field.text) (members object)) =
-      subst (λ c. m.here ≡ offers_mark around.bases (map (attribute_member c field.text) (members object))) (sym fits.classes) (subst (λ b. m.here ≡ offers_mark b (map (attribute_member ctx.classes field.text) (members object))) (sym fits.bases) law.here) in
+      let here : m.here ≡ offers_label around.bases (map (attribute_member around.classes field.text) (members object)) =
+      subst (λ c. m.here ≡ offers_label around.bases (map (attribute_member c field.text) (members object))) (sym fits.classes) (subst (λ b. m.here ≡ offers_label b (map (attribute_member ctx.classes field.text) (members object))) (sym fits.bases) law.here) in
       bind_safe around env _ _ _ (λ k v. HasType around.bases k object v) _ (λ k k' x h. tt)
       (part around ctx parts good env _ None e m.object law.object (λ f h. covered f (inr h)) keyed.1)
       λ v. bind_safe around env _ _ _ (λ k u. m.here.codes ≡ []) _ (λ k k' x h. (tt, later around.bases x object v h.1))

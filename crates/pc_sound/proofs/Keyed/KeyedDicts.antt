@@ -5,7 +5,7 @@ use Rattle.pc_tree.specs.Tree.{Expr, Exprs, Entries, Keywords, name, number, tex
 use Rattle.pc_types.specs.Tree.{Tree, Trees, ListOf, DictOf, TupleOf, Union, end, more}
 use Rattle.pc_types.specs.Normal.{IsKey}
 use Rattle.pc_scope.specs.Expressions.{is_instance_test}
-use Rattle.pc_rules.specs.Labels.{Marks, ItemsMarks, EntriesMarks, KeywordsMarks, type_of}
+use Rattle.pc_rules.specs.Labels.{Labels, ItemsLabels, EntriesLabels, KeywordsLabels, type_of}
 use Rattle.pc_rules.specs.Lawful.{early_second}
 
 -- each dict, anywhere in a type, has int or str as its key
@@ -22,12 +22,12 @@ abbrev mutual
   AreKeyed (more t ts) = IsKeyed t × AreKeyed ts
 
 -- the second argument of a test of an instance has no E03
-abbrev pub IsPunctual : Expr → (arguments : Exprs) → Keywords → ItemsMarks arguments → Type 0
+abbrev pub IsPunctual : Expr → (arguments : Exprs) → Keywords → ItemsLabels arguments → Type 0
 IsPunctual callee arguments keywords m = is_instance_test callee arguments keywords ≡ true → early_second arguments m ≡ false
 
 -- each label of an expression and of its parts is so, and each test of an instance in it
 abbrev mutual
-  pub Keyed : (e : Expr) → Marks e → Type 0
+  pub Keyed : (e : Expr) → Labels e → Type 0
   Keyed (name n) m = IsKeyed m.type
   Keyed (number p digits) m = IsKeyed m.type
   Keyed (text p characters) m = IsKeyed m.type
@@ -48,20 +48,20 @@ abbrev mutual
   Keyed (index p e i) m = IsKeyed m.here.type × (Keyed e m.object × Keyed i m.key)
   Keyed (call p callee arguments keywords) m = (IsKeyed m.here.type × IsPunctual callee arguments keywords m.arguments) × (Keyed callee m.callee × (ItemsKeyed arguments m.arguments × KeywordsKeyed keywords m.keywords))
 
-  pub ItemsKeyed : (es : Exprs) → ItemsMarks es → Type 0
+  pub ItemsKeyed : (es : Exprs) → ItemsLabels es → Type 0
   ItemsKeyed no_exprs m = Unit {0}
   ItemsKeyed (more_exprs e rest) m = Keyed e m.first × ItemsKeyed rest m.rest
 
-  pub EntriesKeyed : (es : Entries) → EntriesMarks es → Type 0
+  pub EntriesKeyed : (es : Entries) → EntriesLabels es → Type 0
   EntriesKeyed no_entries m = Unit {0}
   EntriesKeyed (more_entries key value rest) m = Keyed key m.key × (Keyed value m.value × EntriesKeyed rest m.rest)
 
-  pub KeywordsKeyed : (es : Keywords) → KeywordsMarks es → Type 0
+  pub KeywordsKeyed : (es : Keywords) → KeywordsLabels es → Type 0
   KeywordsKeyed no_keywords m = Unit {0}
   KeywordsKeyed (more_keywords parameter value rest) m = Keyed value m.first × KeywordsKeyed rest m.rest
 
 -- the type of an expression
-pub keyed_type : (e : Expr) (m : Marks e) → Keyed e m → IsKeyed (type_of e m)
+pub keyed_type : (e : Expr) (m : Labels e) → Keyed e m → IsKeyed (type_of e m)
 keyed_type (name n) m h = h
 keyed_type (number p digits) m h = h
 keyed_type (text p characters) m h = h

@@ -14,8 +14,8 @@ use Rattle.pc_class.specs.Facts.{TypedParameter, return_type}
 use Rattle.pc_class.specs.Bases.{bases_of}
 use Rattle.pc_flow.specs.Environment.{Env, declared_type, none_assigned}
 use Rattle.pc_rules.specs.Signatures.{body_context}
-use Rattle.pc_labels.specs.Statements.{NamesBound}
-use Rattle.pc_labels.specs.Modules.{entry_parameters, names_entered, DeclaredEntry, LawfulEntry, assigned_at_entry, entry_env, FunctionMarks, LawfulFunction}
+use Rattle.pc_module_rules.specs.Statements.{NamesBound}
+use Rattle.pc_module_rules.specs.Modules.{entry_parameters, names_entered, DeclaredEntry, LawfulEntry, assigned_at_entry, entry_env, FunctionLabels, LawfulFunction}
 use Rattle.pc_sound.proofs.Keyed.KeyedDicts.{IsKeyed}
 use Rattle.pc_sound.proofs.Keyed.KeyedStatements.{SuiteKeyed}
 use Rattle.pc_sound.proofs.Keyed.KeyedTypes.{EnvKeyed, assign_keyed}
@@ -72,8 +72,8 @@ entries_keyed m (owners.Func i) f = parameters_keyed m f.params
 entries_keyed m (owners.Method c i) f = (tt, parameters_keyed m f.params)
 
 -- the labels of a body
-pub function_keyed : (m : Module) (constants : List Tree) → ((i : ℕ) (t : Tree) → slice_get constants i ≡ Some t → IsKeyed t) → (owner : Owner) (f : FuncDef) → NamesTimely (body_context m constants (locals owner f)) → (marks : FunctionMarks f) → LawfulFunction m constants owner f marks → SuiteKeyed f.body marks.body
-function_keyed m constants ck owner f there marks law =
+pub function_keyed : (m : Module) (constants : List Tree) → ((i : ℕ) (t : Tree) → slice_get constants i ≡ Some t → IsKeyed t) → (owner : Owner) (f : FuncDef) → NamesTimely (body_context m constants (locals owner f)) → (labels : FunctionLabels f) → LawfulFunction m constants owner f labels → SuiteKeyed f.body labels.body
+function_keyed m constants ck owner f there labels law =
     let ctx = body_context m constants (locals owner f) in
-    let e = entry_keyed ctx.resolve marks.declared [] (entry_parameters m owner f) (none_assigned (length (locals owner f))) (λ word a. absurd (grind (arith, a))) (λ x t i. absurd (none_current (length (locals owner f)) x t i)) (entries_keyed m owner f) law.entry in
-    (suite_keyed m ctx marks.declared (body_keyed m constants (locals owner f) ck) (all_timely ctx marks.declared there) (return_type m f) (option_ann_keyed m (bases_of m) f.returns) (names_entered [] (entry_parameters m owner f)) (entry_env ctx.resolve [] (entry_parameters m owner f) (none_assigned (length (locals owner f)))) f.body marks.body marks.out e.words e.env_keyed law.body).labels
+    let e = entry_keyed ctx.resolve labels.declared [] (entry_parameters m owner f) (none_assigned (length (locals owner f))) (λ word a. absurd (grind (arith, a))) (λ x t i. absurd (none_current (length (locals owner f)) x t i)) (entries_keyed m owner f) law.entry in
+    (suite_keyed m ctx labels.declared (body_keyed m constants (locals owner f) ck) (all_timely ctx labels.declared there) (return_type m f) (option_ann_keyed m (bases_of m) f.returns) (names_entered [] (entry_parameters m owner f)) (entry_env ctx.resolve [] (entry_parameters m owner f) (none_assigned (length (locals owner f)))) f.body labels.body labels.out e.words e.env_keyed law.body).keyed_labels

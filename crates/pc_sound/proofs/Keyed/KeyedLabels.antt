@@ -20,11 +20,11 @@ use Rattle.pc_types.specs.Shape.{members, list_of_trees, trees, nodes, node_limi
 use Rattle.pc_class.specs.Facts.{TypedParameter, Method, field_by_name, method_by_name, class_facts_at}
 use Rattle.pc_flow.specs.Environment.{Env, current, join_or_object, join_all}
 use Rattle.pc_flow.specs.Narrowing.{narrow}
-use Rattle.pc_rules.specs.Operations.{Mark, clean, in_error, Offer, has_error, found_of, offers_mark, tuple_item, index_member, attribute_found, attribute_member, contain_member, length_member, negative_member, Kind, whole_kind, text_kind, kind_of, kind_type, row_of_kinds, pair_found, pair_offers, pairs_mark, takes_kind, is_never, is_any, is_dynamic, display_mark}
-use Rattle.pc_rules.specs.Context.{Context, Signature, local_mark, constant_mark, name_mark, is_early}
-use Rattle.pc_rules.specs.Calls.{GivenArguments, arguments_given, plain_call, fails_at_call, fails_at_callee, count_exprs, CallOffer, CalleeLabel, signature_offer, is_suited, value_offer, value_callee, class_signature, method_signature, builtin_signature, class_offers, list_offers, dict_offers, method_offers, CallRule, member_rule, length_rule, test_rule, own_callee, builtin_callee, function_offer, good_callee, name_callee, method_callee, is_one, is_two, first_type, call_mark, all_codes, signatures, Seat, only_member, expected_type, type_at, positional_seat, named_seat, nowhere, length_mark}
-use Rattle.pc_rules.specs.Labels.{Marks, ItemsMarks, EntriesMarks, KeywordsMarks, mark_of, type_of, with_mark, item_types, key_types, value_types}
-use Rattle.pc_rules.specs.Lawful.{Lawful, LawfulItems, LawfulEntries, LawfulKeywords, KeyValue, list_item, dict_parts, tuple_parts, members_of_expected, item_seat, part_seat, list_mark, DictMark, no_keys, int_keys, str_keys, other_keys, DictRule, key_seat, value_seat, int_literal, compare_mark, callee_of, whole_call_mark, early_second, keyword_seat}
+use Rattle.pc_rules.specs.Operations.{Label, clean, in_error, Offer, has_error, found_of, offers_label, tuple_item, index_member, attribute_found, attribute_member, contain_member, length_member, negative_member, Kind, whole_kind, text_kind, kind_of, kind_type, row_of_kinds, pair_found, pair_offers, pairs_label, takes_kind, is_never, is_any, is_dynamic, display_label}
+use Rattle.pc_rules.specs.Context.{Context, Signature, local_label, constant_label, name_label, is_early}
+use Rattle.pc_rules.specs.Calls.{GivenArguments, arguments_given, plain_call, fails_at_call, fails_at_callee, count_exprs, CallOffer, CalleeLabel, signature_offer, is_suited, value_offer, value_callee, class_signature, method_signature, builtin_signature, class_offers, list_offers, dict_offers, method_offers, CallRule, member_rule, length_rule, test_rule, own_callee, builtin_callee, function_offer, good_callee, name_callee, method_callee, is_one, is_two, first_type, call_label, all_codes, signatures, Seat, only_member, expected_type, type_at, positional_seat, named_seat, nowhere, length_label}
+use Rattle.pc_rules.specs.Labels.{Labels, ItemsLabels, EntriesLabels, KeywordsLabels, whole_label, type_of, with_label, item_types, key_types, value_types}
+use Rattle.pc_rules.specs.Lawful.{Lawful, LawfulItems, LawfulEntries, LawfulKeywords, KeyValue, list_item, dict_parts, tuple_parts, members_of_expected, item_seat, part_seat, list_label, DictLabel, no_keys, int_keys, str_keys, other_keys, DictRule, key_seat, value_seat, int_literal, compare_label, callee_of, whole_call_label, early_second, keyword_seat}
 use Rattle.pc_sound.proofs.Keyed.KeyedDicts.{IsKeyed, AreKeyed, Keyed, ItemsKeyed, EntriesKeyed, KeywordsKeyed, keyed_type}
 use Rattle.pc_sound.proofs.Values.UnionMembers.{AllOf}
 use Rattle.pc_sound.proofs.Expressions.Indexing.{keyed_members}
@@ -80,7 +80,7 @@ key_keyed Int h = tt
 key_keyed Str h = tt
 key_keyed _ h = absurd h
 
-display_keyed : (t : Tree) → IsKeyed t → IsKeyed (display_mark t).type
+display_keyed : (t : Tree) → IsKeyed t → IsKeyed (display_label t).type
 display_keyed t h = go (nat_le (nodes t) node_limit)
   where
     go : (x : Test) → IsKeyed (if x then clean t else in_error E26).type
@@ -94,15 +94,15 @@ module _ (bases : Bases) where
   gives_keyed offer each [] h = tt
   gives_keyed offer each (m ∷ ms) h = (each m h.0, gives_keyed offer each ms h.1)
 
-  mark_keyed : (offers : List Offer) → Keyeds (map (λ o. o.gives) offers) → IsKeyed (offers_mark bases offers).type
-  mark_keyed offers h = go (has_error (found_of offers))
+  label_keyed : (offers : List Offer) → Keyeds (map (λ o. o.gives) offers) → IsKeyed (offers_label bases offers).type
+  label_keyed offers h = go (has_error (found_of offers))
     where
       go : (x : Test) → IsKeyed (if x then Any else join_all bases (map (λ o. o.gives) offers))
       go true = tt
       go false = all_keyed bases (map (λ o. o.gives) offers) h
 
-  pub operation_keyed : (offer : Tree → Offer) → ((m : Tree) → IsKeyed m → IsKeyed (offer m).gives) → (t : Tree) → IsKeyed t → IsKeyed (offers_mark bases (map offer (members t))).type
-  operation_keyed offer each t h = mark_keyed (map offer (members t)) (gives_keyed offer each (members t) (keyed_members t h))
+  pub operation_keyed : (offer : Tree → Offer) → ((m : Tree) → IsKeyed m → IsKeyed (offer m).gives) → (t : Tree) → IsKeyed t → IsKeyed (offers_label bases (map offer (members t))).type
+  operation_keyed offer each t h = label_keyed (map offer (members t)) (gives_keyed offer each (members t) (keyed_members t h))
 
   item_keyed : (literal : Option ℕ) (ts : Trees) → AreKeyed ts → IsKeyed (tuple_item bases literal ts)
   item_keyed None ts h = all_keyed bases (list_of_trees ts) (listed_keyed ts h)
@@ -164,14 +164,14 @@ module _ (bases : Bases) where
     pairs_gives [] ns = tt
     pairs_gives (m ∷ ms) ns = gives_append (map (λ n. pair_found (row_of_kinds takes gives (kind_of m) (kind_of n))) ns) (pair_offers takes gives ms ns) (pairs_with m ns) (pairs_gives ms ns)
 
-    pairs_keyed : (dynamic s t : Tree) → IsKeyed dynamic → IsKeyed (pairs_mark bases takes gives dynamic s t).type
+    pairs_keyed : (dynamic s t : Tree) → IsKeyed dynamic → IsKeyed (pairs_label bases takes gives dynamic s t).type
     pairs_keyed dynamic s t h = go (is_never s || is_never t) (is_dynamic takes s t) (is_any s || is_any t)
       where
-        go : (x y z : Test) → IsKeyed (if x then clean Never else (if y then record { type = dynamic; codes = A2 ∷ [] } else (if z then in_error E13 else offers_mark bases (pair_offers takes gives (members s) (members t))))).type
+        go : (x y z : Test) → IsKeyed (if x then clean Never else (if y then record { type = dynamic; codes = A2 ∷ [] } else (if z then in_error E13 else offers_label bases (pair_offers takes gives (members s) (members t))))).type
         go true y z = tt
         go false true z = h
         go false false true = tt
-        go false false false = mark_keyed (pair_offers takes gives (members s) (members t)) (pairs_gives (members s) (members t))
+        go false false false = label_keyed (pair_offers takes gives (members s) (members t)) (pairs_gives (members s) (members t))
 
 -- ---- fields and methods
 
@@ -258,7 +258,7 @@ dict_offers_keyed bases g word k v key h = go (bytes_eq word (codes "get"))
     go false = ((tt, tt), tt)
 
 abbrev CalleeKeyed : CalleeLabel → Type 0
-CalleeKeyed c = IsKeyed c.mark.type × OffersKeyed c.offers
+CalleeKeyed c = IsKeyed c.label.type × OffersKeyed c.offers
 
 own_or_error : (rule : CallRule) (x : Test) → CalleeKeyed (if x then own_callee rule else good_callee (fails_at_call E14 ∷ []))
 own_or_error rule true = (tt, tt)
@@ -290,7 +290,7 @@ module _ (offers : List CallOffer) (keyed : OffersKeyed offers) where
   gives_of [] h = tt
   gives_of (o ∷ os) h = (h.0.0, gives_of os h.1)
 
-  pub call_keyed : (bases : Bases) → IsKeyed (call_mark bases offers).type
+  pub call_keyed : (bases : Bases) → IsKeyed (call_label bases offers).type
   call_keyed bases = go (has_error (all_codes offers))
     where
       go : (x : Test) → IsKeyed (if x then Any else join_all bases (map (λ o. o.gives) offers))
@@ -382,18 +382,18 @@ value_seat_keyed None h = tt
 value_seat_keyed (Some kv) h = h.1
 
 module _ (bases : Bases) where
-  list_mark_keyed : (o : Option Tree) (ts : List Tree) → OptionKeyed o → Keyeds ts → IsKeyed (list_mark bases o ts).type
-  list_mark_keyed (Some t) ts h k = h
-  list_mark_keyed None [] h k = display_keyed (ListOf Any) tt
-  list_mark_keyed None (t ∷ ts) h k = display_keyed (ListOf (join_all bases (t ∷ ts))) (all_keyed bases (t ∷ ts) k)
+  list_label_keyed : (o : Option Tree) (ts : List Tree) → OptionKeyed o → Keyeds ts → IsKeyed (list_label bases o ts).type
+  list_label_keyed (Some t) ts h k = h
+  list_label_keyed None [] h k = display_keyed (ListOf Any) tt
+  list_label_keyed None (t ∷ ts) h k = display_keyed (ListOf (join_all bases (t ∷ ts))) (all_keyed bases (t ∷ ts) k)
 
-  by_keys_keyed : (values keys : List Tree) (m : Mark) → Keyeds values → DictMark bases values keys m → IsKeyed m.type
+  by_keys_keyed : (values keys : List Tree) (m : Label) → Keyeds values → DictLabel bases values keys m → IsKeyed m.type
   by_keys_keyed values _ _ h no_keys = tt
   by_keys_keyed values _ _ h (int_keys all) = display_keyed (DictOf Int (join_all bases values)) (tt, all_keyed bases values h)
   by_keys_keyed values _ _ h (str_keys apart all) = display_keyed (DictOf Str (join_all bases values)) (tt, all_keyed bases values h)
   by_keys_keyed values _ _ h (other_keys apart others) = tt
 
-  dict_rule_keyed : (o : Option KeyValue) (keys values : List Tree) (m : Mark) → PartsKeyed o → Keyeds values → DictRule bases o keys values m → IsKeyed m.type
+  dict_rule_keyed : (o : Option KeyValue) (keys values : List Tree) (m : Label) → PartsKeyed o → Keyeds values → DictRule bases o keys values m → IsKeyed m.type
   dict_rule_keyed (Some kv) keys values m h k is = subst (λ x. IsKeyed x.type) (sym is) h
   dict_rule_keyed None keys values m h k rule = by_keys_keyed values keys m k rule
 
@@ -401,14 +401,14 @@ module _ (bases : Bases) where
   first_keyed [] h = tt
   first_keyed (t ∷ ts) h = h.0
 
-  length_mark_keyed : (ts : List Tree) → Keyeds ts → IsKeyed (length_mark bases ts).type
-  length_mark_keyed ts h = operation_keyed bases length_member (length_keyed bases) (first_type ts) (first_keyed ts h)
+  length_label_keyed : (ts : List Tree) → Keyeds ts → IsKeyed (length_label bases ts).type
+  length_label_keyed ts h = operation_keyed bases length_member (length_keyed bases) (first_type ts) (first_keyed ts h)
 
   kinds_keyed : (x : Kind) → IsKeyed (kind_type x)
   kinds_keyed whole_kind = tt
   kinds_keyed text_kind = tt
 
-  compare_keyed : (operator : ComparisonOperator) (s t : Tree) → IsKeyed t → IsKeyed (compare_mark bases operator s t).type
+  compare_keyed : (operator : ComparisonOperator) (s t : Tree) → IsKeyed t → IsKeyed (compare_label bases operator s t).type
   compare_keyed Equal s t h = tt
   compare_keyed NotEqual s t h = tt
   compare_keyed In s t h = operation_keyed bases contain_member (contain_keyed bases) t h
@@ -416,7 +416,7 @@ module _ (bases : Bases) where
   compare_keyed _ s t h = pairs_keyed bases (λ k. true) (λ k. Bool) (λ k. tt) Bool s t tt
 
 -- another label for the expression itself
-pub with_keyed : (e : Expr) (m : Marks e) (here : Mark) → Keyed e m → IsKeyed here.type → Keyed e (with_mark e m here)
+pub with_keyed : (e : Expr) (m : Labels e) (here : Label) → Keyed e m → IsKeyed here.type → Keyed e (with_label e m here)
 with_keyed (name n) m here h k = k
 with_keyed (number p d) m here h k = k
 with_keyed (text p d) m here h k = k
@@ -437,11 +437,11 @@ with_keyed (attribute p e n) m here h k = (k, h.1)
 with_keyed (index p e i) m here h k = (k, h.1)
 with_keyed (call p c args kws) m here h k = ((k, h.0.1), h.1)
 
-item_types_keyed : (es : Exprs) (m : ItemsMarks es) → ItemsKeyed es m → Keyeds (item_types es m)
+item_types_keyed : (es : Exprs) (m : ItemsLabels es) → ItemsKeyed es m → Keyeds (item_types es m)
 item_types_keyed no_exprs m h = tt
 item_types_keyed (more_exprs e rest) m h = (keyed_type e m.first h.0, item_types_keyed rest m.rest h.1)
 
-value_types_keyed : (es : Entries) (m : EntriesMarks es) → EntriesKeyed es m → Keyeds (value_types es m)
+value_types_keyed : (es : Entries) (m : EntriesLabels es) → EntriesKeyed es m → Keyeds (value_types es m)
 value_types_keyed no_entries m h = tt
 value_types_keyed (more_entries a b rest) m h = (keyed_type b m.value h.1.0, value_types_keyed rest m.rest h.1.1)
 
@@ -450,7 +450,7 @@ module _ (ctx : Context) (declared : List Tree) where
   abbrev pub SecondTimely : Exprs → Type 0
   SecondTimely no_exprs = Unit {0}
   SecondTimely (more_exprs e no_exprs) = Unit {0}
-  SecondTimely (more_exprs e (more_exprs f rest)) = (env : Env) (want : Option Tree) (m : Marks f) → Lawful ctx declared env want f m → is_early (mark_of f m).codes ≡ false
+  SecondTimely (more_exprs e (more_exprs f rest)) = (env : Env) (want : Option Tree) (m : Labels f) → Lawful ctx declared env want f m → is_early (whole_label f m).codes ≡ false
 
   abbrev mutual
     pub Timely : Expr → Type 0
@@ -486,19 +486,19 @@ module _ (ctx : Context) (declared : List Tree) where
     KeywordsTimely no_keywords = Unit {0}
     KeywordsTimely (more_keywords n e rest) = Timely e × KeywordsTimely rest
 
-  pub second_timely : (env : Env) (seat : ℕ → Seat) (es : Exprs) (m : ItemsMarks es) → LawfulItems ctx declared env seat es m → SecondTimely es → early_second es m ≡ false
+  pub second_timely : (env : Env) (seat : ℕ → Seat) (es : Exprs) (m : ItemsLabels es) → LawfulItems ctx declared env seat es m → SecondTimely es → early_second es m ≡ false
   second_timely env seat no_exprs m law t = refl
   second_timely env seat (more_exprs e no_exprs) m law t = refl
   second_timely env seat (more_exprs e (more_exprs f rest)) m law t = t env (seat 1).want m.rest.first law.rest.first
 
   module _ (keyed : ContextKeyed ctx) where
-    local_mark_keyed : (o : Option Tree) → OptionKeyed o → IsKeyed (local_mark o).type
-    local_mark_keyed None h = tt
-    local_mark_keyed (Some t) h = h
+    local_label_keyed : (o : Option Tree) → OptionKeyed o → IsKeyed (local_label o).type
+    local_label_keyed None h = tt
+    local_label_keyed (Some t) h = h
 
-    constant_mark_keyed : (o : Option Tree) → OptionKeyed o → IsKeyed (constant_mark o).type
-    constant_mark_keyed None h = tt
-    constant_mark_keyed (Some t) h = h
+    constant_label_keyed : (o : Option Tree) → OptionKeyed o → IsKeyed (constant_label o).type
+    constant_label_keyed None h = tt
+    constant_label_keyed (Some t) h = h
 
     some_keyed : (o : Option Tree) → ((t : Tree) → o ≡ Some t → IsKeyed t) → OptionKeyed o
     some_keyed None h = tt
@@ -508,15 +508,15 @@ module _ (ctx : Context) (declared : List Tree) where
     error_keyed true = tt
     error_keyed false = tt
 
-    name_keyed : (env : Env) → EnvKeyed declared env → (r : Res) → IsKeyed (name_mark ctx env r).type
-    name_keyed env h (res.Local x) = local_mark_keyed (current env x) (some_keyed (current env x) (λ t e. (h x t e).0))
-    name_keyed env h (res.Const i) = constant_mark_keyed (slice_get ctx.constants i) (some_keyed (slice_get ctx.constants i) (keyed.constants i))
+    name_keyed : (env : Env) → EnvKeyed declared env → (r : Res) → IsKeyed (name_label ctx env r).type
+    name_keyed env h (res.Local x) = local_label_keyed (current env x) (some_keyed (current env x) (λ t e. (h x t e).0))
+    name_keyed env h (res.Const i) = constant_label_keyed (slice_get ctx.constants i) (some_keyed (slice_get ctx.constants i) (keyed.constants i))
     name_keyed env h (res.Func i) = error_keyed ctx.in_body
     name_keyed env h (res.Class c) = error_keyed (nat_lt c ctx.known)
     name_keyed env h (res.Builtin b) = tt
     name_keyed env h res.None = tt
 
-    value_callee_keyed : (m : Mark) → IsKeyed m.type → CalleeKeyed (value_callee m)
+    value_callee_keyed : (m : Label) → IsKeyed m.type → CalleeKeyed (value_callee m)
     value_callee_keyed m h = (h, values_keyed (members m.type))
 
     function_keyed : (g : GivenArguments) (o : Option Signature) → ((s : Signature) → o ≡ Some s → SignatureKeyed s) → OffersKeyed (function_offer g o ∷ [])
@@ -535,9 +535,9 @@ module _ (ctx : Context) (declared : List Tree) where
         go true = (tt, called_keyed g (class_signature ctx.classes c) (keyed.fields c, tt))
         go false = value_callee_keyed (in_error E03) tt
     name_callee_keyed env h g (res.Builtin b) = builtin_keyed g b
-    name_callee_keyed env h g (res.Local x) = value_callee_keyed (name_mark ctx env (res.Local x)) (name_keyed env h (res.Local x))
-    name_callee_keyed env h g (res.Const i) = value_callee_keyed (name_mark ctx env (res.Const i)) (name_keyed env h (res.Const i))
-    name_callee_keyed env h g res.None = value_callee_keyed (name_mark ctx env res.None) tt
+    name_callee_keyed env h g (res.Local x) = value_callee_keyed (name_label ctx env (res.Local x)) (name_keyed env h (res.Local x))
+    name_callee_keyed env h g (res.Const i) = value_callee_keyed (name_label ctx env (res.Const i)) (name_keyed env h (res.Const i))
+    name_callee_keyed env h g res.None = value_callee_keyed (name_label ctx env res.None) tt
 
     method_offers_keyed : (g : GivenArguments) (word : List ℕ) (m : Tree) → IsKeyed m → OffersKeyed (method_offers ctx g word m)
     method_offers_keyed g word (Class c) h = class_offers_keyed g (method_by_name (class_facts_at ctx.classes c).methods word) (field_by_name (class_facts_at ctx.classes c).fields word) (method_keyed (class_facts_at ctx.classes c).methods word (keyed.methods c))
@@ -549,35 +549,35 @@ module _ (ctx : Context) (declared : List Tree) where
     methods_keyed g word [] h = tt
     methods_keyed g word (m ∷ ms) h = offers_append (method_offers ctx g word m) (flat_map (method_offers ctx g word) ms) (method_offers_keyed g word m h.0) (methods_keyed g word ms h.1)
 
-    value_or_early : (m : Mark) → IsKeyed m.type → (x : Test) → CalleeKeyed (if x then value_callee m else value_callee (in_error E03))
+    value_or_early : (m : Label) → IsKeyed m.type → (x : Test) → CalleeKeyed (if x then value_callee m else value_callee (in_error E03))
     value_or_early m h true = value_callee_keyed m h
     value_or_early m h false = value_callee_keyed (in_error E03) tt
 
-    callee_keyed : (env : Env) → EnvKeyed declared env → (g : GivenArguments) (e : Expr) (m : Marks e) → Keyed e m → CalleeKeyed (callee_of ctx env g e m)
+    callee_keyed : (env : Env) → EnvKeyed declared env → (g : GivenArguments) (e : Expr) (m : Labels e) → Keyed e m → CalleeKeyed (callee_of ctx env g e m)
     callee_keyed env h g (name n) m k = name_callee_keyed env h g (ctx.resolve n.text)
     callee_keyed env h g (attribute p e field) m k = go ctx.in_body
       where
         go : (x : Test) → CalleeKeyed (if x then method_callee ctx g field.text (type_of e m.object) else value_callee (in_error E03))
         go true = (tt, methods_keyed g field.text (members (type_of e m.object)) (keyed_members (type_of e m.object) (keyed_type e m.object k.1)))
         go false = value_callee_keyed (in_error E03) tt
-    callee_keyed env h g e m k = value_or_early (mark_of e m) (keyed_type e m k) ctx.in_body
+    callee_keyed env h g e m k = value_or_early (whole_label e m) (keyed_type e m k) ctx.in_body
 
     field_offer_keyed : (word : List ℕ) (m : Tree) → IsKeyed m → IsKeyed (attribute_member ctx.classes word m).gives
     field_offer_keyed word (Class c) h = attribute_keyed (field_by_name (class_facts_at ctx.classes c).fields word) (method_by_name (class_facts_at ctx.classes c).methods word) (field_keyed (class_facts_at ctx.classes c).fields word (keyed.fields c))
     field_offer_keyed word Any h = tt
     field_offer_keyed word _ h = tt
 
-    whole_call_keyed : (env : Env) (rule : CallRule) (offers : List CallOffer) → OffersKeyed offers → (args : Exprs) (ts : List Tree) → Keyeds ts → IsKeyed (whole_call_mark ctx env rule offers args ts).type
+    whole_call_keyed : (env : Env) (rule : CallRule) (offers : List CallOffer) → OffersKeyed offers → (args : Exprs) (ts : List Tree) → Keyeds ts → IsKeyed (whole_call_label ctx env rule offers args ts).type
     whole_call_keyed env member_rule offers h args ts k = call_keyed offers h ctx.bases
-    whole_call_keyed env length_rule offers h args ts k = length_mark_keyed ctx.bases ts k
+    whole_call_keyed env length_rule offers h args ts k = length_label_keyed ctx.bases ts k
     whole_call_keyed env test_rule offers h args ts k = tt
 
-    so_typed : {m n : Mark} → m ≡ n → IsKeyed n.type → IsKeyed m.type
+    so_typed : {m n : Label} → m ≡ n → IsKeyed n.type → IsKeyed m.type
     so_typed e h = subst (λ x. IsKeyed x.type) (sym e) h
 
     -- the labels of a lawfully labelled expression
     mutual
-      pub labels_keyed : (env : Env) → EnvKeyed declared env → (want : Option Tree) → OptionKeyed want → (e : Expr) → Timely e → (m : Marks e) → Lawful ctx declared env want e m → Keyed e m
+      pub labels_keyed : (env : Env) → EnvKeyed declared env → (want : Option Tree) → OptionKeyed want → (e : Expr) → Timely e → (m : Labels e) → Lawful ctx declared env want e m → Keyed e m
       labels_keyed env ek want wk (name n) t m law = so_typed law (name_keyed env ek (ctx.resolve n.text))
       labels_keyed env ek want wk (number p d) t m law = so_typed law tt
       labels_keyed env ek want wk (text p d) t m law = so_typed law tt
@@ -589,7 +589,7 @@ module _ (ctx : Context) (declared : List Tree) where
       labels_keyed env ek want wk (list p es) t m law =
           let o = list_item_keyed (members_of_expected want) (wanted_members want wk) in
           let items = items_keyed env ek (λ i. item_seat (list_item (members_of_expected want))) (λ i. item_seat_keyed (list_item (members_of_expected want)) o) es t m.items law.items in
-          (so_typed law.here (list_mark_keyed ctx.bases (list_item (members_of_expected want)) (item_types es m.items) o (item_types_keyed es m.items items)), items)
+          (so_typed law.here (list_label_keyed ctx.bases (list_item (members_of_expected want)) (item_types es m.items) o (item_types_keyed es m.items items)), items)
       labels_keyed env ek want wk (dict p es) t m law =
           let o = dict_parts_keyed (members_of_expected want) (wanted_members want wk) in
           let entries = entries_keyed env ek (key_seat (dict_parts (members_of_expected want))) (value_seat (dict_parts (members_of_expected want))) (key_seat_keyed (dict_parts (members_of_expected want)) o) (value_seat_keyed (dict_parts (members_of_expected want)) o) es t m.entries law.entries in
@@ -625,17 +625,17 @@ module _ (ctx : Context) (declared : List Tree) where
           let items = items_keyed env ek (positional_seat offers) (positional_keyed offers callee.1) args t.1.1.0 m.arguments law.arguments in
           let named = keywords_keyed env ek (named_seat offers) [] (keyword_keyed offers callee.1) kws t.1.1.1 m.keywords law.keywords in (
             (so_typed law.here (whole_call_keyed env (callee_of ctx env (arguments_given args kws) c law.value).rule offers callee.1 args (item_types args m.arguments) (item_types_keyed args m.arguments items)), λ is. second_timely env (positional_seat offers) args m.arguments law.arguments (t.0 is)),
-            (subst (Keyed c) (sym law.callee) (with_keyed c law.value (callee_of ctx env (arguments_given args kws) c law.value).mark value callee.0), (items, named)),
+            (subst (Keyed c) (sym law.callee) (with_keyed c law.value (callee_of ctx env (arguments_given args kws) c law.value).label value callee.0), (items, named)),
           )
 
-      pub items_keyed : (env : Env) → EnvKeyed declared env → (seat : ℕ → Seat) → ((i : ℕ) → OptionKeyed (seat i).want) → (es : Exprs) → ItemsTimely es → (m : ItemsMarks es) → LawfulItems ctx declared env seat es m → ItemsKeyed es m
+      pub items_keyed : (env : Env) → EnvKeyed declared env → (seat : ℕ → Seat) → ((i : ℕ) → OptionKeyed (seat i).want) → (es : Exprs) → ItemsTimely es → (m : ItemsLabels es) → LawfulItems ctx declared env seat es m → ItemsKeyed es m
       items_keyed env ek seat sk no_exprs t m law = tt
       items_keyed env ek seat sk (more_exprs e rest) t m law = (labels_keyed env ek (seat 0).want (sk 0) e t.0 m.first law.first, items_keyed env ek (λ i. seat (suc i)) (λ i. sk (suc i)) rest t.1 m.rest law.rest)
 
-      entries_keyed : (env : Env) → EnvKeyed declared env → (k v : Seat) → OptionKeyed k.want → OptionKeyed v.want → (es : Entries) → EntriesTimely es → (m : EntriesMarks es) → LawfulEntries ctx declared env k v es m → EntriesKeyed es m
+      entries_keyed : (env : Env) → EnvKeyed declared env → (k v : Seat) → OptionKeyed k.want → OptionKeyed v.want → (es : Entries) → EntriesTimely es → (m : EntriesLabels es) → LawfulEntries ctx declared env k v es m → EntriesKeyed es m
       entries_keyed env ek k v kk vk no_entries t m law = tt
       entries_keyed env ek k v kk vk (more_entries a b rest) t m law = (labels_keyed env ek k.want kk a t.0 m.key law.key, (labels_keyed env ek v.want vk b t.1.0 m.value law.value, entries_keyed env ek k v kk vk rest t.1.1 m.rest law.rest))
 
-      pub keywords_keyed : (env : Env) → EnvKeyed declared env → (seat : List ℕ → Seat) → (before : List (List ℕ)) → ((before : List (List ℕ)) (n : Name) → OptionKeyed (keyword_seat seat before n).want) → (es : Keywords) → KeywordsTimely es → (m : KeywordsMarks es) → LawfulKeywords ctx declared env seat before es m → KeywordsKeyed es m
+      pub keywords_keyed : (env : Env) → EnvKeyed declared env → (seat : List ℕ → Seat) → (before : List (List ℕ)) → ((before : List (List ℕ)) (n : Name) → OptionKeyed (keyword_seat seat before n).want) → (es : Keywords) → KeywordsTimely es → (m : KeywordsLabels es) → LawfulKeywords ctx declared env seat before es m → KeywordsKeyed es m
       keywords_keyed env ek seat before sk no_keywords t m law = tt
       keywords_keyed env ek seat before sk (more_keywords n e rest) t m law = (labels_keyed env ek (keyword_seat seat before n).want (sk before n) e t.0 m.first law.first, keywords_keyed env ek seat (n.text ∷ before) sk rest t.1 m.rest law.rest)

@@ -23,12 +23,12 @@ use Rattle.pc_flow.specs.Environment.{Env, current, declared_type, assigned_type
 use Rattle.pc_flow.specs.Narrowing.{narrow}
 use Rattle.pc_rules.specs.Context.{Context}
 use Rattle.pc_class.specs.Facts.{TypedParameter, Method, field_by_name, method_by_name, class_facts_at}
-use Rattle.pc_rules.specs.Operations.{Mark, clean, StoreOffer, has_error, store_codes, iterate_member, store_found, store_attribute_member, store_index_member, stored_types, only_type}
+use Rattle.pc_rules.specs.Operations.{Label, clean, StoreOffer, has_error, store_codes, iterate_member, store_found, store_attribute_member, store_index_member, stored_types, only_type}
 use Rattle.pc_rules.specs.Calls.{arguments_given, is_suited, builtin_signature, positional_seat, named_seat, is_range, range_offers, range_item}
-use Rattle.pc_rules.specs.Labels.{FlowMarks, Marks, type_of}
+use Rattle.pc_rules.specs.Labels.{FlowLabels, Labels, type_of}
 use Rattle.pc_rules.specs.Lawful.{Lawful}
-use Rattle.pc_labels.specs.StatementLabels.{OptionMarks, TargetMarks, StmtMarks, SuiteMarks, BranchesMarks, Behind, Following, BehindRule, breaks_in, breaks_in_suite, breaks_in_branches, behind_list, ways_in}
-use Rattle.pc_labels.specs.Statements.{NamesBound, is_first, only_code, LawfulRange, LawfulValues, RangeOrValues, LawfulIterable, LawfulTarget, LawfulDeclaration, annotation_at, LawfulAnnotated, LawfulAssignment, LawfulReturn, LawfulOption, LawfulStmt, LawfulSuite, LawfulBranches, binds_number, DeclaredAt, known_type, bound_env, LawfulBinding, LawfulStore, UndeclaredName, AreUndeclared}
+use Rattle.pc_module_rules.specs.StatementLabels.{OptionLabels, TargetLabels, StmtLabels, SuiteLabels, BranchesLabels, Behind, Following, BehindRule, breaks_in, breaks_in_suite, breaks_in_branches, behind_list, ways_in}
+use Rattle.pc_module_rules.specs.Statements.{NamesBound, is_first, only_code, LawfulRange, LawfulValues, RangeOrValues, LawfulIterable, LawfulTarget, LawfulDeclaration, annotation_at, LawfulAnnotated, LawfulAssignment, LawfulReturn, LawfulOption, LawfulStmt, LawfulSuite, LawfulBranches, binds_number, DeclaredAt, known_type, bound_env, LawfulBinding, LawfulStore, UndeclaredName, AreUndeclared}
 use Rattle.pc_sound.proofs.TruthValues.{not_both}
 use Rattle.pc_sound.proofs.Keyed.KeyedDicts.{IsKeyed, Keyed, keyed_type}
 use Rattle.pc_sound.proofs.Keyed.KeyedTypes.{OptionKeyed, EnvKeyed, assign_keyed, narrow_keyed, join_env_keyed, all_keyed}
@@ -138,11 +138,11 @@ module _ (m : Module) (ctx : Context) (declared : List Tree) (keyed : ContextKey
   assigned_keyed (Union a b) from None h k = k
   assigned_keyed d from c h k = h
 
-  bound_keyed : (env : Env) (x : ℕ) (from : Tree) (flows : FlowMarks) → EnvKeyed declared env → IsKeyed (declared_type declared x) → IsKeyed from → EnvKeyed declared (bound_env m ctx declared env x from flows)
+  bound_keyed : (env : Env) (x : ℕ) (from : Tree) (flows : FlowLabels) → EnvKeyed declared env → IsKeyed (declared_type declared x) → IsKeyed from → EnvKeyed declared (bound_env m ctx declared env x from flows)
   bound_keyed env x from flows h d k = assign_keyed declared env x (assigned_type (declared_type declared x) from (only_code flows)) h (assigned_keyed (declared_type declared x) from (only_code flows) d k) d
 
-  record BoundKeyed (n : Name) (e : Expr) (marks : Marks e) (after : Env) : Type 0 where
-    labels : Keyed e marks
+  record BoundKeyed (n : Name) (e : Expr) (labels : Labels e) (after : Env) : Type 0 where
+    keyed_labels : Keyed e labels
     name_keyed : NameKeyed n.text
     env_keyed : EnvKeyed declared after
 
@@ -165,21 +165,21 @@ module _ (m : Module) (ctx : Context) (declared : List Tree) (keyed : ContextKey
       go true a e = k n.text a x is
       go false a e = absurd (not_both refl e)
 
-  binding_keyed : (env : Env) (seen : NamesBound) (n : Name) (annotation : Option Tree) (e : Expr) (marks : Marks e) (flows : FlowMarks) (after : Env) → EnvKeyed declared env → SeenKeyed seen → OptionKeyed annotation → LawfulBinding m ctx declared env seen n (ctx.resolve n.text) annotation e marks flows after → BoundKeyed n e marks after
-  binding_keyed env seen n annotation e marks flows after ek sk ak law = go (ctx.resolve n.text) refl law
+  binding_keyed : (env : Env) (seen : NamesBound) (n : Name) (annotation : Option Tree) (e : Expr) (labels : Labels e) (flows : FlowLabels) (after : Env) → EnvKeyed declared env → SeenKeyed seen → OptionKeyed annotation → LawfulBinding m ctx declared env seen n (ctx.resolve n.text) annotation e labels flows after → BoundKeyed n e labels after
+  binding_keyed env seen n annotation e labels flows after ek sk ak law = go (ctx.resolve n.text) refl law
     where
-      elsewhere : (r : Res) → ctx.resolve n.text ≡ r → ((x : ℕ) → r ≡ res.Local x → ⊥) → Lawful ctx declared env None e marks → after ≡ env → BoundKeyed n e marks after
+      elsewhere : (r : Res) → ctx.resolve n.text ≡ r → ((x : ℕ) → r ≡ res.Local x → ⊥) → Lawful ctx declared env None e labels → after ≡ env → BoundKeyed n e labels after
       elsewhere r is other law same = record {
-        labels = labels_keyed ctx declared keyed env ek None tt e (timely e) marks law;
+        keyed_labels = labels_keyed ctx declared keyed env ek None tt e (timely e) labels law;
         name_keyed = no_local_named n (λ x i. other x (sym is ∙ i));
         env_keyed = subst (EnvKeyed declared) (sym same) ek;
       }
 
-      go : (r : Res) → ctx.resolve n.text ≡ r → LawfulBinding m ctx declared env seen n r annotation e marks flows after → BoundKeyed n e marks after
+      go : (r : Res) → ctx.resolve n.text ≡ r → LawfulBinding m ctx declared env seen n r annotation e labels flows after → BoundKeyed n e labels after
       go (res.Local x) is law =
-          let labels = labels_keyed ctx declared keyed env ek (known_type m ctx declared (is_first seen n) x annotation) (known_keyed (is_first seen n) x annotation (type_of e marks) ak (seen_first seen n x sk is) law.at_first) e (timely e) marks law.value in
-          let d = declared_keyed (is_first seen n) x annotation (type_of e marks) ak (keyed_type e marks labels) (seen_first seen n x sk is) law.at_first in
-          record { labels = labels; name_keyed = local_named n x is d; env_keyed = subst (EnvKeyed declared) (sym law.after_is) (bound_keyed env x (type_of e marks) flows ek d (keyed_type e marks labels)) }
+          let keyed_labels = labels_keyed ctx declared keyed env ek (known_type m ctx declared (is_first seen n) x annotation) (known_keyed (is_first seen n) x annotation (type_of e labels) ak (seen_first seen n x sk is) law.at_first) e (timely e) labels law.value in
+          let d = declared_keyed (is_first seen n) x annotation (type_of e labels) ak (keyed_type e labels keyed_labels) (seen_first seen n x sk is) law.at_first in
+          record { keyed_labels = keyed_labels; name_keyed = local_named n x is d; env_keyed = subst (EnvKeyed declared) (sym law.after_is) (bound_keyed env x (type_of e labels) flows ek d (keyed_type e labels keyed_labels)) }
       go (res.Const i) is law = elsewhere (res.Const i) is (λ x e. absurd (grind (arith, e))) law.value law.after_is
       go (res.Func i) is law = elsewhere (res.Func i) is (λ x e. absurd (grind (arith, e))) law.value law.after_is
       go (res.Class i) is law = elsewhere (res.Class i) is (λ x e. absurd (grind (arith, e))) law.value law.after_is
@@ -217,23 +217,23 @@ module _ (m : Module) (ctx : Context) (declared : List Tree) (keyed : ContextKey
       only (o ∷ []) (t ∷ []) h = h.0
       only _ _ h = tt
 
-  record StoreKeyed (t : Target) (target : TargetMarks t) (e : Expr) (marks : Marks e) : Type 0 where
-    labels : Keyed e marks
+  record StoreKeyed (t : Target) (target : TargetLabels t) (e : Expr) (labels : Labels e) : Type 0 where
+    keyed_labels : Keyed e labels
     target_keyed : TargetKeyed t target
 
-  store_keyed : (env : Env) (t : Target) (target : TargetMarks t) (e : Expr) (marks : Marks e) (flows : FlowMarks) → EnvKeyed declared env → LawfulStore m ctx declared env t target e marks flows → StoreKeyed t target e marks
-  store_keyed env (to_name n) target e marks flows ek law = absurd law
-  store_keyed env (to_attribute p o field) target e marks flows ek law =
+  store_keyed : (env : Env) (t : Target) (target : TargetLabels t) (e : Expr) (labels : Labels e) (flows : FlowLabels) → EnvKeyed declared env → LawfulStore m ctx declared env t target e labels flows → StoreKeyed t target e labels
+  store_keyed env (to_name n) target e labels flows ek law = absurd law
+  store_keyed env (to_attribute p o field) target e labels flows ek law =
       let k = labels_keyed ctx declared keyed env ek None tt o (timely o) target.object law.object in
-      record { labels = labels_keyed ctx declared keyed env ek _ (stored_keyed (store_attribute_member ctx.classes field.text) (λ t h. store_attribute_keyed field.text t) (type_of o target.object) (keyed_type o target.object k)) e (timely e) marks law.value; target_keyed = k }
-  store_keyed env (to_index p o i) target e marks flows ek law =
+      record { keyed_labels = labels_keyed ctx declared keyed env ek _ (stored_keyed (store_attribute_member ctx.classes field.text) (λ t h. store_attribute_keyed field.text t) (type_of o target.object) (keyed_type o target.object k)) e (timely e) labels law.value; target_keyed = k }
+  store_keyed env (to_index p o i) target e labels flows ek law =
       let k = labels_keyed ctx declared keyed env ek None tt o (timely o) target.object law.object in
-      record { labels = labels_keyed ctx declared keyed env ek _ (stored_keyed store_index_member store_index_keyed (type_of o target.object) (keyed_type o target.object k)) e (timely e) marks law.value; target_keyed = (k, labels_keyed ctx declared keyed env ek None tt i (timely i) target.key law.key) }
+      record { keyed_labels = labels_keyed ctx declared keyed env ek _ (stored_keyed store_index_member store_index_keyed (type_of o target.object) (keyed_type o target.object k)) e (timely e) labels law.value; target_keyed = (k, labels_keyed ctx declared keyed env ek None tt i (timely i) target.key law.key) }
 
   -- ---- what a `for` goes over, and its target
 
-  record IterableKeyed (e : Expr) (marks : Marks e) (item : Mark) : Type 0 where
-    labels : Keyed e marks
+  record IterableKeyed (e : Expr) (labels : Labels e) (item : Label) : Type 0 where
+    keyed_labels : Keyed e labels
     item_keyed : IsKeyed item.type
 
   iterate_keyed : (t : Tree) → IsKeyed t → IsKeyed (iterate_member ctx.bases t).gives
@@ -243,25 +243,25 @@ module _ (m : Module) (ctx : Context) (declared : List Tree) (keyed : ContextKey
   iterate_keyed (TupleOf ts) h = all_keyed ctx.bases (list_of_trees ts) (listed_keyed ts h)
   iterate_keyed _ h = tt
 
-  values_keyed : (env : Env) (e : Expr) (marks : Marks e) (item : Mark) → EnvKeyed declared env → LawfulValues m ctx declared env e marks item → IterableKeyed e marks item
-  values_keyed env e marks item ek law =
-      let k = labels_keyed ctx declared keyed env ek None tt e (timely e) marks law.0 in
-      record { labels = k; item_keyed = subst (λ x. IsKeyed x.type) (sym law.1) (operation_keyed ctx.bases (iterate_member ctx.bases) iterate_keyed (type_of e marks) (keyed_type e marks k)) }
+  values_keyed : (env : Env) (e : Expr) (labels : Labels e) (item : Label) → EnvKeyed declared env → LawfulValues m ctx declared env e labels item → IterableKeyed e labels item
+  values_keyed env e labels item ek law =
+      let k = labels_keyed ctx declared keyed env ek None tt e (timely e) labels law.0 in
+      record { keyed_labels = k; item_keyed = subst (λ x. IsKeyed x.type) (sym law.1) (operation_keyed ctx.bases (iterate_member ctx.bases) iterate_keyed (type_of e labels) (keyed_type e labels k)) }
 
-  range_keyed : (env : Env) (p : Place) (n : Name) (args : Exprs) (kws : Keywords) (marks : Marks (call p (name n) args kws)) (item : Mark) → EnvKeyed declared env → LawfulRange m ctx declared env (name n) args kws p marks → item ≡ range_item (arguments_given args kws) → IterableKeyed (call p (name n) args kws) marks item
-  range_keyed env p n args kws marks item ek law is =
+  range_keyed : (env : Env) (p : Place) (n : Name) (args : Exprs) (kws : Keywords) (labels : Labels (call p (name n) args kws)) (item : Label) → EnvKeyed declared env → LawfulRange m ctx declared env (name n) args kws p labels → item ≡ range_item (arguments_given args kws) → IterableKeyed (call p (name n) args kws) labels item
+  range_keyed env p n args kws labels item ek law is =
       let g = arguments_given args kws in
       let offers = range_offers g in
       let ok = called_keyed g (builtin_signature (Int ∷ []) Object) ((tt, tt), tt) in
       let t = timely (call p (name n) args kws) in
       record {
-        labels = (
-          (subst (λ x. IsKeyed x.type) (sym law.here) (call_keyed offers ok ctx.bases), λ test. second_timely ctx declared env (positional_seat offers) args marks.arguments law.arguments (t.0 test)),
+        keyed_labels = (
+          (subst (λ x. IsKeyed x.type) (sym law.here) (call_keyed offers ok ctx.bases), λ test. second_timely ctx declared env (positional_seat offers) args labels.arguments law.arguments (t.0 test)),
           (
             subst (λ x. IsKeyed x.type) (sym law.callee) tt,
             (
-              items_keyed ctx declared keyed env ek (positional_seat offers) (positional_keyed offers ok) args t.1.1.0 marks.arguments law.arguments,
-              keywords_keyed ctx declared keyed env ek (named_seat offers) [] (keyword_keyed offers ok) kws t.1.1.1 marks.keywords law.keywords,
+              items_keyed ctx declared keyed env ek (positional_seat offers) (positional_keyed offers ok) args t.1.1.0 labels.arguments law.arguments,
+              keywords_keyed ctx declared keyed env ek (named_seat offers) [] (keyword_keyed offers ok) kws t.1.1.1 labels.keywords law.keywords,
             ),
           ),
         );
@@ -272,23 +272,23 @@ module _ (m : Module) (ctx : Context) (declared : List Tree) (keyed : ContextKey
       one true = tt
       one false = tt
 
-  call_iterable_keyed : (env : Env) (p : Place) (c : Expr) (args : Exprs) (kws : Keywords) (marks : Marks (call p c args kws)) (item : Mark) → EnvKeyed declared env → LawfulIterable m ctx declared env (call p c args kws) marks item → IterableKeyed (call p c args kws) marks item
-  call_iterable_keyed env p (name n) args kws marks item ek law = go (is_range (ctx.resolve n.text)) law
+  call_iterable_keyed : (env : Env) (p : Place) (c : Expr) (args : Exprs) (kws : Keywords) (labels : Labels (call p c args kws)) (item : Label) → EnvKeyed declared env → LawfulIterable m ctx declared env (call p c args kws) labels item → IterableKeyed (call p c args kws) labels item
+  call_iterable_keyed env p (name n) args kws labels item ek law = go (is_range (ctx.resolve n.text)) law
     where
-      go : (b : Test) → RangeOrValues m ctx declared b (LawfulRange m ctx declared env (name n) args kws p marks × (item ≡ range_item (arguments_given args kws))) (LawfulValues m ctx declared env (call p (name n) args kws) marks item) → IterableKeyed (call p (name n) args kws) marks item
-      go true law = range_keyed env p n args kws marks item ek law.0 law.1
-      go false law = values_keyed env (call p (name n) args kws) marks item ek law
-  call_iterable_keyed env p c args kws marks item ek law = values_keyed env (call p c args kws) marks item ek law
+      go : (b : Test) → RangeOrValues m ctx declared b (LawfulRange m ctx declared env (name n) args kws p labels × (item ≡ range_item (arguments_given args kws))) (LawfulValues m ctx declared env (call p (name n) args kws) labels item) → IterableKeyed (call p (name n) args kws) labels item
+      go true law = range_keyed env p n args kws labels item ek law.0 law.1
+      go false law = values_keyed env (call p (name n) args kws) labels item ek law
+  call_iterable_keyed env p c args kws labels item ek law = values_keyed env (call p c args kws) labels item ek law
 
-  iterable_keyed : (env : Env) (e : Expr) (marks : Marks e) (item : Mark) → EnvKeyed declared env → LawfulIterable m ctx declared env e marks item → IterableKeyed e marks item
-  iterable_keyed env (call p c args kws) marks item ek law = call_iterable_keyed env p c args kws marks item ek law
-  iterable_keyed env e marks item ek law = values_keyed env e marks item ek law
+  iterable_keyed : (env : Env) (e : Expr) (labels : Labels e) (item : Label) → EnvKeyed declared env → LawfulIterable m ctx declared env e labels item → IterableKeyed e labels item
+  iterable_keyed env (call p c args kws) labels item ek law = call_iterable_keyed env p c args kws labels item ek law
+  iterable_keyed env e labels item ek law = values_keyed env e labels item ek law
 
   record TargetBound (n : Name) (inside : Env) : Type 0 where
     name_keyed : NameKeyed n.text
     env_keyed : EnvKeyed declared inside
 
-  for_target_keyed : (seen : NamesBound) (n : Name) (head : Env) (item : Mark) (flows : FlowMarks) (inside : Env) → EnvKeyed declared head → SeenKeyed seen → IsKeyed item.type → LawfulTarget m ctx declared seen n (ctx.resolve n.text) head item flows inside → TargetBound n inside
+  for_target_keyed : (seen : NamesBound) (n : Name) (head : Env) (item : Label) (flows : FlowLabels) (inside : Env) → EnvKeyed declared head → SeenKeyed seen → IsKeyed item.type → LawfulTarget m ctx declared seen n (ctx.resolve n.text) head item flows inside → TargetBound n inside
   for_target_keyed seen n head item flows inside ek sk ik law = go (ctx.resolve n.text) refl law
     where
       elsewhere : (r : Res) → ctx.resolve n.text ≡ r → ((x : ℕ) → r ≡ res.Local x → ⊥) → inside ≡ head → TargetBound n inside
@@ -329,24 +329,24 @@ module _ (m : Module) (ctx : Context) (declared : List Tree) (keyed : ContextKey
   abbrev OutKeyed : Option Env → Type 0
   OutKeyed out = (env : Env) → out ≡ Some env → EnvKeyed declared env
 
-  pub record StmtResult (s : Stmt) (marks : StmtMarks s) (out : Option Env) : Type 0 where
-    pub labels : StmtKeyed s marks
+  pub record StmtResult (s : Stmt) (labels : StmtLabels s) (out : Option Env) : Type 0 where
+    pub keyed_labels : StmtKeyed s labels
     pub names : NamesKeyed (bound_by_stmt s)
     pub after : OutKeyed out
-    pub breaks : Envs (breaks_in s marks)
+    pub breaks : Envs (breaks_in s labels)
 
-  pub record SuiteResult (b : Stmts) (marks : SuiteMarks b) (out : Option Env) : Type 0 where
-    pub labels : SuiteKeyed b marks
+  pub record SuiteResult (b : Stmts) (labels : SuiteLabels b) (out : Option Env) : Type 0 where
+    pub keyed_labels : SuiteKeyed b labels
     pub names : NamesKeyed (bound_by b)
     pub after : OutKeyed out
-    pub breaks : Envs (breaks_in_suite b marks)
+    pub breaks : Envs (breaks_in_suite b labels)
 
-  record BranchesResult (bs : Branches) (marks : BranchesMarks bs) (last : Env) : Type 0 where
-    labels : BranchesKeyed bs marks
+  record BranchesResult (bs : Branches) (labels : BranchesLabels bs) (last : Env) : Type 0 where
+    keyed_labels : BranchesKeyed bs labels
     names : NamesKeyed (bound_by_branches bs)
     behind : EnvKeyed declared last
-    ways : Envs (ways_in bs marks)
-    breaks : Envs (breaks_in_branches bs marks)
+    ways : Envs (ways_in bs labels)
+    breaks : Envs (breaks_in_branches bs labels)
 
   out_is : (out : Option Env) (env : Env) → out ≡ Some env → EnvKeyed declared env → OutKeyed out
   out_is out env e h other i = subst (EnvKeyed declared) (same_Some _ _ (sym e ∙ i)) h
@@ -361,122 +361,122 @@ module _ (m : Module) (ctx : Context) (declared : List Tree) (keyed : ContextKey
   narrowed : (holds : Test) (c : Expr) (env : Env) → EnvKeyed declared env → EnvKeyed declared (narrow ctx.bases declared ctx.resolve holds c env)
   narrowed holds c env h = narrow_keyed ctx.bases declared ctx.resolve holds c env h
 
-  expression_keyed : (env : Env) (e : Expr) (marks : Marks e) → EnvKeyed declared env → Lawful ctx declared env None e marks → Keyed e marks
-  expression_keyed env e marks ek law = labels_keyed ctx declared keyed env ek None tt e (timely e) marks law
+  expression_keyed : (env : Env) (e : Expr) (labels : Labels e) → EnvKeyed declared env → Lawful ctx declared env None e labels → Keyed e labels
+  expression_keyed env e labels ek law = labels_keyed ctx declared keyed env ek None tt e (timely e) labels law
 
-  option_keyed : (returned : Tree) (env : Env) (e : Option Expr) (marks : OptionMarks e) → EnvKeyed declared env → LawfulOption m ctx declared returned env e marks → keyed_statements.OptionKeyed e marks
-  option_keyed returned env None marks ek law = tt
-  option_keyed returned env (Some e) marks ek law = expression_keyed env e marks ek law
+  option_keyed : (returned : Tree) (env : Env) (e : Option Expr) (labels : OptionLabels e) → EnvKeyed declared env → LawfulOption m ctx declared returned env e labels → keyed_statements.OptionKeyed e labels
+  option_keyed returned env None labels ek law = tt
+  option_keyed returned env (Some e) labels ek law = expression_keyed env e labels ek law
 
-  return_keyed : (returned : Tree) → IsKeyed returned → (env : Env) (e : Option Expr) (marks : OptionMarks e) (flows : FlowMarks) → EnvKeyed declared env → LawfulReturn m ctx declared returned env e marks flows → keyed_statements.OptionKeyed e marks
-  return_keyed returned rk env None marks flows ek law = tt
-  return_keyed returned rk env (Some e) marks flows ek law = labels_keyed ctx declared keyed env ek (Some returned) rk e (timely e) marks law.0
+  return_keyed : (returned : Tree) → IsKeyed returned → (env : Env) (e : Option Expr) (labels : OptionLabels e) (flows : FlowLabels) → EnvKeyed declared env → LawfulReturn m ctx declared returned env e labels flows → keyed_statements.OptionKeyed e labels
+  return_keyed returned rk env None labels flows ek law = tt
+  return_keyed returned rk env (Some e) labels flows ek law = labels_keyed ctx declared keyed env ek (Some returned) rk e (timely e) labels law.0
 
-  record AnnotatedKeyed (n : Name) (e : Option Expr) (marks : OptionMarks e) (after : Env) : Type 0 where
-    labels : keyed_statements.OptionKeyed e marks
+  record AnnotatedKeyed (n : Name) (e : Option Expr) (labels : OptionLabels e) (after : Env) : Type 0 where
+    keyed_labels : keyed_statements.OptionKeyed e labels
     name_keyed : NameKeyed n.text
     env_keyed : EnvKeyed declared after
 
-  annotated_keyed : (env : Env) (seen : NamesBound) (n : Name) (a : Ann) (e : Option Expr) (marks : OptionMarks e) (flows : FlowMarks) (after : Env) → EnvKeyed declared env → SeenKeyed seen → LawfulAnnotated m ctx declared env seen n a e marks flows after → AnnotatedKeyed n e marks after
-  annotated_keyed env seen n a None marks flows after ek sk law = record { labels = tt; name_keyed = declaration_keyed seen n (read_ann m ctx.bases a) sk (ann_keyed m ctx.bases a) law.0; env_keyed = subst (EnvKeyed declared) (sym law.2) ek }
-  annotated_keyed env seen n a (Some e) marks flows after ek sk law =
-      let b = binding_keyed env seen n (annotation_at m ctx declared (is_first seen n) (read_ann m ctx.bases a)) e marks flows after ek sk (annotation_keyed (is_first seen n) (read_ann m ctx.bases a) (ann_keyed m ctx.bases a)) law in
-      record { labels = b.labels; name_keyed = b.name_keyed; env_keyed = b.env_keyed }
+  annotated_keyed : (env : Env) (seen : NamesBound) (n : Name) (a : Ann) (e : Option Expr) (labels : OptionLabels e) (flows : FlowLabels) (after : Env) → EnvKeyed declared env → SeenKeyed seen → LawfulAnnotated m ctx declared env seen n a e labels flows after → AnnotatedKeyed n e labels after
+  annotated_keyed env seen n a None labels flows after ek sk law = record { keyed_labels = tt; name_keyed = declaration_keyed seen n (read_ann m ctx.bases a) sk (ann_keyed m ctx.bases a) law.0; env_keyed = subst (EnvKeyed declared) (sym law.2) ek }
+  annotated_keyed env seen n a (Some e) labels flows after ek sk law =
+      let b = binding_keyed env seen n (annotation_at m ctx declared (is_first seen n) (read_ann m ctx.bases a)) e labels flows after ek sk (annotation_keyed (is_first seen n) (read_ann m ctx.bases a) (ann_keyed m ctx.bases a)) law in
+      record { keyed_labels = b.keyed_labels; name_keyed = b.name_keyed; env_keyed = b.env_keyed }
 
-  assignment_keyed : (returned : Tree) (env : Env) (seen : NamesBound) (p : Place) (t : Target) (e : Expr) (marks : StmtMarks (assigns p t e)) (after : Env) (out : Option Env) → EnvKeyed declared env → SeenKeyed seen → LawfulAssignment m ctx declared env seen t marks.target e marks.value marks.flows after → out ≡ Some after → StmtResult (assigns p t e) marks out
-  assignment_keyed returned env seen p (to_name n) e marks after out ek sk law is =
-      let b = binding_keyed env seen n None e marks.value marks.flows after ek sk tt law in
-      record { labels = (b.labels, tt); names = (b.name_keyed, tt); after = out_is out after is b.env_keyed; breaks = tt }
-  assignment_keyed returned env seen p (to_attribute q o f) e marks after out ek sk law is =
-      let s = store_keyed env (to_attribute q o f) marks.target e marks.value marks.flows ek law.0 in
-      record { labels = (s.labels, s.target_keyed); names = tt; after = out_is out after is (subst (EnvKeyed declared) (sym law.1) ek); breaks = tt }
-  assignment_keyed returned env seen p (to_index q o i) e marks after out ek sk law is =
-      let s = store_keyed env (to_index q o i) marks.target e marks.value marks.flows ek law.0 in
-      record { labels = (s.labels, s.target_keyed); names = tt; after = out_is out after is (subst (EnvKeyed declared) (sym law.1) ek); breaks = tt }
+  assignment_keyed : (returned : Tree) (env : Env) (seen : NamesBound) (p : Place) (t : Target) (e : Expr) (labels : StmtLabels (assigns p t e)) (after : Env) (out : Option Env) → EnvKeyed declared env → SeenKeyed seen → LawfulAssignment m ctx declared env seen t labels.target e labels.value labels.flows after → out ≡ Some after → StmtResult (assigns p t e) labels out
+  assignment_keyed returned env seen p (to_name n) e labels after out ek sk law is =
+      let b = binding_keyed env seen n None e labels.value labels.flows after ek sk tt law in
+      record { keyed_labels = (b.keyed_labels, tt); names = (b.name_keyed, tt); after = out_is out after is b.env_keyed; breaks = tt }
+  assignment_keyed returned env seen p (to_attribute q o f) e labels after out ek sk law is =
+      let s = store_keyed env (to_attribute q o f) labels.target e labels.value labels.flows ek law.0 in
+      record { keyed_labels = (s.keyed_labels, s.target_keyed); names = tt; after = out_is out after is (subst (EnvKeyed declared) (sym law.1) ek); breaks = tt }
+  assignment_keyed returned env seen p (to_index q o i) e labels after out ek sk law is =
+      let s = store_keyed env (to_index q o i) labels.target e labels.value labels.flows ek law.0 in
+      record { keyed_labels = (s.keyed_labels, s.target_keyed); names = tt; after = out_is out after is (subst (EnvKeyed declared) (sym law.1) ek); breaks = tt }
 
   module _ (returned : Tree) (rk : IsKeyed returned) where
     -- what stands after a statement
-    record BehindResult (s : Stmt) (rest : Stmts) (first : StmtMarks s) (b : Test) (behind : Behind b (Following (SuiteMarks rest))) (out : Option Env) : Type 0 where
-      labels : StmtKeyed s first × BehindRule b behind (λ r. SuiteKeyed rest r.rest) (Unit {0})
+    record BehindResult (s : Stmt) (rest : Stmts) (first : StmtLabels s) (b : Test) (behind : Behind b (Following (SuiteLabels rest))) (out : Option Env) : Type 0 where
+      keyed_labels : StmtKeyed s first × BehindRule b behind (λ r. SuiteKeyed rest r.rest) (Unit {0})
       names : NamesKeyed (bound_by_stmt s ++ bound_by rest)
       after : OutKeyed out
       breaks : Envs (breaks_in s first ++ behind_list b behind (λ r. breaks_in_suite rest r.rest))
 
     behind_keyed :
-        (seen : NamesBound) (env : Env) (s : Stmt) (rest : Stmts) (first : StmtMarks s) → SeenKeyed seen → ((out : Option Env) → LawfulStmt m ctx declared returned seen env s first out → StmtResult s first out)
-        → ((seen : NamesBound) (env : Env) (marks : SuiteMarks rest) (out : Option Env) → SeenKeyed seen → EnvKeyed declared env → LawfulSuite m ctx declared returned seen env rest marks out → SuiteResult rest marks out) → (b : Test) (behind : Behind b (Following (SuiteMarks rest))) (out : Option Env)
+        (seen : NamesBound) (env : Env) (s : Stmt) (rest : Stmts) (first : StmtLabels s) → SeenKeyed seen → ((out : Option Env) → LawfulStmt m ctx declared returned seen env s first out → StmtResult s first out)
+        → ((seen : NamesBound) (env : Env) (labels : SuiteLabels rest) (out : Option Env) → SeenKeyed seen → EnvKeyed declared env → LawfulSuite m ctx declared returned seen env rest labels out → SuiteResult rest labels out) → (b : Test) (behind : Behind b (Following (SuiteLabels rest))) (out : Option Env)
         → BehindRule b behind (λ r. LawfulStmt m ctx declared returned seen env s first (Some r.env) × LawfulSuite m ctx declared returned (texts (bound_by_stmt s) ++ seen) r.env rest r.rest out) (LawfulStmt m ctx declared returned seen env s first None × AreUndeclared m ctx declared (texts (bound_by_stmt s) ++ seen) (bound_by rest) × (out ≡ None))
         → BehindResult s rest first b behind out
     behind_keyed seen env s rest first sk one others true behind out law =
         let a = one (Some behind.env) law.0 in
         let r = others (texts (bound_by_stmt s) ++ seen) behind.env behind.rest out (seen_names (bound_by_stmt s) seen a.names sk) (a.after behind.env refl) law.1 in
-        record { labels = (a.labels, r.labels); names = names_append (bound_by_stmt s) (bound_by rest) a.names r.names; after = r.after; breaks = envs_append ctx.bases declared (breaks_in s first) (breaks_in_suite rest behind.rest) a.breaks r.breaks }
+        record { keyed_labels = (a.keyed_labels, r.keyed_labels); names = names_append (bound_by_stmt s) (bound_by rest) a.names r.names; after = r.after; breaks = envs_append ctx.bases declared (breaks_in s first) (breaks_in_suite rest behind.rest) a.breaks r.breaks }
     behind_keyed seen env s rest first sk one others false behind out law =
         let a = one None law.0 in
-        record { labels = (a.labels, tt); names = names_append (bound_by_stmt s) (bound_by rest) a.names (undeclared_keyed (texts (bound_by_stmt s) ++ seen) (bound_by rest) (seen_names (bound_by_stmt s) seen a.names sk) law.1); after = out_none out law.2; breaks = envs_append ctx.bases declared (breaks_in s first) [] a.breaks tt }
+        record { keyed_labels = (a.keyed_labels, tt); names = names_append (bound_by_stmt s) (bound_by rest) a.names (undeclared_keyed (texts (bound_by_stmt s) ++ seen) (bound_by rest) (seen_names (bound_by_stmt s) seen a.names sk) law.1); after = out_none out law.2; breaks = envs_append ctx.bases declared (breaks_in s first) [] a.breaks tt }
 
     mutual
-      pub stmt_keyed : (seen : NamesBound) (env : Env) (s : Stmt) (marks : StmtMarks s) (out : Option Env) → SeenKeyed seen → EnvKeyed declared env → LawfulStmt m ctx declared returned seen env s marks out → StmtResult s marks out
-      stmt_keyed seen env (pass p) marks out sk ek law = record { labels = tt; names = tt; after = out_is out env law ek; breaks = tt }
-      stmt_keyed seen env (breaks p) marks out sk ek law = record { labels = tt; names = tt; after = out_none out law.1; breaks = (subst (EnvKeyed declared) (sym law.0) ek, tt) }
-      stmt_keyed seen env (continues p) marks out sk ek law = record { labels = tt; names = tt; after = out_none out law; breaks = tt }
-      stmt_keyed seen env (returns p e) marks out sk ek law = record { labels = return_keyed returned rk env e marks.value marks.flows ek law.0; names = tt; after = out_none out law.1; breaks = tt }
-      stmt_keyed seen env (asserts p c e) marks out sk ek law = record {
-        labels = (expression_keyed env c marks.condition ek law.condition, option_keyed returned (narrow ctx.bases declared ctx.resolve false c env) e marks.message (narrowed false c env ek) law.message);
+      pub stmt_keyed : (seen : NamesBound) (env : Env) (s : Stmt) (labels : StmtLabels s) (out : Option Env) → SeenKeyed seen → EnvKeyed declared env → LawfulStmt m ctx declared returned seen env s labels out → StmtResult s labels out
+      stmt_keyed seen env (pass p) labels out sk ek law = record { keyed_labels = tt; names = tt; after = out_is out env law ek; breaks = tt }
+      stmt_keyed seen env (breaks p) labels out sk ek law = record { keyed_labels = tt; names = tt; after = out_none out law.1; breaks = (subst (EnvKeyed declared) (sym law.0) ek, tt) }
+      stmt_keyed seen env (continues p) labels out sk ek law = record { keyed_labels = tt; names = tt; after = out_none out law; breaks = tt }
+      stmt_keyed seen env (returns p e) labels out sk ek law = record { keyed_labels = return_keyed returned rk env e labels.value labels.flows ek law.0; names = tt; after = out_none out law.1; breaks = tt }
+      stmt_keyed seen env (asserts p c e) labels out sk ek law = record {
+        keyed_labels = (expression_keyed env c labels.condition ek law.condition, option_keyed returned (narrow ctx.bases declared ctx.resolve false c env) e labels.message (narrowed false c env ek) law.message);
         names = tt;
         after = out_is out (narrow ctx.bases declared ctx.resolve true c env) law.after (narrowed true c env ek);
         breaks = tt;
       }
-      stmt_keyed seen env (annotated p n a e) marks out sk ek law =
-          let k = annotated_keyed env seen n a e marks.value marks.flows law.after ek sk law.binding in
-          record { labels = k.labels; names = (k.name_keyed, tt); after = out_is out law.after law.is k.env_keyed; breaks = tt }
-      stmt_keyed seen env (assigns p t e) marks out sk ek law = assignment_keyed returned env seen p t e marks law.after out ek sk law.assignment law.is
-      stmt_keyed seen env (evaluates p e) marks out sk ek law = record { labels = expression_keyed env e marks ek law.0; names = tt; after = out_is out env law.1 ek; breaks = tt }
-      stmt_keyed seen env (while_loop p c b) marks out sk ek law =
+      stmt_keyed seen env (annotated p n a e) labels out sk ek law =
+          let k = annotated_keyed env seen n a e labels.value labels.flows law.after ek sk law.binding in
+          record { keyed_labels = k.keyed_labels; names = (k.name_keyed, tt); after = out_is out law.after law.is k.env_keyed; breaks = tt }
+      stmt_keyed seen env (assigns p t e) labels out sk ek law = assignment_keyed returned env seen p t e labels law.after out ek sk law.assignment law.is
+      stmt_keyed seen env (evaluates p e) labels out sk ek law = record { keyed_labels = expression_keyed env e labels ek law.0; names = tt; after = out_is out env law.1 ek; breaks = tt }
+      stmt_keyed seen env (while_loop p c b) labels out sk ek law =
           let hk = subst (EnvKeyed declared) (sym law.head) (head_keyed (binds_number ctx.resolve (bound_by b)) declared env ek) in
-          let body = suite_keyed seen (narrow ctx.bases declared ctx.resolve true c marks.head) b marks.body marks.out sk (narrowed true c marks.head hk) law.body in
+          let body = suite_keyed seen (narrow ctx.bases declared ctx.resolve true c labels.head) b labels.body labels.out sk (narrowed true c labels.head hk) law.body in
           record {
-            labels = (expression_keyed marks.head c marks.condition hk law.condition, body.labels);
+            keyed_labels = (expression_keyed labels.head c labels.condition hk law.condition, body.keyed_labels);
             names = body.names;
-            after = out_is out _ law.after (onto_keyed ctx.bases declared ctx.resolve (narrow ctx.bases declared ctx.resolve false c marks.head) (breaks_in_suite b marks.body) (narrowed false c marks.head hk) body.breaks);
+            after = out_is out _ law.after (onto_keyed ctx.bases declared ctx.resolve (narrow ctx.bases declared ctx.resolve false c labels.head) (breaks_in_suite b labels.body) (narrowed false c labels.head hk) body.breaks);
             breaks = tt;
           }
-      stmt_keyed seen env (for_loop p n e b) marks out sk ek law =
-          let i = iterable_keyed env e marks.iterable marks.item ek law.iterable in
+      stmt_keyed seen env (for_loop p n e b) labels out sk ek law =
+          let i = iterable_keyed env e labels.iterable labels.item ek law.iterable in
           let hk = subst (EnvKeyed declared) (sym law.head) (head_keyed (binds_number ctx.resolve (n ∷ bound_by b)) declared env ek) in
-          let t = for_target_keyed seen n marks.head marks.item marks.flows law.inside hk sk i.item_keyed law.target in
-          let body = suite_keyed (n.text ∷ seen) law.inside b marks.body marks.out (seen_more n seen t.name_keyed sk) t.env_keyed law.body in
+          let t = for_target_keyed seen n labels.head labels.item labels.flows law.inside hk sk i.item_keyed law.target in
+          let body = suite_keyed (n.text ∷ seen) law.inside b labels.body labels.out (seen_more n seen t.name_keyed sk) t.env_keyed law.body in
           record {
-            labels = (i.labels, body.labels);
+            keyed_labels = (i.keyed_labels, body.keyed_labels);
             names = (t.name_keyed, body.names);
-            after = out_is out _ law.after (onto_keyed ctx.bases declared ctx.resolve marks.head (breaks_in_suite b marks.body) hk body.breaks);
+            after = out_is out _ law.after (onto_keyed ctx.bases declared ctx.resolve labels.head (breaks_in_suite b labels.body) hk body.breaks);
             breaks = tt;
           }
-      stmt_keyed seen env (conditional p bs o) marks out sk ek law =
-          let r = branches_keyed seen env bs marks.branches marks.last sk ek law.branches in
-          let b = suite_keyed (texts (bound_by_branches bs) ++ seen) marks.last o marks.otherwise marks.out (seen_names (bound_by_branches bs) seen r.names sk) r.behind law.otherwise in
+      stmt_keyed seen env (conditional p bs o) labels out sk ek law =
+          let r = branches_keyed seen env bs labels.branches labels.last sk ek law.branches in
+          let b = suite_keyed (texts (bound_by_branches bs) ++ seen) labels.last o labels.otherwise labels.out (seen_names (bound_by_branches bs) seen r.names sk) r.behind law.otherwise in
           record {
-            labels = (r.labels, b.labels);
+            keyed_labels = (r.keyed_labels, b.keyed_labels);
             names = names_append (bound_by_branches bs) (bound_by o) r.names b.names;
-            after = λ env' is. ways_keyed ctx.bases declared ctx.resolve (ways_in bs marks.branches ++ option_to_list marks.out) env' (sym law.after ∙ is) (envs_append ctx.bases declared (ways_in bs marks.branches) (option_to_list marks.out) r.ways (option_envs marks.out b.after));
-            breaks = envs_append ctx.bases declared (breaks_in_branches bs marks.branches) (breaks_in_suite o marks.otherwise) r.breaks b.breaks;
+            after = λ env' is. ways_keyed ctx.bases declared ctx.resolve (ways_in bs labels.branches ++ option_to_list labels.out) env' (sym law.after ∙ is) (envs_append ctx.bases declared (ways_in bs labels.branches) (option_to_list labels.out) r.ways (option_envs labels.out b.after));
+            breaks = envs_append ctx.bases declared (breaks_in_branches bs labels.branches) (breaks_in_suite o labels.otherwise) r.breaks b.breaks;
           }
 
-      pub suite_keyed : (seen : NamesBound) (env : Env) (b : Stmts) (marks : SuiteMarks b) (out : Option Env) → SeenKeyed seen → EnvKeyed declared env → LawfulSuite m ctx declared returned seen env b marks out → SuiteResult b marks out
-      suite_keyed seen env no_stmts marks out sk ek law = record { labels = tt; names = tt; after = out_is out env law ek; breaks = tt }
-      suite_keyed seen env (more_stmts s rest) marks out sk ek law =
-          let r = behind_keyed seen env s rest marks.first sk (λ o l. stmt_keyed seen env s marks.first o sk ek l) (λ seen' env' marks' o sk' ek' l. suite_keyed seen' env' rest marks' o sk' ek' l) (completes s) marks.behind out law in
-          record { labels = r.labels; names = r.names; after = r.after; breaks = r.breaks }
+      pub suite_keyed : (seen : NamesBound) (env : Env) (b : Stmts) (labels : SuiteLabels b) (out : Option Env) → SeenKeyed seen → EnvKeyed declared env → LawfulSuite m ctx declared returned seen env b labels out → SuiteResult b labels out
+      suite_keyed seen env no_stmts labels out sk ek law = record { keyed_labels = tt; names = tt; after = out_is out env law ek; breaks = tt }
+      suite_keyed seen env (more_stmts s rest) labels out sk ek law =
+          let r = behind_keyed seen env s rest labels.first sk (λ o l. stmt_keyed seen env s labels.first o sk ek l) (λ seen' env' labels' o sk' ek' l. suite_keyed seen' env' rest labels' o sk' ek' l) (completes s) labels.behind out law in
+          record { keyed_labels = r.keyed_labels; names = r.names; after = r.after; breaks = r.breaks }
 
-      branches_keyed : (seen : NamesBound) (env : Env) (bs : Branches) (marks : BranchesMarks bs) (last : Env) → SeenKeyed seen → EnvKeyed declared env → LawfulBranches m ctx declared returned seen env bs marks last → BranchesResult bs marks last
-      branches_keyed seen env no_branches marks last sk ek law = record { labels = tt; names = tt; behind = subst (EnvKeyed declared) (sym law) ek; ways = tt; breaks = tt }
-      branches_keyed seen env (more_branches c b rest) marks last sk ek law =
-          let body = suite_keyed seen (narrow ctx.bases declared ctx.resolve true c env) b marks.body marks.out sk (narrowed true c env ek) law.body in
-          let r = branches_keyed (texts (bound_by b) ++ seen) (narrow ctx.bases declared ctx.resolve false c env) rest marks.rest last (seen_names (bound_by b) seen body.names sk) (narrowed false c env ek) law.others in
+      branches_keyed : (seen : NamesBound) (env : Env) (bs : Branches) (labels : BranchesLabels bs) (last : Env) → SeenKeyed seen → EnvKeyed declared env → LawfulBranches m ctx declared returned seen env bs labels last → BranchesResult bs labels last
+      branches_keyed seen env no_branches labels last sk ek law = record { keyed_labels = tt; names = tt; behind = subst (EnvKeyed declared) (sym law) ek; ways = tt; breaks = tt }
+      branches_keyed seen env (more_branches c b rest) labels last sk ek law =
+          let body = suite_keyed seen (narrow ctx.bases declared ctx.resolve true c env) b labels.body labels.out sk (narrowed true c env ek) law.body in
+          let r = branches_keyed (texts (bound_by b) ++ seen) (narrow ctx.bases declared ctx.resolve false c env) rest labels.rest last (seen_names (bound_by b) seen body.names sk) (narrowed false c env ek) law.others in
           record {
-            labels = (expression_keyed env c marks.condition ek law.condition, (body.labels, r.labels));
+            keyed_labels = (expression_keyed env c labels.condition ek law.condition, (body.keyed_labels, r.keyed_labels));
             names = names_append (bound_by b) (bound_by_branches rest) body.names r.names;
             behind = r.behind;
-            ways = envs_append ctx.bases declared (option_to_list marks.out) (ways_in rest marks.rest) (option_envs marks.out body.after) r.ways;
-            breaks = envs_append ctx.bases declared (breaks_in_suite b marks.body) (breaks_in_branches rest marks.rest) body.breaks r.breaks;
+            ways = envs_append ctx.bases declared (option_to_list labels.out) (ways_in rest labels.rest) (option_envs labels.out body.after) r.ways;
+            breaks = envs_append ctx.bases declared (breaks_in_suite b labels.body) (breaks_in_branches rest labels.rest) body.breaks r.breaks;
           }

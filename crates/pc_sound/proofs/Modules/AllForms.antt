@@ -6,7 +6,7 @@ use Rattle.pc_scope.specs.declared.resolution.Builtin.TheVariants as builtin
 use Rattle.pc_scope.specs.declared.resolution.Res.TheVariants as res
 use Rattle.pc_scope.specs.Reserved.{builtin_of}
 use Rattle.pc_types.specs.Tree.{Tree}
-use Rattle.pc_labels.specs.Modules.{Labelling, constant_types}
+use Rattle.pc_module_rules.specs.Modules.{Labelling, constant_types}
 use Rattle.pc_machine.specs.Free.{Step, free}
 use Rattle.pc_machine.specs.Evaluation.{eval_node, steps}
 use Rattle.pc_sound.proofs.Expressions.SimpleExpressions.{GoodEval}
@@ -29,38 +29,38 @@ range_builtin : builtin_of (codes "range") ≡ Some builtin.Range
 unfolding builtin_of
 range_builtin = refl
 
-module _ (m : Module) (marks : Labelling m) where
+module _ (m : Module) (labels : Labelling m) where
   abbrev Constants : List Tree
-  Constants = constant_types m m.items marks
+  Constants = constant_types m m.items labels
 
   -- in each body names and tests mean in runs what types take them to mean
   pub record NamesMean : Type 0 where
-    pub knows : (b : BodyOf m marks) → KnowsNames (body_around m marks b) (body_ctx m marks b)
-    pub tests : (b : BodyOf m marks) → RightTests (body_around m marks b) (body_ctx m marks b)
+    pub knows : (b : BodyOf m labels) → KnowsNames (body_around m labels b) (body_ctx m labels b)
+    pub tests : (b : BodyOf m labels) → RightTests (body_around m labels b) (body_ctx m labels b)
 
-  module _ (facts : Facts m (constant_types m m.items marks) (IsListedPlace m)) (means : NamesMean) where
-    range_is : (b : BodyOf m marks) → (body_ctx m marks b).resolve (codes "range") ≡ res.Builtin builtin.Range
+  module _ (facts : Facts m (constant_types m m.items labels) (IsListedPlace m)) (means : NamesMean) where
+    range_is : (b : BodyOf m labels) → (body_ctx m labels b).resolve (codes "range") ≡ res.Builtin builtin.Range
     range_is b = (means.knows b).reserved (codes "range") builtin.Range range_builtin
 
-    other_calls : (n : ℕ) → AllGood m (bodies m marks) n → (b : BodyOf m marks) → OtherCalls (body_around m marks b) (body_ctx m marks b) (steps Step free n)
-    other_calls n good (of_function owner d lab) = body_calls m (constant_types m m.items marks) (IsListedPlace m) facts owner d lab (means.knows (of_function owner d lab)) (steps Step free n) (good.eval (of_function owner d lab)) (steps_evaluate n) (λ o f l. good.exec (of_function o f l))
+    other_calls : (n : ℕ) → AllGood m (bodies m labels) n → (b : BodyOf m labels) → OtherCalls (body_around m labels b) (body_ctx m labels b) (steps Step free n)
+    other_calls n good (of_function owner d lab) = body_calls m (constant_types m m.items labels) (IsListedPlace m) facts owner d lab (means.knows (of_function owner d lab)) (steps Step free n) (good.eval (of_function owner d lab)) (steps_evaluate n) (λ o f l. good.exec (of_function o f l))
     other_calls n good (of_items types defs c names) = initializer_calls m (IsListedPlace m) types defs c names facts.inherits facts.distinct_fields (means.knows (of_items types defs c names)) (steps Step free n) (good.eval (of_items types defs c names)) (steps_evaluate n)
 
-    node_good : (n : ℕ) → AllGood m (bodies m marks) n → (b : BodyOf m marks) → GoodEval (body_around m marks b) (body_ctx m marks b) (eval_node Step free (steps Step free n))
+    node_good : (n : ℕ) → AllGood m (bodies m labels) n → (b : BodyOf m labels) → GoodEval (body_around m labels b) (body_ctx m labels b) (eval_node Step free (steps Step free n))
     node_good n good (of_function owner d lab) =
-        forms_good (body_around m marks (of_function owner d lab)) (body_ctx m marks (of_function owner d lab)) (body_fits m marks (of_function owner d lab)) facts.inherits (means.knows (of_function owner d lab)) (steps Step free n) (good.eval (of_function owner d lab)) (steps_evaluate n) (steps_read_numbers n) (good.decides (of_function owner d lab)) (steps_read n) (other_calls n good (of_function owner d lab))
+        forms_good (body_around m labels (of_function owner d lab)) (body_ctx m labels (of_function owner d lab)) (body_fits m labels (of_function owner d lab)) facts.inherits (means.knows (of_function owner d lab)) (steps Step free n) (good.eval (of_function owner d lab)) (steps_evaluate n) (steps_read_numbers n) (good.decides (of_function owner d lab)) (steps_read n) (other_calls n good (of_function owner d lab))
     node_good n good (of_items types defs c names) =
-        forms_good (body_around m marks (of_items types defs c names)) (body_ctx m marks (of_items types defs c names)) (body_fits m marks (of_items types defs c names)) facts.inherits (means.knows (of_items types defs c names)) (steps Step free n) (good.eval (of_items types defs c names)) (steps_evaluate n) (steps_read_numbers n) (good.decides (of_items types defs c names)) (steps_read n) (other_calls n good (of_items types defs c names))
+        forms_good (body_around m labels (of_items types defs c names)) (body_ctx m labels (of_items types defs c names)) (body_fits m labels (of_items types defs c names)) facts.inherits (means.knows (of_items types defs c names)) (steps Step free n) (good.eval (of_items types defs c names)) (steps_evaluate n) (steps_read_numbers n) (good.decides (of_items types defs c names)) (steps_read n) (other_calls n good (of_items types defs c names))
 
-    all_stores : (n : ℕ) → AllGood m (bodies m marks) n → (b : BodyOf m marks) → GoodStores (body_around m marks b) m (body_ctx m marks b) (steps Step free n)
-    all_stores n good (of_function owner d lab) = stores_good (body_around m marks (of_function owner d lab)) (body_ctx m marks (of_function owner d lab)) (body_fits m marks (of_function owner d lab)) facts.inherits m (steps Step free n) (good.eval (of_function owner d lab)) (steps_evaluate n)
-    all_stores n good (of_items types defs c names) = stores_good (body_around m marks (of_items types defs c names)) (body_ctx m marks (of_items types defs c names)) (body_fits m marks (of_items types defs c names)) facts.inherits m (steps Step free n) (good.eval (of_items types defs c names)) (steps_evaluate n)
+    all_stores : (n : ℕ) → AllGood m (bodies m labels) n → (b : BodyOf m labels) → GoodStores (body_around m labels b) m (body_ctx m labels b) (steps Step free n)
+    all_stores n good (of_function owner d lab) = stores_good (body_around m labels (of_function owner d lab)) (body_ctx m labels (of_function owner d lab)) (body_fits m labels (of_function owner d lab)) facts.inherits m (steps Step free n) (good.eval (of_function owner d lab)) (steps_evaluate n)
+    all_stores n good (of_items types defs c names) = stores_good (body_around m labels (of_items types defs c names)) (body_ctx m labels (of_items types defs c names)) (body_fits m labels (of_items types defs c names)) facts.inherits m (steps Step free n) (good.eval (of_items types defs c names)) (steps_evaluate n)
 
     -- all forms, stores and iterables in all bodies
-    pub forms_of : FormsGood m (bodies m marks)
+    pub forms_of : FormsGood m (bodies m labels)
     forms_of = record {
       eval = node_good;
-      decides = λ n good b. decides_over (body_around m marks b) (body_ctx m marks b) (body_fits m marks b) (means.tests b) (steps Step free n) (good.eval b) (good.decides b) (steps_read n) (node_good n good b);
+      decides = λ n good b. decides_over (body_around m labels b) (body_ctx m labels b) (body_fits m labels b) (means.tests b) (steps Step free n) (good.eval b) (good.decides b) (steps_read n) (node_good n good b);
       stores = all_stores;
-      iterables = λ n good b. iterables_good (body_around m marks b) (body_ctx m marks b) (body_fits m marks b) m (body_returned m marks b) (steps Step free n) (good.eval b) (steps_evaluate n) (means.knows b) (range_is b);
+      iterables = λ n good b. iterables_good (body_around m labels b) (body_ctx m labels b) (body_fits m labels b) m (body_returned m labels b) (steps Step free n) (good.eval b) (steps_evaluate n) (means.knows b) (range_is b);
     }

@@ -24,7 +24,7 @@ use Rattle.pc_class.specs.Facts as facts
 use Rattle.pc_class.specs.Facts.{TypedParameter, base_facts, classes_of, class_facts_at, field_by_name, method_by_name, binds_field, own_fields}
 use Rattle.pc_class.specs.Findings as findings
 use Rattle.pc_class.specs.Findings.{base_class, member_texts, has_default_before}
-use Rattle.pc_labels.specs.Modules.{Labelling, IsLawful}
+use Rattle.pc_module_rules.specs.Modules.{Labelling, IsLawful}
 use Rattle.pc_sound.specs.Sound.{HasNoError}
 use Rattle.pc_sound.proofs.Lists.{get_at_end}
 use Rattle.pc_sound.proofs.Modules.Inheritance.{below_class, class_is, no_class_past}
@@ -125,14 +125,14 @@ defaults_field m base done f binds =
     group false true d = refl
     group false false d = or-false d
 
-module _ (m : Module) (marks : Labelling m) (lawful : IsLawful m marks) (clean : HasNoError m) (constants : List Tree) (listed : Place → Type 0) where
+module _ (m : Module) (labels : Labelling m) (lawful : IsLawful m labels) (clean : HasNoError m) (constants : List Tree) (listed : Place → Type 0) where
   -- `@dataclass` stands after its header
   pub imported : (c : ℕ) (class : ClassDef) → slice_get (classes_in m.items) c ≡ Some class → m.imports_dataclass ≡ true
   imported c class is = go m.imports_dataclass refl
     where
       go : (x : Test) → m.imports_dataclass ≡ x → m.imports_dataclass ≡ true
       go true e = e
-      go false e = absurd (clean (finding class.decorator E02) (record { marks = marks; lawful = lawful; found = inl (scope.unknown (scope.decorator class e (contains_at (classes_in m.items) c class is) refl)) }) refl)
+      go false e = absurd (clean (finding class.decorator E02) (record { labels = labels; lawful = lawful; found = inl (scope.unknown (scope.decorator class e (contains_at (classes_in m.items) c class is) refl)) }) refl)
 
   -- a base is an earlier class
   pub based : (c : ℕ) (class : ClassDef) (n : Name) → slice_get (classes_in m.items) c ≡ Some class → class.base ≡ Some n → BaseFound m constants listed c n
@@ -140,14 +140,14 @@ module _ (m : Module) (marks : Labelling m) (lawful : IsLawful m marks) (clean :
     where
       go : (o : Option ℕ) → base_named m c (Some n) ≡ o → BaseFound m constants listed c n
       go (Some b) e = record { number = b; is = e }
-      go None e = absurd (clean (finding n.place E07) (record { marks = marks; lawful = lawful; found = inr (inl (findings.base c class (record { is = is }) (record { named = n; base = named; none = e; is = refl }))) }) refl)
+      go None e = absurd (clean (finding n.place E07) (record { labels = labels; lawful = lawful; found = inr (inl (findings.base c class (record { is = is }) (record { named = n; base = named; none = e; is = refl }))) }) refl)
 
   -- ---- no field without default after one with default
 
   module _ (c : ℕ) (class : ClassDef) (is : slice_get (classes_in m.items) c ≡ Some class) where
     behind_error : (done rest : List Member) (f : Field) → class.members ≡ done ++ field_member f ∷ rest → binds_field (base_class m c class) (names_behind [] done) f.name.text ≡ true → is_some f.default ≡ false → has_default_before m (base_class m c class) done ≡ true → ⊥
     behind_error done rest f all binds none behind = clean (finding f.name.place E08) (record {
-      marks = marks;
+      labels = labels;
       lawful = lawful;
       found = inr (inl (findings.order c class (record { is = is }) (record {
         at = length done;
@@ -194,7 +194,7 @@ module _ (m : Module) (marks : Labelling m) (lawful : IsLawful m marks) (clean :
       go (Some class) is below =
           ap (λ x. fields_last x.fields) (class_is m c class is)
           ∙ last_append (base_class m c class).fields (own_fields m (base_class m c class) [] class.members) (base_last class is below (base_named m c class.base) refl)
-          (subst (λ x. last_from x (own_fields m (base_class m c class) [] class.members) ≡ true) (or-false (has_defaults (base_class m c class).fields)) (order_from c class is [] class.members refl (members_bind m marks lawful clean c class is)))
+          (subst (λ x. last_from x (own_fields m (base_class m c class) [] class.members) ≡ true) (or-false (has_defaults (base_class m c class).fields)) (order_from c class is [] class.members refl (members_bind m labels lawful clean c class is)))
 
   -- each class has its fields in order
   pub ordered : (c : ℕ) (class : ClassDef) → slice_get (classes_in m.items) c ≡ Some class → fields_last (class_facts_at (classes_of m) c).fields ≡ true

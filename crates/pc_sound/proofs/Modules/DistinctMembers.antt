@@ -11,7 +11,7 @@ use Rattle.pc_ann.specs.Annotations.{read_ann}
 use Rattle.pc_class.specs.Bases.{bases_of, base_named}
 use Rattle.pc_class.specs.Facts as facts
 use Rattle.pc_class.specs.Facts.{TypedParameter, Method, field_by_name, method_by_name, class_in, class_facts_at, base_facts, classes_of, parameters_of, binds_field, binds_method, own_fields, own_methods, method_made}
-use Rattle.pc_labels.specs.Modules.{Labelling, IsLawful}
+use Rattle.pc_module_rules.specs.Modules.{Labelling, IsLawful}
 use Rattle.pc_sound.specs.Sound.{HasNoError}
 use Rattle.pc_sound.proofs.Modules.Inheritance.{no_class_past, class_is, class_over, below_class}
 use Rattle.pc_sound.proofs.Calls.OverridesFit.{IsIn, found_in, in_either}
@@ -85,7 +85,7 @@ module _ (m : Module) where
       go true h others = elim h [ inl e ↦ record { at = 0; def = f; is = refl; params = ap (λ x. x.parameters) (sym e) } | inr r ↦ next (others r) ]
       go false h others = next (others h)
 
-  module _ (marks : Labelling m) (lawful : IsLawful m marks) (clean : HasNoError m) where
+  module _ (labels : Labelling m) (lawful : IsLawful m labels) (clean : HasNoError m) where
     abbrev FieldsDistinct : ℕ → Type 0
     FieldsDistinct c = Distinct [] (class_facts_at (classes_of m) c).fields
 
@@ -96,7 +96,7 @@ module _ (m : Module) where
     over_base c class is base binds fields methods = (
       distinct_both [] base.fields (own_fields m base [] class.members) fields (own_distinct base [] (names_behind [] base.fields) class.members binds (λ word e n. none_behind [] base.fields word refl n)),
       λ q h. elim (in_either (own_methods m base c 0 [] class.members) base.methods q h) [
-        | inl a ↦ let r = own_method base c 0 [] class.members q a in subst (λ ps. Distinct [] ps) (sym r.params) (parameters_distinct m (receiver (owners.Method c r.at)) r.def.params (function_binds m marks lawful clean (owners.Method c r.at) r.def (ap (λ o. method_at o r.at) is ∙ r.is)))
+        | inl a ↦ let r = own_method base c 0 [] class.members q a in subst (λ ps. Distinct [] ps) (sym r.params) (parameters_distinct m (receiver (owners.Method c r.at)) r.def.params (function_binds m labels lawful clean (owners.Method c r.at) r.def (ap (λ o. method_at o r.at) is ∙ r.is)))
         | inr b ↦ methods q b
       ],
     )
@@ -113,11 +113,11 @@ module _ (m : Module) where
           where
             by_base : (o : Option ℕ) → base_named m c class.base ≡ o → FieldsDistinct c × MethodsDistinct c
             by_base None none =
-                let r = over_base c class is (base_facts (classes_of m) (base_named m c class.base)) (members_bind m marks lawful clean c class is) (subst (λ o. Distinct [] (base_facts (classes_of m) o).fields) (sym none) tt) (λ q x. absurd (subst (λ o. IsIn (base_facts (classes_of m) o).methods q) none x)) in
+                let r = over_base c class is (base_facts (classes_of m) (base_named m c class.base)) (members_bind m labels lawful clean c class is) (subst (λ o. Distinct [] (base_facts (classes_of m) o).fields) (sym none) tt) (λ q x. absurd (subst (λ o. IsIn (base_facts (classes_of m) o).methods q) none x)) in
                 (subst (λ k. Distinct [] k.fields) (sym (class_is m c class is)) r.0, λ q x. r.1 q (subst (λ k. IsIn k.methods q) (class_is m c class is) x))
             by_base (Some b) some =
                 let d = below b (below_class m c b class is some) in
-                let r = over_base c class is (base_facts (classes_of m) (base_named m c class.base)) (members_bind m marks lawful clean c class is) (subst (λ o. Distinct [] (base_facts (classes_of m) o).fields) (sym some) d.0) (λ q x. d.1 q (subst (λ o. IsIn (base_facts (classes_of m) o).methods q) some x)) in
+                let r = over_base c class is (base_facts (classes_of m) (base_named m c class.base)) (members_bind m labels lawful clean c class is) (subst (λ o. Distinct [] (base_facts (classes_of m) o).fields) (sym some) d.0) (λ q x. d.1 q (subst (λ o. IsIn (base_facts (classes_of m) o).methods q) some x)) in
                 (subst (λ k. Distinct [] k.fields) (sym (class_is m c class is)) r.0, λ q x. r.1 q (subst (λ k. IsIn k.methods q) (class_is m c class is) x))
 
     -- the fields of a class

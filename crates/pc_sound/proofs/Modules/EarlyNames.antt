@@ -21,9 +21,9 @@ use Rattle.pc_scope_findings.specs.Findings.{IsEarlyMeaning}
 use Rattle.pc_types.specs.Tree.{Tree}
 use Rattle.pc_flow.specs.Environment.{Env, current}
 use Rattle.pc_rules.specs.Operations.{in_error}
-use Rattle.pc_rules.specs.Context.{Context, local_mark, name_mark, constant_mark, is_early}
+use Rattle.pc_rules.specs.Context.{Context, local_label, name_label, constant_label, is_early}
 use Rattle.pc_rules.specs.Signatures.{initializer_context}
-use Rattle.pc_labels.specs.Modules.{Labelling, IsLawful, ItemsMarks, BeforeItem, before_next, nothing_before}
+use Rattle.pc_module_rules.specs.Modules.{Labelling, IsLawful, ItemsLabels, BeforeItem, before_next, nothing_before}
 use Rattle.pc_sound.specs.Sound.{HasNoError}
 use Rattle.pc_sound.proofs.Lists.{get_at_end, one_longer}
 use Rattle.pc_sound.proofs.Keyed.KeyedLabels.{SecondTimely, Timely, ItemsTimely, EntriesTimely, KeywordsTimely}
@@ -44,7 +44,7 @@ names_both (x ∷ xs) ys = ap (cons_option (name_of_tree x)) (names_both xs ys) 
 module _ (ctx : Context) (declared : List Tree) where
   -- a name reads in time in each environment
   abbrev pub InTime : Name → Type 0
-  InTime n = (env : Env) → is_early (name_mark ctx env (ctx.resolve n.text)).codes ≡ false
+  InTime n = (env : Env) → is_early (name_label ctx env (ctx.resolve n.text)).codes ≡ false
 
   -- so does each name among expressions
   abbrev pub NamesInTime : List Expr → Type 0
@@ -111,15 +111,15 @@ past_end (x ∷ xs) zero e = absurd (none-some _ (sym e))
 past_end (x ∷ xs) (suc i) e = let h = past_end xs i e in omega (arith, h)
 
 -- a name of an initializer that is not early reads in time
-in_time : (m : Module) (constants : List Tree) (known : ℕ) (r : Res) → (IsEarlyMeaning (length constants) known r → ⊥) → (env : Env) → is_early (name_mark (initializer_context m constants known) env r).codes ≡ false
+in_time : (m : Module) (constants : List Tree) (known : ℕ) (r : Res) → (IsEarlyMeaning (length constants) known r → ⊥) → (env : Env) → is_early (name_label (initializer_context m constants known) env r).codes ≡ false
 in_time m constants known (res.Local x) h env = of_local (current env x)
   where
-    of_local : (o : Option Tree) → is_early (local_mark o).codes ≡ false
+    of_local : (o : Option Tree) → is_early (local_label o).codes ≡ false
     of_local None = refl
     of_local (Some t) = refl
 in_time m constants known (res.Const i) h env = go (slice_get constants i) refl
   where
-    go : (o : Option Tree) → slice_get constants i ≡ o → is_early (constant_mark o).codes ≡ false
+    go : (o : Option Tree) → slice_get constants i ≡ o → is_early (constant_label o).codes ≡ false
     go None e = absurd (h (past_end constants i e))
     go (Some t) e = refl
 in_time m constants known (res.Func i) h env = absurd (h tt)
@@ -131,11 +131,11 @@ in_time m constants known (res.Class c) h env = go (nat_lt c known) refl
 in_time m constants known (res.Builtin b) h env = refl
 in_time m constants known res.None h env = refl
 
-module _ (m : Module) (marks : Labelling m) (lawful : IsLawful m marks) (clean : HasNoError m) where
+module _ (m : Module) (labels : Labelling m) (lawful : IsLawful m labels) (clean : HasNoError m) where
   none_early : (done : List Item) (p : Place) (c : Constant) (rest : List Item) → done ++ constant_item p c ∷ rest ≡ m.items → (n : Name) → Contains (filter_map name_of_tree (parts_in false c.value)) n → IsEarlyMeaning (length (constants_in done)) (length (classes_in done)) (resolve_in_module m n.text) → ⊥
   none_early done p c rest whole n named early =
       clean (finding n.place E03) (record {
-        marks = marks;
+        labels = labels;
         lawful = lawful;
         found = inl (scope.early (record {
           at = length done;
@@ -149,24 +149,24 @@ module _ (m : Module) (marks : Labelling m) (lawful : IsLawful m marks) (clean :
       taken : take (length done) m.items ≡ done
       taken = ap (take (length done)) (sym whole) ∙ take-append_seam done (constant_item p c ∷ rest)
 
-  timely_items : (done : List Item) (b : BeforeItem) (items : List Item) (marks : ItemsMarks items) → done ++ items ≡ m.items → length b.constants ≡ length (constants_in done) → b.classes ≡ length (classes_in done) → InitializersTimely m b items marks
-  timely_items done b [] marks whole constants classes = tt
-  timely_items done b (constant_item p c ∷ rest) marks whole constants classes = (
+  timely_items : (done : List Item) (b : BeforeItem) (items : List Item) (labels : ItemsLabels items) → done ++ items ≡ m.items → length b.constants ≡ length (constants_in done) → b.classes ≡ length (classes_in done) → InitializersTimely m b items labels
+  timely_items done b [] labels whole constants classes = tt
+  timely_items done b (constant_item p c ∷ rest) labels whole constants classes = (
     timely_of (initializer_context m b.constants b.classes) [] c.value
         (λ n named. in_time m b.constants b.classes (resolve_in_module m n.text) (λ early. none_early done p c rest whole n named
         (subst (λ k. IsEarlyMeaning k (length (classes_in done)) (resolve_in_module m n.text)) constants (subst (λ k. IsEarlyMeaning (length b.constants) k (resolve_in_module m n.text)) classes early)))),
-    timely_items (done ++ constant_item p c ∷ []) (before_next m b (constant_item p c) marks.first) rest marks.rest (append_assoc done (constant_item p c ∷ []) rest ∙ whole)
+    timely_items (done ++ constant_item p c ∷ []) (before_next m b (constant_item p c) labels.first) rest labels.rest (append_assoc done (constant_item p c ∷ []) rest ∙ whole)
         (one_longer b.constants _ ∙ (ap suc constants ∙ (sym (one_longer (constants_in done) c) ∙ ap length (sym (constants_append done (constant_item p c ∷ []))))))
         (classes ∙ ap length (sym (classes_append done (constant_item p c ∷ []) ∙ append-nil (classes_in done)))),
   )
-  timely_items done b (class_item p c ∷ rest) marks whole constants classes =
-      timely_items (done ++ class_item p c ∷ []) (before_next m b (class_item p c) marks.first) rest marks.rest (append_assoc done (class_item p c ∷ []) rest ∙ whole)
+  timely_items done b (class_item p c ∷ rest) labels whole constants classes =
+      timely_items (done ++ class_item p c ∷ []) (before_next m b (class_item p c) labels.first) rest labels.rest (append_assoc done (class_item p c ∷ []) rest ∙ whole)
       (constants ∙ ap length (sym (constants_append done (class_item p c ∷ []) ∙ append-nil (constants_in done))))
       (ap suc classes ∙ (sym (one_longer (classes_in done) c) ∙ ap length (sym (classes_append done (class_item p c ∷ [])))))
-  timely_items done b (def_item p f ∷ rest) marks whole constants classes =
-      timely_items (done ++ def_item p f ∷ []) (before_next m b (def_item p f) marks.first) rest marks.rest (append_assoc done (def_item p f ∷ []) rest ∙ whole)
+  timely_items done b (def_item p f ∷ rest) labels whole constants classes =
+      timely_items (done ++ def_item p f ∷ []) (before_next m b (def_item p f) labels.first) rest labels.rest (append_assoc done (def_item p f ∷ []) rest ∙ whole)
       (constants ∙ ap length (sym (constants_append done (def_item p f ∷ []) ∙ append-nil (constants_in done))))
       (classes ∙ ap length (sym (classes_append done (def_item p f ∷ []) ∙ append-nil (classes_in done))))
 
-  pub initializers_timely : InitializersTimely m nothing_before m.items marks
-  initializers_timely = timely_items [] nothing_before m.items marks refl refl refl
+  pub initializers_timely : InitializersTimely m nothing_before m.items labels
+  initializers_timely = timely_items [] nothing_before m.items labels refl refl refl

@@ -22,9 +22,9 @@ use Rattle.pc_scope.specs.Resolution.{is_one_of, entry_texts, method_at, functio
 use Rattle.pc_scope_findings.specs.Findings as scope
 use Rattle.pc_scope_findings.specs.Findings.{IsScopeCode}
 use Rattle.pc_types.specs.Tree.{Tree}
-use Rattle.pc_labels.specs.Modules.{FunctionMarks, LawfulFunction, ItemsMarks, ItemsFind, BeforeItem, before_next, nothing_before, Labelling, IsLawful, constant_types, item_constants}
-use Rattle.pc_labels.proofs.Functions.{function_labels}
-use Rattle.pc_labels.proofs.Scopes.{said_is_found}
+use Rattle.pc_module_rules.specs.Modules.{FunctionLabels, LawfulFunction, ItemsLabels, ItemsFind, BeforeItem, before_next, nothing_before, Labelling, IsLawful, constant_types, item_constants}
+use Rattle.pc_module_rules.proofs.Functions.{function_labels}
+use Rattle.pc_module_rules.proofs.Scopes.{said_is_found}
 use Rattle.pc_sound.specs.Sound.{HasNoError}
 use Rattle.pc_sound.proofs.TruthValues.{not_both}
 use Rattle.pc_sound.proofs.Keyed.KeyedStatements.{SuiteKeyed}
@@ -37,17 +37,17 @@ use Rattle.pc_sound.proofs.Lists.{same_text_back}
 -- ---- what is at the end of the items
 
 module _ (m : Module) (constants : List Tree) (listed : Place → Type 0) where
-  pub last_types_are : (b : BeforeItem) (items : List Item) (marks : ItemsMarks items) → (last_of m constants listed b items marks).constants ≡ b.constants ++ constant_types m items marks
-  last_types_are b [] marks = sym (append-nil b.constants)
-  last_types_are b (constant_item p c ∷ rest) marks = last_types_are (before_next m b (constant_item p c) marks.first) rest marks.rest ∙ append_assoc b.constants (item_constants m (constant_item p c) marks.first) (constant_types m rest marks.rest)
-  last_types_are b (class_item p c ∷ rest) marks = last_types_are (before_next m b (class_item p c) marks.first) rest marks.rest
-  last_types_are b (def_item p f ∷ rest) marks = last_types_are (before_next m b (def_item p f) marks.first) rest marks.rest
+  pub last_types_are : (b : BeforeItem) (items : List Item) (labels : ItemsLabels items) → (last_of m constants listed b items labels).constants ≡ b.constants ++ constant_types m items labels
+  last_types_are b [] labels = sym (append-nil b.constants)
+  last_types_are b (constant_item p c ∷ rest) labels = last_types_are (before_next m b (constant_item p c) labels.first) rest labels.rest ∙ append_assoc b.constants (item_constants m (constant_item p c) labels.first) (constant_types m rest labels.rest)
+  last_types_are b (class_item p c ∷ rest) labels = last_types_are (before_next m b (class_item p c) labels.first) rest labels.rest
+  last_types_are b (def_item p f ∷ rest) labels = last_types_are (before_next m b (def_item p f) labels.first) rest labels.rest
 
-  pub last_classes_are : (b : BeforeItem) (items : List Item) (marks : ItemsMarks items) → (last_of m constants listed b items marks).classes ≡ b.classes + length (classes_in items)
-  last_classes_are b [] marks = omega arith
-  last_classes_are b (constant_item p c ∷ rest) marks = last_classes_are (before_next m b (constant_item p c) marks.first) rest marks.rest
-  last_classes_are b (class_item p c ∷ rest) marks = let h = last_classes_are (before_next m b (class_item p c) marks.first) rest marks.rest in h ∙ omega arith
-  last_classes_are b (def_item p f ∷ rest) marks = last_classes_are (before_next m b (def_item p f) marks.first) rest marks.rest
+  pub last_classes_are : (b : BeforeItem) (items : List Item) (labels : ItemsLabels items) → (last_of m constants listed b items labels).classes ≡ b.classes + length (classes_in items)
+  last_classes_are b [] labels = omega arith
+  last_classes_are b (constant_item p c ∷ rest) labels = last_classes_are (before_next m b (constant_item p c) labels.first) rest labels.rest
+  last_classes_are b (class_item p c ∷ rest) labels = let h = last_classes_are (before_next m b (class_item p c) labels.first) rest labels.rest in h ∙ omega arith
+  last_classes_are b (def_item p f ∷ rest) labels = last_classes_are (before_next m b (def_item p f) labels.first) rest labels.rest
 
 -- ---- places of all functions and methods
 
@@ -106,10 +106,10 @@ params_named : (ps : List Param) → map name_of_param ps ≡ param_names ps
 params_named [] = refl
 params_named (p ∷ ps) = ap (λ l. p.name ∷ l) (params_named ps)
 
-module _ (m : Module) (marks : Labelling m) (lawful : IsLawful m marks) (clean : HasNoError m) where
+module _ (m : Module) (labels : Labelling m) (lawful : IsLawful m labels) (clean : HasNoError m) where
   -- no place has a code that stops a run
   pub never_stops : (code : Code) → IsScopeCode code → IsError code → (p : Place) → Contains (stopping_places m code) p → ⊥
-  never_stops code is error p stops = clean (finding p code) (record { marks = marks; lawful = lawful; found = inl (scope.stopping is stops) }) error
+  never_stops code is error p stops = clean (finding p code) (record { labels = labels; lawful = lawful; found = inl (scope.stopping is stops) }) error
 
   -- `main` is a function without parameters
   pub main_plain : is_plain_def (codes "main") m.items ≡ true
@@ -153,18 +153,18 @@ module _ (m : Module) (marks : Labelling m) (lawful : IsLawful m marks) (clean :
       go false r = r
 
   -- a finding of the items is a listed dynamic place
-  pub listed_finding : (f : Finding) → ItemsFind m (constant_types m m.items marks) nothing_before m.items marks f → IsListedPlace m f.place × (¬ (IsError f.code))
-  listed_finding f h = let found = said_is_found m marks lawful f h in (record { finding = f; found = found; dynamic = clean f found; at = refl }, clean f found)
+  pub listed_finding : (f : Finding) → ItemsFind m (constant_types m m.items labels) nothing_before m.items labels f → IsListedPlace m f.place × (¬ (IsError f.code))
+  listed_finding f h = let found = said_is_found m labels lawful f h in (record { finding = f; found = found; dynamic = clean f found; at = refl }, clean f found)
 
   -- each function and method of the module has its lawful labels, in which each finding is a listed dynamic place
-  pub labelled_of : ((owner : Owner) (d : FuncDef) (fm : FunctionMarks d) → LawfulFunction m (constant_types m m.items marks) owner d fm → SuiteKeyed d.body fm.body) → (owner : Owner) (d : FuncDef) → function_of m owner ≡ Some d → Labelled m (constant_types m m.items marks) (IsListedPlace m) owner d
+  pub labelled_of : ((owner : Owner) (d : FuncDef) (fm : FunctionLabels d) → LawfulFunction m (constant_types m m.items labels) owner d fm → SuiteKeyed d.body fm.body) → (owner : Owner) (d : FuncDef) → function_of m owner ≡ Some d → Labelled m (constant_types m m.items labels) (IsListedPlace m) owner d
   labelled_of keyed owner d e =
-      let l = function_labels m marks lawful owner d e in
+      let l = function_labels m labels lawful owner d e in
       record {
-        marks = l.marks;
+        labels = l.labels;
         lawful = l.lawful;
         covered = λ f h. listed_finding f (l.within f h);
-        keyed = keyed owner d l.marks l.lawful;
+        keyed = keyed owner d l.labels l.lawful;
         in_loops = λ p c. never_stops E05 tt refl p (function_places loose_in_def owner d p e c);
         free = names_free owner d e;
       }

@@ -35,7 +35,7 @@ use Rattle.pc_machine.specs.Free.{Step, free}
 use Rattle.pc_machine.specs.Evaluation as evaluation
 use Rattle.pc_machine.specs.Evaluation.{make_members, exec_item, dataclass_found, binds_class, Members, fields_of, methods_of, ancestors_of, class_behind, all_have_defaults, defaults_last}
 use Rattle.pc_rules.specs.Signatures.{LawfulDefault}
-use Rattle.pc_labels.specs.Modules.{MembersMarks, LawfulMembers, MembersFind, BeforeItem, ItemMarks, LawfulItem, ItemFinds}
+use Rattle.pc_module_rules.specs.Modules.{MembersLabels, LawfulMembers, MembersFind, BeforeItem, ItemLabels, LawfulItem, ItemFinds}
 use Rattle.pc_sound.specs.Values.{HeapTyping}
 use Rattle.pc_sound.proofs.Steps.Judgment.{EndsWell}
 use Rattle.pc_sound.proofs.TruthValues.{neither}
@@ -182,24 +182,24 @@ module _ (m : Module) (constants : List Tree) (listed : Place → Type 0) where
   MembersReady base before (method_member f ∷ rest) = ((binds_method base before f.name.text ≡ true) × ParametersBind m listed (codes "self" ∷ []) f.params) × MembersReady base (f.name.text ∷ before) rest
 
   members_made :
-      (known : Known) (base : facts.ClassFacts) (c number : ℕ) (before : List (List ℕ)) (ms : List Member) (marks : MembersMarks ms)
+      (known : Known) (base : facts.ClassFacts) (c number : ℕ) (before : List (List ℕ)) (ms : List Member) (labels : MembersLabels ms)
       → ((i : ℕ) (d : FuncDef) → slice_get (methods_in ms) i ≡ Some d → function_of m (owners.Method c (number + i)) ≡ Some d)
-      → MembersReady base before ms → LawfulMembers m constants base c number before ms marks → Listed m listed (MembersFind m constants c number ms marks)
+      → MembersReady base before ms → LawfulMembers m constants base c number before ms labels → Listed m listed (MembersFind m constants c number ms labels)
       → Proceeds listed known (make_members Step free ms) (λ k own s. known k s × (DefaultsHave (bases_of m) k own.fields (own_fields m base before ms) × MethodsAre m k own.methods (own_methods m base c number before ms)))
-  members_made known base c number before [] marks at ready law clean = proceeds_comes listed known (Gives (record { fields = []; methods = [] })) _ λ k s b. (b, (tt, tt))
-  members_made known base c number before (field_member f ∷ rest) marks at ready law clean =
+  members_made known base c number before [] labels at ready law clean = proceeds_comes listed known (Gives (record { fields = []; methods = [] })) _ λ k s b. (b, (tt, tt))
+  members_made known base c number before (field_member f ∷ rest) labels at ready law clean =
       let t = read_ann m (bases_of m) f.annotation in
       proceeds_bind listed known _ _ (λ k v s. known k s × DefaultHas (bases_of m) k t (is_some f.default) v) _
-      (default_made m listed known f.default t marks.default (subst (λ b. LawfulDefault (bases_of m) b f.default t marks.default) ready.0 law.default) (λ g h. clean g (inr (inl h))))
+      (default_made m listed known f.default t labels.default (subst (λ b. LawfulDefault (bases_of m) b f.default t labels.default) ready.0 law.default) (λ g h. clean g (inr (inl h))))
       λ v. proceeds_bind listed _ _ _ (λ k own s. (known k s × DefaultHas (bases_of m) k t (is_some f.default) v) × (DefaultsHave (bases_of m) k own.fields (own_fields m base (f.name.text ∷ before) rest) × MethodsAre m k own.methods (own_methods m base c number (f.name.text ∷ before) rest))) _
-      (members_made (λ k s. known k s × DefaultHas (bases_of m) k t (is_some f.default) v) base c number (f.name.text ∷ before) rest marks.rest at ready.1 law.others (λ g h. clean g (inr (inr h))))
+      (members_made (λ k s. known k s × DefaultHas (bases_of m) k t (is_some f.default) v) base c number (f.name.text ∷ before) rest labels.rest at ready.1 law.others (λ g h. clean g (inr (inr h))))
       λ own. proceeds_comes listed _ (Gives (record { fields = record { name = f.name.text; default = v } ∷ own.fields; methods = own.methods })) _ λ k s b.
       (b.0.0, (subst (λ x. DefaultsHave (bases_of m) k (record { name = f.name.text; default = v } ∷ own.fields) ((if x then record { name = f.name.text; type = t; has_default = is_some f.default } ∷ [] else []) ++ own_fields m base (f.name.text ∷ before) rest)) (sym ready.0) (refl, (b.0.1, b.1.0)), b.1.1))
-  members_made known base c number before (method_member f ∷ rest) marks at ready law clean =
+  members_made known base c number before (method_member f ∷ rest) labels at ready law clean =
       proceeds_bind listed known _ _ (λ k g s. known k s × MadeOf m k g f) _
-      (function_made m listed known (codes "self" ∷ []) f marks.method.params law.method.params ready.0.1 (λ g h. clean g (inl (inl h))))
+      (function_made m listed known (codes "self" ∷ []) f labels.method.params law.method.params ready.0.1 (λ g h. clean g (inl (inl h))))
       λ g. proceeds_bind listed _ _ _ (λ k own s. (known k s × MadeOf m k g f) × (DefaultsHave (bases_of m) k own.fields (own_fields m base (f.name.text ∷ before) rest) × MethodsAre m k own.methods (own_methods m base c (suc number) (f.name.text ∷ before) rest))) _
-      (members_made (λ k s. known k s × MadeOf m k g f) base c (suc number) (f.name.text ∷ before) rest marks.rest (λ i d e. ap (λ j. function_of m (owners.Method c j)) (omega arith) ∙ at (suc i) d e) ready.1 law.others (λ h x. clean h (inr x)))
+      (members_made (λ k s. known k s × MadeOf m k g f) base c (suc number) (f.name.text ∷ before) rest labels.rest (λ i d e. ap (λ j. function_of m (owners.Method c j)) (omega arith) ∙ at (suc i) d e) ready.1 law.others (λ h x. clean h (inr x)))
       λ own. proceeds_comes listed _ (Gives (record { fields = own.fields; methods = g ∷ own.methods })) _ λ k s b. (
         b.0.0,
         (
@@ -225,15 +225,15 @@ module _ (m : Module) (constants : List Tree) (listed : Place → Type 0) where
   pub classes_good : ClassesReady → (parts : Parts Step) → GoodClasses m constants listed parts
   classes_good ready parts = record { proceeds = go }
     where
-      go : (p : Place) (c : ClassDef) (b : BeforeItem) (defs : List FuncDef) (marks : ItemMarks (class_item p c)) → slice_get (classes_in m.items) b.classes ≡ Some c → LawfulItem m constants b (class_item p c) marks → Listed m listed (ItemFinds m constants b (class_item p c) marks) → ItemReady m constants listed b (class_item p c) marks
+      go : (p : Place) (c : ClassDef) (b : BeforeItem) (defs : List FuncDef) (labels : ItemLabels (class_item p c)) → slice_get (classes_in m.items) b.classes ≡ Some c → LawfulItem m constants b (class_item p c) labels → Listed m listed (ItemFinds m constants b (class_item p c) labels) → ItemReady m constants listed b (class_item p c) labels
           → Proceeds listed (λ k s. Between m listed b.constants defs b.classes b.names k s) (exec_item Step free parts m.imports_dataclass (class_item p c)) (λ k u s. Between m listed b.constants defs (suc b.classes) (c.name.text ∷ b.names) k s)
-      go p c b defs marks is law clean binds =
+      go p c b defs labels is law clean binds =
           proceeds_bind listed _ _ _ (λ k u s. Now k s) _
           (proceeds_looks listed _ _ _ λ k s h. subst (λ x. EndsWell (λ u. Now k s) (dataclass_found x)) (sym (ready.imported n c is)) h)
           λ u. proceeds_bind listed _ _ _ (λ k o s. Now k s × (o ≡ base_named m n c.base)) _
           (proceeds_looks listed _ (evaluation.base_number c.base) _ λ k s h. based_well k s h c.base refl)
           λ o. proceeds_bind listed _ _ _ (λ k own s. (Now k s × (o ≡ base_named m n c.base)) × (DefaultsHave (bases_of m) k own.fields (own_fields m (base_class m n c) [] c.members) × MethodsAre m k own.methods (own_methods m (base_class m n c) n 0 [] c.members))) _
-          (members_made (λ k s. Now k s × (o ≡ base_named m n c.base)) (base_class m n c) n 0 [] c.members marks (λ i d e. ap (λ x. function_of m (owners.Method n x)) (omega arith) ∙ ap (λ x. method_at x i) is ∙ e) (ready.members n c is) law clean)
+          (members_made (λ k s. Now k s × (o ≡ base_named m n c.base)) (base_class m n c) n 0 [] c.members labels (λ i d e. ap (λ x. function_of m (owners.Method n x)) (omega arith) ∙ ap (λ x. method_at x i) is ∙ e) (ready.members n c is) law clean)
           λ own. proceeds_bind listed _ _ _ (λ k x s. Now k s × NewClass m k n x) _
           (proceeds_looks listed _ _ _ λ k s h. (h.0.0, made_now k s o own h.0.0 h.0.1 h.1.0 h.1.1))
           λ x. proceeds_bind listed _ _ _ (λ k u s. Now k s × NewClass m k n x) _

@@ -20,7 +20,7 @@ use Rattle.pc_class.specs.Bases.{bases_of}
 use Rattle.pc_class.specs.Facts.{TypedParameter, Method, parameters_of, return_type, classes_of, class_facts_at}
 use Rattle.pc_rules.specs.Context.{Context}
 use Rattle.pc_rules.specs.Signatures.{body_context}
-use Rattle.pc_labels.specs.Modules.{FunctionMarks, LawfulFunction, FunctionFinds}
+use Rattle.pc_module_rules.specs.Modules.{FunctionLabels, LawfulFunction, FunctionFinds}
 use Rattle.pc_value.specs.Value.{Value}
 use Rattle.pc_machine.specs.State as state
 use Rattle.pc_machine.specs.State.{Function, Class, Globals, a_value, a_function, a_class}
@@ -138,10 +138,10 @@ module _ (m : Module) where
   module _ (constants : List Tree) (listed : Place → Type 0) where
     -- a function or method of the module with its lawful labels, in which each finding is a listed dynamic place
     pub record Labelled (owner : Owner) (d : FuncDef) : Type 0 where
-      pub marks : FunctionMarks d
-      pub lawful : LawfulFunction m constants owner d marks
-      pub covered : (f : Finding) → FunctionFinds m constants owner d marks f → listed f.place × (¬ (IsError f.code))
-      pub keyed : SuiteKeyed d.body marks.body
+      pub labels : FunctionLabels d
+      pub lawful : LawfulFunction m constants owner d labels
+      pub covered : (f : Finding) → FunctionFinds m constants owner d labels f → listed f.place × (¬ (IsError f.code))
+      pub keyed : SuiteKeyed d.body labels.body
       pub in_loops : (p : Place) → Contains (loose_in d.body) p → ⊥
       pub free : (word : List ℕ) → is_one_of word (entry_texts owner d ++ texts (bound_by d.body)) ≡ true → is_builtin_name word ≡ false
 
@@ -151,7 +151,7 @@ module _ (m : Module) where
       bases = bases_of m;
       classes = classes_of m;
       names = locals owner d;
-      declared = lab.marks.declared;
+      declared = lab.labels.declared;
       listed = listed;
       outside = World constants;
       stays = λ k k' made globals grows w. world_later constants k k' made globals grows w;

@@ -27,7 +27,7 @@ use Rattle.pc_class.specs.Facts as facts
 use Rattle.pc_class.specs.Facts.{TypedParameter, Method, field_by_name, method_by_name, base_facts, classes_of, class_facts_at, binds_field, binds_method, own_fields, own_methods}
 use Rattle.pc_class.specs.Findings as findings
 use Rattle.pc_class.specs.Findings.{base_class}
-use Rattle.pc_labels.specs.Modules.{Labelling, IsLawful}
+use Rattle.pc_module_rules.specs.Modules.{Labelling, IsLawful}
 use Rattle.pc_sound.specs.Sound.{HasNoError}
 use Rattle.pc_sound.proofs.Lists.{front_empty, rest_empty, same_text_back}
 use Rattle.pc_sound.proofs.Expressions.NameReads.{builtin_text, text_of_builtin}
@@ -336,15 +336,15 @@ empty_of : (ps : List Place) → ((p : Place) → Contains ps p → ⊥) → ps 
 empty_of [] h = refl
 empty_of (p ∷ ps) h = absurd (h p (0, omega arith, refl))
 
-module _ (m : Module) (marks : Labelling m) (lawful : IsLawful m marks) (clean : HasNoError m) where
+module _ (m : Module) (labels : Labelling m) (lawful : IsLawful m labels) (clean : HasNoError m) where
   pub none_clash : clashing_members m ≡ []
-  none_clash = empty_of (clashing_members m) λ p h. clean (finding p E06) (record { marks = marks; lawful = lawful; found = inr (inl (findings.member (record { code = refl; stops = h }))) }) refl
+  none_clash = empty_of (clashing_members m) λ p h. clean (finding p E06) (record { labels = labels; lawful = lawful; found = inr (inl (findings.member (record { code = refl; stops = h }))) }) refl
 
   pub none_reserved : reserved_bound m ≡ []
-  none_reserved = empty_of (reserved_bound m) λ p h. clean (finding p E29) (record { marks = marks; lawful = lawful; found = inl (scope.stopping tt h) }) refl
+  none_reserved = empty_of (reserved_bound m) λ p h. clean (finding p E29) (record { labels = labels; lawful = lawful; found = inl (scope.stopping tt h) }) refl
 
   pub none_twice : twice m ≡ []
-  none_twice = empty_of (twice m) λ p h. clean (finding p E01) (record { marks = marks; lawful = lawful; found = inl (scope.stopping tt h) }) refl
+  none_twice = empty_of (twice m) λ p h. clean (finding p E01) (record { labels = labels; lawful = lawful; found = inl (scope.stopping tt h) }) refl
 
   -- each member of each class binds its name
   pub members_bind : (c : ℕ) (class : ClassDef) → slice_get (classes_in m.items) c ≡ Some class → BindAll m (base_class m c class) [] class.members

@@ -16,10 +16,10 @@ use Rattle.pc_types.specs.Tree.{Tree}
 use Rattle.pc_class.specs.Bases.{bases_of}
 use Rattle.pc_class.specs.Facts.{TypedParameter, parameters_of, return_type, classes_of}
 use Rattle.pc_rules.specs.Context.{FlowsInto}
-use Rattle.pc_rules.specs.Labels.{mark_of}
+use Rattle.pc_rules.specs.Labels.{whole_label}
 use Rattle.pc_rules.specs.Lawful.{Lawful}
 use Rattle.pc_rules.specs.Signatures.{initializer_context, binds_name, annotated_types, first_of_types}
-use Rattle.pc_labels.specs.Modules.{BeforeItem, before_next, ItemMarks, ItemsMarks, LawfulItem, LawfulModuleItems, ItemFinds, ItemsFind}
+use Rattle.pc_module_rules.specs.Modules.{BeforeItem, before_next, ItemLabels, ItemsLabels, LawfulItem, LawfulModuleItems, ItemFinds, ItemsFind}
 use Rattle.pc_value.specs.Value.{Gives}
 use Rattle.pc_machine.specs.State.{State, Function, Class, Globals}
 use Rattle.pc_machine.specs.Names.{meaning_in_run, meaning_of_global, meaning_of_local, global_by_name}
@@ -52,40 +52,40 @@ binds_parts names n e = let h = neither (is_builtin_name n.text) (is_one_of n.te
 
 module _ (m : Module) (constants : List Tree) (listed : Place → Type 0) where
   -- what is known of each item before it runs: its name is bound by nothing, its labels' dicts have int or str as key, its parameters bind their names
-  abbrev pub ItemReady : BeforeItem → (i : Item) → ItemMarks i → Type 0
-  ItemReady b (constant_item p c) marks = (binds_name b.names c.name ≡ true) × Keyed c.value marks.value
-  ItemReady b (class_item p c) marks = binds_name b.names c.name ≡ true
-  ItemReady b (def_item p f) marks = (binds_name b.names f.name ≡ true) × ParametersBind m listed [] f.params
+  abbrev pub ItemReady : BeforeItem → (i : Item) → ItemLabels i → Type 0
+  ItemReady b (constant_item p c) labels = (binds_name b.names c.name ≡ true) × Keyed c.value labels.value
+  ItemReady b (class_item p c) labels = binds_name b.names c.name ≡ true
+  ItemReady b (def_item p f) labels = (binds_name b.names f.name ≡ true) × ParametersBind m listed [] f.params
 
-  abbrev pub ItemsReady : BeforeItem → (items : List Item) → ItemsMarks items → Type 0
-  ItemsReady b [] marks = Unit {0}
-  ItemsReady b (i ∷ rest) marks = ItemReady b i marks.first × ItemsReady (before_next m b i marks.first) rest marks.rest
+  abbrev pub ItemsReady : BeforeItem → (items : List Item) → ItemsLabels items → Type 0
+  ItemsReady b [] labels = Unit {0}
+  ItemsReady b (i ∷ rest) labels = ItemReady b i labels.first × ItemsReady (before_next m b i labels.first) rest labels.rest
 
   -- what stands before the end
-  abbrev pub last_of : BeforeItem → (items : List Item) → ItemsMarks items → BeforeItem
-  last_of b [] marks = b
-  last_of b (i ∷ rest) marks = last_of (before_next m b i marks.first) rest marks.rest
+  abbrev pub last_of : BeforeItem → (items : List Item) → ItemsLabels items → BeforeItem
+  last_of b [] labels = b
+  last_of b (i ∷ rest) labels = last_of (before_next m b i labels.first) rest labels.rest
 
   -- classes bind their names to what their facts say
   pub record GoodClasses (parts : Parts Step) : Type 0 where
-    pub proceeds : (p : Place) (c : ClassDef) (b : BeforeItem) (defs : List FuncDef) (marks : ItemMarks (class_item p c)) → slice_get (classes_in m.items) b.classes ≡ Some c → LawfulItem m constants b (class_item p c) marks → Listed m listed (ItemFinds m constants b (class_item p c) marks) → ItemReady b (class_item p c) marks
+    pub proceeds : (p : Place) (c : ClassDef) (b : BeforeItem) (defs : List FuncDef) (labels : ItemLabels (class_item p c)) → slice_get (classes_in m.items) b.classes ≡ Some c → LawfulItem m constants b (class_item p c) labels → Listed m listed (ItemFinds m constants b (class_item p c) labels) → ItemReady b (class_item p c) labels
         → Proceeds listed (λ k s. Between m listed b.constants defs b.classes b.names k s) (exec_item Step free parts m.imports_dataclass (class_item p c)) (λ k u s. Between m listed b.constants defs (suc b.classes) (c.name.text ∷ b.names) k s)
 
   module _ (parts : Parts Step) (inits : (types : List Tree) (defs : List FuncDef) (n : ℕ) (names : List (List ℕ)) → GoodEval (around_items m listed types defs n names) (initializer_context m types n) parts.eval) (evaluates : (e : Expr) → Evaluates (place_of e) (parts.eval e)) (classes : GoodClasses parts) where
     -- items after others
-    pub items_proceed : (done rest : List Item) (b : BeforeItem) (defs : List FuncDef) (marks : ItemsMarks rest) → m.items ≡ done ++ rest → length b.constants ≡ length (constants_in done) → b.classes ≡ length (classes_in done) → defs ≡ functions_in done
-        → LawfulModuleItems m constants b rest marks → Listed m listed (ItemsFind m constants b rest marks) → ItemsReady b rest marks
-        → Proceeds listed (λ k s. Between m listed b.constants defs b.classes b.names k s) (exec_items Step free parts m.imports_dataclass rest) (λ k u s. Between m listed (last_of b rest marks).constants (functions_in m.items) (last_of b rest marks).classes (last_of b rest marks).names k s)
-    items_proceed done [] b defs marks all cs ns fs law clean ready =
+    pub items_proceed : (done rest : List Item) (b : BeforeItem) (defs : List FuncDef) (labels : ItemsLabels rest) → m.items ≡ done ++ rest → length b.constants ≡ length (constants_in done) → b.classes ≡ length (classes_in done) → defs ≡ functions_in done
+        → LawfulModuleItems m constants b rest labels → Listed m listed (ItemsFind m constants b rest labels) → ItemsReady b rest labels
+        → Proceeds listed (λ k s. Between m listed b.constants defs b.classes b.names k s) (exec_items Step free parts m.imports_dataclass rest) (λ k u s. Between m listed (last_of b rest labels).constants (functions_in m.items) (last_of b rest labels).classes (last_of b rest labels).names k s)
+    items_proceed done [] b defs labels all cs ns fs law clean ready =
         proceeds_comes listed _ (Gives tt) _ λ k s h. subst (λ d. Between m listed b.constants d b.classes b.names k s) (fs ∙ ap functions_in (sym (append-nil done)) ∙ ap functions_in (sym all)) h
-    items_proceed done (constant_item p c ∷ rest) b defs marks all cs ns fs law clean ready =
+    items_proceed done (constant_item p c ∷ rest) b defs labels all cs ns fs law clean ready =
         let parts_of = binds_parts b.names c.name ready.0.0 in
-        proceeds_bind listed _ _ _ (λ k u s. Between m listed (before_next m b (constant_item p c) marks.first).constants defs b.classes (c.name.text ∷ b.names) k s) _
-        (constant_proceeds m listed parts m.imports_dataclass b.constants defs b.classes b.names p c marks.first.value marks.first.flows (inits b.constants defs b.classes b.names) evaluates
-        (subst (λ t. Lawful (initializer_context m b.constants b.classes) [] [] (first_of_types (annotated_types m t c.annotation)) c.value marks.first.value) ready.0.0 law.0.value)
-        (subst (λ t. FlowsInto (bases_of m) (mark_of c.value marks.first.value) (annotated_types m t c.annotation) marks.first.flows) ready.0.0 law.0.flow)
+        proceeds_bind listed _ _ _ (λ k u s. Between m listed (before_next m b (constant_item p c) labels.first).constants defs b.classes (c.name.text ∷ b.names) k s) _
+        (constant_proceeds m listed parts m.imports_dataclass b.constants defs b.classes b.names p c labels.first.value labels.first.flows (inits b.constants defs b.classes b.names) evaluates
+        (subst (λ t. Lawful (initializer_context m b.constants b.classes) [] [] (first_of_types (annotated_types m t c.annotation)) c.value labels.first.value) ready.0.0 law.0.value)
+        (subst (λ t. FlowsInto (bases_of m) (whole_label c.value labels.first.value) (annotated_types m t c.annotation) labels.first.flows) ready.0.0 law.0.flow)
         (λ f h. clean f (inl (inr h))) ready.0.1 means parts_of.0 parts_of.1)
-        λ u. items_proceed (done ++ constant_item p c ∷ []) rest (before_next m b (constant_item p c) marks.first) defs marks.rest (all ∙ sym (append_assoc done (constant_item p c ∷ []) rest))
+        λ u. items_proceed (done ++ constant_item p c ∷ []) rest (before_next m b (constant_item p c) labels.first) defs labels.rest (all ∙ sym (append_assoc done (constant_item p c ∷ []) rest))
         (one_longer b.constants _ ∙ ap suc cs ∙ sym (one_longer (constants_in done) c) ∙ ap length (sym (constants_append done (constant_item p c ∷ []))))
         (ns ∙ ap length (sym (classes_append done (constant_item p c ∷ []) ∙ append-nil (classes_in done)))) (fs ∙ sym (functions_append done (constant_item p c ∷ []) ∙ append-nil (functions_in done))) law.1 (λ f h. clean f (inr h)) ready.1
       where
@@ -97,17 +97,17 @@ module _ (m : Module) (constants : List Tree) (listed : Place → Type 0) where
             let at : n.at ≡ length b.constants = omega arith in
             let same : n.constant ≡ c = same_Some _ _ (sym n.is ∙ ap (slice_get (constants_in m.items)) (at ∙ cs) ∙ here) in
             ap (λ x. x.name.text) (sym same) ∙ n.named
-    items_proceed done (class_item p c ∷ rest) b defs marks all cs ns fs law clean ready =
+    items_proceed done (class_item p c ∷ rest) b defs labels all cs ns fs law clean ready =
         proceeds_bind listed _ _ _ (λ k u s. Between m listed b.constants defs (suc b.classes) (c.name.text ∷ b.names) k s) _
-        (classes.proceeds p c b defs marks.first (ap (λ l. slice_get l b.classes) (ap classes_in all ∙ classes_append done (class_item p c ∷ rest)) ∙ ap (slice_get (classes_in done ++ classes_in (class_item p c ∷ rest))) ns ∙ get_at_end (classes_in done) c (classes_in rest)) law.0 (λ f h. clean f (inl h)) ready.0)
-        λ u. items_proceed (done ++ class_item p c ∷ []) rest (before_next m b (class_item p c) marks.first) defs marks.rest (all ∙ sym (append_assoc done (class_item p c ∷ []) rest))
+        (classes.proceeds p c b defs labels.first (ap (λ l. slice_get l b.classes) (ap classes_in all ∙ classes_append done (class_item p c ∷ rest)) ∙ ap (slice_get (classes_in done ++ classes_in (class_item p c ∷ rest))) ns ∙ get_at_end (classes_in done) c (classes_in rest)) law.0 (λ f h. clean f (inl h)) ready.0)
+        λ u. items_proceed (done ++ class_item p c ∷ []) rest (before_next m b (class_item p c) labels.first) defs labels.rest (all ∙ sym (append_assoc done (class_item p c ∷ []) rest))
         (cs ∙ ap length (sym (constants_append done (class_item p c ∷ []) ∙ append-nil (constants_in done))))
         (ap suc ns ∙ sym (one_longer (classes_in done) c) ∙ ap length (sym (classes_append done (class_item p c ∷ [])))) (fs ∙ sym (functions_append done (class_item p c ∷ []) ∙ append-nil (functions_in done))) law.1 (λ f h. clean f (inr h)) ready.1
-    items_proceed done (def_item p d ∷ rest) b defs marks all cs ns fs law clean ready =
+    items_proceed done (def_item p d ∷ rest) b defs labels all cs ns fs law clean ready =
         let parts_of = binds_parts b.names d.name ready.0.0 in
         proceeds_bind listed _ _ _ (λ k u s. Between m listed b.constants (defs ++ d ∷ []) b.classes (d.name.text ∷ b.names) k s) _
-        (def_proceeds m listed parts m.imports_dataclass b.constants defs b.classes b.names p d marks.first.params law.0.params ready.0.1 (λ f h. clean f (inl (inl h))) means parts_of.0 parts_of.1)
-        λ u. items_proceed (done ++ def_item p d ∷ []) rest (before_next m b (def_item p d) marks.first) (defs ++ d ∷ []) marks.rest (all ∙ sym (append_assoc done (def_item p d ∷ []) rest))
+        (def_proceeds m listed parts m.imports_dataclass b.constants defs b.classes b.names p d labels.first.params law.0.params ready.0.1 (λ f h. clean f (inl (inl h))) means parts_of.0 parts_of.1)
+        λ u. items_proceed (done ++ def_item p d ∷ []) rest (before_next m b (def_item p d) labels.first) (defs ++ d ∷ []) labels.rest (all ∙ sym (append_assoc done (def_item p d ∷ []) rest))
         (cs ∙ ap length (sym (constants_append done (def_item p d ∷ []) ∙ append-nil (constants_in done))))
         (ns ∙ ap length (sym (classes_append done (def_item p d ∷ []) ∙ append-nil (classes_in done)))) (ap (λ l. l ++ d ∷ []) fs ∙ sym (functions_append done (def_item p d ∷ []))) law.1 (λ f h. clean f (inr h)) ready.1
       where

@@ -19,11 +19,11 @@ use Rattle.pc_types.specs.Tree.{Tree}
 use Rattle.pc_ann.specs.Annotations.{read_ann, read_option}
 use Rattle.pc_class.specs.Bases.{bases_of}
 use Rattle.pc_class.specs.Facts.{parameters_of, classes_of}
-use Rattle.pc_rules.specs.Labels.{FlowMarks, Marks, mark_of, type_of, Finds, IsFlowAt, IsCodeAt}
+use Rattle.pc_rules.specs.Labels.{FlowLabels, Labels, whole_label, type_of, Finds, IsFlowAt, IsCodeAt}
 use Rattle.pc_rules.specs.Context.{FlowsInto}
 use Rattle.pc_rules.specs.Lawful.{Lawful}
-use Rattle.pc_rules.specs.Signatures.{initializer_context, literal_type, literal_place, LawfulDefault, DefaultFinds, binds_name, ParamsMarks, LawfulParams, ParamsFind, constant_type, annotated_types, first_of_types}
-use Rattle.pc_labels.specs.Modules.{}
+use Rattle.pc_rules.specs.Signatures.{initializer_context, literal_type, literal_place, LawfulDefault, DefaultFinds, binds_name, ParamsLabels, LawfulParams, ParamsFind, constant_type, annotated_types, first_of_types}
+use Rattle.pc_module_rules.specs.Modules.{}
 use Rattle.pc_value.specs.Value as value
 use Rattle.pc_value.specs.Value.{Value, boolean, string, Out, Gives}
 use Rattle.pc_value.specs.Actions as action
@@ -233,7 +233,7 @@ module _ (m : Module) where
 
     module _ (before : Known) where
       -- a default is of the type that it flows into
-      pub default_made : (l : Option Literal) (t : Tree) (flows : FlowMarks) → LawfulDefault (bases_of m) true l t flows → Listed (DefaultFinds l flows) → Proceeds listed before (make_default Step free l) (λ k v s. before k s × DefaultHas (bases_of m) k t (is_some l) v)
+      pub default_made : (l : Option Literal) (t : Tree) (flows : FlowLabels) → LawfulDefault (bases_of m) true l t flows → Listed (DefaultFinds l flows) → Proceeds listed before (make_default Step free l) (λ k v s. before k s × DefaultHas (bases_of m) k t (is_some l) v)
       default_made None t flows law clean = proceeds_comes listed before (Gives None) _ λ k s b. (b, tt)
       default_made (Some l) t flows law clean =
           let one = one_flow (bases_of m) (record { type = literal_type l; codes = [] }) t flows law in
@@ -247,45 +247,45 @@ module _ (m : Module) where
     ParametersBind names (p ∷ ps) = (binds_name names p.name ≡ true) × ParametersBind (p.name.text ∷ names) ps
 
     -- the parameters of a def, with their defaults
-    parameters_made : (before : Known) (names : List (List ℕ)) (ps : List Param) (marks : ParamsMarks ps) → LawfulParams m names ps marks → ParametersBind names ps → Listed (ParamsFind m ps marks) → Proceeds listed before (make_parameters Step free ps) (λ k qs s. before k s × DefaultsHave (bases_of m) k qs (parameters_of m ps))
-    parameters_made before names [] marks law binds clean = proceeds_comes listed before (Gives []) _ λ k s b. (b, tt)
-    parameters_made before names (p ∷ ps) marks law binds clean =
+    parameters_made : (before : Known) (names : List (List ℕ)) (ps : List Param) (labels : ParamsLabels ps) → LawfulParams m names ps labels → ParametersBind names ps → Listed (ParamsFind m ps labels) → Proceeds listed before (make_parameters Step free ps) (λ k qs s. before k s × DefaultsHave (bases_of m) k qs (parameters_of m ps))
+    parameters_made before names [] labels law binds clean = proceeds_comes listed before (Gives []) _ λ k s b. (b, tt)
+    parameters_made before names (p ∷ ps) labels law binds clean =
         proceeds_bind listed before _ _ (λ k v s. before k s × DefaultHas (bases_of m) k (read_option m (bases_of m) p.annotation) (is_some p.default) v) _
-        (default_made before p.default (read_option m (bases_of m) p.annotation) marks.default (subst (λ b. LawfulDefault (bases_of m) b p.default (read_option m (bases_of m) p.annotation) marks.default) binds.0 law.default) (λ f h. clean f (inr (inl h))))
+        (default_made before p.default (read_option m (bases_of m) p.annotation) labels.default (subst (λ b. LawfulDefault (bases_of m) b p.default (read_option m (bases_of m) p.annotation) labels.default) binds.0 law.default) (λ f h. clean f (inr (inl h))))
         λ v. proceeds_bind listed _ _ _ (λ k qs s. (before k s × DefaultHas (bases_of m) k (read_option m (bases_of m) p.annotation) (is_some p.default) v) × DefaultsHave (bases_of m) k qs (parameters_of m ps)) _
-        (parameters_made (λ k s. before k s × DefaultHas (bases_of m) k (read_option m (bases_of m) p.annotation) (is_some p.default) v) (p.name.text ∷ names) ps marks.rest law.rest binds.1 (λ f h. clean f (inr (inr h))))
+        (parameters_made (λ k s. before k s × DefaultHas (bases_of m) k (read_option m (bases_of m) p.annotation) (is_some p.default) v) (p.name.text ∷ names) ps labels.rest law.rest binds.1 (λ f h. clean f (inr (inr h))))
         λ qs. proceeds_comes listed _ (Gives (record { name = p.name.text; default = v } ∷ qs)) _ λ k s b. (b.0.0, (refl, (b.0.1, b.1)))
 
     -- a def makes its function
-    pub function_made : (before : Known) (names : List (List ℕ)) (d : FuncDef) (marks : ParamsMarks d.params) → LawfulParams m names d.params marks → ParametersBind names d.params → Listed (ParamsFind m d.params marks) → Proceeds listed before (make_function Step free d) (λ k f s. before k s × MadeOf m k f d)
-    function_made before names d marks law binds clean =
-        proceeds_bind listed before _ _ (λ k qs s. before k s × DefaultsHave (bases_of m) k qs (parameters_of m d.params)) _ (parameters_made before names d.params marks law binds clean)
+    pub function_made : (before : Known) (names : List (List ℕ)) (d : FuncDef) (labels : ParamsLabels d.params) → LawfulParams m names d.params labels → ParametersBind names d.params → Listed (ParamsFind m d.params labels) → Proceeds listed before (make_function Step free d) (λ k f s. before k s × MadeOf m k f d)
+    function_made before names d labels law binds clean =
+        proceeds_bind listed before _ _ (λ k qs s. before k s × DefaultsHave (bases_of m) k qs (parameters_of m d.params)) _ (parameters_made before names d.params labels law binds clean)
         λ qs. proceeds_comes listed _ (Gives (record { name = d.name; parameters = qs; body = d.body })) _ λ k s b. (b.0, record { name = refl; body = refl; parameters = b.1 })
 
     -- ---- items
 
     module _ (parts : Parts Step) (imports : Test) (types : List Tree) (defs : List FuncDef) (n : ℕ) (names : List (List ℕ)) where
       -- a def binds its name
-      pub def_proceeds : (p : Place) (d : FuncDef) (marks : ParamsMarks d.params) → LawfulParams m [] d.params marks → ParametersBind [] d.params → Listed (ParamsFind m d.params marks) → ((word : List ℕ) → resolve_in_module m word ≡ res.Func (length defs) → d.name.text ≡ word) → is_one_of d.name.text names ≡ false → is_builtin_name d.name.text ≡ false
+      pub def_proceeds : (p : Place) (d : FuncDef) (labels : ParamsLabels d.params) → LawfulParams m [] d.params labels → ParametersBind [] d.params → Listed (ParamsFind m d.params labels) → ((word : List ℕ) → resolve_in_module m word ≡ res.Func (length defs) → d.name.text ≡ word) → is_one_of d.name.text names ≡ false → is_builtin_name d.name.text ≡ false
           → Proceeds listed (λ k s. Between types defs n names k s) (exec_item Step free parts imports (def_item p d)) (λ k u s. Between types (defs ++ d ∷ []) n (d.name.text ∷ names) k s)
-      def_proceeds p d marks law binds clean means new unreserved =
-          proceeds_bind listed _ _ _ (λ k f s. Between types defs n names k s × MadeOf m k f d) _ (function_made (λ k s. Between types defs n names k s) [] d marks law binds clean)
+      def_proceeds p d labels law binds clean means new unreserved =
+          proceeds_bind listed _ _ _ (λ k f s. Between types defs n names k s × MadeOf m k f d) _ (function_made (λ k s. Between types defs n names k s) [] d labels law binds clean)
           λ f. proceeds_changes listed _ (binds_global d.name.text (a_function f)) _ λ k s b. record { well = b.0.well; frame = b.0.frame; bound = bound_function types defs n names k s.classes s.globals d.name.text d f means new unreserved b.1 b.0.bound }
 
       -- a constant binds its name to a value of its type
-      pub constant_proceeds : (p : Place) (c : Constant) (marks : Marks c.value) (flows : FlowMarks) → GoodEval (around_items types defs n names) (initializer_context m types n) parts.eval → ((e : Expr) → Evaluates (place_of e) (parts.eval e))
-          → Lawful (initializer_context m types n) [] [] (first_of_types (annotated_types m true c.annotation)) c.value marks → FlowsInto (bases_of m) (mark_of c.value marks) (annotated_types m true c.annotation) flows
-          → Listed (λ f. IsFlowAt (place_of c.value) flows f ⊎ Finds c.value marks f) → Keyed c.value marks
+      pub constant_proceeds : (p : Place) (c : Constant) (labels : Labels c.value) (flows : FlowLabels) → GoodEval (around_items types defs n names) (initializer_context m types n) parts.eval → ((e : Expr) → Evaluates (place_of e) (parts.eval e))
+          → Lawful (initializer_context m types n) [] [] (first_of_types (annotated_types m true c.annotation)) c.value labels → FlowsInto (bases_of m) (whole_label c.value labels) (annotated_types m true c.annotation) flows
+          → Listed (λ f. IsFlowAt (place_of c.value) flows f ⊎ Finds c.value labels f) → Keyed c.value labels
           → ((word : List ℕ) → resolve_in_module m word ≡ res.Const (length types) → c.name.text ≡ word) → is_one_of c.name.text names ≡ false → is_builtin_name c.name.text ≡ false
-          → Proceeds listed (λ k s. Between types defs n names k s) (exec_item Step free parts imports (constant_item p c)) (λ k u s. Between (types ++ constant_type m c.annotation (type_of c.value marks) ∷ []) defs n (c.name.text ∷ names) k s)
-      constant_proceeds p c marks flows good evaluates law flow clean keyed means new unreserved =
+          → Proceeds listed (λ k s. Between types defs n names k s) (exec_item Step free parts imports (constant_item p c)) (λ k u s. Between (types ++ constant_type m c.annotation (type_of c.value labels) ∷ []) defs n (c.name.text ∷ names) k s)
+      constant_proceeds p c labels flows good evaluates law flow clean keyed means new unreserved =
           proceeds_bind listed _ _ _ (λ k u s. Between types defs n names k s) _ (proceeds_charge listed _)
-          λ u. proceeds_bind listed _ _ _ (λ k v s. Between types defs n names k s × HasType (bases_of m) k (constant_type m c.annotation (type_of c.value marks)) v) _
-          (proceeds_safe types defs n names (parts.eval c.value) (λ k v. HasType (bases_of m) k (constant_type m c.annotation (type_of c.value marks)) v) (typed c.annotation law flow))
-          λ v. proceeds_changes listed _ (binds_global c.name.text (a_value v)) _ λ k s b. record { well = b.0.well; frame = b.0.frame; bound = bound_constant types defs n names k s.classes s.globals c.name.text (constant_type m c.annotation (type_of c.value marks)) v means new unreserved b.1 b.0.bound }
+          λ u. proceeds_bind listed _ _ _ (λ k v s. Between types defs n names k s × HasType (bases_of m) k (constant_type m c.annotation (type_of c.value labels)) v) _
+          (proceeds_safe types defs n names (parts.eval c.value) (λ k v. HasType (bases_of m) k (constant_type m c.annotation (type_of c.value labels)) v) (typed c.annotation law flow))
+          λ v. proceeds_changes listed _ (binds_global c.name.text (a_value v)) _ λ k s b. record { well = b.0.well; frame = b.0.frame; bound = bound_constant types defs n names k s.classes s.globals c.name.text (constant_type m c.annotation (type_of c.value labels)) v means new unreserved b.1 b.0.bound }
         where
-          typed : (a : Option Ann) → Lawful (initializer_context m types n) [] [] (first_of_types (annotated_types m true a)) c.value marks → FlowsInto (bases_of m) (mark_of c.value marks) (annotated_types m true a) flows → IsSafe (around_items types defs n names) [] (λ k. Unit {0}) (parts.eval c.value) (λ k v. HasType (bases_of m) k (constant_type m a (type_of c.value marks)) v)
-          typed None l fl = good.safe [] None c.value marks l (λ f h. clean f (inr h)) keyed
+          typed : (a : Option Ann) → Lawful (initializer_context m types n) [] [] (first_of_types (annotated_types m true a)) c.value labels → FlowsInto (bases_of m) (whole_label c.value labels) (annotated_types m true a) flows → IsSafe (around_items types defs n names) [] (λ k. Unit {0}) (parts.eval c.value) (λ k v. HasType (bases_of m) k (constant_type m a (type_of c.value labels)) v)
+          typed None l fl = good.safe [] None c.value labels l (λ f h. clean f (inr h)) keyed
           typed (Some a) l fl =
-              let one = one_flow (bases_of m) (mark_of c.value marks) (read_ann m (bases_of m) a) flows fl in
-              flow_safe (around_items types defs n names) (initializer_context m types n) parts.eval good evaluates [] (λ k. Unit {0}) (Some (read_ann m (bases_of m) a)) c.value marks (read_ann m (bases_of m) a) one.0 l (λ f h. clean f (inr h)) one.2 (subst (λ x. Covered (around_items types defs n names) (IsFlowAt (place_of c.value) x)) one.1 (λ f h. clean f (inl h))) keyed
+              let one = one_flow (bases_of m) (whole_label c.value labels) (read_ann m (bases_of m) a) flows fl in
+              flow_safe (around_items types defs n names) (initializer_context m types n) parts.eval good evaluates [] (λ k. Unit {0}) (Some (read_ann m (bases_of m) a)) c.value labels (read_ann m (bases_of m) a) one.0 l (λ f h. clean f (inr h)) one.2 (subst (λ x. Covered (around_items types defs n names) (IsFlowAt (place_of c.value) x)) one.1 (λ f h. clean f (inl h))) keyed

@@ -25,7 +25,7 @@ use Rattle.pc_class.specs.Findings.{base_class, member_texts}
 use Rattle.pc_class.proofs.Judged.{judged_once}
 use Rattle.pc_class.specs.Overrides.{Judges, dynamic, wrong, overridden}
 use Rattle.pc_rules.specs.Signatures.{body_context}
-use Rattle.pc_labels.specs.Modules.{ItemsMarks, BeforeItem, before_next, nothing_before, constant_types, Labelling, IsLawful, IsFinding}
+use Rattle.pc_module_rules.specs.Modules.{ItemsLabels, BeforeItem, before_next, nothing_before, constant_types, Labelling, IsLawful, IsFinding}
 use Rattle.pc_machine.specs.Free.{Step, free}
 use Rattle.pc_machine.specs.Evaluation.{steps}
 use Rattle.pc_machine.specs.Runs.{Run, End, IsFaultyEnd}
@@ -68,30 +68,30 @@ count_last done (method_member d) = ap length (filter_map-append as_method done 
 -- ---- constants
 
 -- each constant has a type
-constant_at : (m : Module) (items : List Item) (marks : ItemsMarks items) (i : ℕ) (c : Constant) → slice_get (constants_in items) i ≡ Some c → (t : Tree) × (slice_get (constant_types m items marks) i ≡ Some t)
-constant_at m [] marks i c e = absurd (none-some _ e)
-constant_at m (constant_item p x ∷ rest) marks zero c e = (_, refl)
-constant_at m (constant_item p x ∷ rest) marks (suc i) c e = constant_at m rest marks.rest i c e
-constant_at m (class_item p x ∷ rest) marks i c e = constant_at m rest marks.rest i c e
-constant_at m (def_item p x ∷ rest) marks i c e = constant_at m rest marks.rest i c e
+constant_at : (m : Module) (items : List Item) (labels : ItemsLabels items) (i : ℕ) (c : Constant) → slice_get (constants_in items) i ≡ Some c → (t : Tree) × (slice_get (constant_types m items labels) i ≡ Some t)
+constant_at m [] labels i c e = absurd (none-some _ e)
+constant_at m (constant_item p x ∷ rest) labels zero c e = (_, refl)
+constant_at m (constant_item p x ∷ rest) labels (suc i) c e = constant_at m rest labels.rest i c e
+constant_at m (class_item p x ∷ rest) labels i c e = constant_at m rest labels.rest i c e
+constant_at m (def_item p x ∷ rest) labels i c e = constant_at m rest labels.rest i c e
 
 -- the labels of initializers have types whose dicts have int or str as key
-abbrev pub InitializersKeyed : (items : List Item) → ItemsMarks items → Type 0
-InitializersKeyed [] marks = Unit {0}
-InitializersKeyed (constant_item p c ∷ rest) marks = Keyed c.value marks.first.value × InitializersKeyed rest marks.rest
-InitializersKeyed (class_item p c ∷ rest) marks = InitializersKeyed rest marks.rest
-InitializersKeyed (def_item p f ∷ rest) marks = InitializersKeyed rest marks.rest
+abbrev pub InitializersKeyed : (items : List Item) → ItemsLabels items → Type 0
+InitializersKeyed [] labels = Unit {0}
+InitializersKeyed (constant_item p c ∷ rest) labels = Keyed c.value labels.first.value × InitializersKeyed rest labels.rest
+InitializersKeyed (class_item p c ∷ rest) labels = InitializersKeyed rest labels.rest
+InitializersKeyed (def_item p f ∷ rest) labels = InitializersKeyed rest labels.rest
 
-module _ (m : Module) (marks : Labelling m) (lawful : IsLawful m marks) (clean : HasNoError m) where
+module _ (m : Module) (labels : Labelling m) (lawful : IsLawful m labels) (clean : HasNoError m) where
   abbrev Constants : List Tree
-  Constants = constant_types m m.items marks
+  Constants = constant_types m m.items labels
 
   -- ---- names in bodies
 
-  names_timely : (owner : Owner) (d : FuncDef) → NamesTimely (body_context m (constant_types m m.items marks) (locals owner d))
+  names_timely : (owner : Owner) (d : FuncDef) → NamesTimely (body_context m (constant_types m m.items labels) (locals owner d))
   names_timely owner d = record {
     in_body = refl;
-    constants = λ word i e. let h = constant_named m word i (outside_const (index_of word (locals owner d)) (resolve_in_module m word) i e) in let b = h.behind in let at : i ≡ h.at = omega arith in constant_at m m.items marks i h.constant (ap (slice_get (constants_in m.items)) at ∙ h.is);
+    constants = λ word i e. let h = constant_named m word i (outside_const (index_of word (locals owner d)) (resolve_in_module m word) i e) in let b = h.behind in let at : i ≡ h.at = omega arith in constant_at m m.items labels i h.constant (ap (slice_get (constants_in m.items)) at ∙ h.is);
     classes = λ word c e. let h = class_named m word c (outside_class (index_of word (locals owner d)) (resolve_in_module m word) c e) in let b = h.behind in let at : c ≡ h.at = omega arith in within (classes_in m.items) c h.class (ap (slice_get (classes_in m.items)) at ∙ h.is);
   }
 
@@ -106,7 +106,7 @@ module _ (m : Module) (marks : Labelling m) (lawful : IsLawful m marks) (clean :
     override_listed done rest d code all binds judged =
         let taken : take (length done) class.members ≡ done = ap (take (length done)) all ∙ take-append_seam done (method_member d ∷ rest) in
         let found : IsFinding m (finding d.name.place code) = record {
-          marks = marks;
+          labels = labels;
           lawful = lawful;
           found = inr (inl (classes.override c class (record { is = is }) (record {
             at = length done;
@@ -149,17 +149,17 @@ module _ (m : Module) (marks : Labelling m) (lawful : IsLawful m marks) (clean :
 
   -- of a module without errors: its classes can be made, and the labels of its initializers have keyed dicts
   pub record Left : Type 0 where
-    pub classes : ClassesReady m (constant_types m m.items marks) (IsListedPlace m)
+    pub classes : ClassesReady m (constant_types m m.items labels) (IsListedPlace m)
     pub distinct_fields : (c : ℕ) → Distinct [] (class_facts_at (classes_of m) c).fields
     pub distinct_methods : (c : ℕ) (word : List ℕ) (old : Method) → method_by_name (class_facts_at (classes_of m) c).methods word ≡ Some old → Distinct [] old.parameters
-    pub constants_keyed : (i : ℕ) (t : Tree) → slice_get (constant_types m m.items marks) i ≡ Some t → IsKeyed t
-    pub initializers_keyed : InitializersKeyed m.items marks
+    pub constants_keyed : (i : ℕ) (t : Tree) → slice_get (constant_types m m.items labels) i ≡ Some t → IsKeyed t
+    pub initializers_keyed : InitializersKeyed m.items labels
 
   module _ (left : Left) where
-    labelled : (owner : Owner) (d : FuncDef) → function_of m owner ≡ Some d → Labelled m (constant_types m m.items marks) (IsListedPlace m) owner d
-    labelled = labelled_of m marks lawful clean (λ owner d fm law. function_keyed m (constant_types m m.items marks) left.constants_keyed owner d (names_timely owner d) fm law)
+    labelled : (owner : Owner) (d : FuncDef) → function_of m owner ≡ Some d → Labelled m (constant_types m m.items labels) (IsListedPlace m) owner d
+    labelled = labelled_of m labels lawful clean (λ owner d fm law. function_keyed m (constant_types m m.items labels) left.constants_keyed owner d (names_timely owner d) fm law)
 
-    facts : Facts m (constant_types m m.items marks) (IsListedPlace m)
+    facts : Facts m (constant_types m m.items labels) (IsListedPlace m)
     facts = record {
       inherits = inherits m;
       dispatched = λ d c below word old e. dispatched m (IsListedPlace m) judged d c below word old e;
@@ -167,42 +167,42 @@ module _ (m : Module) (marks : Labelling m) (lawful : IsLawful m marks) (clean :
       labelled = labelled;
       distinct_methods = left.distinct_methods;
       distinct_fields = left.distinct_fields;
-      distinct_functions = λ i d e. parameters_distinct m [] d.params (function_binds m marks lawful clean (owners.Func i) d e);
+      distinct_functions = λ i d e. parameters_distinct m [] d.params (function_binds m labels lawful clean (owners.Func i) d e);
     }
 
-    knows : (b : BodyOf m marks) → KnowsNames (body_around m marks b) (body_ctx m marks b)
-    knows (of_function owner d lab) = body_names m (constant_types m m.items marks) (IsListedPlace m) owner d lab
+    knows : (b : BodyOf m labels) → KnowsNames (body_around m labels b) (body_ctx m labels b)
+    knows (of_function owner d lab) = body_names m (constant_types m m.items labels) (IsListedPlace m) owner d lab
     knows (of_items types defs n names) = initializer_names m (IsListedPlace m) types defs n names
 
-    tests : (b : BodyOf m marks) → RightTests (body_around m marks b) (body_ctx m marks b)
-    tests (of_function owner d lab) = right_tests (body_around m marks (of_function owner d lab)) (body_ctx m marks (of_function owner d lab)) (body_fits m marks (of_function owner d lab)) (body_names m (constant_types m m.items marks) (IsListedPlace m) owner d lab) (body_ancestors m (constant_types m m.items marks) (IsListedPlace m) owner d lab)
-    tests (of_items types defs n names) = right_tests (body_around m marks (of_items types defs n names)) (body_ctx m marks (of_items types defs n names)) (body_fits m marks (of_items types defs n names)) (initializer_names m (IsListedPlace m) types defs n names) (initializer_ancestors m (IsListedPlace m) types defs n names)
+    tests : (b : BodyOf m labels) → RightTests (body_around m labels b) (body_ctx m labels b)
+    tests (of_function owner d lab) = right_tests (body_around m labels (of_function owner d lab)) (body_ctx m labels (of_function owner d lab)) (body_fits m labels (of_function owner d lab)) (body_names m (constant_types m m.items labels) (IsListedPlace m) owner d lab) (body_ancestors m (constant_types m m.items labels) (IsListedPlace m) owner d lab)
+    tests (of_items types defs n names) = right_tests (body_around m labels (of_items types defs n names)) (body_ctx m labels (of_items types defs n names)) (body_fits m labels (of_items types defs n names)) (initializer_names m (IsListedPlace m) types defs n names) (initializer_ancestors m (IsListedPlace m) types defs n names)
 
     -- each item can run
-    all_ready : (done items : List Item) (b : BeforeItem) (im : ItemsMarks items) → m.items ≡ done ++ items → AllBind b.names (map name_of_item items) → InitializersKeyed items im → ItemsReady m (constant_types m m.items marks) (IsListedPlace m) b items im
+    all_ready : (done items : List Item) (b : BeforeItem) (im : ItemsLabels items) → m.items ≡ done ++ items → AllBind b.names (map name_of_item items) → InitializersKeyed items im → ItemsReady m (constant_types m m.items labels) (IsListedPlace m) b items im
     all_ready done [] b im all binds keyed = tt
     all_ready done (constant_item p c ∷ rest) b im all binds keyed = ((binds.0, keyed.0), all_ready (done ++ constant_item p c ∷ []) rest (before_next m b (constant_item p c) im.first) im.rest (all ∙ sym (append_assoc done (constant_item p c ∷ []) rest)) binds.1 keyed.1)
     all_ready done (class_item p c ∷ rest) b im all binds keyed = (binds.0, all_ready (done ++ class_item p c ∷ []) rest (before_next m b (class_item p c) im.first) im.rest (all ∙ sym (append_assoc done (class_item p c ∷ []) rest)) binds.1 keyed)
     all_ready done (def_item p f ∷ rest) b im all binds keyed = (
-      (binds.0, parameters_bind m (IsListedPlace m) [] f.params (function_binds m marks lawful clean (owners.Func (length (functions_in done))) f here)),
+      (binds.0, parameters_bind m (IsListedPlace m) [] f.params (function_binds m labels lawful clean (owners.Func (length (functions_in done))) f here)),
       all_ready (done ++ def_item p f ∷ []) rest (before_next m b (def_item p f) im.first) im.rest (all ∙ sym (append_assoc done (def_item p f ∷ []) rest)) binds.1 keyed,
     )
       where
         here : slice_get (functions_in m.items) (length (functions_in done)) ≡ Some f
         here = ap (λ l. slice_get l (length (functions_in done))) (ap functions_in all ∙ functions_append done (def_item p f ∷ rest)) ∙ get_at_end (functions_in done) f (functions_in rest)
 
-    premises : Premises m marks
+    premises : Premises m labels
     premises = record {
-      forms = forms_of m marks facts (record { knows = knows; tests = tests });
-      classes = λ n. classes_good m (constant_types m m.items marks) (IsListedPlace m) left.classes (steps Step free n);
-      ready = all_ready [] m.items nothing_before marks refl (items_bind m marks lawful clean) left.initializers_keyed;
+      forms = forms_of m labels facts (record { knows = knows; tests = tests });
+      classes = λ n. classes_good m (constant_types m m.items labels) (IsListedPlace m) left.classes (steps Step free n);
+      ready = all_ready [] m.items nothing_before labels refl (items_bind m labels lawful clean) left.initializers_keyed;
       labelled = labelled;
-      main = main_plain m marks lawful clean;
+      main = main_plain m labels lawful clean;
       inherits = inherits m;
-      last_types = last_types_are m (constant_types m m.items marks) (IsListedPlace m) nothing_before m.items marks;
-      last_classes = last_classes_are m (constant_types m m.items marks) (IsListedPlace m) nothing_before m.items marks ∙ omega arith;
+      last_types = last_types_are m (constant_types m m.items labels) (IsListedPlace m) nothing_before m.items labels;
+      last_classes = last_classes_are m (constant_types m m.items labels) (IsListedPlace m) nothing_before m.items labels ∙ omega arith;
     }
 
     -- a run of the module that ends in a fault has evaluated a listed dynamic place
     pub sound_but_for : (events : List Place) (end : End) → Run m events end → IsFaultyEnd end → HasEvaluated m events
-    sound_but_for events end run fault = sound_of m marks lawful clean premises events end run fault
+    sound_but_for events end run fault = sound_of m labels lawful clean premises events end run fault

@@ -11,7 +11,7 @@ use Rattle.pc_scope_findings.specs.Findings as scope
 use Rattle.pc_scope_findings.specs.Findings.{ScopeFinds}
 use Rattle.pc_class.specs.Findings as class
 use Rattle.pc_class.specs.Findings.{ClassFinds}
-use Rattle.pc_labels.specs.Modules.{HasLabelling}
+use Rattle.pc_module_rules.specs.Modules.{HasLabelling}
 use Rattle.pc_sound.specs.Sound.{HasNoError}
 
 -- a list that is not empty has an element
@@ -29,10 +29,10 @@ either (p ∷ ps) qs e = inl (record { place = p; among = (0, omega arith, refl)
 
 module _ (m : Module) (labelled : HasLabelling m) (clean : HasNoError m) where
   scope_stop : (code : Code) → scope.IsScopeCode code → IsError code → (p : Place) → IsStopping m p code → ⊥
-  scope_stop code is error p stops = clean (finding p code) (record { marks = labelled.marks; lawful = labelled.lawful; found = inl (scope.stopping is stops) }) error
+  scope_stop code is error p stops = clean (finding p code) (record { labels = labelled.labels; lawful = labelled.lawful; found = inl (scope.stopping is stops) }) error
 
   class_stop : (p : Place) → IsStopping m p E06 → ⊥
-  class_stop p stops = clean (finding p E06) (record { marks = labelled.marks; lawful = labelled.lawful; found = inr (inl (class.member (record { code = refl; stops = stops }))) }) refl
+  class_stop p stops = clean (finding p E06) (record { labels = labelled.labels; lawful = labelled.lawful; found = inr (inl (class.member (record { code = refl; stops = stops }))) }) refl
 
   pub never_stopped : is_runnable m ≡ false → ⊥
   never_stopped e = elim (either (twice m) _ e) [

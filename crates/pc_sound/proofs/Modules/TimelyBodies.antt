@@ -9,8 +9,8 @@ use Rattle.pc_scope.specs.declared.resolution.Res.TheVariants as res
 use Rattle.pc_types.specs.Tree.{Tree}
 use Rattle.pc_flow.specs.Environment.{Env, current}
 use Rattle.pc_rules.specs.Operations.{in_error}
-use Rattle.pc_rules.specs.Context.{Context, local_mark, constant_mark, name_mark, is_early}
-use Rattle.pc_rules.specs.Labels.{Marks, mark_of}
+use Rattle.pc_rules.specs.Context.{Context, local_label, constant_label, name_label, is_early}
+use Rattle.pc_rules.specs.Labels.{Labels, whole_label}
 use Rattle.pc_rules.specs.Lawful.{Lawful}
 use Rattle.pc_rules.proofs.Silent.{silent_punctual, own_silent}
 use Rattle.pc_sound.proofs.Keyed.KeyedLabels.{Timely, ItemsTimely, EntriesTimely, KeywordsTimely}
@@ -26,7 +26,7 @@ OnTime cs = is_early cs ≡ false
 
 module _ (ctx : Context) (declared : List Tree) where
   -- a label has no E03 but where a name has it
-  pub own_timely : (e : Expr) → ((n : Name) → e ≡ name n → (env : Env) → OnTime (name_mark ctx env (ctx.resolve n.text)).codes) → (env : Env) (want : Option Tree) (m : Marks e) → Lawful ctx declared env want e m → is_early (mark_of e m).codes ≡ false
+  pub own_timely : (e : Expr) → ((n : Name) → e ≡ name n → (env : Env) → OnTime (name_label ctx env (ctx.resolve n.text)).codes) → (env : Env) (want : Option Tree) (m : Labels e) → Lawful ctx declared env want e m → is_early (whole_label e m).codes ≡ false
   own_timely (name n) names env want m law = ap (λ x. is_early x.codes) law ∙ names n refl env
   own_timely (number p d) names env want m law = silent_punctual _ (own_silent ctx declared env want (number p d) refl m law)
   own_timely (text p d) names env want m law = silent_punctual _ (own_silent ctx declared env want (text p d) refl m law)
@@ -52,20 +52,20 @@ module _ (ctx : Context) (declared : List Tree) where
     either_error true e = refl
     either_error false e = absurd (grind (arith, e))
 
-    name_timely : (env : Env) (word : List ℕ) (r : Res) → ctx.resolve word ≡ r → OnTime (name_mark ctx env r).codes
+    name_timely : (env : Env) (word : List ℕ) (r : Res) → ctx.resolve word ≡ r → OnTime (name_label ctx env r).codes
     name_timely env word (res.Local x) is = go (current env x)
       where
-        go : (o : Option Tree) → OnTime (local_mark o).codes
+        go : (o : Option Tree) → OnTime (local_label o).codes
         go None = refl
         go (Some t) = refl
-    name_timely env word (res.Const i) is = let k = there.constants word i is in subst (λ o. OnTime (constant_mark o).codes) (sym k.1) refl
+    name_timely env word (res.Const i) is = let k = there.constants word i is in subst (λ o. OnTime (constant_label o).codes) (sym k.1) refl
     name_timely env word (res.Func i) is = either_error ctx.in_body there.in_body
     name_timely env word (res.Class c) is = either_error (nat_lt c ctx.known) (there.classes word c is)
     name_timely env word (res.Builtin b) is = refl
     name_timely env word res.None is = refl
 
     -- no label has E03
-    pub never_early : (env : Env) (want : Option Tree) (e : Expr) (m : Marks e) → Lawful ctx declared env want e m → is_early (mark_of e m).codes ≡ false
+    pub never_early : (env : Env) (want : Option Tree) (e : Expr) (m : Labels e) → Lawful ctx declared env want e m → is_early (whole_label e m).codes ≡ false
     never_early env want e m law = own_timely e (λ n is env. name_timely env n.text (ctx.resolve n.text) refl) env want m law
 
     -- so each test of an instance is timely

@@ -18,8 +18,8 @@ use Rattle.pc_class.specs.Facts.{return_type, classes_of}
 use Rattle.pc_ann.proofs.Earlier.{smaller}
 use Rattle.pc_rules.specs.Context.{Context}
 use Rattle.pc_rules.specs.Signatures.{initializer_context}
-use Rattle.pc_labels.proofs.Scopes.{said_is_found}
-use Rattle.pc_labels.specs.Modules.{Labelling, IsLawful, IsFinding, constant_types, BeforeItem, nothing_before, ItemsFind}
+use Rattle.pc_module_rules.proofs.Scopes.{said_is_found}
+use Rattle.pc_module_rules.specs.Modules.{Labelling, IsLawful, IsFinding, constant_types, BeforeItem, nothing_before, ItemsFind}
 use Rattle.pc_value.specs.Value.{Value, Raised, Other, Outside, Cut, Out, Gives, Stops}
 use Rattle.pc_machine.specs.State.{nothing_bound}
 use Rattle.pc_machine.specs.Free.{Step, free}
@@ -44,25 +44,25 @@ pub record IsListedPlace (m : Module) (p : Place) : Type 0 where
   pub dynamic : ¬ (IsError finding.code)
   pub at : finding.place ≡ p
 
-module _ (m : Module) (marks : Labelling m) where
+module _ (m : Module) (labels : Labelling m) where
   abbrev pub Constants : List Tree
-  Constants = constant_types m m.items marks
+  Constants = constant_types m m.items labels
 
   -- a body of the module: of a function or method, or an initializer after some items
   pub data BodyOf : Type 0 where
-    of_function : (owner : Owner) (d : FuncDef) (lab : Labelled m (constant_types m m.items marks) (IsListedPlace m) owner d) → BodyOf
+    of_function : (owner : Owner) (d : FuncDef) (lab : Labelled m (constant_types m m.items labels) (IsListedPlace m) owner d) → BodyOf
     of_items : (types : List Tree) (defs : List FuncDef) (n : ℕ) (names : List (List ℕ)) → BodyOf
 
   abbrev pub body_around : BodyOf → Around
-  body_around (of_function owner d lab) = around_of m (constant_types m m.items marks) (IsListedPlace m) owner d lab
+  body_around (of_function owner d lab) = around_of m (constant_types m m.items labels) (IsListedPlace m) owner d lab
   body_around (of_items types defs n names) = around_items m (IsListedPlace m) types defs n names
 
   abbrev pub body_ctx : BodyOf → Context
-  body_ctx (of_function owner d lab) = context_of m (constant_types m m.items marks) (IsListedPlace m) owner d
+  body_ctx (of_function owner d lab) = context_of m (constant_types m m.items labels) (IsListedPlace m) owner d
   body_ctx (of_items types defs n names) = initializer_context m types n
 
   pub body_fits : (b : BodyOf) → IsContextOf (body_around b) (body_ctx b)
-  body_fits (of_function owner d lab) = fits_of m (constant_types m m.items marks) (IsListedPlace m) owner d lab
+  body_fits (of_function owner d lab) = fits_of m (constant_types m m.items labels) (IsListedPlace m) owner d lab
   body_fits (of_items types defs n names) = record {
     bases = refl;
     classes = refl;
@@ -80,22 +80,22 @@ module _ (m : Module) (marks : Labelling m) where
 
   -- what stands before `main`
   abbrev pub Last : BeforeItem
-  Last = last_of m (constant_types m m.items marks) (IsListedPlace m) nothing_before m.items marks
+  Last = last_of m (constant_types m m.items labels) (IsListedPlace m) nothing_before m.items labels
 
   -- what is left to be shown of a module without errors: each form is safe in each body, classes are made as their facts say, and its labels are as runs need them
   pub record Premises : Type 1 where
     pub forms : FormsGood m bodies
-    pub classes : (n : ℕ) → GoodClasses m (constant_types m m.items marks) (IsListedPlace m) (steps Step free n)
-    pub ready : ItemsReady m (constant_types m m.items marks) (IsListedPlace m) nothing_before m.items marks
-    pub labelled : (owner : Owner) (d : FuncDef) → function_of m owner ≡ Some d → Labelled m (constant_types m m.items marks) (IsListedPlace m) owner d
+    pub classes : (n : ℕ) → GoodClasses m (constant_types m m.items labels) (IsListedPlace m) (steps Step free n)
+    pub ready : ItemsReady m (constant_types m m.items labels) (IsListedPlace m) nothing_before m.items labels
+    pub labelled : (owner : Owner) (d : FuncDef) → function_of m owner ≡ Some d → Labelled m (constant_types m m.items labels) (IsListedPlace m) owner d
     pub main : is_plain_def (codes "main") m.items ≡ true
     pub inherits : Inherits (bases_of m) (classes_of m)
-    pub last_types : (last_of m (constant_types m m.items marks) (IsListedPlace m) nothing_before m.items marks).constants ≡ constant_types m m.items marks
-    pub last_classes : (last_of m (constant_types m m.items marks) (IsListedPlace m) nothing_before m.items marks).classes ≡ length (classes_in m.items)
+    pub last_types : (last_of m (constant_types m m.items labels) (IsListedPlace m) nothing_before m.items labels).constants ≡ constant_types m m.items labels
+    pub last_classes : (last_of m (constant_types m m.items labels) (IsListedPlace m) nothing_before m.items labels).classes ≡ length (classes_in m.items)
 
-  module _ (lawful : IsLawful m marks) (clean : HasNoError m) (premises : Premises) where
-    listed_of : Listed m (IsListedPlace m) (ItemsFind m (constant_types m m.items marks) nothing_before m.items marks)
-    listed_of f h = let found = said_is_found m marks lawful f h in (record { finding = f; found = found; dynamic = clean f found; at = refl }, clean f found)
+  module _ (lawful : IsLawful m labels) (clean : HasNoError m) (premises : Premises) where
+    listed_of : Listed m (IsListedPlace m) (ItemsFind m (constant_types m m.items labels) nothing_before m.items labels)
+    listed_of f h = let found = said_is_found m labels lawful f h in (record { finding = f; found = found; dynamic = clean f found; at = refl }, clean f found)
 
     good : (n : ℕ) → AllGood m bodies n
     good n = all_good m bodies premises.forms n
@@ -104,15 +104,15 @@ module _ (m : Module) (marks : Labelling m) where
     module_proceeds : (n : ℕ) → Proceeds (IsListedPlace m) (λ k s. Between m (IsListedPlace m) [] [] 0 [] k s) (exec_module Step free (steps Step free n) m) (λ k v s. Unit {0})
     module_proceeds n =
         proceeds_bind (IsListedPlace m) _ _ _ (λ k u s. Between m (IsListedPlace m) Last.constants (functions_in m.items) Last.classes Last.names k s) _
-        (items_proceed m (constant_types m m.items marks) (IsListedPlace m) (steps Step free n) (λ types defs c names. (good n).eval (of_items types defs c names)) (steps_evaluate n) (premises.classes n) [] m.items nothing_before [] marks refl refl refl refl lawful listed_of premises.ready)
+        (items_proceed m (constant_types m m.items labels) (IsListedPlace m) (steps Step free n) (λ types defs c names. (good n).eval (of_items types defs c names)) (steps_evaluate n) (premises.classes n) [] m.items nothing_before [] labels refl refl refl refl lawful listed_of premises.ready)
         λ u. proceeds_as (IsListedPlace m) _ (λ k s. Between m (IsListedPlace m) Last.constants (functions_in m.items) Last.classes Last.names k s) _ (λ k v s. Between m (IsListedPlace m) Last.constants (functions_in m.items) Last.classes Last.names k s × Unit {0}) _ (λ k s b. b) (λ k v s b. tt)
         (proceeds_safe m (IsListedPlace m) Last.constants (functions_in m.items) Last.classes Last.names (enter_main Step free (steps Step free n)) (λ k v. Unit {0})
-        (main_safe m (constant_types m m.items marks) (IsListedPlace m) premises.inherits (steps Step free n) Last.constants Last.classes Last.names premises.last_types premises.last_classes main lab ((good n).exec (of_function (owners.Func main.number) main.function lab))))
+        (main_safe m (constant_types m m.items labels) (IsListedPlace m) premises.inherits (steps Step free n) Last.constants Last.classes Last.names premises.last_types premises.last_classes main lab ((good n).exec (of_function (owners.Func main.number) main.function lab))))
       where
-        main : MainIs m (constant_types m m.items marks) (IsListedPlace m)
-        main = main_is m (constant_types m m.items marks) (IsListedPlace m) premises.main
+        main : MainIs m (constant_types m m.items labels) (IsListedPlace m)
+        main = main_is m (constant_types m m.items labels) (IsListedPlace m) premises.main
 
-        lab : Labelled m (constant_types m m.items marks) (IsListedPlace m) (owners.Func main.number) main.function
+        lab : Labelled m (constant_types m m.items labels) (IsListedPlace m) (owners.Func main.number) main.function
         lab = premises.labelled (owners.Func main.number) main.function main.is
 
     no_fault : (out : Out Value) → EndsWell (λ v. Unit {0}) out → IsFaultyEnd (end_of out) → ⊥
@@ -143,7 +143,7 @@ module _ (m : Module) (marks : Labelling m) where
 
     -- a run that ends in a fault has evaluated a listed dynamic place
     pub sound_of : (events : List Place) (end : End) → Run m events end → IsFaultyEnd end → HasEvaluated m events
-    sound_of events end (inl never) fault = absurd (never_stopped m (record { marks = marks; lawful = lawful }) clean never.0)
+    sound_of events end (inl never) fault = absurd (never_stopped m (record { labels = labels; lawful = lawful }) clean never.0)
     sound_of events end (inr ran) fault = elim ((module_proceeds ran.1.bound).run [] nothing_bound ran.1.left events ran.1.out begins ran.1.runs) [
       | inl h ↦ record { finding = h.is.finding; found = h.is.found; dynamic = h.is.dynamic; event = subst (λ p. Contains events p) (sym h.is.at) h.event }
       | inr a ↦ absurd (no_fault ran.1.out a.ends (subst IsFaultyEnd ran.1.is fault))

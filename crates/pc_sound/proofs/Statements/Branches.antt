@@ -10,8 +10,8 @@ use Rattle.pc_types.specs.Tree.{Tree}
 use Rattle.pc_flow.specs.Environment.{Env, join_ways}
 use Rattle.pc_flow.specs.Narrowing.{narrow}
 use Rattle.pc_rules.specs.Context.{Context}
-use Rattle.pc_labels.specs.StatementLabels.{StmtMarks, SuiteMarks, BranchesMarks, breaks_in, breaks_in_suite, breaks_in_branches, ways_in}
-use Rattle.pc_labels.specs.Statements.{NamesBound, LawfulStmt, LawfulSuite, LawfulBranches, StmtFinds, SuiteFinds, BranchesFind}
+use Rattle.pc_module_rules.specs.StatementLabels.{StmtLabels, SuiteLabels, BranchesLabels, breaks_in, breaks_in_suite, breaks_in_branches, ways_in}
+use Rattle.pc_module_rules.specs.Statements.{NamesBound, LawfulStmt, LawfulSuite, LawfulBranches, StmtFinds, SuiteFinds, BranchesFind}
 use Rattle.pc_machine.specs.State.{State, Frame}
 use Rattle.pc_machine.specs.Steps.{Parts, StatementEnd, next, breaking, continuing, leaves}
 use Rattle.pc_machine.specs.Free.{Step, free}
@@ -53,49 +53,49 @@ module _ (around : Around) (ctx : Context) (fits : IsContextOf around ctx) where
 
   module _ (m : Module) (returned : Tree) (parts : Parts Step) (decides : Decides around ctx parts.eval) (exec : GoodExec around ctx m returned parts.exec) where
     -- the first branch whose condition is true, else the suite of `else`
-    branches_run : (seen : NamesBound) (env : Env) (bs : Branches) (marks : BranchesMarks bs) (last : Env) (after : NamesBound) (o : Stmts) (else_marks : SuiteMarks o) (out : Option Env)
-        → LawfulBranches m ctx around.declared returned seen env bs marks last → LawfulSuite m ctx around.declared returned after last o else_marks out
-        → Covered around (BranchesFind m ctx seen bs marks) → Covered around (SuiteFinds m ctx after o else_marks) → BranchesKeyed bs marks → SuiteKeyed o else_marks
+    branches_run : (seen : NamesBound) (env : Env) (bs : Branches) (labels : BranchesLabels bs) (last : Env) (after : NamesBound) (o : Stmts) (else_labels : SuiteLabels o) (out : Option Env)
+        → LawfulBranches m ctx around.declared returned seen env bs labels last → LawfulSuite m ctx around.declared returned after last o else_labels out
+        → Covered around (BranchesFind m ctx seen bs labels) → Covered around (SuiteFinds m ctx after o else_labels) → BranchesKeyed bs labels → SuiteKeyed o else_labels
         → (wider : Ways) → returned ≡ wider.returned
-        → ((e : Env) → Contains (ways_in bs marks) e → wider.out e) → ((e : Env) → out ≡ Some e → wider.out e)
-        → ((e : Env) → Contains (breaks_in_branches bs marks) e → wider.breaks e) → ((e : Env) → Contains (breaks_in_suite o else_marks) e → wider.breaks e)
+        → ((e : Env) → Contains (ways_in bs labels) e → wider.out e) → ((e : Env) → out ≡ Some e → wider.out e)
+        → ((e : Env) → Contains (breaks_in_branches bs labels) e → wider.breaks e) → ((e : Env) → Contains (breaks_in_suite o else_labels) e → wider.breaks e)
         → ((p : Place) → Contains (loose_in_branches bs) p → wider.loose p) → ((p : Place) → Contains (loose_in o) p → wider.loose p)
         → (more : HeapTyping → Frame → Type 0) → Lasts around ctx (bound_by_branches bs) more → Lasts around ctx (bound_by o) more
         → Leads around (λ k s. IsWellTypedAnd around env more k s) (exec_branches Step free parts bs o) (λ k flow s. FlowEnds around wider k flow s × more k s.frame)
-    branches_run seen env no_branches marks last after o else_marks out law else_law covered else_covered keyed else_keyed wider e w1 w2 b1 b2 l1 l2 more lasts else_lasts =
+    branches_run seen env no_branches labels last after o else_labels out law else_law covered else_covered keyed else_keyed wider e w1 w2 b1 b2 l1 l2 more lasts else_lasts =
         leads_from around _ (λ k s. IsWellTypedAnd around last more k s) _ _ (λ k s at. record { stands = subst (λ x. IsWellTyped around x k s) (sym law) at.stands; known = at.known })
-        (leads_to around _ _ (λ k flow s. FlowEnds around (ways_out around ctx m returned out (breaks_in_suite o else_marks) (loose_in o)) k flow s × more k s.frame) _ (λ k flow s h. (flow_wider around ctx k s (ways_out around ctx m returned out (breaks_in_suite o else_marks) (loose_in o)) wider e w2 b2 l2 flow h.0, h.1))
-        (exec.runs after last o else_marks out else_law else_covered else_keyed more else_lasts))
-    branches_run seen env (more_branches c b rest) marks last after o else_marks out law else_law covered else_covered keyed else_keyed wider e w1 w2 b1 b2 l1 l2 more lasts else_lasts =
-        decided around ctx fits parts.eval decides more lasts.grow env c marks.condition _ _ _ law.condition (λ f h. covered f (inl h)) keyed.0
-        (leads_to around _ _ (λ k flow s. FlowEnds around (ways_out around ctx m returned marks.out (breaks_in_suite b marks.body) (loose_in b)) k flow s × more k s.frame) _
+        (leads_to around _ _ (λ k flow s. FlowEnds around (ways_out around ctx m returned out (breaks_in_suite o else_labels) (loose_in o)) k flow s × more k s.frame) _ (λ k flow s h. (flow_wider around ctx k s (ways_out around ctx m returned out (breaks_in_suite o else_labels) (loose_in o)) wider e w2 b2 l2 flow h.0, h.1))
+        (exec.runs after last o else_labels out else_law else_covered else_keyed more else_lasts))
+    branches_run seen env (more_branches c b rest) labels last after o else_labels out law else_law covered else_covered keyed else_keyed wider e w1 w2 b1 b2 l1 l2 more lasts else_lasts =
+        decided around ctx fits parts.eval decides more lasts.grow env c labels.condition _ _ _ law.condition (λ f h. covered f (inl h)) keyed.0
+        (leads_to around _ _ (λ k flow s. FlowEnds around (ways_out around ctx m returned labels.out (breaks_in_suite b labels.body) (loose_in b)) k flow s × more k s.frame) _
         (λ k flow s h. (
-          flow_wider around ctx k s (ways_out around ctx m returned marks.out (breaks_in_suite b marks.body) (loose_in b)) wider e
-              (λ x i. w1 x (Contains-append_left (option_to_list marks.out) (ways_in rest marks.rest) x (option_among marks.out x i)))
-              (λ x i. b1 x (Contains-append_left (breaks_in_suite b marks.body) (breaks_in_branches rest marks.rest) x i))
+          flow_wider around ctx k s (ways_out around ctx m returned labels.out (breaks_in_suite b labels.body) (loose_in b)) wider e
+              (λ x i. w1 x (Contains-append_left (option_to_list labels.out) (ways_in rest labels.rest) x (option_among labels.out x i)))
+              (λ x i. b1 x (Contains-append_left (breaks_in_suite b labels.body) (breaks_in_branches rest labels.rest) x i))
               (λ p i. l1 p (Contains-append_left (loose_in b) (loose_in_branches rest) p i)) flow h.0,
           h.1,
         ))
-        (exec.runs seen (narrow ctx.bases around.declared ctx.resolve true c env) b marks.body marks.out law.body (λ f h. covered f (inr (inl h))) keyed.1.0 more (lasts_left around ctx (bound_by b) (bound_by_branches rest) lasts)))
-        (branches_run (texts (bound_by b) ++ seen) (narrow ctx.bases around.declared ctx.resolve false c env) rest marks.rest last after o else_marks out law.others else_law (λ f h. covered f (inr (inr h))) else_covered keyed.1.1 else_keyed wider e
-        (λ x i. w1 x (Contains-append_right (option_to_list marks.out) (ways_in rest marks.rest) x i)) w2
-        (λ x i. b1 x (Contains-append_right (breaks_in_suite b marks.body) (breaks_in_branches rest marks.rest) x i)) b2
+        (exec.runs seen (narrow ctx.bases around.declared ctx.resolve true c env) b labels.body labels.out law.body (λ f h. covered f (inr (inl h))) keyed.1.0 more (lasts_left around ctx (bound_by b) (bound_by_branches rest) lasts)))
+        (branches_run (texts (bound_by b) ++ seen) (narrow ctx.bases around.declared ctx.resolve false c env) rest labels.rest last after o else_labels out law.others else_law (λ f h. covered f (inr (inr h))) else_covered keyed.1.1 else_keyed wider e
+        (λ x i. w1 x (Contains-append_right (option_to_list labels.out) (ways_in rest labels.rest) x i)) w2
+        (λ x i. b1 x (Contains-append_right (breaks_in_suite b labels.body) (breaks_in_branches rest labels.rest) x i)) b2
         (λ p i. l1 p (Contains-append_right (loose_in b) (loose_in_branches rest) p i)) l2 more (lasts_right around ctx (bound_by b) (bound_by_branches rest) lasts) else_lasts)
 
     pub conditional_runs : (p : Place) (bs : Branches) (o : Stmts) → GoodStmt around ctx m returned (conditional p bs o) (exec_node Step free parts (conditional p bs o))
     conditional_runs p bs o = record { runs = go }
       where
-        go : (seen : NamesBound) (env : Env) (marks : StmtMarks (conditional p bs o)) (out : Option Env) → LawfulStmt m ctx around.declared returned seen env (conditional p bs o) marks out → Covered around (StmtFinds m ctx seen (conditional p bs o) marks) → StmtKeyed (conditional p bs o) marks
-            → Runs around ctx env (ways_out around ctx m returned out (breaks_in (conditional p bs o) marks) (loose_in_branches bs ++ loose_in o)) (bound_by_branches bs ++ bound_by o) (exec_node Step free parts (conditional p bs o))
-        go seen env marks out law covered keyed more lasts =
-            let ways = ways_in bs marks.branches ++ option_to_list marks.out in
-            let brs = breaks_in_branches bs marks.branches ++ breaks_in_suite o marks.otherwise in
+        go : (seen : NamesBound) (env : Env) (labels : StmtLabels (conditional p bs o)) (out : Option Env) → LawfulStmt m ctx around.declared returned seen env (conditional p bs o) labels out → Covered around (StmtFinds m ctx seen (conditional p bs o) labels) → StmtKeyed (conditional p bs o) labels
+            → Runs around ctx env (ways_out around ctx m returned out (breaks_in (conditional p bs o) labels) (loose_in_branches bs ++ loose_in o)) (bound_by_branches bs ++ bound_by o) (exec_node Step free parts (conditional p bs o))
+        go seen env labels out law covered keyed more lasts =
+            let ways = ways_in bs labels.branches ++ option_to_list labels.out in
+            let brs = breaks_in_branches bs labels.branches ++ breaks_in_suite o labels.otherwise in
             let loose = loose_in_branches bs ++ loose_in o in
             let wider : Ways = record { out = λ e. Contains ways e; breaks = λ e. Contains brs e; loose = λ q. Contains loose q; returned = returned } in
             leads_to around _ _ (λ k flow s. FlowEnds around wider k flow s × more k s.frame) _ (λ k flow s h. (narrowed ways brs loose out law.after k s flow h.0, h.1))
-            (branches_run seen env bs marks.branches marks.last (texts (bound_by_branches bs) ++ seen) o marks.otherwise marks.out law.branches law.otherwise (λ f h. covered f (inl h)) (λ f h. covered f (inr h)) keyed.0 keyed.1 wider refl
-            (λ x i. Contains-append_left (ways_in bs marks.branches) (option_to_list marks.out) x i) (λ x i. Contains-append_right (ways_in bs marks.branches) (option_to_list marks.out) x (option_among marks.out x i))
-            (λ x i. Contains-append_left (breaks_in_branches bs marks.branches) (breaks_in_suite o marks.otherwise) x i) (λ x i. Contains-append_right (breaks_in_branches bs marks.branches) (breaks_in_suite o marks.otherwise) x i)
+            (branches_run seen env bs labels.branches labels.last (texts (bound_by_branches bs) ++ seen) o labels.otherwise labels.out law.branches law.otherwise (λ f h. covered f (inl h)) (λ f h. covered f (inr h)) keyed.0 keyed.1 wider refl
+            (λ x i. Contains-append_left (ways_in bs labels.branches) (option_to_list labels.out) x i) (λ x i. Contains-append_right (ways_in bs labels.branches) (option_to_list labels.out) x (option_among labels.out x i))
+            (λ x i. Contains-append_left (breaks_in_branches bs labels.branches) (breaks_in_suite o labels.otherwise) x i) (λ x i. Contains-append_right (breaks_in_branches bs labels.branches) (breaks_in_suite o labels.otherwise) x i)
             (λ q i. Contains-append_left (loose_in_branches bs) (loose_in o) q i) (λ q i. Contains-append_right (loose_in_branches bs) (loose_in o) q i)
             more (lasts_left around ctx (bound_by_branches bs) (bound_by o) lasts) (lasts_right around ctx (bound_by_branches bs) (bound_by o) lasts))
           where

@@ -12,9 +12,9 @@ use Rattle.pc_class.specs.Facts.{TypedParameter, Method, field_by_name, method_b
 use Rattle.pc_flow.specs.Environment.{Env}
 use Rattle.pc_rules.specs.Operations.{store_codes, has_error, stored_types, store_found, store_attribute_member}
 use Rattle.pc_rules.specs.Context.{Context, FlowsInto}
-use Rattle.pc_rules.specs.Labels.{FlowMarks, Marks, mark_of, type_of, Finds, IsFlowAt}
-use Rattle.pc_labels.specs.StatementLabels.{TargetMarks}
-use Rattle.pc_labels.specs.Statements.{LawfulStore, TargetFinds}
+use Rattle.pc_rules.specs.Labels.{FlowLabels, Labels, whole_label, type_of, Finds, IsFlowAt}
+use Rattle.pc_module_rules.specs.StatementLabels.{TargetLabels}
+use Rattle.pc_module_rules.specs.Statements.{LawfulStore, TargetFinds}
 use Rattle.pc_value.specs.Value.{Value, Gives, Heap, seen}
 use Rattle.pc_value.specs.Actions as action
 use Rattle.pc_value.specs.Attributes.{store_attribute_outcome}
@@ -59,20 +59,20 @@ module _ (bases : Bases) (classes : List facts.ClassFacts) (inherits : Inherits 
 
 module _ (around : Around) (ctx : Context) (fits : IsContextOf around ctx) (inherits : Inherits around.bases around.classes) (m : Module) (parts : Parts Step) (good : GoodEval around ctx parts.eval) (evaluates : (e : Expr) → Evaluates (place_of e) (parts.eval e)) where
   -- `e.f = v`
-  pub field_store_safe : (env : Env) (p : Place) (o : Expr) (field : Name) (target : TargetMarks (to_attribute p o field)) (e : Expr) (marks : Marks e) (flows : FlowMarks) → LawfulStore m ctx around.declared env (to_attribute p o field) target e marks flows → Covered around (λ f. IsFlowAt (place_of e) flows f ⊎ (Finds e marks f ⊎ TargetFinds m ctx (to_attribute p o field) target f)) → Keyed e marks → TargetKeyed (to_attribute p o field) target → IsSafe around env (λ k. Unit {0}) (parts.eval e >>= λ v. assign Step free parts (to_attribute p o field) v) (λ k flow. flow ≡ next)
-  field_store_safe env p o field target e marks flows law covered keyed target_keyed =
+  pub field_store_safe : (env : Env) (p : Place) (o : Expr) (field : Name) (target : TargetLabels (to_attribute p o field)) (e : Expr) (labels : Labels e) (flows : FlowLabels) → LawfulStore m ctx around.declared env (to_attribute p o field) target e labels flows → Covered around (λ f. IsFlowAt (place_of e) flows f ⊎ (Finds e labels f ⊎ TargetFinds m ctx (to_attribute p o field) target f)) → Keyed e labels → TargetKeyed (to_attribute p o field) target → IsSafe around env (λ k. Unit {0}) (parts.eval e >>= λ v. assign Step free parts (to_attribute p o field) v) (λ k flow. flow ≡ next)
+  field_store_safe env p o field target e labels flows law covered keyed target_keyed =
       let object = type_of o target.object in
       let offers = map (store_attribute_member around.classes field.text) (members object) in
       let values = stored_types offers in
       let codes : target.codes ≡ store_codes offers = law.codes ∙ ap (λ c. store_codes (map (store_attribute_member c field.text) (members object))) (sym fits.classes) in
-      let flow : FlowsInto around.bases (mark_of e marks) values flows = subst (λ c. FlowsInto around.bases (mark_of e marks) (stored_types (map (store_attribute_member c field.text) (members object))) flows) (sym fits.classes) (subst (λ b. FlowsInto b (mark_of e marks) (stored_types (map (store_attribute_member ctx.classes field.text) (members object))) flows) (sym fits.bases) law.flow) in
-      bind_safe around env _ _ _ (λ k w. HasType around.bases k (type_of e marks) w × HasEach around.bases k values w) _ (λ k k' x h. tt)
-      (flows_safe around ctx parts.eval good evaluates env _ _ e marks values flows law.value (λ f h. covered f (inr (inl h))) flow (λ f h. covered f (inl h)) keyed)
-      λ w. bind_safe around env _ _ _ (λ k v. HasType around.bases k object v) _ (λ k k' x h. (tt, (later around.bases x (type_of e marks) w h.1.0, each_later around.bases x values w h.1.1)))
+      let flow : FlowsInto around.bases (whole_label e labels) values flows = subst (λ c. FlowsInto around.bases (whole_label e labels) (stored_types (map (store_attribute_member c field.text) (members object))) flows) (sym fits.classes) (subst (λ b. FlowsInto b (whole_label e labels) (stored_types (map (store_attribute_member ctx.classes field.text) (members object))) flows) (sym fits.bases) law.flow) in
+      bind_safe around env _ _ _ (λ k w. HasType around.bases k (type_of e labels) w × HasEach around.bases k values w) _ (λ k k' x h. tt)
+      (flows_safe around ctx parts.eval good evaluates env _ _ e labels values flows law.value (λ f h. covered f (inr (inl h))) flow (λ f h. covered f (inl h)) keyed)
+      λ w. bind_safe around env _ _ _ (λ k v. HasType around.bases k object v) _ (λ k k' x h. (tt, (later around.bases x (type_of e labels) w h.1.0, each_later around.bases x values w h.1.1)))
       (part around ctx parts good env _ _ o target.object law.object (λ f h. covered f (inr (inr (inr h)))) target_keyed)
-      λ v. bind_safe around env _ _ _ (λ k u. target.codes ≡ []) _ (λ k k' x h. ((tt, (later around.bases x (type_of e marks) w h.0.1.0, each_later around.bases x values w h.0.1.1)), later around.bases x object v h.1))
+      λ v. bind_safe around env _ _ _ (λ k u. target.codes ≡ []) _ (λ k k' x h. ((tt, (later around.bases x (type_of e labels) w h.0.1.0, each_later around.bases x values w h.0.1.1)), later around.bases x object v h.1))
       (emits_safe around env _ p target.codes (allowed around p target.codes (λ f h. covered f (inr (inr (inl h))))))
-      λ u. bind_safe around env _ _ _ (λ k x. Unit {0}) _ (λ k k' x h. (((tt, (later around.bases x (type_of e marks) w h.0.0.1.0, each_later around.bases x values w h.0.0.1.1)), later around.bases x object v h.0.1), h.1))
+      λ u. bind_safe around env _ _ _ (λ k x. Unit {0}) _ (λ k k' x h. (((tt, (later around.bases x (type_of e labels) w h.0.0.1.0, each_later around.bases x values w h.0.0.1.1)), later around.bases x object v h.0.1), h.1))
       (weaken around env _ _ _ (λ k x. HasType around.bases k NoneType x) (λ k x. Unit {0}) (λ k x. x) (λ k x h. tt)
       (acting_safe around env _ (action.store_attribute v field.text w) NoneType λ f k s h st. stored_keeps around.bases around.classes inherits k s.heap st.well field.text object v w h.0.1 (sym codes ∙ h.1) h.0.0.1.1))
       λ x. comes_safe around env _ (Gives next) _ λ k h. refl
@@ -81,7 +81,7 @@ module _ (around : Around) (ctx : Context) (fits : IsContextOf around ctx) (inhe
   pub stores_good : GoodStores around m ctx parts
   stores_good = record { stores = go }
     where
-      go : (env : Env) (t : Target) (target : TargetMarks t) (e : Expr) (marks : Marks e) (flows : FlowMarks) → LawfulStore m ctx around.declared env t target e marks flows → Covered around (λ f. IsFlowAt (place_of e) flows f ⊎ (Finds e marks f ⊎ TargetFinds m ctx t target f)) → Keyed e marks → TargetKeyed t target → IsSafe around env (λ k. Unit {0}) (parts.eval e >>= λ v. assign Step free parts t v) (λ k flow. flow ≡ next)
-      go env (to_name n) target e marks flows law covered keyed target_keyed = absurd law
-      go env (to_attribute p o field) target e marks flows law covered keyed target_keyed = field_store_safe env p o field target e marks flows law covered keyed target_keyed
-      go env (to_index p o i) target e marks flows law covered keyed target_keyed = item_store_safe around ctx fits m parts good evaluates env p o i target e marks flows law covered keyed target_keyed
+      go : (env : Env) (t : Target) (target : TargetLabels t) (e : Expr) (labels : Labels e) (flows : FlowLabels) → LawfulStore m ctx around.declared env t target e labels flows → Covered around (λ f. IsFlowAt (place_of e) flows f ⊎ (Finds e labels f ⊎ TargetFinds m ctx t target f)) → Keyed e labels → TargetKeyed t target → IsSafe around env (λ k. Unit {0}) (parts.eval e >>= λ v. assign Step free parts t v) (λ k flow. flow ≡ next)
+      go env (to_name n) target e labels flows law covered keyed target_keyed = absurd law
+      go env (to_attribute p o field) target e labels flows law covered keyed target_keyed = field_store_safe env p o field target e labels flows law covered keyed target_keyed
+      go env (to_index p o i) target e labels flows law covered keyed target_keyed = item_store_safe around ctx fits m parts good evaluates env p o i target e labels flows law covered keyed target_keyed

@@ -12,11 +12,11 @@ use Rattle.pc_scope.specs.declared.resolution.Res.TheVariants as res
 use Rattle.pc_types.specs.Tree.{Tree}
 use Rattle.pc_types.specs.Below.{Bases}
 use Rattle.pc_flow.specs.Environment.{Env, declared_type, assign, assigned_type, loop_head}
-use Rattle.pc_rules.specs.Operations.{Mark, FlowMark, clean}
+use Rattle.pc_rules.specs.Operations.{Label, FlowLabel, clean}
 use Rattle.pc_rules.specs.Context.{Context, Flows, static, FlowsInto}
-use Rattle.pc_rules.specs.Labels.{Marks, Finds, IsFoundAt, IsFlowAt}
-use Rattle.pc_labels.specs.StatementLabels.{StmtMarks, SuiteMarks, breaks_in_suite}
-use Rattle.pc_labels.specs.Statements.{NamesBound, only_code, binds_number, LawfulIterable, LawfulTarget, LawfulStmt, LawfulSuite, StmtFinds, SuiteFinds}
+use Rattle.pc_rules.specs.Labels.{Labels, Finds, IsFoundAt, IsFlowAt}
+use Rattle.pc_module_rules.specs.StatementLabels.{StmtLabels, SuiteLabels, breaks_in_suite}
+use Rattle.pc_module_rules.specs.Statements.{NamesBound, only_code, binds_number, LawfulIterable, LawfulTarget, LawfulStmt, LawfulSuite, StmtFinds, SuiteFinds}
 use Rattle.pc_value.specs.Value.{Value, Gives}
 use Rattle.pc_value.specs.Actions.{Iteration}
 use Rattle.pc_value.specs.Actions as action
@@ -47,7 +47,7 @@ abbrev pub codes_of : Option Code → List Code
 codes_of None = []
 codes_of (Some c) = c ∷ []
 
-pub flow_allowed : (around : Around) (p : Place) (flow : FlowMark) → Covered around (IsFlowAt p (flow ∷ [])) → AreListedCodes around.listed p (codes_of flow.code)
+pub flow_allowed : (around : Around) (p : Place) (flow : FlowLabel) → Covered around (IsFlowAt p (flow ∷ [])) → AreListedCodes around.listed p (codes_of flow.code)
 flow_allowed around p flow covered = go flow.code refl
   where
     go : (c : Option Code) → flow.code ≡ c → AreListedCodes around.listed p (codes_of c)
@@ -62,12 +62,12 @@ target_has bases t d (Some c) flow quiet k v h = absurd (not_empty quiet)
 module _ (around : Around) (ctx : Context) (fits : IsContextOf around ctx) (m : Module) (returned : Tree) where
   -- what a `for` goes over is as its labels say, and its place is evaluated
   pub record GoodIterables (parts : Parts Step) : Type 0 where
-    pub safe : (env : Env) (e : Expr) (marks : Marks e) (item : Mark) → LawfulIterable m ctx around.declared env e marks item → Covered around (Finds e marks) → Covered around (IsFoundAt (place_of e) item.codes) → Keyed e marks → IsSafe around env (λ k. Unit {0}) (eval_iterable Step free parts e (iterable_form e)) (λ k over. GoesOver around.bases k item.type over)
+    pub safe : (env : Env) (e : Expr) (labels : Labels e) (item : Label) → LawfulIterable m ctx around.declared env e labels item → Covered around (Finds e labels) → Covered around (IsFoundAt (place_of e) item.codes) → Keyed e labels → IsSafe around env (λ k. Unit {0}) (eval_iterable Step free parts e (iterable_form e)) (λ k over. GoesOver around.bases k item.type over)
     pub place : (e : Expr) → Evaluates (place_of e) (eval_iterable Step free parts e (iterable_form e))
 
   -- the turns of a `for` run as it is labelled
   pub record GoodTurns (turns : Iteration → ℕ → List ℕ → Stmts → Step StatementEnd) : Type 1 where
-    pub runs : (seen : NamesBound) (n : Name) (x : ℕ) (t u : Tree) (b : Stmts) (bm : SuiteMarks b) (out : Option Env) (env head : Env) (over : Iteration) (i : ℕ) → ctx.resolve n.text ≡ res.Local x → head ≡ loop_head (binds_number ctx.resolve (n ∷ bound_by b)) around.declared env
+    pub runs : (seen : NamesBound) (n : Name) (x : ℕ) (t u : Tree) (b : Stmts) (bm : SuiteLabels b) (out : Option Env) (env head : Env) (over : Iteration) (i : ℕ) → ctx.resolve n.text ≡ res.Local x → head ≡ loop_head (binds_number ctx.resolve (n ∷ bound_by b)) around.declared env
         → ((k : HeapTyping) (v : Value) → HasType around.bases k t v → HasType around.bases k u v × HasType around.bases k (declared_type around.declared x) v)
         → LawfulSuite m ctx around.declared returned seen (assign head x u) b bm out → Covered around (SuiteFinds m ctx seen b bm) → SuiteKeyed b bm
         → (more : HeapTyping → Frame → Type 0) → Lasts around ctx (n ∷ bound_by b) more → Leads around (λ k s. IsWellTypedAnd around head more k s × GoesOver around.bases k t over) (turns over i n.text b) (λ k flow s. FlowEnds around (loop_ways around ctx fits m returned head (breaks_in_suite b bm)) k flow s × more k s.frame)
@@ -76,7 +76,7 @@ module _ (around : Around) (ctx : Context) (fits : IsContextOf around ctx) (m : 
   pub for_turn_runs : (exec : Stmts → Step StatementEnd) (turns : Iteration → ℕ → List ℕ → Stmts → Step StatementEnd) → GoodExec around ctx m returned exec → GoodTurns turns → GoodTurns (λ over i n b. for_turn Step free exec (turns over (suc i) n b) over i n b)
   for_turn_runs exec turns good further = record { runs = go }
     where
-      go : (seen : NamesBound) (n : Name) (x : ℕ) (t u : Tree) (b : Stmts) (bm : SuiteMarks b) (out : Option Env) (env head : Env) (over : Iteration) (i : ℕ) → ctx.resolve n.text ≡ res.Local x → head ≡ loop_head (binds_number ctx.resolve (n ∷ bound_by b)) around.declared env
+      go : (seen : NamesBound) (n : Name) (x : ℕ) (t u : Tree) (b : Stmts) (bm : SuiteLabels b) (out : Option Env) (env head : Env) (over : Iteration) (i : ℕ) → ctx.resolve n.text ≡ res.Local x → head ≡ loop_head (binds_number ctx.resolve (n ∷ bound_by b)) around.declared env
           → ((k : HeapTyping) (v : Value) → HasType around.bases k t v → HasType around.bases k u v × HasType around.bases k (declared_type around.declared x) v)
           → LawfulSuite m ctx around.declared returned seen (assign head x u) b bm out → Covered around (SuiteFinds m ctx seen b bm) → SuiteKeyed b bm
           → (more : HeapTyping → Frame → Type 0) → Lasts around ctx (n ∷ bound_by b) more → Leads around (λ k s. IsWellTypedAnd around head more k s × GoesOver around.bases k t over) (for_turn Step free exec (turns over (suc i) n.text b) over i n.text b) (λ k flow s. FlowEnds around (loop_ways around ctx fits m returned head (breaks_in_suite b bm)) k flow s × more k s.frame)
@@ -116,27 +116,27 @@ module _ (around : Around) (ctx : Context) (fits : IsContextOf around ctx) (m : 
   pub for_runs : (parts : Parts Step) → GoodIterables parts → GoodTurns parts.turns → (p : Place) (n : Name) (e : Expr) (b : Stmts) → GoodStmt around ctx m returned (for_loop p n e b) (exec_node Step free parts (for_loop p n e b))
   for_runs parts iterables further p n e b = record { runs = go }
     where
-      go : (seen : NamesBound) (env : Env) (marks : StmtMarks (for_loop p n e b)) (out : Option Env) → LawfulStmt m ctx around.declared returned seen env (for_loop p n e b) marks out → Covered around (StmtFinds m ctx seen (for_loop p n e b) marks) → StmtKeyed (for_loop p n e b) marks → Runs around ctx env (ways_out around ctx m returned out [] []) (n ∷ bound_by b) (exec_node Step free parts (for_loop p n e b))
-      go seen env marks out law covered keyed more lasts =
+      go : (seen : NamesBound) (env : Env) (labels : StmtLabels (for_loop p n e b)) (out : Option Env) → LawfulStmt m ctx around.declared returned seen env (for_loop p n e b) labels out → Covered around (StmtFinds m ctx seen (for_loop p n e b) labels) → StmtKeyed (for_loop p n e b) labels → Runs around ctx env (ways_out around ctx m returned out [] []) (n ∷ bound_by b) (exec_node Step free parts (for_loop p n e b))
+      go seen env labels out law covered keyed more lasts =
           let l = lasts.local n (first_among n (bound_by b)) in
           let x = l.number in
           let d = declared_type around.declared x in
-          let t = marks.item.type in
-          let target = subst (λ r. LawfulTarget m ctx around.declared seen n r marks.head marks.item marks.flows law.inside) l.resolves law.target in
-          let f = one_flow around.bases (clean t) d marks.flows (subst (λ c. FlowsInto c (clean t) (d ∷ []) marks.flows) (sym fits.bases) target.flow) in
+          let t = labels.item.type in
+          let target = subst (λ r. LawfulTarget m ctx around.declared seen n r labels.head labels.item labels.flows law.inside) l.resolves law.target in
+          let f = one_flow around.bases (clean t) d labels.flows (subst (λ c. FlowsInto c (clean t) (d ∷ []) labels.flows) (sym fits.bases) target.flow) in
           let u = assigned_type d t f.0.code in
-          let inside : law.inside ≡ assign marks.head x u = target.inside_is ∙ ap (λ c. assign marks.head x (assigned_type d t (only_code c))) f.1 in
+          let inside : law.inside ≡ assign labels.head x u = target.inside_is ∙ ap (λ c. assign labels.head x (assigned_type d t (only_code c))) f.1 in
           leads_bind around _ _ _ (λ k over s. IsWellTypedAnd around env more k s × (GoesOver around.bases k t over × (codes_of f.0.code ≡ []))) _
           (leads_from around _ (λ k s. IsWellTypedAnd around env more k s × Unit {0}) _ _ (λ k s at. (at, tt))
           (leads_safe around env (λ k. Unit {0}) (eval_iterable Step free parts e (iterable_form e)) (λ k over. GoesOver around.bases k t over × (codes_of f.0.code ≡ [])) more lasts.grow
           (evaluated_safe around env (λ k. Unit {0}) (place_of e) (eval_iterable Step free parts e (iterable_form e)) (λ k over. GoesOver around.bases k t over) (codes_of f.0.code)
           (flow_allowed around (place_of e) f.0 (subst (λ c. Covered around (IsFlowAt (place_of e) c)) f.1 (λ g h. covered g (inr (inl h))))) (iterables.place e)
-          (iterables.safe env e marks.iterable marks.item law.iterable (λ g h. covered g (inr (inr (inl h)))) (λ g h. covered g (inl h)) keyed.0))))
+          (iterables.safe env e labels.iterable labels.item law.iterable (λ g h. covered g (inr (inr (inl h)))) (λ g h. covered g (inl h)) keyed.0))))
           λ over. leads_each around _ _ _ λ k s h.
-          leads_from around _ (λ j q. IsWellTypedAnd around marks.head more j q × GoesOver around.bases j t over) _ _
-          (λ j q is. subst (λ y. IsWellTypedAnd around marks.head more y q × GoesOver around.bases y t over) (sym is.0) (subst (λ y. IsWellTypedAnd around marks.head more k y × GoesOver around.bases k t over) (sym is.1)
-          (record { stands = stands_with around ctx fits env marks.head k s h.0.stands (subst (λ c. HasLocals around.bases k around.names around.declared c s.frame) (sym law.head) (into_head around.bases around.names around.declared (binds_number ctx.resolve (n ∷ bound_by b)) env k s.frame h.0.stands.locals)); known = h.0.known }, h.1.0)))
-          (leads_to around _ _ (λ j flow q. FlowEnds around (loop_ways around ctx fits m returned marks.head (breaks_in_suite b marks.body)) j flow q × more j q.frame) _
-          (λ j flow q g. (flow_wider around ctx j q (loop_ways around ctx fits m returned marks.head (breaks_in_suite b marks.body)) (ways_out around ctx m returned out [] []) refl (λ c i. law.after ∙ i) (λ c i. absurd i) (λ c i. absurd i) flow g.0, g.1))
-          (further.runs (n.text ∷ seen) n x t u b marks.body marks.out env marks.head over 0 l.resolves law.head (target_has around.bases t d f.0.code f.2.code h.1.1)
-          (subst (λ c. LawfulSuite m ctx around.declared returned (n.text ∷ seen) c b marks.body marks.out) inside law.body) (λ g i. covered g (inr (inr (inr i)))) keyed.1 more lasts))
+          leads_from around _ (λ j q. IsWellTypedAnd around labels.head more j q × GoesOver around.bases j t over) _ _
+          (λ j q is. subst (λ y. IsWellTypedAnd around labels.head more y q × GoesOver around.bases y t over) (sym is.0) (subst (λ y. IsWellTypedAnd around labels.head more k y × GoesOver around.bases k t over) (sym is.1)
+          (record { stands = stands_with around ctx fits env labels.head k s h.0.stands (subst (λ c. HasLocals around.bases k around.names around.declared c s.frame) (sym law.head) (into_head around.bases around.names around.declared (binds_number ctx.resolve (n ∷ bound_by b)) env k s.frame h.0.stands.locals)); known = h.0.known }, h.1.0)))
+          (leads_to around _ _ (λ j flow q. FlowEnds around (loop_ways around ctx fits m returned labels.head (breaks_in_suite b labels.body)) j flow q × more j q.frame) _
+          (λ j flow q g. (flow_wider around ctx j q (loop_ways around ctx fits m returned labels.head (breaks_in_suite b labels.body)) (ways_out around ctx m returned out [] []) refl (λ c i. law.after ∙ i) (λ c i. absurd i) (λ c i. absurd i) flow g.0, g.1))
+          (further.runs (n.text ∷ seen) n x t u b labels.body labels.out env labels.head over 0 l.resolves law.head (target_has around.bases t d f.0.code f.2.code h.1.1)
+          (subst (λ c. LawfulSuite m ctx around.declared returned (n.text ∷ seen) c b labels.body labels.out) inside law.body) (λ g i. covered g (inr (inr (inr i)))) keyed.1 more lasts))

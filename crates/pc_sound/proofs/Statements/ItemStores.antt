@@ -11,9 +11,9 @@ use Rattle.pc_class.specs.Facts as facts
 use Rattle.pc_flow.specs.Environment.{Env}
 use Rattle.pc_rules.specs.Operations.{StoreOffer, store_codes, has_error, store_index_types, stored_types, store_index_member, only_type}
 use Rattle.pc_rules.specs.Context.{Context, FlowsInto}
-use Rattle.pc_rules.specs.Labels.{FlowMarks, Marks, mark_of, type_of, Finds, IsFlowAt}
-use Rattle.pc_labels.specs.StatementLabels.{TargetMarks}
-use Rattle.pc_labels.specs.Statements.{LawfulStore, TargetFinds}
+use Rattle.pc_rules.specs.Labels.{FlowLabels, Labels, whole_label, type_of, Finds, IsFlowAt}
+use Rattle.pc_module_rules.specs.StatementLabels.{TargetLabels}
+use Rattle.pc_module_rules.specs.Statements.{LawfulStore, TargetFinds}
 use Rattle.pc_value.specs.Value.{Value, Gives, Heap, seen}
 use Rattle.pc_value.specs.Actions as action
 use Rattle.pc_value.specs.Containers.{store_outcome}
@@ -86,22 +86,22 @@ module _ (bases : Bases) (k : HeapTyping) where
 
 module _ (around : Around) (ctx : Context) (fits : IsContextOf around ctx) (m : Module) (parts : Parts Step) (good : GoodEval around ctx parts.eval) (evaluates : (e : Expr) → Evaluates (place_of e) (parts.eval e)) (env : Env) where
   -- `e[i] = v`
-  pub item_store_safe : (p : Place) (o i : Expr) (target : TargetMarks (to_index p o i)) (e : Expr) (marks : Marks e) (flows : FlowMarks) → LawfulStore m ctx around.declared env (to_index p o i) target e marks flows → Covered around (λ f. IsFlowAt (place_of e) flows f ⊎ (Finds e marks f ⊎ TargetFinds m ctx (to_index p o i) target f)) → Keyed e marks → TargetKeyed (to_index p o i) target → IsSafe around env (λ k. Unit {0}) (parts.eval e >>= λ v. assign Step free parts (to_index p o i) v) (λ k flow. flow ≡ next)
-  item_store_safe p o i target e marks flows law covered keyed target_keyed =
+  pub item_store_safe : (p : Place) (o i : Expr) (target : TargetLabels (to_index p o i)) (e : Expr) (labels : Labels e) (flows : FlowLabels) → LawfulStore m ctx around.declared env (to_index p o i) target e labels flows → Covered around (λ f. IsFlowAt (place_of e) flows f ⊎ (Finds e labels f ⊎ TargetFinds m ctx (to_index p o i) target f)) → Keyed e labels → TargetKeyed (to_index p o i) target → IsSafe around env (λ k. Unit {0}) (parts.eval e >>= λ v. assign Step free parts (to_index p o i) v) (λ k flow. flow ≡ next)
+  item_store_safe p o i target e labels flows law covered keyed target_keyed =
       let object = type_of o target.object in
       let key = type_of i target.key in
       let offers = map store_index_member (members object) in
       let keys = store_index_types offers in
       let values = stored_types offers in
-      bind_safe around env _ _ _ (λ k w. HasType around.bases k (type_of e marks) w × HasEach around.bases k values w) _ (λ k k' x h. tt)
-      (flows_safe around ctx parts.eval good evaluates env _ (only_type offers values) e marks values flows law.value (λ f h. covered f (inr (inl h))) (subst (λ b. FlowsInto b (mark_of e marks) values flows) (sym fits.bases) law.flow) (λ f h. covered f (inl h)) keyed)
-      λ w. bind_safe around env _ _ _ (λ k v. HasType around.bases k object v) _ (λ k k' x h. (tt, (later around.bases x (type_of e marks) w h.1.0, each_later around.bases x values w h.1.1)))
+      bind_safe around env _ _ _ (λ k w. HasType around.bases k (type_of e labels) w × HasEach around.bases k values w) _ (λ k k' x h. tt)
+      (flows_safe around ctx parts.eval good evaluates env _ (only_type offers values) e labels values flows law.value (λ f h. covered f (inr (inl h))) (subst (λ b. FlowsInto b (whole_label e labels) values flows) (sym fits.bases) law.flow) (λ f h. covered f (inl h)) keyed)
+      λ w. bind_safe around env _ _ _ (λ k v. HasType around.bases k object v) _ (λ k k' x h. (tt, (later around.bases x (type_of e labels) w h.1.0, each_later around.bases x values w h.1.1)))
       (part around ctx parts good env _ _ o target.object law.object (λ f h. covered f (inr (inr (inr (inr (inl h)))))) target_keyed.0)
-      λ v. bind_safe around env _ _ _ (λ k j. HasType around.bases k key j × HasEach around.bases k keys j) _ (λ k k' x h. ((tt, (later around.bases x (type_of e marks) w h.0.1.0, each_later around.bases x values w h.0.1.1)), later around.bases x object v h.1))
-      (flows_safe around ctx parts.eval good evaluates env _ _ i target.key keys target.key_flows law.key (λ f h. covered f (inr (inr (inr (inr (inr h)))))) (subst (λ b. FlowsInto b (mark_of i target.key) keys target.key_flows) (sym fits.bases) law.key_flow) (λ f h. covered f (inr (inr (inr (inl h))))) target_keyed.1)
-      λ j. bind_safe around env _ _ _ (λ k u. target.codes ≡ []) _ (λ k k' x h. (((tt, (later around.bases x (type_of e marks) w h.0.0.1.0, each_later around.bases x values w h.0.0.1.1)), later around.bases x object v h.0.1), (later around.bases x key j h.1.0, each_later around.bases x keys j h.1.1)))
+      λ v. bind_safe around env _ _ _ (λ k j. HasType around.bases k key j × HasEach around.bases k keys j) _ (λ k k' x h. ((tt, (later around.bases x (type_of e labels) w h.0.1.0, each_later around.bases x values w h.0.1.1)), later around.bases x object v h.1))
+      (flows_safe around ctx parts.eval good evaluates env _ _ i target.key keys target.key_flows law.key (λ f h. covered f (inr (inr (inr (inr (inr h)))))) (subst (λ b. FlowsInto b (whole_label i target.key) keys target.key_flows) (sym fits.bases) law.key_flow) (λ f h. covered f (inr (inr (inr (inl h))))) target_keyed.1)
+      λ j. bind_safe around env _ _ _ (λ k u. target.codes ≡ []) _ (λ k k' x h. (((tt, (later around.bases x (type_of e labels) w h.0.0.1.0, each_later around.bases x values w h.0.0.1.1)), later around.bases x object v h.0.1), (later around.bases x key j h.1.0, each_later around.bases x keys j h.1.1)))
       (emits_safe around env _ p target.codes (allowed around p target.codes (λ f h. covered f (inr (inr (inl h))))))
-      λ u. bind_safe around env _ _ _ (λ k x. Unit {0}) _ (λ k k' x h. ((((tt, (later around.bases x (type_of e marks) w h.0.0.0.1.0, each_later around.bases x values w h.0.0.0.1.1)), later around.bases x object v h.0.0.1), (later around.bases x key j h.0.1.0, each_later around.bases x keys j h.0.1.1)), h.1))
+      λ u. bind_safe around env _ _ _ (λ k x. Unit {0}) _ (λ k k' x h. ((((tt, (later around.bases x (type_of e labels) w h.0.0.0.1.0, each_later around.bases x values w h.0.0.0.1.1)), later around.bases x object v h.0.0.1), (later around.bases x key j h.0.1.0, each_later around.bases x keys j h.0.1.1)), h.1))
       (weaken_value (acting_safe around env _ (action.store_item v j w) NoneType λ f k s h st. item_store_keeps around.bases k around.classes s.heap st.well object v j w (keyed_type o target.object target_keyed.0) h.0.0.1 (sym law.codes ∙ h.1) h.0.1.1 h.0.0.0.1.1))
       λ x. comes_safe around env _ (Gives next) _ λ k h. refl
     where

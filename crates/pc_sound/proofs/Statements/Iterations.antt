@@ -6,7 +6,7 @@ use Rattle.pc_types.specs.Below.{Bases, AreSmaller}
 use Rattle.pc_types.specs.Shape.{members, list_of_trees}
 use Rattle.pc_class.specs.Facts as facts
 use Rattle.pc_flow.specs.Environment.{join_all}
-use Rattle.pc_rules.specs.Operations.{Mark, Offer, found_of, offers_mark, has_error, iterate_member}
+use Rattle.pc_rules.specs.Operations.{Label, Offer, found_of, offers_label, has_error, iterate_member}
 use Rattle.pc_value.specs.Value.{Value, Values, whole, string, tuple_of, location, no_values, more_values, list_of, Cell, list_cell, dict_cell, instance_cell, Entry, Heap, seen, seen_cell, Other}
 use Rattle.pc_value.specs.Actions.{Iteration, over_list, over_dict, over_text, over_tuple, over_range, gives, finished, stops}
 use Rattle.pc_value.specs.Iteration.{iterate_outcome, turn_outcome, turn_item, turn_character, list_turn, dict_turn}
@@ -153,7 +153,7 @@ module _ (bases : Bases) where
     member_over (TupleOf ts) _ h clean into = absurd h
 
   -- a value of a type on whose members nothing is found is gone over
-  pub iterate_ends_well : (ordered : AreSmaller bases) (classes : List facts.ClassFacts) (k : HeapTyping) (heap : Heap) (t : Tree) (v : Value) (item : Mark) → IsWell bases classes k heap → HasType bases k t v → item ≡ offers_mark bases (map (iterate_member bases) (members t)) → item.codes ≡ [] → EndsWell (GoesOver bases k item.type) (iteration_out (iterate_outcome (seen heap v)))
+  pub iterate_ends_well : (ordered : AreSmaller bases) (classes : List facts.ClassFacts) (k : HeapTyping) (heap : Heap) (t : Tree) (v : Value) (item : Label) → IsWell bases classes k heap → HasType bases k t v → item ≡ offers_label bases (map (iterate_member bases) (members t)) → item.codes ≡ [] → EndsWell (GoesOver bases k item.type) (iteration_out (iterate_outcome (seen heap v)))
   iterate_ends_well ordered classes k heap t v item well h is no_codes =
       let offers = map (iterate_member bases) (members t) in
       let quiet : found_of offers ≡ [] = ap (λ x. x.codes) (sym is) ∙ no_codes in

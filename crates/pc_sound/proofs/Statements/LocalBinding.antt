@@ -13,9 +13,9 @@ use Rattle.pc_types.specs.Assignable.{Assignable}
 use Rattle.pc_types.proofs.Meets.{Meets, m_from_any, m_to_any, m_never, m_object, m_int, m_bool, m_bool_int, m_str, m_none, m_class, m_list, m_dict, m_tuple, m_both, m_left, m_right}
 use Rattle.pc_types.proofs.Complete.{meets_from_assignable}
 use Rattle.pc_flow.specs.Environment.{Env, assigned_type}
-use Rattle.pc_rules.specs.Operations.{Mark, FlowMark}
+use Rattle.pc_rules.specs.Operations.{Label, FlowLabel}
 use Rattle.pc_rules.specs.Context.{Context, Flows, static, dynamic, wrong, FlowUnless, FlowAt, FlowsInto, is_early}
-use Rattle.pc_rules.specs.Labels.{FlowMarks, Marks, mark_of, type_of, Finds, IsFlowAt}
+use Rattle.pc_rules.specs.Labels.{FlowLabels, Labels, whole_label, type_of, Finds, IsFlowAt}
 use Rattle.pc_rules.specs.Lawful.{Lawful}
 use Rattle.pc_value.specs.Value.{Value, Out, Gives, Stops}
 use Rattle.pc_machine.specs.State.{State}
@@ -121,20 +121,20 @@ assigned_has bases k (TupleOf ts) from v f h = h
 assigned_has bases k (Union a b) from v f h = f
 
 -- the one flow into one type
-pub one_flow : (bases : Bases) (m : Mark) (d : Tree) (flows : FlowMarks) → FlowsInto bases m (d ∷ []) flows → (flow : FlowMark) × (flows ≡ flow ∷ []) × FlowAt bases m d flow
+pub one_flow : (bases : Bases) (m : Label) (d : Tree) (flows : FlowLabels) → FlowsInto bases m (d ∷ []) flows → (flow : FlowLabel) × (flows ≡ flow ∷ []) × FlowAt bases m d flow
 one_flow bases m d [] h = absurd h
 one_flow bases m d (c ∷ []) h = (c, refl, h.0)
 one_flow bases m d (c ∷ e ∷ flows) h = absurd h.1
 
 module _ (around : Around) (ctx : Context) (eval : Expr → Step Value) (good : GoodEval around ctx eval) (evaluates : (e : Expr) → Evaluates (place_of e) (eval e)) (env : Env) where
-  part : (known : HeapTyping → Type 0) (want : Option Tree) (e : Expr) (m : Marks e) → Lawful ctx around.declared env want e m → Covered around (Finds e m) → Keyed e m → IsSafe around env known (eval e) (λ k v. HasType around.bases k (type_of e m) v)
+  part : (known : HeapTyping → Type 0) (want : Option Tree) (e : Expr) (m : Labels e) → Lawful ctx around.declared env want e m → Covered around (Finds e m) → Keyed e m → IsSafe around env known (eval e) (λ k v. HasType around.bases k (type_of e m) v)
   part known want e m law covered keyed = weaken around env known (λ k. Unit {0}) (eval e) (λ k v. HasType around.bases k (type_of e m) v) (λ k v. HasType around.bases k (type_of e m) v) (λ k h. tt) (λ k v h. h) (good.safe env want e m law covered keyed)
 
-  abbrev Assigned : (HeapTyping → Type 0) → (e : Expr) → Marks e → Tree → Option Code → Type 0
+  abbrev Assigned : (HeapTyping → Type 0) → (e : Expr) → Labels e → Tree → Option Code → Type 0
   Assigned known e m d c = IsSafe around env known (eval e) (λ k v. HasType around.bases k (assigned_type d (type_of e m) c) v × HasType around.bases k d v)
 
   -- a value that is assigned is of the declared type and of the type that the local has after it
-  pub assigned_safe : (known : HeapTyping → Type 0) (want : Option Tree) (e : Expr) (m : Marks e) (d : Tree) (flow : FlowMark) → Lawful ctx around.declared env want e m → Covered around (Finds e m) → FlowAt around.bases (mark_of e m) d flow → Covered around (IsFlowAt (place_of e) (flow ∷ [])) → Keyed e m → IsSafe around env known (eval e) (λ k v. HasType around.bases k (assigned_type d (type_of e m) flow.code) v × HasType around.bases k d v)
+  pub assigned_safe : (known : HeapTyping → Type 0) (want : Option Tree) (e : Expr) (m : Labels e) (d : Tree) (flow : FlowLabel) → Lawful ctx around.declared env want e m → Covered around (Finds e m) → FlowAt around.bases (whole_label e m) d flow → Covered around (IsFlowAt (place_of e) (flow ∷ [])) → Keyed e m → IsSafe around env known (eval e) (λ k v. HasType around.bases k (assigned_type d (type_of e m) flow.code) v × HasType around.bases k d v)
   assigned_safe known want e m d flow law covered at allowed keyed = by_code flow.code refl
     where
       by_flow : Flows around.bases (type_of e m) d None → Assigned known e m d None
@@ -143,12 +143,12 @@ module _ (around : Around) (ctx : Context) (eval : Expr → Step Value) (good : 
           (λ k v h. let to = of_static around.bases k (type_of e m) d below v h in (assigned_has around.bases k d (type_of e m) v h to, to))
           (part known want e m law covered keyed)
 
-      quiet : (early : Test) → is_early (mark_of e m).codes ≡ early → FlowUnless early around.bases (type_of e m) d None → Assigned known e m d None
-      quiet true is f = absurd ((covered (finding (place_of e) E03) (found_here e m (finding (place_of e) E03) (record { code = E03; among = early_code (mark_of e m).codes is; is = refl }))).1 refl)
+      quiet : (early : Test) → is_early (whole_label e m).codes ≡ early → FlowUnless early around.bases (type_of e m) d None → Assigned known e m d None
+      quiet true is f = absurd ((covered (finding (place_of e) E03) (found_here e m (finding (place_of e) E03) (record { code = E03; among = early_code (whole_label e m).codes is; is = refl }))).1 refl)
       quiet false is f = by_flow f
 
       by_code : (c : Option Code) → flow.code ≡ c → Assigned known e m d flow.code
-      by_code None is = subst (Assigned known e m d) (sym is) (quiet (is_early (mark_of e m).codes) refl (subst (λ c. FlowUnless (is_early (mark_of e m).codes) around.bases (type_of e m) d c) is at.code))
+      by_code None is = subst (Assigned known e m d) (sym is) (quiet (is_early (whole_label e m).codes) refl (subst (λ c. FlowUnless (is_early (whole_label e m).codes) around.bases (type_of e m) d c) is at.code))
       by_code (Some c) is = subst (Assigned known e m d) (sym is) (
           weaken around env known known (eval e) (λ k v. HasType around.bases k d v) (λ k v. HasType around.bases k (assigned_type d (type_of e m) (Some c)) v × HasType around.bases k d v) (λ k h. h)
           (λ k v h. (subst (λ t. HasType around.bases k t v) (sym (assigned_found d (type_of e m) c)) h, h))

@@ -14,10 +14,10 @@ use Rattle.pc_types.specs.Tree.{Tree}
 use Rattle.pc_flow.specs.Environment.{Env, declared_type, join_envs_onto, loop_head}
 use Rattle.pc_flow.specs.Narrowing.{narrow}
 use Rattle.pc_rules.specs.Context.{Context}
-use Rattle.pc_rules.specs.Labels.{Marks, Finds}
+use Rattle.pc_rules.specs.Labels.{Labels, Finds}
 use Rattle.pc_rules.specs.Lawful.{Lawful}
-use Rattle.pc_labels.specs.StatementLabels.{SuiteMarks, breaks_in_suite}
-use Rattle.pc_labels.specs.Statements.{NamesBound, is_local_number, binds_number, LawfulSuite, SuiteFinds}
+use Rattle.pc_module_rules.specs.StatementLabels.{SuiteLabels, breaks_in_suite}
+use Rattle.pc_module_rules.specs.Statements.{NamesBound, is_local_number, binds_number, LawfulSuite, SuiteFinds}
 use Rattle.pc_value.specs.Value.{Value, Gives}
 use Rattle.pc_value.specs.Texts.{same_text}
 use Rattle.pc_machine.specs.State.{State, Frame}
@@ -131,11 +131,11 @@ module _ (around : Around) (ctx : Context) (fits : IsContextOf around ctx) where
     }
 
     -- the suite of a loop, which an empty one is too
-    pub body_runs : (exec : Stmts → Step StatementEnd) → GoodExec around ctx m returned exec → (seen : NamesBound) (env : Env) (b : Stmts) (marks : SuiteMarks b) (out : Option Env) → LawfulSuite m ctx around.declared returned seen env b marks out → Covered around (SuiteFinds m ctx seen b marks) → SuiteKeyed b marks → Runs around ctx env (ways_out around ctx m returned out (breaks_in_suite b marks) (loose_in b)) (bound_by b) (exec_body Step free exec b)
-    body_runs exec good seen env no_stmts marks out law covered keyed more lasts =
+    pub body_runs : (exec : Stmts → Step StatementEnd) → GoodExec around ctx m returned exec → (seen : NamesBound) (env : Env) (b : Stmts) (labels : SuiteLabels b) (out : Option Env) → LawfulSuite m ctx around.declared returned seen env b labels out → Covered around (SuiteFinds m ctx seen b labels) → SuiteKeyed b labels → Runs around ctx env (ways_out around ctx m returned out (breaks_in_suite b labels) (loose_in b)) (bound_by b) (exec_body Step free exec b)
+    body_runs exec good seen env no_stmts labels out law covered keyed more lasts =
         leads_bind around _ _ _ (λ k u s. IsWellTypedAnd around env more k s) _ (leads_charge around _)
         λ u. leads_comes around _ (Gives next) _ λ k s at. (record { env = env; is = law; stands = at.stands }, at.known)
-    body_runs exec good seen env (more_stmts s rest) marks out law covered keyed more lasts = good.runs seen env (more_stmts s rest) marks out law covered keyed more lasts
+    body_runs exec good seen env (more_stmts s rest) labels out law covered keyed more lasts = good.runs seen env (more_stmts s rest) labels out law covered keyed more lasts
 
     -- after the suite: the next turn from the head, or the way out
     pub turn_ends : (bound : ℕ → Test) (env head after : Env) (brs : List Env) (loose : List Place) (out : Option Env) (k : HeapTyping) (s : State) (more : HeapTyping → Frame → Type 0) (again : Step StatementEnd)
@@ -155,7 +155,7 @@ module _ (around : Around) (ctx : Context) (fits : IsContextOf around ctx) where
 
     -- the turns of a `while` run as it is labelled
     pub record GoodAgain (again : Expr → Stmts → Step StatementEnd) : Type 1 where
-      pub runs : (seen : NamesBound) (c : Expr) (b : Stmts) (cm : Marks c) (bm : SuiteMarks b) (out : Option Env) (env head : Env) → head ≡ loop_head (binds_number ctx.resolve (bound_by b)) around.declared env → Lawful ctx around.declared head None c cm → LawfulSuite m ctx around.declared returned seen (narrow ctx.bases around.declared ctx.resolve true c head) b bm out → Covered around (Finds c cm) → Covered around (SuiteFinds m ctx seen b bm) → Keyed c cm → SuiteKeyed b bm
+      pub runs : (seen : NamesBound) (c : Expr) (b : Stmts) (cm : Labels c) (bm : SuiteLabels b) (out : Option Env) (env head : Env) → head ≡ loop_head (binds_number ctx.resolve (bound_by b)) around.declared env → Lawful ctx around.declared head None c cm → LawfulSuite m ctx around.declared returned seen (narrow ctx.bases around.declared ctx.resolve true c head) b bm out → Covered around (Finds c cm) → Covered around (SuiteFinds m ctx seen b bm) → Keyed c cm → SuiteKeyed b bm
           → Runs around ctx head (loop_ways (narrow ctx.bases around.declared ctx.resolve false c head) (breaks_in_suite b bm)) (bound_by b) (again c b)
 
     -- one turn, where the further ones run
@@ -178,10 +178,10 @@ module _ (around : Around) (ctx : Context) (fits : IsContextOf around ctx) where
     -- from the environment before it the loop comes to its head
     pub while_runs : (parts : Parts Step) → GoodAgain parts.again → (p : Place) (c : Expr) (b : Stmts) → GoodStmt around ctx m returned (while_loop p c b) (exec_node Step free parts (while_loop p c b))
     while_runs parts further p c b = record {
-      runs = λ seen env marks out law covered keyed more lasts.
-          leads_from around _ (λ k s. IsWellTypedAnd around marks.head more k s) _ _
-          (λ k s at. record { stands = stands_with around ctx fits env marks.head k s at.stands (subst (λ e. HasLocals around.bases k around.names around.declared e s.frame) (sym law.head) (into_head around.bases around.names around.declared (binds_number ctx.resolve (bound_by b)) env k s.frame at.stands.locals)); known = at.known })
-          (leads_to around _ _ (λ k flow s. FlowEnds around (loop_ways (narrow ctx.bases around.declared ctx.resolve false c marks.head) (breaks_in_suite b marks.body)) k flow s × more k s.frame) _
-          (λ k flow s h. (flow_wider around ctx k s (loop_ways (narrow ctx.bases around.declared ctx.resolve false c marks.head) (breaks_in_suite b marks.body)) (ways_out around ctx m returned out [] []) refl (λ e i. law.after ∙ i) (λ e i. absurd i) (λ q i. absurd i) flow h.0, h.1))
-          (further.runs seen c b marks.condition marks.body marks.out env marks.head law.head law.condition law.body (λ f h. covered f (inl h)) (λ f h. covered f (inr h)) keyed.0 keyed.1 more lasts));
+      runs = λ seen env labels out law covered keyed more lasts.
+          leads_from around _ (λ k s. IsWellTypedAnd around labels.head more k s) _ _
+          (λ k s at. record { stands = stands_with around ctx fits env labels.head k s at.stands (subst (λ e. HasLocals around.bases k around.names around.declared e s.frame) (sym law.head) (into_head around.bases around.names around.declared (binds_number ctx.resolve (bound_by b)) env k s.frame at.stands.locals)); known = at.known })
+          (leads_to around _ _ (λ k flow s. FlowEnds around (loop_ways (narrow ctx.bases around.declared ctx.resolve false c labels.head) (breaks_in_suite b labels.body)) k flow s × more k s.frame) _
+          (λ k flow s h. (flow_wider around ctx k s (loop_ways (narrow ctx.bases around.declared ctx.resolve false c labels.head) (breaks_in_suite b labels.body)) (ways_out around ctx m returned out [] []) refl (λ e i. law.after ∙ i) (λ e i. absurd i) (λ q i. absurd i) flow h.0, h.1))
+          (further.runs seen c b labels.condition labels.body labels.out env labels.head law.head law.condition law.body (λ f h. covered f (inl h)) (λ f h. covered f (inr h)) keyed.0 keyed.1 more lasts));
     }

@@ -46,4 +46,4 @@ module _ (around : Around) (ctx : Context) (fits : IsContextOf around ctx) (m : 
 
   -- suites of one step more run as they are labelled
   pub suites_run : GoodExec around ctx m returned (exec_all Step free parts)
-  suites_run = record { runs = λ seen env b marks out law covered keyed. suite_runs around ctx m returned parts node_runs seen env b marks out law covered keyed }
+  suites_run = record { runs = λ seen env b labels out law covered keyed. suite_runs around ctx m returned parts node_runs seen env b labels out law covered keyed }

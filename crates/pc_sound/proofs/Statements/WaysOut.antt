@@ -11,8 +11,8 @@ use Rattle.pc_scope.specs.Reach.{completes}
 use Rattle.pc_types.specs.Tree.{Tree}
 use Rattle.pc_flow.specs.Environment.{Env}
 use Rattle.pc_rules.specs.Context.{Context}
-use Rattle.pc_labels.specs.StatementLabels.{StmtMarks, SuiteMarks, Behind, Following, BehindRule, behind_list, breaks_in, breaks_in_suite}
-use Rattle.pc_labels.specs.Statements.{NamesBound, AreUndeclared, LawfulStmt, LawfulSuite, StmtFinds, SuiteFinds}
+use Rattle.pc_module_rules.specs.StatementLabels.{StmtLabels, SuiteLabels, Behind, Following, BehindRule, behind_list, breaks_in, breaks_in_suite}
+use Rattle.pc_module_rules.specs.Statements.{NamesBound, AreUndeclared, LawfulStmt, LawfulSuite, StmtFinds, SuiteFinds}
 use Rattle.pc_value.specs.Value.{Gives}
 use Rattle.pc_machine.specs.State.{State, Frame}
 use Rattle.pc_machine.specs.Steps.{Parts, StatementEnd, next, breaking, continuing, leaves}
@@ -61,11 +61,11 @@ module _ (around : Around) (ctx : Context) where
 
     -- suites run as they are labelled
     pub record GoodExec (exec : Stmts → Step StatementEnd) : Type 1 where
-      pub runs : (seen : NamesBound) (env : Env) (b : Stmts) (marks : SuiteMarks b) (out : Option Env) → LawfulSuite m ctx around.declared returned seen env b marks out → Covered around (SuiteFinds m ctx seen b marks) → SuiteKeyed b marks → Runs env (ways_out out (breaks_in_suite b marks) (loose_in b)) (bound_by b) (exec b)
+      pub runs : (seen : NamesBound) (env : Env) (b : Stmts) (labels : SuiteLabels b) (out : Option Env) → LawfulSuite m ctx around.declared returned seen env b labels out → Covered around (SuiteFinds m ctx seen b labels) → SuiteKeyed b labels → Runs env (ways_out out (breaks_in_suite b labels) (loose_in b)) (bound_by b) (exec b)
 
     -- a statement runs as it is labelled
     pub record GoodStmt (s : Stmt) (step : Step StatementEnd) : Type 1 where
-      pub runs : (seen : NamesBound) (env : Env) (marks : StmtMarks s) (out : Option Env) → LawfulStmt m ctx around.declared returned seen env s marks out → Covered around (StmtFinds m ctx seen s marks) → StmtKeyed s marks → Runs env (ways_out out (breaks_in s marks) (loose_in_stmt s)) (bound_by_stmt s) step
+      pub runs : (seen : NamesBound) (env : Env) (labels : StmtLabels s) (out : Option Env) → LawfulStmt m ctx around.declared returned seen env s labels out → Covered around (StmtFinds m ctx seen s labels) → StmtKeyed s labels → Runs env (ways_out out (breaks_in s labels) (loose_in_stmt s)) (bound_by_stmt s) step
 
     -- ---- suites
 
@@ -88,29 +88,29 @@ module _ (around : Around) (ctx : Context) where
       behind_next env brs more_breaks loose more_loose out names rest runs more lasts (leaves v) = leads_comes around _ (Gives (leaves v)) _ λ k s b. b
 
       -- a statement and those after it
-      one_more : (seen : NamesBound) (env : Env) (s : Stmt) (rest : Stmts) (marks : StmtMarks s) (out : Option Env) (can : Test) (behind : Behind can (Following (SuiteMarks rest)))
-          → BehindRule can behind (λ r. LawfulStmt m ctx around.declared returned seen env s marks (Some r.env) × LawfulSuite m ctx around.declared returned (texts (bound_by_stmt s) ++ seen) r.env rest r.rest out) (LawfulStmt m ctx around.declared returned seen env s marks None × (out ≡ None))
-          → Covered around (λ f. StmtFinds m ctx seen s marks f ⊎ BehindRule can behind (λ r. SuiteFinds m ctx (texts (bound_by_stmt s) ++ seen) rest r.rest f) ⊥)
-          → StmtKeyed s marks × BehindRule can behind (λ r. SuiteKeyed rest r.rest) (Unit {0})
-          → ((r : Following (SuiteMarks rest)) → LawfulSuite m ctx around.declared returned (texts (bound_by_stmt s) ++ seen) r.env rest r.rest out → Covered around (SuiteFinds m ctx (texts (bound_by_stmt s) ++ seen) rest r.rest) → SuiteKeyed rest r.rest → Runs r.env (ways_out out (breaks_in_suite rest r.rest) (loose_in rest)) (bound_by rest) (exec_all Step free parts rest))
-          → Runs env (ways_out out (breaks_in s marks ++ behind_list can behind (λ r. breaks_in_suite rest r.rest)) (loose_in_stmt s ++ loose_in rest)) (bound_by_stmt s ++ bound_by rest) (exec_all Step free parts (more_stmts s rest))
-      one_more seen env s rest marks out true behind law covered keyed others more lasts =
+      one_more : (seen : NamesBound) (env : Env) (s : Stmt) (rest : Stmts) (labels : StmtLabels s) (out : Option Env) (can : Test) (behind : Behind can (Following (SuiteLabels rest)))
+          → BehindRule can behind (λ r. LawfulStmt m ctx around.declared returned seen env s labels (Some r.env) × LawfulSuite m ctx around.declared returned (texts (bound_by_stmt s) ++ seen) r.env rest r.rest out) (LawfulStmt m ctx around.declared returned seen env s labels None × (out ≡ None))
+          → Covered around (λ f. StmtFinds m ctx seen s labels f ⊎ BehindRule can behind (λ r. SuiteFinds m ctx (texts (bound_by_stmt s) ++ seen) rest r.rest f) ⊥)
+          → StmtKeyed s labels × BehindRule can behind (λ r. SuiteKeyed rest r.rest) (Unit {0})
+          → ((r : Following (SuiteLabels rest)) → LawfulSuite m ctx around.declared returned (texts (bound_by_stmt s) ++ seen) r.env rest r.rest out → Covered around (SuiteFinds m ctx (texts (bound_by_stmt s) ++ seen) rest r.rest) → SuiteKeyed rest r.rest → Runs r.env (ways_out out (breaks_in_suite rest r.rest) (loose_in rest)) (bound_by rest) (exec_all Step free parts rest))
+          → Runs env (ways_out out (breaks_in s labels ++ behind_list can behind (λ r. breaks_in_suite rest r.rest)) (loose_in_stmt s ++ loose_in rest)) (bound_by_stmt s ++ bound_by rest) (exec_all Step free parts (more_stmts s rest))
+      one_more seen env s rest labels out true behind law covered keyed others more lasts =
           leads_bind around _ _ _ (λ k u st. IsWellTypedAnd around env more k st) _ (leads_charge around _)
-          λ u. leads_bind around _ _ _ (λ k flow st. FlowEnds around (ways_out (Some behind.env) (breaks_in s marks) (loose_in_stmt s)) k flow st × more k st.frame) _
-          ((node s).runs seen env marks (Some behind.env) law.0 (λ f h. covered f (inl h)) keyed.0 more (lasts_left (bound_by_stmt s) (bound_by rest) lasts))
-          λ flow. behind_next behind.env (breaks_in s marks) (breaks_in_suite rest behind.rest) (loose_in_stmt s) (loose_in rest) out (bound_by rest) (exec_all Step free parts rest) (others behind law.1 (λ f h. covered f (inr h)) keyed.1) more (lasts_right (bound_by_stmt s) (bound_by rest) lasts) flow
-      one_more seen env s rest marks out false behind law covered keyed others more lasts =
+          λ u. leads_bind around _ _ _ (λ k flow st. FlowEnds around (ways_out (Some behind.env) (breaks_in s labels) (loose_in_stmt s)) k flow st × more k st.frame) _
+          ((node s).runs seen env labels (Some behind.env) law.0 (λ f h. covered f (inl h)) keyed.0 more (lasts_left (bound_by_stmt s) (bound_by rest) lasts))
+          λ flow. behind_next behind.env (breaks_in s labels) (breaks_in_suite rest behind.rest) (loose_in_stmt s) (loose_in rest) out (bound_by rest) (exec_all Step free parts rest) (others behind law.1 (λ f h. covered f (inr h)) keyed.1) more (lasts_right (bound_by_stmt s) (bound_by rest) lasts) flow
+      one_more seen env s rest labels out false behind law covered keyed others more lasts =
           leads_bind around _ _ _ (λ k u st. IsWellTypedAnd around env more k st) _ (leads_charge around _)
-          λ u. leads_bind around _ _ _ (λ k flow st. FlowEnds around (ways_out None (breaks_in s marks) (loose_in_stmt s)) k flow st × more k st.frame) _
-          ((node s).runs seen env marks None law.0 (λ f h. covered f (inl h)) keyed.0 more (lasts_left (bound_by_stmt s) (bound_by rest) lasts))
-          λ flow. behind_left (breaks_in s marks) [] (loose_in_stmt s) (loose_in rest) out (exec_all Step free parts rest) more flow
+          λ u. leads_bind around _ _ _ (λ k flow st. FlowEnds around (ways_out None (breaks_in s labels) (loose_in_stmt s)) k flow st × more k st.frame) _
+          ((node s).runs seen env labels None law.0 (λ f h. covered f (inl h)) keyed.0 more (lasts_left (bound_by_stmt s) (bound_by rest) lasts))
+          λ flow. behind_left (breaks_in s labels) [] (loose_in_stmt s) (loose_in rest) out (exec_all Step free parts rest) more flow
 
       -- statements, one after another
-      pub suite_runs : (seen : NamesBound) (env : Env) (b : Stmts) (marks : SuiteMarks b) (out : Option Env) → LawfulSuite m ctx around.declared returned seen env b marks out → Covered around (SuiteFinds m ctx seen b marks) → SuiteKeyed b marks → Runs env (ways_out out (breaks_in_suite b marks) (loose_in b)) (bound_by b) (exec_all Step free parts b)
-      suite_runs seen env no_stmts marks out law covered keyed more lasts = leads_comes around _ (Gives next) _ λ k s at. (record { env = env; is = law; stands = at.stands }, at.known)
-      suite_runs seen env (more_stmts s rest) marks out law covered keyed more lasts =
-          one_more seen env s rest marks.first out (completes s) marks.behind (settle (completes s) marks.behind law) covered keyed (λ r l c q. suite_runs (texts (bound_by_stmt s) ++ seen) r.env rest r.rest out l c q) more lasts
+      pub suite_runs : (seen : NamesBound) (env : Env) (b : Stmts) (labels : SuiteLabels b) (out : Option Env) → LawfulSuite m ctx around.declared returned seen env b labels out → Covered around (SuiteFinds m ctx seen b labels) → SuiteKeyed b labels → Runs env (ways_out out (breaks_in_suite b labels) (loose_in b)) (bound_by b) (exec_all Step free parts b)
+      suite_runs seen env no_stmts labels out law covered keyed more lasts = leads_comes around _ (Gives next) _ λ k s at. (record { env = env; is = law; stands = at.stands }, at.known)
+      suite_runs seen env (more_stmts s rest) labels out law covered keyed more lasts =
+          one_more seen env s rest labels.first out (completes s) labels.behind (settle (completes s) labels.behind law) covered keyed (λ r l c q. suite_runs (texts (bound_by_stmt s) ++ seen) r.env rest r.rest out l c q) more lasts
         where
-          settle : (can : Test) (behind : Behind can (Following (SuiteMarks rest))) → BehindRule can behind (λ r. LawfulStmt m ctx around.declared returned seen env s marks.first (Some r.env) × LawfulSuite m ctx around.declared returned (texts (bound_by_stmt s) ++ seen) r.env rest r.rest out) (LawfulStmt m ctx around.declared returned seen env s marks.first None × AreUndeclared m ctx around.declared (texts (bound_by_stmt s) ++ seen) (bound_by rest) × (out ≡ None)) → BehindRule can behind (λ r. LawfulStmt m ctx around.declared returned seen env s marks.first (Some r.env) × LawfulSuite m ctx around.declared returned (texts (bound_by_stmt s) ++ seen) r.env rest r.rest out) (LawfulStmt m ctx around.declared returned seen env s marks.first None × (out ≡ None))
+          settle : (can : Test) (behind : Behind can (Following (SuiteLabels rest))) → BehindRule can behind (λ r. LawfulStmt m ctx around.declared returned seen env s labels.first (Some r.env) × LawfulSuite m ctx around.declared returned (texts (bound_by_stmt s) ++ seen) r.env rest r.rest out) (LawfulStmt m ctx around.declared returned seen env s labels.first None × AreUndeclared m ctx around.declared (texts (bound_by_stmt s) ++ seen) (bound_by rest) × (out ≡ None)) → BehindRule can behind (λ r. LawfulStmt m ctx around.declared returned seen env s labels.first (Some r.env) × LawfulSuite m ctx around.declared returned (texts (bound_by_stmt s) ++ seen) r.env rest r.rest out) (LawfulStmt m ctx around.declared returned seen env s labels.first None × (out ≡ None))
           settle true behind l = l
           settle false behind l = (l.0, l.2)

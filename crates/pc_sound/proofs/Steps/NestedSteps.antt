@@ -46,17 +46,17 @@ module _ (m : Module) (bodies : Bodies) where
     -- no step at all is cut off
     none_good : AllGood zero
     none_good = record {
-      eval = λ b. record { safe = λ env want e marks law covered keyed. comes_safe (bodies.around b) env _ (Stops Cut) _ λ k h. tt };
-      decides = λ b. record { decides = λ env want e marks law covered keyed frame. leads_comes (bodies.around b) _ (Stops Cut) _ λ k s h. tt };
-      exec = λ b. record { runs = λ seen env body marks out law covered keyed more lasts. leads_comes (bodies.around b) _ (Stops Cut) _ λ k s h. tt };
+      eval = λ b. record { safe = λ env want e labels law covered keyed. comes_safe (bodies.around b) env _ (Stops Cut) _ λ k h. tt };
+      decides = λ b. record { decides = λ env want e labels law covered keyed frame. leads_comes (bodies.around b) _ (Stops Cut) _ λ k s h. tt };
+      exec = λ b. record { runs = λ seen env body labels out law covered keyed more lasts. leads_comes (bodies.around b) _ (Stops Cut) _ λ k s h. tt };
       again = λ b. record { runs = λ seen c body cm bm out env head is law body_law covered body_covered keyed body_keyed more lasts. leads_comes (bodies.around b) _ (Stops Cut) _ λ k s h. tt };
       turns = λ b. record { runs = λ seen x y t u body bm out env head over i resolves is has law covered keyed more lasts. leads_comes (bodies.around b) _ (Stops Cut) _ λ k s h. tt };
     }
 
     over_eval : (n : ℕ) → AllGood n → (b : bodies.Body) → GoodEval (bodies.around b) (bodies.ctx b) (eval_over Step free (steps Step free n))
     over_eval n good b = record {
-      safe = λ env want e marks law covered keyed. bind_safe (bodies.around b) env _ _ _ (λ k u. Unit {0}) _ (λ k k' x h. tt) (may_stop_safe (bodies.around b) env _)
-          λ u. weaken (bodies.around b) env _ (λ k. Unit {0}) _ _ _ (λ k h. tt) (λ k v h. h) ((forms.eval n good b).safe env want e marks law covered keyed);
+      safe = λ env want e labels law covered keyed. bind_safe (bodies.around b) env _ _ _ (λ k u. Unit {0}) _ (λ k k' x h. tt) (may_stop_safe (bodies.around b) env _)
+          λ u. weaken (bodies.around b) env _ (λ k. Unit {0}) _ _ _ (λ k h. tt) (λ k v h. h) ((forms.eval n good b).safe env want e labels law covered keyed);
     }
 
     -- what statements of one step more stand on

@@ -10,9 +10,9 @@ use Rattle.pc_tree.specs.Tree.{Expr}
 use Rattle.pc_tree.specs.Depth.{place_of}
 use Rattle.pc_types.specs.Tree.{Tree}
 use Rattle.pc_flow.specs.Environment.{Env}
-use Rattle.pc_rules.specs.Operations.{FlowMark}
+use Rattle.pc_rules.specs.Operations.{FlowLabel}
 use Rattle.pc_rules.specs.Context.{Context, Flows, static, dynamic, wrong, FlowUnless, FlowAt, is_early}
-use Rattle.pc_rules.specs.Labels.{Marks, mark_of, type_of, Finds, IsFlowAt}
+use Rattle.pc_rules.specs.Labels.{Labels, whole_label, type_of, Finds, IsFlowAt}
 use Rattle.pc_rules.specs.Lawful.{Lawful}
 use Rattle.pc_rules.proofs.Saying.{found_here}
 use Rattle.pc_value.specs.Value.{Value, Out, Gives, Stops}
@@ -56,8 +56,8 @@ early_code (c ∷ cs) e = absurd (grind (arith, e))
 
 module _ (around : Around) (ctx : Context) (eval : Expr → Step Value) (good : GoodEval around ctx eval) (evaluates : (e : Expr) → Evaluates (place_of e) (eval e)) (env : Env) where
   -- an expression that flows into a type, whose flow's code is allowed
-  pub flow_safe : (known : HeapTyping → Type 0) (want : Option Tree) (e : Expr) (m : Marks e) (t : Tree) (flow : FlowMark) → Lawful ctx around.declared env want e m → Covered around (Finds e m) → FlowAt around.bases (mark_of e m) t flow → Covered around (IsFlowAt (place_of e) (flow ∷ [])) → Keyed e m → IsSafe around env known (eval e) (λ k v. HasType around.bases k t v)
-  flow_safe known want e m t flow law covered at allowed keyed = go (is_early (mark_of e m).codes) refl at.code
+  pub flow_safe : (known : HeapTyping → Type 0) (want : Option Tree) (e : Expr) (m : Labels e) (t : Tree) (flow : FlowLabel) → Lawful ctx around.declared env want e m → Covered around (Finds e m) → FlowAt around.bases (whole_label e m) t flow → Covered around (IsFlowAt (place_of e) (flow ∷ [])) → Keyed e m → IsSafe around env known (eval e) (λ k v. HasType around.bases k t v)
+  flow_safe known want e m t flow law covered at allowed keyed = go (is_early (whole_label e m).codes) refl at.code
     where
       part : IsSafe around env known (eval e) (λ k v. HasType around.bases k (type_of e m) v)
       part = weaken around env known (λ k. Unit {0}) (eval e) (λ k v. HasType around.bases k (type_of e m) v) (λ k v. HasType around.bases k (type_of e m) v) (λ k h. tt) (λ k v h. h) (good.safe env want e m law covered keyed)
@@ -80,6 +80,6 @@ module _ (around : Around) (ctx : Context) (eval : Expr → Step Value) (good : 
       by_flow _ is (dynamic n a) = record { run = dynamic_run (allowed (finding (place_of e) A1) (found A1 is)).0 }
       by_flow _ is (wrong n) = absurd (no_error E12 is refl)
 
-      go : (early : Test) → is_early (mark_of e m).codes ≡ early → FlowUnless early around.bases (type_of e m) t flow.code → IsSafe around env known (eval e) (λ k v. HasType around.bases k t v)
-      go true is f = absurd ((covered (finding (place_of e) E03) (found_here e m (finding (place_of e) E03) (record { code = E03; among = early_code (mark_of e m).codes is; is = refl }))).1 refl)
+      go : (early : Test) → is_early (whole_label e m).codes ≡ early → FlowUnless early around.bases (type_of e m) t flow.code → IsSafe around env known (eval e) (λ k v. HasType around.bases k t v)
+      go true is f = absurd ((covered (finding (place_of e) E03) (found_here e m (finding (place_of e) E03) (record { code = E03; among = early_code (whole_label e m).codes is; is = refl }))).1 refl)
       go false is f = by_flow flow.code refl f

@@ -11,9 +11,9 @@ use Rattle.pc_tree.specs.Depth.{place_of}
 use Rattle.pc_types.specs.Tree.{Tree}
 use Rattle.pc_types.specs.Below.{Bases, Static}
 use Rattle.pc_flow.specs.Environment.{Env}
-use Rattle.pc_rules.specs.Operations.{Mark, FlowMark}
+use Rattle.pc_rules.specs.Operations.{Label, FlowLabel}
 use Rattle.pc_rules.specs.Context.{Context, Flows, static, dynamic, wrong, FlowUnless, FlowAt, FlowsInto, is_early}
-use Rattle.pc_rules.specs.Labels.{FlowMarks, Marks, mark_of, type_of, Finds, IsFlowAt}
+use Rattle.pc_rules.specs.Labels.{FlowLabels, Labels, whole_label, type_of, Finds, IsFlowAt}
 use Rattle.pc_rules.specs.Lawful.{Lawful}
 use Rattle.pc_value.specs.Value.{Value, Out, Gives, Stops}
 use Rattle.pc_machine.specs.State.{State}
@@ -39,10 +39,10 @@ each_static bases k s (t ∷ ts) v all h = (of_static bases k s t all.0 v h, eac
 
 -- the flows of a place are allowed where each code of them is a listed dynamic place
 module _ (around : Around) (p : Place) where
-  later_flows : (x : FlowMark) (xs : FlowMarks) → Covered around (IsFlowAt p (x ∷ xs)) → Covered around (IsFlowAt p xs)
+  later_flows : (x : FlowLabel) (xs : FlowLabels) → Covered around (IsFlowAt p (x ∷ xs)) → Covered around (IsFlowAt p xs)
   later_flows x xs covered f h = covered f (record { flow = h.flow; among = Contains-append_right (x ∷ []) xs h.flow h.among; code = h.code; found = h.found; is = h.is })
 
-  one_flow : (m : Mark) → (is_early m.codes ≡ true → ⊥) → (t : Tree) (x : FlowMark) (xs : FlowMarks) → FlowAt around.bases m t x → Covered around (IsFlowAt p (x ∷ xs)) → Static around.bases m.type t ⊎ around.listed p
+  one_flow : (m : Label) → (is_early m.codes ≡ true → ⊥) → (t : Tree) (x : FlowLabel) (xs : FlowLabels) → FlowAt around.bases m t x → Covered around (IsFlowAt p (x ∷ xs)) → Static around.bases m.type t ⊎ around.listed p
   one_flow m punctual t x xs at covered = go (is_early m.codes) refl at.code
     where
       found : (d : Code) → x.code ≡ Some d → IsFlowAt p (x ∷ xs) (finding p d)
@@ -58,7 +58,7 @@ module _ (around : Around) (p : Place) where
       go false is f = by_flow x.code refl f
 
   -- where all flows are allowed, they are static or the place is listed
-  pub settled_flows : (m : Mark) → (is_early m.codes ≡ true → ⊥) → (ts : List Tree) (cs : FlowMarks) → FlowsInto around.bases m ts cs → Covered around (IsFlowAt p cs) → AllStatic around.bases m.type ts ⊎ around.listed p
+  pub settled_flows : (m : Label) → (is_early m.codes ≡ true → ⊥) → (ts : List Tree) (cs : FlowLabels) → FlowsInto around.bases m ts cs → Covered around (IsFlowAt p cs) → AllStatic around.bases m.type ts ⊎ around.listed p
   settled_flows m punctual [] [] flows covered = inl tt
   settled_flows m punctual [] (c ∷ cs) flows covered = absurd flows
   settled_flows m punctual (t ∷ ts) [] flows covered = absurd flows
@@ -68,13 +68,13 @@ module _ (around : Around) (p : Place) where
   ]
 
 -- an expression of which all findings are allowed is not one with E03
-pub is_punctual : (around : Around) (e : Expr) (m : Marks e) → Covered around (Finds e m) → is_early (mark_of e m).codes ≡ true → ⊥
-is_punctual around e m covered is = (covered (finding (place_of e) E03) (found_here e m (finding (place_of e) E03) (record { code = E03; among = early_code (mark_of e m).codes is; is = refl }))).1 refl
+pub is_punctual : (around : Around) (e : Expr) (m : Labels e) → Covered around (Finds e m) → is_early (whole_label e m).codes ≡ true → ⊥
+is_punctual around e m covered is = (covered (finding (place_of e) E03) (found_here e m (finding (place_of e) E03) (record { code = E03; among = early_code (whole_label e m).codes is; is = refl }))).1 refl
 
 module _ (around : Around) (ctx : Context) (eval : Expr → Step Value) (good : GoodEval around ctx eval) (evaluates : (e : Expr) → Evaluates (place_of e) (eval e)) (env : Env) where
   -- an expression that flows into several types, whose flows' codes are allowed
-  pub flows_safe : (known : HeapTyping → Type 0) (want : Option Tree) (e : Expr) (m : Marks e) (ts : List Tree) (cs : FlowMarks) → Lawful ctx around.declared env want e m → Covered around (Finds e m) → FlowsInto around.bases (mark_of e m) ts cs → Covered around (IsFlowAt (place_of e) cs) → Keyed e m → IsSafe around env known (eval e) (λ k v. HasType around.bases k (type_of e m) v × HasEach around.bases k ts v)
-  flows_safe known want e m ts cs law covered flows allowed keyed = elim (settled_flows around (place_of e) (mark_of e m) (is_punctual around e m covered) ts cs flows allowed) [
+  pub flows_safe : (known : HeapTyping → Type 0) (want : Option Tree) (e : Expr) (m : Labels e) (ts : List Tree) (cs : FlowLabels) → Lawful ctx around.declared env want e m → Covered around (Finds e m) → FlowsInto around.bases (whole_label e m) ts cs → Covered around (IsFlowAt (place_of e) cs) → Keyed e m → IsSafe around env known (eval e) (λ k v. HasType around.bases k (type_of e m) v × HasEach around.bases k ts v)
+  flows_safe known want e m ts cs law covered flows allowed keyed = elim (settled_flows around (place_of e) (whole_label e m) (is_punctual around e m covered) ts cs flows allowed) [
     | inl all ↦ weaken around env known (λ k. Unit {0}) (eval e) (λ k v. HasType around.bases k (type_of e m) v) (λ k v. HasType around.bases k (type_of e m) v × HasEach around.bases k ts v) (λ k h. tt) (λ k v h. (h, each_static around.bases k (type_of e m) ts v all h)) (good.safe env want e m law covered keyed)
     | inr l ↦ record { run = dynamic_run l }
   ]

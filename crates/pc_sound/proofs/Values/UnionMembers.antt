@@ -6,7 +6,7 @@ use Rattle.pc_types.specs.Tree.{Tree, Any}
 use Rattle.pc_types.specs.Below.{Bases, AreSmaller}
 use Rattle.pc_types.specs.Shape.{members}
 use Rattle.pc_flow.specs.Environment.{join_all}
-use Rattle.pc_rules.specs.Operations.{Mark, Offer, found_of, offers_mark, operand_types, has_error}
+use Rattle.pc_rules.specs.Operations.{Label, Offer, found_of, offers_label, operand_types, has_error}
 use Rattle.pc_value.specs.Value.{Value, Out, Gives, Stops, Raised, Other, Outside, Cut}
 use Rattle.pc_sound.specs.Values.{HeapTyping, HasType, Extends}
 use Rattle.pc_sound.proofs.Steps.Judgment.{EndsWell}
@@ -92,7 +92,7 @@ module _ (bases : Bases) (k : HeapTyping) where
   module _ (ordered : AreSmaller bases) where
     -- an end that is well for what one of the offers gives is well for the type of the operation
     pub one_offer_ends :
-        (m : Mark) (offers : List Offer) → m ≡ offers_mark bases offers → m.codes ≡ [] → (g : Tree) → ((w : Value) → HasType bases k g w → HasSome bases k (map (λ o. o.gives) offers) w) → (out : Out Value)
+        (m : Label) (offers : List Offer) → m ≡ offers_label bases offers → m.codes ≡ [] → (g : Tree) → ((w : Value) → HasType bases k g w → HasSome bases k (map (λ o. o.gives) offers) w) → (out : Out Value)
         → EndsWell (λ w. HasType bases k g w) out → EndsWell (λ w. HasType bases k m.type w) out
     one_offer_ends m offers is none g among out ends =
         let quiet : found_of offers ≡ [] = ap (λ x. x.codes) (sym is) ∙ none in
@@ -101,7 +101,7 @@ module _ (bases : Bases) (k : HeapTyping) where
 
     -- an operation that ends well on each member of which this is known, and on which nothing is found, ends well on the type
     pub offers_end_where :
-        (P : Tree → Type 0) (m : Mark) (offer : Tree → Offer) (t : Tree) (v : Value) → AllOf P (members t) → m ≡ offers_mark bases (map offer (members t)) → m.codes ≡ [] → HasType bases k t v → (out : Out Value)
+        (P : Tree → Type 0) (m : Label) (offer : Tree → Offer) (t : Tree) (v : Value) → AllOf P (members t) → m ≡ offers_label bases (map offer (members t)) → m.codes ≡ [] → HasType bases k t v → (out : Out Value)
         → ((member : Tree) → P member → HasType bases k member v → (offer member).found ≡ [] → ((w : Value) → HasEach bases k (operand_types (map offer (members t))) w → HasEach bases k (offer member).takes w) → EndsWell (λ w. HasType bases k (offer member).gives w) out)
         → EndsWell (λ w. HasType bases k m.type w) out
     offers_end_where P m offer t v known is none h out ends =
@@ -113,7 +113,7 @@ module _ (bases : Bases) (k : HeapTyping) where
 
     -- an operation that ends well on each member on which nothing is found ends well on the type
     pub offers_end :
-        (m : Mark) (offer : Tree → Offer) (t : Tree) (v : Value) → m ≡ offers_mark bases (map offer (members t)) → m.codes ≡ [] → HasType bases k t v → (out : Out Value)
+        (m : Label) (offer : Tree → Offer) (t : Tree) (v : Value) → m ≡ offers_label bases (map offer (members t)) → m.codes ≡ [] → HasType bases k t v → (out : Out Value)
         → ((member : Tree) → HasType bases k member v → (offer member).found ≡ [] → ((w : Value) → HasEach bases k (operand_types (map offer (members t))) w → HasEach bases k (offer member).takes w) → EndsWell (λ w. HasType bases k (offer member).gives w) out)
         → EndsWell (λ w. HasType bases k m.type w) out
     offers_end m offer t v is none h out ends = offers_end_where (λ n. Unit {0}) m offer t v (all_any (members t)) is none h out λ n known has found takes. ends n has found takes

@@ -12,8 +12,8 @@ use Rattle.pc_ann.proofs.reading.+read.Goals as goal
 
 pub read_each-loop-part-preserved : goal.read_each-loop-part-preserved
 read_each-loop-part-preserved g t c =
-    let m = module_of c.args.setting.now.tree.now in
-    let bases = c.args.setting.now.parents.now in
+    let m = module_of c.args.outline.now.tree.now in
+    let bases = c.args.outline.now.parents.now in
     let has = g.S.TypeStore.has in
     let tree = g.S.TypeStore.tree in
     let xs = c.args.parts.now in
@@ -30,8 +30,8 @@ read_each-loop-part-preserved g t c =
 
 pub read-returns-in-Some-2-clause-typed : goal.read-returns-in-Some-2-clause-typed
 read-returns-in-Some-2-clause-typed g t c =
-    let m = module_of c.args.setting.now.tree.now in
-    let bases = c.args.setting.now.parents.now in
+    let m = module_of c.args.outline.now.tree.now in
+    let bases = c.args.outline.now.parents.now in
     let anns = anns_of_list c.in-Apply.arguments.items in
     let r = c.meaning-meaning-in-Apply.result in
     let f = applied_type r (readings m bases anns) in
@@ -42,8 +42,8 @@ read-returns-in-Some-2-clause-typed g t c =
 
 pub read-returns-in-Some-2-clause-pushed : goal.read-returns-in-Some-2-clause-pushed
 read-returns-in-Some-2-clause-pushed g t c =
-    let m = module_of c.args.setting.now.tree.now in
-    let bases = c.args.setting.now.parents.now in
+    let m = module_of c.args.outline.now.tree.now in
+    let bases = c.args.outline.now.parents.now in
     let anns = anns_of_list c.in-Apply.arguments.items in
     let r = c.meaning-meaning-in-Apply.result in
     let f = applied_type r (readings m bases anns) in
@@ -55,8 +55,8 @@ read-returns-in-Some-2-clause-pushed g t c =
 
 pub read-returns-in-Apply-clause-typed : goal.read-returns-in-Apply-clause-typed
 read-returns-in-Apply-clause-typed g t c =
-    let m = module_of c.args.setting.now.tree.now in
-    let bases = c.args.setting.now.parents.now in
+    let m = module_of c.args.outline.now.tree.now in
+    let bases = c.args.outline.now.parents.now in
     let anns = anns_of_list c.in-Apply.arguments.items in
     let r = c.meaning-meaning-in-Apply.result in
     let f = applied_type r (readings m bases anns) in
@@ -67,8 +67,8 @@ read-returns-in-Apply-clause-typed g t c =
 
 pub read-returns-in-Apply-clause-pushed : goal.read-returns-in-Apply-clause-pushed
 read-returns-in-Apply-clause-pushed g t c =
-    let m = module_of c.args.setting.now.tree.now in
-    let bases = c.args.setting.now.parents.now in
+    let m = module_of c.args.outline.now.tree.now in
+    let bases = c.args.outline.now.parents.now in
     let anns = anns_of_list c.in-Apply.arguments.items in
     let r = c.meaning-meaning-in-Apply.result in
     let f = applied_type r (readings m bases anns) in
@@ -83,8 +83,8 @@ read-returns-in-Apply-clause-pushed g t c =
 
 pub read-returns-in-Some-4-clause-typed : goal.read-returns-in-Some-4-clause-typed
 read-returns-in-Some-4-clause-typed g t c =
-    let m = module_of c.args.setting.now.tree.now in
-    let bases = c.args.setting.now.parents.now in
+    let m = module_of c.args.outline.now.tree.now in
+    let bases = c.args.outline.now.parents.now in
     let anns = anns_of_list c.in-Union.parts.items in
     let f = union_type bases (readings m bases anns) in
     let v = c.in_ok-reading-in-Union.ensures.value in
@@ -94,8 +94,8 @@ read-returns-in-Some-4-clause-typed g t c =
 
 pub read-returns-in-Some-4-clause-pushed : goal.read-returns-in-Some-4-clause-pushed
 read-returns-in-Some-4-clause-pushed g t c =
-    let m = module_of c.args.setting.now.tree.now in
-    let bases = c.args.setting.now.parents.now in
+    let m = module_of c.args.outline.now.tree.now in
+    let bases = c.args.outline.now.parents.now in
     let anns = anns_of_list c.in-Union.parts.items in
     let f = union_type bases (readings m bases anns) in
     let v = c.in_ok-reading-in-Union.ensures.value in
@@ -107,8 +107,8 @@ read-returns-in-Some-4-clause-pushed g t c =
 
 pub read-returns-clause-typed : goal.read-returns-clause-typed
 read-returns-clause-typed g t c =
-    let m = module_of c.args.setting.now.tree.now in
-    let bases = c.args.setting.now.parents.now in
+    let m = module_of c.args.outline.now.tree.now in
+    let bases = c.args.outline.now.parents.now in
     let anns = anns_of_list c.in-Union.parts.items in
     let f = union_type bases (readings m bases anns) in
     let v = c.in_ok-reading-in-Union.ensures.value in
@@ -118,8 +118,8 @@ read-returns-clause-typed g t c =
 
 pub read-returns-clause-pushed : goal.read-returns-clause-pushed
 read-returns-clause-pushed g t c =
-    let m = module_of c.args.setting.now.tree.now in
-    let bases = c.args.setting.now.parents.now in
+    let m = module_of c.args.outline.now.tree.now in
+    let bases = c.args.outline.now.parents.now in
     let anns = anns_of_list c.in-Union.parts.items in
     let f = union_type bases (readings m bases anns) in
     let v = c.in_ok-reading-in-Union.ensures.value in

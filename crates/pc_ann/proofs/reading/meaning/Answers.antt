@@ -5,5 +5,5 @@ use Rattle.pc_ann.proofs.reading.meaning.Goals as goal
 
 pub returns : goal.returns
 returns c =
-    let m = module_of c.args.setting.now.tree.now in
+    let m = module_of c.args.outline.now.tree.now in
     c.resolve.ensures.resolved m c.requires ∙ ap (resolve_in_module m) c.as_str.ensures.value

@@ -12,13 +12,13 @@ use Rattle.pc_ann.proofs.union.unite.Goals as goal
 
 pub returns-then-not-make_union-clause-value : goal.returns-then-not-make_union-clause-value
 returns-then-not-make_union-clause-value g c =
-    let ts = readings (module_of c.args.setting.now.tree.now) c.args.setting.now.parents.now (anns_of_list c.args.parts.now) in
-    no_union g.S.TypeStore.has g.S.TypeStore.tree c.args.store.now c.args.setting.now.parents.now ts c.deref.result.now (c.deref.ensures.value ∙ c.requires.heads_are) (sym c.if-not-make_union.true ∙ c.make_union.ensures)
+    let ts = readings (module_of c.args.outline.now.tree.now) c.args.outline.now.parents.now (anns_of_list c.args.parts.now) in
+    no_union g.S.TypeStore.has g.S.TypeStore.tree c.args.store.now c.args.outline.now.parents.now ts c.deref.result.now (c.deref.ensures.value ∙ c.requires.heads_are) (sym c.if-not-make_union.true ∙ c.make_union.ensures)
 
 pub returns-in_default-clause-value : goal.returns-in_default-clause-value
 returns-in_default-clause-value g c =
-    let bases = c.args.setting.now.parents.now in
-    let ts = readings (module_of c.args.setting.now.tree.now) bases (anns_of_list c.args.parts.now) in
+    let bases = c.args.outline.now.parents.now in
+    let ts = readings (module_of c.args.outline.now.tree.now) bases (anns_of_list c.args.parts.now) in
     let many = c.requires.types_are in
     let large : node_limit < nodes_of (trees ts) = rw c.in_default.is at many in
     one_union g.S.TypeStore.has g.S.TypeStore.tree c.args.store.now bases ts c.deref.result.now c.united_head-head.result _ (c.deref.ensures.value ∙ c.requires.heads_are) (sym c.if-not-make_union.false ∙ c.make_union.ensures) (c.united_head-head.ensures ∙ ap united_head (c.deref-2.ensures.value ∙ sym c.deref.ensures.value))
@@ -26,9 +26,9 @@ returns-in_default-clause-value g c =
 
 pub returns-then-len-gt-MOST_MEMBERS-clause-value : goal.returns-then-len-gt-MOST_MEMBERS-clause-value
 returns-then-len-gt-MOST_MEMBERS-clause-value g c =
-    let bases = c.args.setting.now.parents.now in
+    let bases = c.args.outline.now.parents.now in
     let tree = g.S.TypeStore.tree in
-    let ts = readings (module_of c.args.setting.now.tree.now) bases (anns_of_list c.args.parts.now) in
+    let ts = readings (module_of c.args.outline.now.tree.now) bases (anns_of_list c.args.parts.now) in
     let those = c.requires.types_are in
     let q : All (g.S.TypeStore.has c.args.store.now) c.in-Some.types.items × (map tree c.in-Some.types.items ≡ ts) = rw c.in-Some.is at those in
     let n : 128 < length ts = omega (arith, ap length q.1, length-map c.in-Some.types.items tree, c.in-Some.types.ok.0, c.len.ensures, c.if-len-gt-MOST_MEMBERS.true) in
@@ -37,8 +37,8 @@ returns-then-len-gt-MOST_MEMBERS-clause-value g c =
 
 pub union-requires-clause-order : goal.union-requires-clause-order
 union-requires-clause-order g c =
-    let m = module_of c.args.setting.now.tree.now in
-    let bases = c.args.setting.now.parents.now in
+    let m = module_of c.args.outline.now.tree.now in
+    let bases = c.args.outline.now.parents.now in
     let tree = g.S.TypeStore.tree in
     let ts = readings m bases (anns_of_list c.args.parts.now) in
     let those = c.requires.types_are in
@@ -49,8 +49,8 @@ union-requires-clause-order g c =
 
 pub returns-clause-value : goal.returns-clause-value
 returns-clause-value g c =
-    let m = module_of c.args.setting.now.tree.now in
-    let bases = c.args.setting.now.parents.now in
+    let m = module_of c.args.outline.now.tree.now in
+    let bases = c.args.outline.now.parents.now in
     let tree = g.S.TypeStore.tree in
     let ts = readings m bases (anns_of_list c.args.parts.now) in
     let those = c.requires.types_are in

@@ -13,21 +13,21 @@ use Rattle.pc_class.proofs.WellFormed.{returned_well_formed}
 use Rattle.pc_flow.specs.WellFormed.{AreWellFormed}
 use Rattle.pc_notes.specs.Notes.{notes_of}
 use Rattle.pc_rules.specs.Context.{Signature}
-use Rattle.pc_rules.specs.SignaturesFound.{constants_of}
-use Rattle.pc_rules.specs.Standing.{HasSignature, signature_with}
-use Rattle.pc_rules.specs.WellFormed.{ContextWellFormed}
+use Rattle.pc_rules.specs.Computed.Signatures.{constants_of}
+use Rattle.pc_rules.specs.Computed.Standing.{HasSignature, signature_with}
+use Rattle.pc_rules.specs.Laws.WellFormed.{ContextWellFormed}
 use Rattle.pc_rules.proofs.Contexts.{bodies_well_formed}
-use Rattle.pc_labels.specs.ComputedStatements.{BodyFrame, function_finds}
-use Rattle.pc_labels.proofs.WalkedModule.{constants_well_formed}
+use Rattle.pc_module_rules.specs.Computed.Statements.{BodyContext, function_finds}
+use Rattle.pc_module_rules.proofs.WalkedModule.{constants_well_formed}
 use Rattle.pc_check.specs.Internal.ModuleWalk.{module_in}
-use Rattle.pc_check.proofs.ModuleSettings.{frame_is, names_mean, signature_held, signature_is, signature_there}
+use Rattle.pc_check.proofs.ModuleBodies.{context_is, names_mean, signature_held, signature_is, signature_there}
 use Rattle.pc_check.proofs.bodies.check_owned.Goals as goal
 
 pub returns-in-None-clause-found : goal.returns-in-None-clause-found
 returns-in-None-clause-found g c =
-    let setting = c.args.setting.now in
-    let h = c.requires.setting in
-    absurd (signature_there (module_in setting) g.S.TypeStore.tree setting.signatures.now h.functions h.methods
+    let bodies = c.args.bodies.now in
+    let h = c.requires.bodies in
+    absurd (signature_there (module_in bodies) g.S.TypeStore.tree bodies.signatures.now h.functions h.methods
     c.args.owner
     (func_of c.args.def.now) c.requires.owner (sym c.signature_for.ensures ∙ ap option_copied c.in-None.is))
 
@@ -35,69 +35,69 @@ pub check_function-requires-clause-body : goal.check_function-requires-clause-bo
 unfolding meanings
 check_function-requires-clause-body g c =
     let tree = g.S.TypeStore.tree in
-    let setting = c.args.setting.now in
-    let m = module_in setting in
-    let h = c.requires.setting in
+    let bodies = c.args.bodies.now in
+    let m = module_in bodies in
+    let h = c.requires.bodies in
     let f = func_of c.args.def.now in
-    let signature = signature_is m tree setting.signatures.now h.functions h.methods c.args.owner f
+    let signature = signature_is m tree bodies.signatures.now h.functions h.methods c.args.owner f
     c.in-Some.signature.now
     c.requires.owner (sym c.signature_for.ensures ∙ ap option_copied c.in-Some.is) in
-    frame_is m c.args.owner f _ _ _ (map tree c.constants.result.now) _ _ _ h.parents h.classes
-    (ap (map (signature_with tree)) c.functions.ensures ∙ h.functions) h.known
-    (names_mean m setting.scopes.now h.scopes c.args.owner f c.requires.owner)
+    context_is m c.args.owner f _ _ _ (map tree c.args.bodies.now.globals.now.constants.now) _ _ _ h.outline.parents h.classes
+    (ap (map (signature_with tree)) h.same_functions ∙ h.functions) h.known
+    (names_mean m bodies.globals.now.outline.now.scopes.now h.outline.scopes c.args.owner f c.requires.owner)
     (ap (λ (s : Signature). s.returns) signature)
 
-pub check_function-requires-clause-frame : goal.check_function-requires-clause-frame
+pub check_function-requires-clause-context : goal.check_function-requires-clause-context
 unfolding meanings
-check_function-requires-clause-frame g c =
+check_function-requires-clause-context g c =
     let has = g.S.TypeStore.has in
     let tree = g.S.TypeStore.tree in
-    let setting = c.args.setting.now in
+    let bodies = c.args.bodies.now in
     let store = c.args.checker.now.store.now in
-    let m = module_in setting in
-    let h = c.requires.setting in
+    let m = module_in bodies in
+    let h = c.requires.bodies in
     let f = func_of c.args.def.now in
     let x = c.in-Some.signature.now in
     let there = sym c.signature_for.ensures ∙ ap option_copied c.in-Some.is in
-    let signature = signature_is m tree setting.signatures.now h.functions h.methods c.args.owner f x c.requires.owner
+    let signature = signature_is m tree bodies.signatures.now h.functions h.methods c.args.owner f x c.requires.owner
     there
     in
-    let held = signature_held (has store) setting.signatures.now h.held c.args.owner x there in
-    let constants = map tree c.constants.result.now in
-    let same : constants ≡ constants_of m = ap (map tree) c.constants.ensures ∙ h.constants in
+    let held = signature_held (has store) bodies.signatures.now h.held c.args.owner x there in
+    let constants = map tree c.args.bodies.now.globals.now.constants.now in
+    let same : constants ≡ constants_of m = ap (map tree) h.same_constants ∙ h.constants in
     let well_formed : AreWellFormed (bases_of m) constants =
     subst (AreWellFormed (bases_of m)) (sym same) (constants_well_formed m) in
     let returned = subst (λ (t : Tree). IsWellFormed (bases_of m) t)
     (sym (ap (λ (s : Signature). s.returns) signature)) (returned_well_formed m f) in
     record {
       classes = h.entries;
-      functions = subst (All (HasSignature (has store))) (sym c.functions.ensures) h.held.functions;
-      constants = subst (All (has store)) (sym c.constants.ensures) h.held.constants;
+      functions = subst (All (HasSignature (has store))) (sym h.same_functions) h.held.functions;
+      constants = subst (All (has store)) (sym h.same_constants) h.held.constants;
       returned = record {
         given = held.ret;
-        well_formed = subst (λ (bs : Bases). IsWellFormed bs (tree x.ret)) (sym h.parents) returned;
+        well_formed = subst (λ (bs : Bases). IsWellFormed bs (tree x.ret)) (sym h.outline.parents) returned;
       };
-      context = subst (λ (k : BodyFrame). ContextWellFormed k.context) (sym (check_function-requires-clause-body g c))
+      context = subst (λ (k : BodyContext). ContextWellFormed k.context) (sym (check_function-requires-clause-body g c))
           (bodies_well_formed m constants (locals c.args.owner f) well_formed);
-      scopes = h.scopes;
+      scopes = h.outline.scopes;
     }
 
 pub returns-in-Some-clause-found : goal.returns-in-Some-clause-found
 returns-in-Some-clause-found g c =
     let tree = g.S.TypeStore.tree in
-    let m = module_in c.args.setting.now in
+    let m = module_in c.args.bodies.now in
     let found = notes_of c.args.checker.now.found.now in
-    let same : map tree c.constants.result.now ≡ constants_of m =
-    ap (map tree) c.constants.ensures ∙ c.requires.setting.constants in
+    let same : map tree c.args.bodies.now.globals.now.constants.now ≡ constants_of m =
+    ap (map tree) c.requires.bodies.same_constants ∙ c.requires.bodies.constants in
     subst (λ cs. OnOk c.check_function.result (notes_of c.check_function.new.checker.found.now
     ≡ function_finds m cs c.args.owner (func_of c.args.def.now) found)) same c.check_function.ensures.found
 
 pub check_function-requires-clause-params : goal.check_function-requires-clause-params
 check_function-requires-clause-params g c =
     let tree = g.S.TypeStore.tree in
-    let setting = c.args.setting.now in
-    let h = c.requires.setting in
-    let signature = signature_is (module_in setting) tree setting.signatures.now h.functions h.methods c.args.owner
+    let bodies = c.args.bodies.now in
+    let h = c.requires.bodies in
+    let signature = signature_is (module_in bodies) tree bodies.signatures.now h.functions h.methods c.args.owner
     (func_of c.args.def.now) c.in-Some.signature.now c.requires.owner
     (sym c.signature_for.ensures ∙ ap option_copied c.in-Some.is) in
     ap (parameters_with tree) c.deref.ensures.value ∙ ap (λ (s : Signature). s.parameters) signature

@@ -6,9 +6,9 @@ use Rattle.pc_tree.proofs.Stops.{cons_at}
 use Rattle.pc_class.specs.declared.table.Parameter.{Parameter}
 use Rattle.pc_class.specs.Tables.{parameters_with}
 use Rattle.pc_flow.specs.Stored.{env_of}
-use Rattle.pc_labels.specs.ComputedStatements.{BindingResult, enter_name, enter_parameters}
-use Rattle.pc_frames.specs.Walks.{HoldsOne}
-use Rattle.pc_frames.proofs.Walks.{same_walk, goes_further, one_kept}
+use Rattle.pc_module_rules.specs.Computed.Statements.{BindingResult, enter_name, enter_parameters}
+use Rattle.pc_walk.specs.Walks.{HoldsOne}
+use Rattle.pc_walk.proofs.Walks.{same_walk, goes_further, one_kept}
 use Rattle.pc_check.specs.Internal.Entry.{entered}
 use Rattle.pc_check.proofs.entering.enter.Goals as goal
 
@@ -37,7 +37,7 @@ loop-param-preserved g c =
     let p = c.param-item.result in
     let table = env_of tree here.walk.declared.now in
     let env = env_of tree here.env in
-    let resolve = meanings here.walk.frame.names.now in
+    let resolve = meanings here.walk.context.names.now in
     let rest = parameters_with tree (drop (i + 1) ps) in
     let next = ap (parameters_with tree) (cons_at ps i p c.loop-param-test.true c.param-item.is) in
     let both = ap (λ (r : BindingResult). (r.table, r.env)) b.is
@@ -46,7 +46,7 @@ loop-param-preserved g c =
     record {
       goes_on = goes_further v.goes_on on;
       stands = b.stands;
-      is = (λ j. enter_parameters (meanings (on.frame j).names.now) (both j).0 (both j).1 rest)
+      is = (λ j. enter_parameters (meanings (on.context j).names.now) (both j).0 (both j).1 rest)
           ∙ sym (ap (enter_parameters resolve table env) next) ∙ v.is;
       found = pushed ∙ v.found;
     }
@@ -58,7 +58,7 @@ returns-clause-bound g c =
     let v = here.invariant in
     let table = env_of tree here.walk.declared.now in
     let env = env_of tree here.env in
-    let resolve = meanings here.walk.frame.names.now in
+    let resolve = meanings here.walk.context.names.now in
     let left = ap (parameters_with tree) (drop_all here.param-index c.args.params.now (omega arith)) in
     let is = sym (ap (enter_parameters resolve table env) left) ∙ v.is in
     record { is = (λ i. entered (is i) (v.found i)); stands = v.stands }

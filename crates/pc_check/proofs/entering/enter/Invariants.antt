@@ -3,15 +3,15 @@ use Rattle.std.proofs.Common.{◌≡◌, drop}
 use Rattle.pc_class.specs.Tables.{parameters_with}
 use Rattle.pc_flow.specs.Stored.{env_of}
 use Rattle.pc_notes.specs.Notes.{notes_of}
-use Rattle.pc_labels.specs.ComputedStatements.{enter_parameters}
-use Rattle.pc_frames.specs.Walks.{GoesOn, Stands}
+use Rattle.pc_module_rules.specs.Computed.Statements.{enter_parameters}
+use Rattle.pc_walk.specs.Walks.{GoesOn, Stands}
 use Rattle.pc_check.proofs.entering.enter.Given as goal
 
 abbrev pub invariant-loop-param : goal.invariant-loop-param
 invariant-loop-param g l =
     let tree = g.S.TypeStore.tree in
-    let resolve = meanings l.walk.frame.names.now in
-    let first = meanings l.fn.walk.frame.names.now in
+    let resolve = meanings l.walk.context.names.now in
+    let first = meanings l.fn.walk.context.names.now in
     let rest = parameters_with tree (drop l.param-index l.params) in
     let all = parameters_with tree l.params in
     record {

@@ -1,5 +1,5 @@
 use Rattle.std.proofs.Common.{refl}
-use Rattle.pc_frames.proofs.Walks.{grown, stands_on}
+use Rattle.pc_walk.proofs.Walks.{grown, stands_on}
 use Rattle.pc_check.proofs.entering.enter_receiver.Goals as goal
 
 pub enter_name-requires-clause-stands : goal.enter_name-requires-clause-stands

@@ -11,12 +11,12 @@ use Rattle.pc_class.proofs.WellFormed.{params_well_formed}
 use Rattle.pc_flow.specs.Environment.{Env, none_assigned}
 use Rattle.pc_flow.specs.Stored.{env_of}
 use Rattle.pc_notes.specs.Notes.{Note, notes_of}
-use Rattle.pc_labels.specs.ComputedStatements.{BindingResult, BodyFrame, Table, end_finds, enter_parameters, walk_suite}
-use Rattle.pc_labels.specs.Modules.{receiver_parameter}
-use Rattle.pc_frames.specs.declared.frame.Frame.{Frame as RustFrame}
-use Rattle.pc_frames.specs.StatementsHeld.{HoldsType}
-use Rattle.pc_frames.specs.Walks.{frame_in}
-use Rattle.pc_frames.proofs.Walks.{goes_further, in_frame}
+use Rattle.pc_module_rules.specs.Computed.Statements.{BindingResult, BodyContext, Table, end_finds, enter_parameters, walk_suite}
+use Rattle.pc_module_rules.specs.Modules.{receiver_parameter}
+use Rattle.pc_walk.specs.declared.context.BodyContext.{BodyContext as RustBodyContext}
+use Rattle.pc_walk.specs.StatementsHeld.{HoldsType}
+use Rattle.pc_walk.specs.Walks.{body_context_in}
+use Rattle.pc_walk.proofs.Walks.{goes_further, in_body_context}
 use Rattle.pc_check.specs.Internal.Walked.{reached}
 use Rattle.pc_check.proofs.Agreed.{entered_long}
 use Rattle.pc_check.proofs.Entered.{none_holds, none_is, parameters_hold, function_found}
@@ -27,8 +27,8 @@ pub enter_receiver-requires : goal.enter_receiver-requires
 enter_receiver-requires g c =
     let S = g.S.TypeStore in
     let w = c.args.walk.now in
-    let none = none_holds (S.has w.store.now) S.tree w.frame.parents.now c.args.count in
-    record { frame = c.requires.frame; declared = rw c.requires.declared none; current = rw c.in_ok-env.ensures none }
+    let none = none_holds (S.has w.store.now) S.tree w.context.globals.now.outline.now.parents.now c.args.count in
+    record { context = c.requires.context; declared = rw c.requires.declared none; current = rw c.in_ok-env.ensures none }
 
 pub enter-requires-clause-params : goal.enter-requires-clause-params
 enter-requires-clause-params g c =
@@ -37,20 +37,20 @@ enter-requires-clause-params g c =
     let new = c.enter_receiver.new.walk in
     let on = c.enter_receiver.ensures.goes_on in
     let params = c.args.params.now in
-    let m = module_of old.frame.tree.now in
+    let m = module_of old.context.globals.now.outline.now.tree.now in
     let given = All-weaker (HasParameter (S.has old.store.now)) (HasParameter (S.has new.store.now))
     (λ p h. on.kept p.ty h) params c.requires.given in
-    let bases : bases_of m ≡ old.frame.parents.now = sym (ap (λ (x : BodyFrame). x.context.bases) c.requires.body) in
+    let bases : bases_of m ≡ old.context.globals.now.outline.now.parents.now = sym (ap (λ (x : BodyContext). x.context.bases) c.requires.body) in
     let well_formed = subst (λ bases. ParametersWellFormed bases (parameters_with S.tree params)) bases
     (subst (ParametersWellFormed (bases_of m)) (sym c.requires.params) (params_well_formed m (func_of c.args.def.now).params))
     in
-    in_frame S old new (λ (f : RustFrame _). All (λ p. HoldsType (S.has new.store.now) S.tree f.parents.now
-    p.ty) params) on (parameters_hold (S.has new.store.now) S.tree old.frame.parents.now params given well_formed)
+    in_body_context S old new (λ (f : RustBodyContext _). All (λ p. HoldsType (S.has new.store.now) S.tree f.globals.now.outline.now.parents.now
+    p.ty) params) on (parameters_hold (S.has new.store.now) S.tree old.context.globals.now.outline.now.parents.now params given well_formed)
 
 pub check_suite-requires-clause-stands : goal.check_suite-requires-clause-stands
 check_suite-requires-clause-stands g c =
     let h = c.in_ok-enter.ensures.bound.stands in
-    record { frame = h.frame; declared = h.declared; current = h.current; out = tt }
+    record { context = h.context; declared = h.declared; current = h.current; out = tt }
 
 pub check_suite-requires-clause-long : goal.check_suite-requires-clause-long
 check_suite-requires-clause-long g c =
@@ -61,7 +61,7 @@ check_suite-requires-clause-long g c =
     let receiver = receiver_parameter c.args.owner in
     let declared = ap (env_of tree) c.requires.declared ∙ none_is tree c.args.count in
     let env = ap (env_of tree) c.in_ok-env.ensures ∙ none_is tree c.args.count in
-    let resolve = meanings old.frame.names.now in
+    let resolve = meanings old.context.names.now in
     let table = env_of tree mid.declared.now in
     let first = env_of tree c.enter_receiver.new.env in
     let received : (table, first) ≡ enter_parameters resolve none none receiver =
@@ -69,7 +69,7 @@ check_suite-requires-clause-long g c =
     ∙ (λ i. enter_parameters resolve (declared i) (env i) receiver) in
     let between = subst (λ (r : Table × Env). length r.1 ≡ length r.0) (sym received)
     (entered_long resolve none none receiver refl) in
-    let behind = entered_long (meanings mid.frame.names.now) table first (parameters_with tree c.args.params.now) between in
+    let behind = entered_long (meanings mid.context.names.now) table first (parameters_with tree c.args.params.now) between in
     record {
       env_long = subst (λ (r : Table × Env). length r.1 ≡ length r.0)
           (sym (ap (λ (b : BindingResult). (b.table, b.env)) c.in_ok-enter.ensures.bound.is)) behind;
@@ -84,9 +84,9 @@ returns-clause-pushed g c =
     let first = c.enter_receiver.new.walk in
     let mid = c.enter.new.walk in
     let later = c.check_suite.new.walk in
-    let frame = frame_in S old in
-    let resolve = frame.context.resolve in
-    let m = module_of old.frame.tree.now in
+    let context = body_context_in S old in
+    let resolve = context.context.resolve in
+    let m = module_of old.context.globals.now.outline.now.tree.now in
     let def = func_of c.args.def.now in
     let n = c.args.count in
     let receiver = receiver_parameter c.args.owner in
@@ -107,16 +107,16 @@ returns-clause-pushed g c =
     let received = ap (λ (b : BindingResult). (b.table, b.env)) r.is
     ∙ (λ i. enter_parameters resolve (declared_is i) (env_is i) receiver) in
     let started = ap (λ (b : BindingResult). (b.table, b.env)) e.is
-    ∙ (λ i. enter_parameters (meanings (g1.frame i).names.now) middle.0 middle.1
+    ∙ (λ i. enter_parameters (meanings (g1.context i).names.now) middle.0 middle.1
     (parameters_with tree c.args.params.now))
     ∙ ap (enter_parameters resolve middle.0 middle.1) c.requires.params in
     let notes = ap (λ (b : BindingResult). b.found) e.is ∙ ap (λ (b : BindingResult). b.found) r.is in
     let walked = walks_on S old mid later (Some env) None out c.check_suite.new.broken
     (λ f w. walk_suite f w (stmts_of_list c.deref.result.now)) g2 s
-    ∙ ap (λ b. walk_suite frame (reached S mid (Some env) None) (stmts_of_list b)) c.deref.ensures.value
-    ∙ ap (λ (ns : List Note). walk_suite frame (reached_by start.0 (Some start.1) None ns) def.body) notes in
-    let whole = function_found m (map tree old.frame.constants.now) c.args.owner def frame found n middle start body
+    ∙ ap (λ b. walk_suite context (reached S mid (Some env) None) (stmts_of_list b)) c.deref.ensures.value
+    ∙ ap (λ (ns : List Note). walk_suite context (reached_by start.0 (Some start.1) None ns) def.body) notes in
+    let whole = function_found m (map tree old.context.globals.now.constants.now) c.args.owner def context found n middle start body
     c.requires.body c.requires.count received started walked in
     c.in_ok-find_end.ensures.pushed
-    ∙ (λ i. notes_of later.found.now ++ end_finds (g3.frame i).parents.now (tree (g3.frame i).returned.now) def.name.place
+    ∙ (λ i. notes_of later.found.now ++ end_finds (g3.context i).parents.now (tree (g3.context i).returned.now) def.name.place
     (option_map (env_of tree) out)) ∙ whole

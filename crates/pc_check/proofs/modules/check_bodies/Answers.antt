@@ -2,21 +2,21 @@ use Rattle.std.proofs.Common.{◌+◌, ◌∷◌, map, drop, sym, ap, ◌∙◌,
 use Rattle.pc_tree.specs.Tree.{class_of, constant_of, func_of, item_of, item_of_kind}
 use Rattle.pc_scope.specs.Bindings.{classes_in, functions_in}
 use Rattle.pc_notes.specs.Notes.{notes_of}
-use Rattle.pc_rules.specs.SignaturesFound.{constants_of}
-use Rattle.pc_check.specs.Internal.ModuleWalk.{module_in, IsModuleSetting}
-use Rattle.pc_labels.specs.ComputedModules.{bodies_find}
+use Rattle.pc_rules.specs.Computed.Signatures.{constants_of}
+use Rattle.pc_check.specs.Internal.ModuleWalk.{module_in, IsModuleBodies}
+use Rattle.pc_module_rules.specs.Computed.Modules.{bodies_find}
 use Rattle.pc_check.proofs.CheckedModules.{ItemsAt, items_next, class_here, def_here, constant_passed, class_passed}
 use Rattle.pc_check.proofs.CheckedModules.{def_passed}
 use Rattle.pc_rules.specs.declared.checker.Checker.{Checker}
 use Rattle.pc_rules.proofs.Checkers.{goes_further}
-use Rattle.pc_check.proofs.ModuleSettings.{setting_kept}
+use Rattle.pc_check.proofs.ModuleBodies.{bodies_kept}
 use Rattle.pc_check.proofs.modules.check_bodies.Goals as goal
 use Rattle.pc_check.proofs.modules.check_bodies.Goals.{in-Constant, in-Class+in_ok-check_methods-in-Class}
 use Rattle.pc_check.proofs.modules.check_bodies.Goals.{in-Def+in_ok-check_owned-in-Def}
 
 pub check_methods-requires-clause-class : goal.check_methods-requires-clause-class
 check_methods-requires-clause-class g c =
-    let m = module_in c.args.setting.now in
+    let m = module_in c.args.bodies.now in
     let items = c.as_slice-items.result.now in
     let i = c.loop-item.item-index in
     let x = c.item-item.result in
@@ -28,7 +28,7 @@ check_methods-requires-clause-class g c =
 
 pub check_owned-requires-clause-owner : goal.check_owned-requires-clause-owner
 check_owned-requires-clause-owner g c =
-    let m = module_in c.args.setting.now in
+    let m = module_in c.args.bodies.now in
     let items = c.as_slice-items.result.now in
     let i = c.loop-item.item-index in
     let x = c.item-item.result in
@@ -42,7 +42,7 @@ pub loop-item-preserved : goal.loop-item-preserved
 loop-item-preserved g c =
     let has = g.S.TypeStore.has in
     let tree = g.S.TypeStore.tree in
-    let m = module_in c.args.setting.now in
+    let m = module_in c.args.bodies.now in
     let cs = constants_of m in
     let items = c.as_slice-items.result.now in
     let i = c.loop-item.item-index in
@@ -75,14 +75,14 @@ loop-item-preserved g c =
           w.functions-is ((λ j. notes_of ((w.checker-is j).found.now)) ∙ w.in_ok-check_owned-in-Def.ensures.found)
     ] in
     record {
-      setting = elim c.match-item.branch [
-        | in-Constant w ↦ subst (λ (k : Checker _ _). IsModuleSetting (has k.store.now) tree c.args.setting.now) (sym w.checker-is) v.setting
-        | in-Class+in_ok-check_methods-in-Class w ↦ subst (λ (k : Checker _ _). IsModuleSetting (has k.store.now) tree c.args.setting.now)
-            (sym w.checker-is) (setting_kept has tree c.loop-item.checker.store.now w.check_methods.new.checker.store.now
-            w.check_methods.ensures.goes_on.kept c.args.setting.now v.setting)
-        | in-Def+in_ok-check_owned-in-Def w ↦ subst (λ (k : Checker _ _). IsModuleSetting (has k.store.now) tree c.args.setting.now)
-            (sym w.checker-is) (setting_kept has tree c.loop-item.checker.store.now w.check_owned.new.checker.store.now
-            w.check_owned.ensures.goes_on.kept c.args.setting.now v.setting)
+      bodies = elim c.match-item.branch [
+        | in-Constant w ↦ subst (λ (k : Checker _ _). IsModuleBodies (has k.store.now) tree c.args.bodies.now) (sym w.checker-is) v.bodies
+        | in-Class+in_ok-check_methods-in-Class w ↦ subst (λ (k : Checker _ _). IsModuleBodies (has k.store.now) tree c.args.bodies.now)
+            (sym w.checker-is) (bodies_kept has tree c.loop-item.checker.store.now w.check_methods.new.checker.store.now
+            w.check_methods.ensures.goes_on.kept c.args.bodies.now v.bodies)
+        | in-Def+in_ok-check_owned-in-Def w ↦ subst (λ (k : Checker _ _). IsModuleBodies (has k.store.now) tree c.args.bodies.now)
+            (sym w.checker-is) (bodies_kept has tree c.loop-item.checker.store.now w.check_owned.new.checker.store.now
+            w.check_owned.ensures.goes_on.kept c.args.bodies.now v.bodies)
       ];
       classes_counted = let h = v.classes_counted in elim c.match-item.branch [
         | in-Constant w ↦ let e = w.classes-is in omega arith

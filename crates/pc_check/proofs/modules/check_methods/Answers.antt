@@ -3,13 +3,13 @@ use Rattle.pc_tree.specs.Tree.{class_of, func_of, field_of, member_of}
 use Rattle.pc_scope.specs.Bindings.{methods_in}
 use Rattle.pc_scope.specs.Resolution.{method_at}
 use Rattle.pc_notes.specs.Notes.{notes_of}
-use Rattle.pc_rules.specs.SignaturesFound.{constants_of}
-use Rattle.pc_check.specs.Internal.ModuleWalk.{module_in, IsModuleSetting}
-use Rattle.pc_labels.specs.ComputedModules.{methods_find}
+use Rattle.pc_rules.specs.Computed.Signatures.{constants_of}
+use Rattle.pc_check.specs.Internal.ModuleWalk.{module_in, IsModuleBodies}
+use Rattle.pc_module_rules.specs.Computed.Modules.{methods_find}
 use Rattle.pc_check.proofs.CheckedModules.{MembersAt, members_next, method_here, field_passed, method_passed}
 use Rattle.pc_rules.specs.declared.checker.Checker.{Checker}
 use Rattle.pc_rules.proofs.Checkers.{goes_further}
-use Rattle.pc_check.proofs.ModuleSettings.{setting_kept}
+use Rattle.pc_check.proofs.ModuleBodies.{bodies_kept}
 use Rattle.pc_check.proofs.modules.check_methods.Goals as goal
 use Rattle.pc_check.proofs.modules.check_methods.Goals.{in-Field, in-Method+in_ok-check_owned-in-Method}
 
@@ -28,7 +28,7 @@ pub loop-member-preserved : goal.loop-member-preserved
 loop-member-preserved g c =
     let has = g.S.TypeStore.has in
     let tree = g.S.TypeStore.tree in
-    let m = module_in c.args.setting.now in
+    let m = module_in c.args.bodies.now in
     let ms = c.as_slice-members.result.now in
     let i = c.loop-member.member-index in
     let n = c.loop-member.methods in
@@ -50,11 +50,11 @@ loop-member-preserved g c =
           ((λ j. notes_of ((w.checker-is j).found.now)) ∙ w.in_ok-check_owned-in-Method.ensures.found)
     ] in
     record {
-      setting = elim c.match-member.branch [
-        | in-Field w ↦ subst (λ (k : Checker _ _). IsModuleSetting (has k.store.now) tree c.args.setting.now) (sym w.checker-is) v.setting
-        | in-Method+in_ok-check_owned-in-Method w ↦ subst (λ (k : Checker _ _). IsModuleSetting (has k.store.now) tree c.args.setting.now)
-            (sym w.checker-is) (setting_kept has tree c.loop-member.checker.store.now w.check_owned.new.checker.store.now
-            w.check_owned.ensures.goes_on.kept c.args.setting.now v.setting)
+      bodies = elim c.match-member.branch [
+        | in-Field w ↦ subst (λ (k : Checker _ _). IsModuleBodies (has k.store.now) tree c.args.bodies.now) (sym w.checker-is) v.bodies
+        | in-Method+in_ok-check_owned-in-Method w ↦ subst (λ (k : Checker _ _). IsModuleBodies (has k.store.now) tree c.args.bodies.now)
+            (sym w.checker-is) (bodies_kept has tree c.loop-member.checker.store.now w.check_owned.new.checker.store.now
+            w.check_owned.ensures.goes_on.kept c.args.bodies.now v.bodies)
       ];
       counted = let h = v.counted in elim c.match-member.branch [
         | in-Field w ↦ let e = w.methods-is in omega arith

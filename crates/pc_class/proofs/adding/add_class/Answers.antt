@@ -13,14 +13,15 @@ use Rattle.pc_class.specs.Entries.{MemberEntry, HasMaps, inherited_in, inherited
 use Rattle.pc_class.specs.Outlines.{IsMapOf, field_name, method_name as class_method_name, own_field, own_method, all_own, AreNew}
 use Rattle.pc_class.specs.Tables.{inherited_entry, HasParameter, HasMethod, parameter_with, method_with}
 use Rattle.pc_class.specs.Parts.{parameter_name, stored_method_name, inherited_node, entries_in}
-use Rattle.pc_class.specs.Built.{module_in, Added}
+use Rattle.pc_ann.specs.ModuleOutlines.{module_in}
+use Rattle.pc_class.specs.Built.{Added}
 use Rattle.pc_class.proofs.ClassesBuilt.{base_here}
 use Rattle.pc_class.proofs.ClassAdded.{table_new, classes_new, given_new, held, base_class, entries_are, fields_new, methods_new, base_defaulted, held_on, node_same}
 use Rattle.pc_class.proofs.adding.add_class.Goals as goal
 
 pub entries-requires : goal.entries-requires
 entries-requires g c =
-    let m = module_in c.args.setting.now in
+    let m = module_in c.args.outline.now in
     let tree = g.S.TypeStore.tree in
     let p = c.args.parts.now in
     let d = p.named in
@@ -31,7 +32,7 @@ entries-requires g c =
     let es = entries_in p in
     let base = c.base-base.result in
     let number : c.len-class.result ≡ length ns = search rules in
-    let based : base ≡ base_named m (length ns) class.base = c.base-base.ensures.value ∙ ap (λ (bs : Bases). base_of bs c.len-class.result) c.requires.setting.parents ∙ ap (base_of (bases_of m)) number ∙ base_here m (length ns) class c.requires.class in
+    let based : base ≡ base_named m (length ns) class.base = c.base-base.ensures.value ∙ ap (λ (bs : Bases). base_of bs c.len-class.result) c.requires.outline.parents ∙ ap (base_of (bases_of m)) number ∙ base_here m (length ns) class c.requires.class in
     let o = c.inherited-inherited.result in
     let o_is : o ≡ inherited_node ns base = c.inherited-inherited.ensures ∙ ap (λ (xs : List ClassNode). inherited_node xs base) c.deref.ensures.value in
     let I = inherited_entry es base in
@@ -40,7 +41,7 @@ entries-requires g c =
 
 pub add_fields-requires-clause-map : goal.add_fields-requires-clause-map
 add_fields-requires-clause-map g c =
-    let m = module_in c.args.setting.now in
+    let m = module_in c.args.outline.now in
     let tree = g.S.TypeStore.tree in
     let p = c.args.parts.now in
     let d = p.named in
@@ -51,7 +52,7 @@ add_fields-requires-clause-map g c =
     let es = entries_in p in
     let base = c.base-base.result in
     let number : c.len-class.result ≡ length ns = search rules in
-    let based : base ≡ base_named m (length ns) class.base = c.base-base.ensures.value ∙ ap (λ (bs : Bases). base_of bs c.len-class.result) c.requires.setting.parents ∙ ap (base_of (bases_of m)) number ∙ base_here m (length ns) class c.requires.class in
+    let based : base ≡ base_named m (length ns) class.base = c.base-base.ensures.value ∙ ap (λ (bs : Bases). base_of bs c.len-class.result) c.requires.outline.parents ∙ ap (base_of (bases_of m)) number ∙ base_here m (length ns) class c.requires.class in
     let o = c.inherited-inherited.result in
     let o_is : o ≡ inherited_node ns base = c.inherited-inherited.ensures ∙ ap (λ (xs : List ClassNode). inherited_node xs base) c.deref.ensures.value in
     let I = inherited_entry es base in
@@ -60,7 +61,7 @@ add_fields-requires-clause-map g c =
 
 pub add_methods-requires-clause-map : goal.add_methods-requires-clause-map
 add_methods-requires-clause-map g c =
-    let m = module_in c.args.setting.now in
+    let m = module_in c.args.outline.now in
     let tree = g.S.TypeStore.tree in
     let p = c.args.parts.now in
     let d = p.named in
@@ -71,7 +72,7 @@ add_methods-requires-clause-map g c =
     let es = entries_in p in
     let base = c.base-base.result in
     let number : c.len-class.result ≡ length ns = search rules in
-    let based : base ≡ base_named m (length ns) class.base = c.base-base.ensures.value ∙ ap (λ (bs : Bases). base_of bs c.len-class.result) c.requires.setting.parents ∙ ap (base_of (bases_of m)) number ∙ base_here m (length ns) class c.requires.class in
+    let based : base ≡ base_named m (length ns) class.base = c.base-base.ensures.value ∙ ap (λ (bs : Bases). base_of bs c.len-class.result) c.requires.outline.parents ∙ ap (base_of (bases_of m)) number ∙ base_here m (length ns) class c.requires.class in
     let o = c.inherited-inherited.result in
     let o_is : o ≡ inherited_node ns base = c.inherited-inherited.ensures ∙ ap (λ (xs : List ClassNode). inherited_node xs base) c.deref.ensures.value in
     let I = inherited_entry es base in
@@ -82,7 +83,7 @@ add_methods-requires-clause-map g c =
 
 pub returns-clause-table : goal.returns-clause-table
 returns-clause-table g c =
-    let m = module_in c.args.setting.now in
+    let m = module_in c.args.outline.now in
     let tree = g.S.TypeStore.tree in
     let p = c.args.parts.now in
     let d = p.named in
@@ -93,7 +94,7 @@ returns-clause-table g c =
     let es = entries_in p in
     let base = c.base-base.result in
     let number : c.len-class.result ≡ length ns = search rules in
-    let based : base ≡ base_named m (length ns) class.base = c.base-base.ensures.value ∙ ap (λ (bs : Bases). base_of bs c.len-class.result) c.requires.setting.parents ∙ ap (base_of (bases_of m)) number ∙ base_here m (length ns) class c.requires.class in
+    let based : base ≡ base_named m (length ns) class.base = c.base-base.ensures.value ∙ ap (λ (bs : Bases). base_of bs c.len-class.result) c.requires.outline.parents ∙ ap (base_of (bases_of m)) number ∙ base_here m (length ns) class c.requires.class in
     let o = c.inherited-inherited.result in
     let o_is : o ≡ inherited_node ns base = c.inherited-inherited.ensures ∙ ap (λ (xs : List ClassNode). inherited_node xs base) c.deref.ensures.value in
     let I = inherited_entry es base in
@@ -131,7 +132,7 @@ returns-clause-table g c =
 
 pub returns-clause-given : goal.returns-clause-given
 returns-clause-given g c =
-    let m = module_in c.args.setting.now in
+    let m = module_in c.args.outline.now in
     let tree = g.S.TypeStore.tree in
     let p = c.args.parts.now in
     let d = p.named in
@@ -142,7 +143,7 @@ returns-clause-given g c =
     let es = entries_in p in
     let base = c.base-base.result in
     let number : c.len-class.result ≡ length ns = search rules in
-    let based : base ≡ base_named m (length ns) class.base = c.base-base.ensures.value ∙ ap (λ (bs : Bases). base_of bs c.len-class.result) c.requires.setting.parents ∙ ap (base_of (bases_of m)) number ∙ base_here m (length ns) class c.requires.class in
+    let based : base ≡ base_named m (length ns) class.base = c.base-base.ensures.value ∙ ap (λ (bs : Bases). base_of bs c.len-class.result) c.requires.outline.parents ∙ ap (base_of (bases_of m)) number ∙ base_here m (length ns) class c.requires.class in
     let o = c.inherited-inherited.result in
     let o_is : o ≡ inherited_node ns base = c.inherited-inherited.ensures ∙ ap (λ (xs : List ClassNode). inherited_node xs base) c.deref.ensures.value in
     let I = inherited_entry es base in
@@ -180,7 +181,7 @@ returns-clause-given g c =
 
 pub returns-clause-classes : goal.returns-clause-classes
 returns-clause-classes g c =
-    let m = module_in c.args.setting.now in
+    let m = module_in c.args.outline.now in
     let tree = g.S.TypeStore.tree in
     let p = c.args.parts.now in
     let d = p.named in
@@ -191,7 +192,7 @@ returns-clause-classes g c =
     let es = entries_in p in
     let base = c.base-base.result in
     let number : c.len-class.result ≡ length ns = search rules in
-    let based : base ≡ base_named m (length ns) class.base = c.base-base.ensures.value ∙ ap (λ (bs : Bases). base_of bs c.len-class.result) c.requires.setting.parents ∙ ap (base_of (bases_of m)) number ∙ base_here m (length ns) class c.requires.class in
+    let based : base ≡ base_named m (length ns) class.base = c.base-base.ensures.value ∙ ap (λ (bs : Bases). base_of bs c.len-class.result) c.requires.outline.parents ∙ ap (base_of (bases_of m)) number ∙ base_here m (length ns) class c.requires.class in
     let o = c.inherited-inherited.result in
     let o_is : o ≡ inherited_node ns base = c.inherited-inherited.ensures ∙ ap (λ (xs : List ClassNode). inherited_node xs base) c.deref.ensures.value in
     let I = inherited_entry es base in
@@ -229,7 +230,7 @@ returns-clause-classes g c =
 
 pub returns-clause-found : goal.returns-clause-found
 returns-clause-found g c =
-    let m = module_in c.args.setting.now in
+    let m = module_in c.args.outline.now in
     let tree = g.S.TypeStore.tree in
     let p = c.args.parts.now in
     let d = p.named in
@@ -240,7 +241,7 @@ returns-clause-found g c =
     let es = entries_in p in
     let base = c.base-base.result in
     let number : c.len-class.result ≡ length ns = search rules in
-    let based : base ≡ base_named m (length ns) class.base = c.base-base.ensures.value ∙ ap (λ (bs : Bases). base_of bs c.len-class.result) c.requires.setting.parents ∙ ap (base_of (bases_of m)) number ∙ base_here m (length ns) class c.requires.class in
+    let based : base ≡ base_named m (length ns) class.base = c.base-base.ensures.value ∙ ap (λ (bs : Bases). base_of bs c.len-class.result) c.requires.outline.parents ∙ ap (base_of (bases_of m)) number ∙ base_here m (length ns) class c.requires.class in
     let o = c.inherited-inherited.result in
     let o_is : o ≡ inherited_node ns base = c.inherited-inherited.ensures ∙ ap (λ (xs : List ClassNode). inherited_node xs base) c.deref.ensures.value in
     let I = inherited_entry es base in

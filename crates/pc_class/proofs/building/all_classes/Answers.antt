@@ -8,14 +8,15 @@ use Rattle.pc_scope.specs.Bindings.{classes_in}
 use Rattle.pc_class.specs.Facts.{ClassFacts, classes_behind}
 use Rattle.pc_class.specs.Tables.{HasParameter, HasMethod, classes_with}
 use Rattle.pc_class.specs.Parts.{entries_in, entries_behind}
-use Rattle.pc_class.specs.Built.{module_in, found_behind}
+use Rattle.pc_ann.specs.ModuleOutlines.{module_in}
+use Rattle.pc_class.specs.Built.{found_behind}
 use Rattle.pc_class.proofs.ClassAdded.{entries_are_behind}
 use Rattle.pc_class.proofs.ItemsBuilt.{item_ahead, items_ahead, classes_next, found_next, classes_are_behind}
 use Rattle.pc_class.proofs.building.all_classes.Goals as goal
 
 pub loop-item-init : goal.loop-item-init
 loop-item-init g c =
-    let m = module_in c.args.setting.now in
+    let m = module_in c.args.outline.now in
     let tree = g.S.TypeStore.tree in
     let has = g.S.TypeStore.has c.args.store.now in
     let p = c.in_ok-parts.parts in
@@ -45,7 +46,7 @@ add_item-requires-clause-class g c class e =
 
 pub loop-item-preserved : goal.loop-item-preserved
 loop-item-preserved g c =
-    let m = module_in c.args.setting.now in
+    let m = module_in c.args.outline.now in
     let tree = g.S.TypeStore.tree in
     let items = c.as_slice-items.result.now in
     let x = c.item-item.result in
@@ -70,7 +71,7 @@ loop-item-preserved g c =
 
 pub returns-clause-classes : goal.returns-clause-classes
 returns-clause-classes g c =
-    let m = module_in c.args.setting.now in
+    let m = module_in c.args.outline.now in
     let tree = g.S.TypeStore.tree in
     let items = c.as_slice-items.result.now in
     let n = length c.loop-item.parts.classes.items in
@@ -82,7 +83,7 @@ returns-clause-classes g c =
 
 pub returns-clause-found : goal.returns-clause-found
 returns-clause-found g c =
-    let m = module_in c.args.setting.now in
+    let m = module_in c.args.outline.now in
     let tree = g.S.TypeStore.tree in
     let items = c.as_slice-items.result.now in
     let n = length c.loop-item.parts.classes.items in

@@ -5,7 +5,8 @@ use Rattle.pc_types.specs.Store.{KeepsTypes}
 use Rattle.pc_class.specs.Facts.{classes_behind}
 use Rattle.pc_class.specs.Tables.{classes_with}
 use Rattle.pc_class.specs.Parts.{entries_in, IsClassTable, HasParts}
-use Rattle.pc_class.specs.Built.{module_in, found_behind}
+use Rattle.pc_ann.specs.ModuleOutlines.{module_in}
+use Rattle.pc_class.specs.Built.{found_behind}
 use Rattle.pc_class.proofs.ItemsBuilt.{AreAhead}
 use Rattle.pc_class.proofs.building.all_classes.Given as goal
 
@@ -15,6 +16,6 @@ invariant-loop-item g l = record {
   table : IsClassTable l.parts;
   given : HasParts (g.S.TypeStore.has l.store) l.parts;
   ahead : AreAhead (classes_in (map item_of l.items)) (length l.parts.classes.items) (classes_in (map item_of (drop l.item-index l.items)));
-  classes : classes_behind (module_in l.setting) (classes_with g.S.TypeStore.tree (entries_in l.parts)) (length l.parts.classes.items) (classes_in (map item_of (drop l.item-index l.items))) ≡ classes_behind (module_in l.setting) [] 0 (classes_in (map item_of l.items));
-  found : l.found.items ++ found_behind (module_in l.setting) (classes_with g.S.TypeStore.tree (entries_in l.parts)) (length l.parts.classes.items) (classes_in (map item_of (drop l.item-index l.items))) ≡ l.fn.found.items ++ found_behind (module_in l.setting) [] 0 (classes_in (map item_of l.items));
+  classes : classes_behind (module_in l.outline) (classes_with g.S.TypeStore.tree (entries_in l.parts)) (length l.parts.classes.items) (classes_in (map item_of (drop l.item-index l.items))) ≡ classes_behind (module_in l.outline) [] 0 (classes_in (map item_of l.items));
+  found : l.found.items ++ found_behind (module_in l.outline) (classes_with g.S.TypeStore.tree (entries_in l.parts)) (length l.parts.classes.items) (classes_in (map item_of (drop l.item-index l.items))) ≡ l.fn.found.items ++ found_behind (module_in l.outline) [] 0 (classes_in (map item_of l.items));
 }

@@ -24,8 +24,8 @@ returns-clause-found g c =
     let cs = classes_in m.items in
     c.in_ok-parts.ensures.found
     ∙ ap (λ (fs : List Finding). fs ++ found_behind m [] 0 cs) (c.in_ok-find_missing_bases.ensures
-    ∙ ap (λ (xs : List RustItem). old ++ at_code E07 (missing_bases c.args.parents.now 0 (classes_in (map item_of xs)))) c.deref.ensures.value
-    ∙ ap (λ (bs : Bases). old ++ at_code E07 (missing_bases bs 0 cs)) c.requires.parents)
+    ∙ ap (λ (xs : List RustItem). old ++ at_code E07 (missing_bases c.in_ok-parents.parents 0 (classes_in (map item_of xs)))) c.deref.ensures.value
+    ∙ ap (λ (bs : Bases). old ++ at_code E07 (missing_bases bs 0 cs)) c.in_ok-parents.ensures)
     ∙ append_assoc old (at_code E07 (missing_bases (bases_of m) 0 cs)) (found_behind m [] 0 cs)
     ∙ ap (λ (fs : List Finding). old ++ (at_code E07 (missing_bases (bases_of m) 0 cs) ++ fs)) (found_listed m)
 
@@ -34,5 +34,5 @@ returns-clause-given g c = subst (HasEntries (g.S.TypeStore.has c.all_classes.ne
 
 pub of-requires-clause-parents : goal.of-requires-clause-parents
 of-requires-clause-parents g c =
-    c.in_ok-own_parents.ensures ∙ sym (bases_are (module_of c.args.tree.now)) ∙ ap (map (λ (x : ClassFacts). x.base)) (sym c.in_ok-parts.ensures.classes)
+    c.in_ok-parents.ensures ∙ sym (bases_are (module_of c.args.tree.now)) ∙ ap (map (λ (x : ClassFacts). x.base)) (sym c.in_ok-parts.ensures.classes)
     ∙ bases_there g.S.TypeStore.tree (entries_in c.in_ok-parts.parts)

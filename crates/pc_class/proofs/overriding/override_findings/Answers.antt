@@ -1,4 +1,4 @@
-use Rattle.std.proofs.Common.{◌≡◌, ◌∙◌, ◌++◌, ◌+◌, ◌≤◌, ◌<◌, List, [], ◌∷◌, drop, length, refl, sym, ap, subst, rules, arith, append-nil, length-append}
+use Rattle.std.proofs.Common.{◌≡◌, ◌∙◌, ◌++◌, ◌+◌, ◌≤◌, ◌<◌, List, [], ◌∷◌, drop, length, map, refl, sym, ap, subst, rules, arith, append-nil, length-append}
 use Rattle.std.specs.Prelude.{◌==◌}
 use Rattle.std.proofs.lemmas.Bool.{eqb-true}
 use Rattle.std.proofs.Math.ListN.{drop_of_length-le}
@@ -7,9 +7,18 @@ use Rattle.pc_tree.specs.Tree.{ClassDef, module_of}
 use Rattle.pc_scope.specs.Bindings.{classes_in}
 use Rattle.pc_class.specs.OverrideFindings.{class_overrides, overrides_from}
 use Rattle.pc_class.specs.Internal.CleanClasses.{AreClean}
+use Rattle.pc_class.specs.Facts.{ClassFacts}
+use Rattle.pc_class.proofs.ItemsBuilt.{bases_are, bases_there}
 use Rattle.pc_class.proofs.CleanClasses.{none_more, clean_none, clean_next}
 use Rattle.pc_class.proofs.ClassOverrides.{entries_keep, as_many, one_more, classes_next, findings_are}
 use Rattle.pc_class.proofs.overriding.override_findings.Goals as goal
+
+pub find_class_overrides-requires-clause-judging : goal.find_class_overrides-requires-clause-judging
+find_class_overrides-requires-clause-judging g c = record {
+  parents = c.parents-parents.ensures ∙ sym (bases_there g.S.TypeStore.tree c.args.classes.now)
+      ∙ ap (map (λ (x : ClassFacts). x.base)) c.requires.classes ∙ bases_are (module_of c.args.tree.now);
+  classes = c.requires.classes;
+}
 
 pub find_class_overrides-requires-clause-table : goal.find_class_overrides-requires-clause-table
 find_class_overrides-requires-clause-table g c =

@@ -6,7 +6,7 @@ use Rattle.pc_tree.specs.declared.tree.Param.{Param as RustParam}
 use Rattle.pc_tree.specs.Tree.{param_of}
 use Rattle.pc_tree.proofs.Stops.{cons_at}
 use Rattle.pc_class.specs.Facts.{TypedParameter, parameters_of}
-use Rattle.pc_class.specs.Built.{module_in}
+use Rattle.pc_ann.specs.ModuleOutlines.{module_in}
 use Rattle.pc_class.specs.Tables.{HasParameter, parameter_with, parameters_with}
 use Rattle.pc_class.proofs.reading.read_params.Goals as goal
 
@@ -22,7 +22,7 @@ loop-param-init g c =
 
 pub loop-param-preserved : goal.loop-param-preserved
 loop-param-preserved g c =
-    let m = module_in c.args.setting.now in
+    let m = module_in c.args.outline.now in
     let tree = g.S.TypeStore.tree in
     let params = c.args.params.now in
     let i = c.loop-param.param-index in
@@ -46,7 +46,7 @@ loop-param-preserved g c =
 
 pub returns-clause-means : goal.returns-clause-means
 returns-clause-means g c =
-    let m = module_in c.args.setting.now in
+    let m = module_in c.args.outline.now in
     let tree = g.S.TypeStore.tree in
     let params = c.args.params.now in
     sym (append-nil (parameters_with tree c.loop-param.all.items))

@@ -2,7 +2,7 @@ use Rattle.std.proofs.Common.{◌≡◌, ◌++◌, map, drop, All}
 use Rattle.pc_tree.specs.Tree.{param_of}
 use Rattle.pc_types.specs.Store.{KeepsTypes}
 use Rattle.pc_class.specs.Facts.{parameters_of}
-use Rattle.pc_class.specs.Built.{module_in}
+use Rattle.pc_ann.specs.ModuleOutlines.{module_in}
 use Rattle.pc_class.specs.Tables.{HasParameter, parameters_with}
 use Rattle.pc_class.proofs.reading.read_params.Given as goal
 
@@ -10,5 +10,5 @@ abbrev pub invariant-loop-param : goal.invariant-loop-param
 invariant-loop-param g l = record {
   store : KeepsTypes g.S.TypeStore.has l.fn.store l.store;
   given : All (HasParameter (g.S.TypeStore.has l.store)) l.all.items;
-  means : parameters_with g.S.TypeStore.tree l.all.items ++ parameters_of (module_in l.setting) (map param_of (drop l.param-index l.params)) ≡ parameters_of (module_in l.setting) (map param_of l.params);
+  means : parameters_with g.S.TypeStore.tree l.all.items ++ parameters_of (module_in l.outline) (map param_of (drop l.param-index l.params)) ≡ parameters_of (module_in l.outline) (map param_of l.params);
 }

@@ -2,10 +2,10 @@ use Rattle.std.proofs.Common.{◌∙◌, map, sym}
 use Rattle.pc_tree.specs.Tree.{expr_of}
 use Rattle.pc_tree.specs.Lists.{exprs_of_list, keywords_of_list}
 use Rattle.pc_notes.specs.Notes.{notes_of}
-use Rattle.pc_rules.specs.Standing.{standing_of}
-use Rattle.pc_call.specs.JudgedCalls.{given_with, offer_called}
+use Rattle.pc_rules.specs.Computed.Standing.{standing_of}
+use Rattle.pc_calls.specs.JudgedCalls.{given_with, offer_called}
 use Rattle.pc_rules.proofs.Kept.{stands_kept}
-use Rattle.pc_call.proofs.CallsKept.{offers_kept}
+use Rattle.pc_calls.proofs.CallsKept.{offers_kept}
 use Rattle.pc_expr.proofs.CallForms.{two_tested}
 use Rattle.pc_rules.proofs.Along.{if_ok}
 use Rattle.pc_expr.proofs.RangeForms.{range_found}

@@ -3,8 +3,8 @@ use Rattle.std.specs.Prelude.{◌&&◌}
 use Rattle.std.specs.List.{list_all}
 use Rattle.pc_tree.specs.Stopping.{is_among}
 use Rattle.pc_tree.proofs.Stops.{cons_at}
-use Rattle.pc_names.specs.Names.{text_seen, texts_in}
-use Rattle.pc_names.proofs.InSets.{has}
+use Rattle.pc_tree.specs.Names.{text_seen, texts_in}
+use Rattle.pc_tree.proofs.InSets.{has}
 use Rattle.pc_machine.specs.declared.state.NamedValue.{NamedValue}
 use Rattle.pc_machine.proofs.calls.are_among.Goals as goal
 

@@ -2,7 +2,7 @@ use Rattle.std.proofs.Common.{◌≡◌, ◌∙◌, sym, ap, refl, List, [], ◌
 use Rattle.std.specs.Prelude.{◌&&◌}
 use Rattle.std.specs.List.{list_all}
 use Rattle.pc_tree.specs.Stopping.{is_among}
-use Rattle.pc_names.specs.Names.{texts_in}
+use Rattle.pc_tree.specs.Names.{texts_in}
 use Rattle.pc_machine.specs.State.{Parameter}
 use Rattle.pc_machine.specs.Calls.{is_parameter, are_parameters}
 use Rattle.pc_machine.specs.Machine.{named_of, parameter_of}

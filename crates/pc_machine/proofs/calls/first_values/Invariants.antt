@@ -1,5 +1,5 @@
 use Rattle.std.proofs.Common.{◌≡◌, map, drop, List, ℕ}
-use Rattle.pc_names.specs.Names.{at_text}
+use Rattle.pc_tree.specs.Names.{at_text}
 use Rattle.pc_value.specs.Internal.Keys.{option_value}
 use Rattle.pc_machine.specs.Calls.{first_some, value_named}
 use Rattle.pc_machine.specs.Machine.{named_of}

@@ -1,7 +1,7 @@
 use Rattle.std.proofs.Common.{◌≡◌, map, drop, List, ℕ}
 use Rattle.std.specs.Prelude.{◌||◌}
 use Rattle.pc_tree.specs.Stopping.{is_among}
-use Rattle.pc_names.specs.Names.{texts_in}
+use Rattle.pc_tree.specs.Names.{texts_in}
 use Rattle.pc_machine.specs.Calls.{is_parameter}
 use Rattle.pc_machine.specs.Machine.{parameter_of}
 use Rattle.pc_machine.proofs.calls.parameter_names.Given as goal

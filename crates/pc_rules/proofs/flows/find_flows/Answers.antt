@@ -2,10 +2,10 @@ use Rattle.std.proofs.Common.{◌≡◌, ◌+◌, ◌++◌, ◌∙◌, arith, re
 use Rattle.std.specs.Prelude.{map}
 use Rattle.pc_flow.proofs.Given.{all_kept}
 use Rattle.pc_notes.specs.Notes.{notes_of}
-use Rattle.pc_rules.specs.Found.{flows_at}
-use Rattle.pc_rules.specs.Computed.{flows_of}
-use Rattle.pc_rules.specs.Standing.{mark_with}
-use Rattle.pc_rules.specs.Checkers.{GoesOn}
+use Rattle.pc_rules.specs.Computed.Findings.{flows_at}
+use Rattle.pc_rules.specs.Computed.Expressions.{flows_of}
+use Rattle.pc_rules.specs.Computed.Standing.{label_with}
+use Rattle.pc_rules.specs.Computed.Checkers.{GoesOn}
 use Rattle.pc_rules.proofs.Checkers.{goes_further}
 use Rattle.pc_rules.proofs.Flowing.{IsFound, found_none, found_again, found_new, found_all, flows_alike}
 use Rattle.pc_rules.proofs.flows.find_flows.Goals as goal
@@ -15,7 +15,7 @@ pub loop-ty-preserved : goal.loop-ty-preserved
 loop-ty-preserved g c =
     let v = c.loop-ty.invariant in
     let k = c.flow_code.ensures.kept in
-    let m = mark_with g.S.TypeStore.tree c.args.label.now in
+    let m = label_with g.S.TypeStore.tree c.args.label.now in
     let step : IsFound g.S.TypeStore.tree c.args.parents.now c.args.place m c.args.into.now (notes_of c.args.checker.now.found.now) (c.loop-ty.ty-index + 1) c.match-flow_code.codes.items (notes_of c.match-flow_code.checker.found.now) = elim c.match-flow_code.branch [
       | in-Some+then-not-has_code+in_ok-push+in_ok-note_flow w ↦
           let h = sym (rw w.deref.ensures.value at w.has_code.ensures) ∙ w.if-not-has_code.true in
@@ -45,5 +45,5 @@ loop-ty-preserved g c =
 pub returns-clause-found : goal.returns-clause-found
 returns-clause-found g c =
     λ m e.
-    found_all g.S.TypeStore.tree c.args.parents.now c.args.place (mark_with g.S.TypeStore.tree c.args.label.now) c.args.into.now (notes_of c.args.checker.now.found.now) c.loop-ty.ty-index c.loop-ty.codes.items (notes_of c.loop-ty.checker.found.now) c.loop-ty-test.false c.loop-ty.invariant.found
-    ∙ ap (λ l. notes_of c.args.checker.now.found.now ++ l) (flows_alike c.args.parents.now c.args.place (mark_with g.S.TypeStore.tree c.args.label.now) m (map g.S.TypeStore.tree c.args.into.now) e)
+    found_all g.S.TypeStore.tree c.args.parents.now c.args.place (label_with g.S.TypeStore.tree c.args.label.now) c.args.into.now (notes_of c.args.checker.now.found.now) c.loop-ty.ty-index c.loop-ty.codes.items (notes_of c.loop-ty.checker.found.now) c.loop-ty-test.false c.loop-ty.invariant.found
+    ∙ ap (λ l. notes_of c.args.checker.now.found.now ++ l) (flows_alike c.args.parents.now c.args.place (label_with g.S.TypeStore.tree c.args.label.now) m (map g.S.TypeStore.tree c.args.into.now) e)

@@ -1,7 +1,7 @@
 use Rattle.std.proofs.Common.{All}
 use Rattle.pc_notes.specs.Notes.{notes_of}
-use Rattle.pc_rules.specs.Checkers.{GoesOn}
-use Rattle.pc_rules.specs.Standing.{mark_with}
+use Rattle.pc_rules.specs.Computed.Checkers.{GoesOn}
+use Rattle.pc_rules.specs.Computed.Standing.{label_with}
 use Rattle.pc_rules.proofs.Flowing.{IsFound}
 use Rattle.pc_rules.proofs.flows.find_flows.Given as goal
 
@@ -10,5 +10,5 @@ invariant-loop-ty g l = record {
   goes_on : GoesOn g.S.TypeStore l.fn.checker l.checker;
   label : g.S.TypeStore.has l.checker.store.now l.label.ty;
   into : All (g.S.TypeStore.has l.checker.store.now) l.into;
-  found : IsFound g.S.TypeStore.tree l.parents l.place (mark_with g.S.TypeStore.tree l.label) l.into (notes_of l.fn.checker.found.now) l.ty-index l.codes.items (notes_of l.checker.found.now);
+  found : IsFound g.S.TypeStore.tree l.parents l.place (label_with g.S.TypeStore.tree l.label) l.into (notes_of l.fn.checker.found.now) l.ty-index l.codes.items (notes_of l.checker.found.now);
 }

@@ -1,6 +1,6 @@
 use Rattle.std.proofs.Common.{◌≡◌, ◌++◌, flat_map, drop}
 use Rattle.pc_notes.specs.Notes.{notes_of}
-use Rattle.pc_rules.specs.Found.{own_at}
+use Rattle.pc_rules.specs.Computed.Findings.{own_at}
 use Rattle.pc_rules.proofs.label.find_codes.Given as goal
 
 abbrev pub invariant-loop-code : goal.invariant-loop-code

@@ -1,8 +1,8 @@
 use Rattle.std.proofs.Common.{◌∙◌, ap, sym, List, ℕ}
 use Rattle.std.specs.Prelude.{string_bytes, bytes_eq}
 use Rattle.std.specs.Map.{lookup}
-use Rattle.pc_names.specs.Names.{first_of, bound_as}
-use Rattle.pc_names.proofs.InMaps.{put_new, none_at}
+use Rattle.pc_tree.specs.Names.{first_of, bound_as}
+use Rattle.pc_tree.proofs.InMaps.{put_new, none_at}
 use Rattle.pc_scope.specs.Internal.WalkViews.{at_text}
 use Rattle.pc_scope.proofs.globals.bind_first.Goals as goal
 

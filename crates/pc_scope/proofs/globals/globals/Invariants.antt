@@ -1,7 +1,7 @@
 use Rattle.std.proofs.Common.{◌≡◌, ◌≤◌, map, drop, List, ℕ}
 use Rattle.pc_tree.specs.Tree.{item_of}
 use Rattle.pc_scope.specs.Resolution.{bound_first}
-use Rattle.pc_names.specs.Names.{first_of}
+use Rattle.pc_tree.specs.Names.{first_of}
 use Rattle.pc_scope.specs.Internal.WalkViews.{at_text}
 use Rattle.pc_scope.proofs.globals.globals.Given as goal
 

@@ -1,7 +1,8 @@
 use Rattle.std.proofs.Common.{◌∙◌, map}
 use Rattle.pc_notes.specs.Notes.{notes_of}
 use Rattle.pc_rules.proofs.Checkers.{goes_further}
-use Rattle.pc_signatures.specs.Internal.SignaturesRead.{module_in, methods_with, reached_with}
+use Rattle.pc_ann.specs.ModuleOutlines.{module_in}
+use Rattle.pc_signatures.specs.Internal.SignaturesRead.{methods_with, reached_with}
 use Rattle.pc_signatures.proofs.HeldSignatures.{globals_kept}
 use Rattle.pc_signatures.proofs.SignatureWalks.{stepped, classes_apart, reached_next, items_found}
 use Rattle.pc_signatures.proofs.constants.read_items.Goals as goal
@@ -10,7 +11,7 @@ pub loop-item-preserved : goal.loop-item-preserved
 loop-item-preserved g c =
     let has = g.S.TypeStore.has in
     let tree = g.S.TypeStore.tree in
-    let m = module_in c.args.globals.now.frame.now in
+    let m = module_in c.args.globals.now.outline.now in
     let items = c.as_slice-items.result.now in
     let i = c.loop-item.item-index in
     let x = c.item-item.result in

@@ -2,17 +2,18 @@ use Rattle.std.proofs.Common.{◌≡◌, ◌++◌, map, drop}
 use Rattle.pc_tree.specs.Tree.{item_of}
 use Rattle.pc_scope.specs.Bindings.{classes_in}
 use Rattle.pc_notes.specs.Notes.{notes_of}
-use Rattle.pc_rules.specs.SignaturesFound.{nothing_reached, signatures_of_methods, behind_all, items_findings}
-use Rattle.pc_rules.specs.Checkers.{GoesOn}
-use Rattle.pc_signatures.specs.Internal.SignaturesRead.{module_in, AreGlobals, HasReached, methods_with, reached_with}
+use Rattle.pc_rules.specs.Computed.Signatures.{nothing_reached, signatures_of_methods, behind_all, items_findings}
+use Rattle.pc_rules.specs.Computed.Checkers.{GoesOn}
+use Rattle.pc_ann.specs.ModuleOutlines.{module_in}
+use Rattle.pc_signatures.specs.Internal.SignaturesRead.{AreGlobals, HasReached, methods_with, reached_with}
 use Rattle.pc_signatures.proofs.constants.read_items.Given as goal
 
 abbrev pub invariant-loop-item : goal.invariant-loop-item
 invariant-loop-item g l = record {
   globals : AreGlobals g.S.TypeStore.has g.S.TypeStore.tree l.checker.store.now l.globals;
   held : HasReached (g.S.TypeStore.has l.checker.store.now) l.walk;
-  reached : behind_all (module_in l.globals.frame.now) (reached_with g.S.TypeStore.tree l.walk) (map item_of (drop l.item-index l.items)) ≡ behind_all (module_in l.globals.frame.now) nothing_reached (map item_of l.items);
-  methods : map (methods_with g.S.TypeStore.tree) l.walk.methods.items ++ signatures_of_methods (module_in l.globals.frame.now) (classes_in (map item_of (drop l.item-index l.items))) ≡ signatures_of_methods (module_in l.globals.frame.now) (classes_in (map item_of l.items));
-  found : (notes_of l.checker.found.now) ++ items_findings (module_in l.globals.frame.now) (reached_with g.S.TypeStore.tree l.walk) (map item_of (drop l.item-index l.items)) ≡ (notes_of l.fn.checker.found.now) ++ items_findings (module_in l.globals.frame.now) nothing_reached (map item_of l.items);
+  reached : behind_all (module_in l.globals.outline.now) (reached_with g.S.TypeStore.tree l.walk) (map item_of (drop l.item-index l.items)) ≡ behind_all (module_in l.globals.outline.now) nothing_reached (map item_of l.items);
+  methods : map (methods_with g.S.TypeStore.tree) l.walk.methods.items ++ signatures_of_methods (module_in l.globals.outline.now) (classes_in (map item_of (drop l.item-index l.items))) ≡ signatures_of_methods (module_in l.globals.outline.now) (classes_in (map item_of l.items));
+  found : (notes_of l.checker.found.now) ++ items_findings (module_in l.globals.outline.now) (reached_with g.S.TypeStore.tree l.walk) (map item_of (drop l.item-index l.items)) ≡ (notes_of l.fn.checker.found.now) ++ items_findings (module_in l.globals.outline.now) nothing_reached (map item_of l.items);
   goes_on : GoesOn g.S.TypeStore l.fn.checker l.checker;
 }

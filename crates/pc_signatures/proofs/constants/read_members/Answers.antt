@@ -2,9 +2,10 @@ use Rattle.std.proofs.Common.{◌∙◌, ap, arith}
 use Rattle.pc_tree.specs.Tree.{Name}
 use Rattle.pc_class.specs.Facts.{base_facts, classes_of}
 use Rattle.pc_notes.specs.Notes.{notes_of}
-use Rattle.pc_rules.specs.SignaturesFound.{bound_in, with_name}
+use Rattle.pc_rules.specs.Computed.Signatures.{bound_in, with_name}
 use Rattle.pc_rules.proofs.Checkers.{goes_further}
-use Rattle.pc_signatures.specs.Internal.SignaturesRead.{module_in, signatures_with}
+use Rattle.pc_ann.specs.ModuleOutlines.{module_in}
+use Rattle.pc_signatures.specs.Internal.SignaturesRead.{signatures_with}
 use Rattle.pc_signatures.proofs.HeldSignatures.{globals_kept}
 use Rattle.pc_signatures.proofs.SignatureWalks.{stepped, walked, methods_apart, no_methods, members_found}
 use Rattle.pc_signatures.proofs.constants.read_members.Goals as goal
@@ -13,7 +14,7 @@ pub loop-member-preserved : goal.loop-member-preserved
 loop-member-preserved g c =
     let has = g.S.TypeStore.has in
     let tree = g.S.TypeStore.tree in
-    let m = module_in c.args.globals.now.frame.now in
+    let m = module_in c.args.globals.now.outline.now in
     let base = base_facts (classes_of m) c.args.base in
     let ms = c.args.members.now in
     let i = c.loop-member.member-index in
@@ -32,7 +33,7 @@ loop-member-preserved g c =
 
 pub returns-clause-typed : goal.returns-clause-typed
 returns-clause-typed g c =
-    let m = module_in c.args.globals.now.frame.now in
+    let m = module_in c.args.globals.now.outline.now in
     let v = c.loop-member.invariant in
     record {
       given = v.held;

@@ -5,27 +5,27 @@ use Rattle.std.specs.Option.{option_map}
 use Rattle.pc_tree.specs.Tree.{expr_of}
 use Rattle.pc_flow.specs.Stored.{env_of, declared_of}
 use Rattle.pc_notes.specs.Notes.{notes_of}
-use Rattle.pc_rules.specs.Standing.{Standing, IsMark, mark_in, finds_in}
-use Rattle.pc_signatures.specs.Internal.SignaturesRead.{module_in}
+use Rattle.pc_rules.specs.Computed.Standing.{Standing, MeansLabel, label_in, finds_in}
+use Rattle.pc_ann.specs.ModuleOutlines.{module_in}
 use Rattle.pc_signatures.proofs.InitializerStanding.{module_names, standing_is}
 use Rattle.pc_signatures.proofs.constants.type_initializer.Goals as goal
 
-pub returns-clause-marked : goal.returns-clause-marked
+pub returns-clause-labelled : goal.returns-clause-labelled
 unfolding meanings
-returns-clause-marked g c =
+returns-clause-labelled g c =
     let tree = g.S.TypeStore.tree in
     let globals = c.requires.globals in
-    let m = module_in c.args.globals.now.frame.now in
+    let m = module_in c.args.globals.now.outline.now in
     let is = standing_is m _ _ _ _ (map tree c.args.walk.now.constants.items) _ (length c.args.walk.now.methods.items) _ _ _
-    globals.frame.parents globals.classes globals.functions.are (ap (map tree) c.deref.ensures.value) (c.len.ensures ∙ c.args.walk.now.methods.ok.0) (module_names m _ globals.frame.scopes.tables) (ap (declared_of tree) c.in_ok-declared.ensures) (ap (env_of tree) c.in_ok-env.ensures) in
-    subst (λ (k : Standing). IfOk c.type_expr.result (λ l. IsMark g.S.TypeStore.has tree c.type_expr.new.checker.store.now l (mark_in k (option_map tree c.args.want.now) (expr_of c.args.value.now)))) is c.type_expr.ensures.marked
+    globals.outline.parents globals.classes globals.functions.are (ap (map tree) c.deref.ensures.value) (c.len.ensures ∙ c.args.walk.now.methods.ok.0) (module_names m _ globals.outline.scopes.tables) (ap (declared_of tree) c.in_ok-declared.ensures) (ap (env_of tree) c.in_ok-env.ensures) in
+    subst (λ (k : Standing). IfOk c.type_expr.result (λ l. MeansLabel g.S.TypeStore.has tree c.type_expr.new.checker.store.now l (label_in k (option_map tree c.args.want.now) (expr_of c.args.value.now)))) is c.type_expr.ensures.labelled
 
 pub returns-clause-found : goal.returns-clause-found
 unfolding meanings
 returns-clause-found g c =
     let tree = g.S.TypeStore.tree in
     let globals = c.requires.globals in
-    let m = module_in c.args.globals.now.frame.now in
+    let m = module_in c.args.globals.now.outline.now in
     let is = standing_is m _ _ _ _ (map tree c.args.walk.now.constants.items) _ (length c.args.walk.now.methods.items) _ _ _
-    globals.frame.parents globals.classes globals.functions.are (ap (map tree) c.deref.ensures.value) (c.len.ensures ∙ c.args.walk.now.methods.ok.0) (module_names m _ globals.frame.scopes.tables) (ap (declared_of tree) c.in_ok-declared.ensures) (ap (env_of tree) c.in_ok-env.ensures) in
+    globals.outline.parents globals.classes globals.functions.are (ap (map tree) c.deref.ensures.value) (c.len.ensures ∙ c.args.walk.now.methods.ok.0) (module_names m _ globals.outline.scopes.tables) (ap (declared_of tree) c.in_ok-declared.ensures) (ap (env_of tree) c.in_ok-env.ensures) in
     subst (λ (k : Standing). OnOk c.type_expr.result ((notes_of c.type_expr.new.checker.found.now) ≡ (notes_of c.args.checker.now.found.now) ++ finds_in k (option_map tree c.args.want.now) (expr_of c.args.value.now))) is c.type_expr.ensures.found

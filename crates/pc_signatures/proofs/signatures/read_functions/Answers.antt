@@ -1,13 +1,14 @@
 use Rattle.pc_notes.specs.Notes.{notes_of}
 use Rattle.pc_rules.proofs.Checkers.{goes_further}
-use Rattle.pc_signatures.specs.Internal.SignaturesRead.{module_in, signatures_with}
+use Rattle.pc_ann.specs.ModuleOutlines.{module_in}
+use Rattle.pc_signatures.specs.Internal.SignaturesRead.{signatures_with}
 use Rattle.pc_signatures.proofs.SignatureWalks.{stepped, functions_apart, functions_found}
 use Rattle.pc_signatures.proofs.signatures.read_functions.Goals as goal
 
 pub loop-item-preserved : goal.loop-item-preserved
 loop-item-preserved g c =
     let tree = g.S.TypeStore.tree in
-    let m = module_in c.args.frame.now in
+    let m = module_in c.args.outline.now in
     let items = c.as_slice-items.result.now in
     let i = c.loop-item.item-index in
     let x = c.item-item.result in

@@ -3,9 +3,9 @@ use Rattle.pc_tree.specs.Tree.{param_of}
 use Rattle.pc_class.specs.Facts.{typed_parameter}
 use Rattle.pc_class.specs.Tables.{HasParameter, parameter_with, parameters_with}
 use Rattle.pc_notes.specs.Notes.{notes_of}
-use Rattle.pc_rules.specs.SignaturesFound.{bound_in, with_name}
+use Rattle.pc_rules.specs.Computed.Signatures.{bound_in, with_name}
 use Rattle.pc_rules.proofs.Checkers.{goes_further}
-use Rattle.pc_signatures.specs.Internal.SignaturesRead.{module_in}
+use Rattle.pc_ann.specs.ModuleOutlines.{module_in}
 use Rattle.pc_signatures.proofs.HeldSignatures.{params_kept, held_push}
 use Rattle.pc_signatures.proofs.SignatureWalks.{stepped, pushed_one, params_apart, params_found}
 use Rattle.pc_signatures.proofs.signatures.read_params.Goals as goal
@@ -14,7 +14,7 @@ pub loop-param-preserved : goal.loop-param-preserved
 loop-param-preserved g c =
     let has = g.S.TypeStore.has in
     let tree = g.S.TypeStore.tree in
-    let m = module_in c.args.frame.now in
+    let m = module_in c.args.outline.now in
     let ps = c.args.params.now in
     let i = c.loop-param.param-index in
     let x = c.param-item.result in

@@ -11,7 +11,7 @@ read_items-requires g c =
     let store = c.read_functions.new.checker.store.now in
     let typed = c.in_ok-functions.ensures.typed in
     record {
-      frame = record { scopes = c.requires.scopes; parents = c.requires.parents };
+      outline = c.requires.outline;
       classes = c.requires.classes;
       entries = entries_kept has c.args.checker.now.store.now store c.read_functions.ensures.goes_on.kept _ c.requires.entries;
       functions = record {

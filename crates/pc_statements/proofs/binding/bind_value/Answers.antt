@@ -7,19 +7,19 @@ use Rattle.pc_tree.specs.Depth.{place_of}
 use Rattle.pc_types.specs.Tree.{Tree}
 use Rattle.pc_flow.specs.Stored.{env_of}
 use Rattle.pc_notes.specs.Notes.{notes_of}
-use Rattle.pc_rules.specs.Standing.{mark_in, finds_in}
-use Rattle.pc_labels.specs.ComputedStatements.{bind_label, bind_value}
-use Rattle.pc_frames.specs.Walks.{frame_in, standing_in}
-use Rattle.pc_frames.proofs.Bound.{known_holds}
-use Rattle.pc_frames.proofs.Held.{want_well_formed}
-use Rattle.pc_frames.proofs.Walks.{want_kept, bound_then}
+use Rattle.pc_rules.specs.Computed.Standing.{label_in, finds_in}
+use Rattle.pc_module_rules.specs.Computed.Statements.{bind_label, bind_value}
+use Rattle.pc_walk.specs.Walks.{body_context_in, standing_in}
+use Rattle.pc_walk.proofs.Bound.{known_holds}
+use Rattle.pc_walk.proofs.Held.{want_well_formed}
+use Rattle.pc_walk.proofs.Walks.{want_kept, bound_then}
 use Rattle.pc_statements.proofs.binding.bind_value.Goals as goal
 
 pub type_in-requires-clause-want : goal.type_in-requires-clause-want
 type_in-requires-clause-want g c =
     let S = g.S.TypeStore in
     let w = c.args.walk.now in
-    let bases = w.frame.parents.now in
+    let bases = w.context.globals.now.outline.now.parents.now in
     known_holds S.has S.tree bases w.store.now w.declared.now c.in-Local.local (option_map S.tree c.args.annotation)
     c.in_ok-want-in-Local.want c.requires.stands.declared
     (want_well_formed S.has S.tree bases w.store.now c.args.annotation c.requires.annotation)
@@ -29,7 +29,7 @@ pub bind_label-requires-clause-want : goal.bind_label-requires-clause-want
 bind_label-requires-clause-want g c =
     let S = g.S.TypeStore in
     let w = c.args.walk.now in
-    let bases = w.frame.parents.now in
+    let bases = w.context.globals.now.outline.now.parents.now in
     let want = c.in_ok-want-in-Local.want in
     want_kept S w c.type_in.new.walk want c.type_in.ensures.goes_on
     (known_holds S.has S.tree bases w.store.now w.declared.now c.in-Local.local (option_map S.tree c.args.annotation)
@@ -41,7 +41,7 @@ pub returns-in_ok-behind-in-Local-clause-bound : goal.returns-in_ok-behind-in-Lo
 returns-in_ok-behind-in-Local-clause-bound g c =
     let S = g.S.TypeStore in
     let old = c.args.walk.now in
-    let F = frame_in S old in
+    let F = body_context_in S old in
     let T = env_of S.tree old.declared.now in
     let K = standing_in S old c.args.env in
     let E = env_of S.tree c.args.env in
@@ -49,16 +49,16 @@ returns-in_ok-behind-in-Local-clause-bound g c =
     let x = c.in-Local.local in
     let want = option_map S.tree c.in_ok-want-in-Local.want in
     let annotation = option_map S.tree c.args.annotation in
-    let m = mark_in K want e in
+    let m = label_in K want e in
     let found = notes_of old.found.now in
     let typed = c.in_ok-label-in-Local.ensures in
     let bound = bound_then S old c.type_in.new.walk c.bind_label.new.walk c.args.env c.in_ok-behind-in-Local.behind
     (λ f k. finds_in k want e) (λ f t k. bind_label f t k x want c.place.result m) c.type_in.ensures.goes_on typed.finds
-    (c.in_ok-behind-in-Local.ensures.bound m typed.labelled.mark.is) in
+    (c.in_ok-behind-in-Local.ensures.bound m typed.labelled.label.is) in
     record {
       is = bound.is
           ∙ ap (λ (p : Place). bind_label F T E x want p m (found ++ finds_in K want e)) c.place.ensures
-          ∙ ap (λ (w : Option Tree). bind_label F T E x w (place_of e) (mark_in K w e) (found ++ finds_in K w e))
+          ∙ ap (λ (w : Option Tree). bind_label F T E x w (place_of e) (label_in K w e) (found ++ finds_in K w e))
           c.in_ok-want-in-Local.ensures.is
           ∙ ap (λ (r : Res). bind_value F T E r annotation e found) (sym c.in-Local.is);
       stands = bound.stands;

@@ -6,16 +6,16 @@ use Rattle.pc_types.specs.Tree.{Tree}
 use Rattle.pc_types.specs.WellFormed.{IsWellFormed}
 use Rattle.pc_flow.specs.Stored.{env_of}
 use Rattle.pc_notes.specs.Notes.{Note, notes_of}
-use Rattle.pc_rules.specs.Operations.{Mark}
-use Rattle.pc_rules.specs.Calls.{arguments_given, range_offers, positional_seat, named_seat, call_mark}
-use Rattle.pc_rules.specs.Found.{codes_at}
-use Rattle.pc_rules.specs.Standing.{Standing, IsMark, arguments_find, keywords_find}
-use Rattle.pc_labels.specs.ComputedStatements.{item_mark_of, iterable_finds}
-use Rattle.pc_frames.specs.StatementsHeld.{GivesLabel, context_in}
-use Rattle.pc_frames.proofs.Held.{declared_is, declared_well_formed}
-use Rattle.pc_frames.specs.Walks.{Found, frame_in, standing_in}
+use Rattle.pc_rules.specs.Operations.{Label}
+use Rattle.pc_rules.specs.Calls.{arguments_given, range_offers, positional_seat, named_seat, call_label}
+use Rattle.pc_rules.specs.Computed.Findings.{codes_at}
+use Rattle.pc_rules.specs.Computed.Standing.{Standing, MeansLabel, arguments_find, keywords_find}
+use Rattle.pc_module_rules.specs.Computed.Statements.{item_label_of, iterable_finds}
+use Rattle.pc_walk.specs.StatementsHeld.{GivesLabel, context_in}
+use Rattle.pc_walk.proofs.Held.{declared_is, declared_well_formed}
+use Rattle.pc_walk.specs.Walks.{Found, body_context_in, standing_in}
 use Rattle.pc_statements.proofs.Iterating.{range_items, range_found, range_well_formed}
-use Rattle.pc_frames.proofs.Walks.{grown, found_by}
+use Rattle.pc_walk.proofs.Walks.{grown, found_by}
 use Rattle.pc_statements.proofs.iterables.label_range.Goals as goal
 
 pub type_range-requires : goal.type_range-requires
@@ -23,12 +23,12 @@ type_range-requires g c =
     let w = c.args.walk.now in
     let h = c.requires.stands in
     record {
-      classes = h.frame.classes;
-      functions = h.frame.functions;
-      constants = h.frame.constants;
+      classes = h.context.classes;
+      functions = h.context.functions;
+      constants = h.context.constants;
       declared = h.declared.given;
       env = h.current.given;
-      declared_well_formed = declared_well_formed g.S.TypeStore.tree w.frame.parents.now w.declared.now
+      declared_well_formed = declared_well_formed g.S.TypeStore.tree w.context.globals.now.outline.now.parents.now w.declared.now
           h.declared.well_formed;
       env_well_formed = h.current.well_formed;
     }
@@ -37,20 +37,20 @@ pub returns-clause-labelled : goal.returns-clause-labelled
 returns-clause-labelled g c =
     let S = g.S.TypeStore in
     let w = c.args.walk.now in
-    let bases = w.frame.parents.now in
+    let bases = w.context.globals.now.outline.now.parents.now in
     let r = c.args.iterable.now in
     let arguments = exprs_of_list r.arguments.now in
     let keywords = keywords_of_list r.by_name.now in
     let k = standing_in S w c.args.env.now in
-    let frame = frame_in S w in
+    let context = body_context_in S w in
     let e = call r.place (expr_of r.callee.now) arguments keywords in
     let store = c.type_range.new.checker.store.now in
     let l = c.in_ok-item.item in
     let m = c.in_ok-item.ensures.label in
-    let items = sym (range_items frame k r.place (expr_of r.callee.now) arguments keywords c.requires.range) in
-    let labelled : GivesLabel S.has S.tree bases store l (item_mark_of frame k e) = record {
-      mark = subst (λ (x : Mark). IsMark S.has S.tree store l x) items m;
-      well_formed = subst (IsWellFormed bases) (sym (ap (λ (x : Mark). x.type) m.is))
+    let items = sym (range_items context k r.place (expr_of r.callee.now) arguments keywords c.requires.range) in
+    let labelled : GivesLabel S.has S.tree bases store l (item_label_of context k e) = record {
+      label = subst (λ (x : Label). MeansLabel S.has S.tree store l x) items m;
+      well_formed = subst (IsWellFormed bases) (sym (ap (λ (x : Label). x.type) m.is))
           (range_well_formed bases (arguments_given arguments keywords));
     } in
     search (rules, labelled)
@@ -59,7 +59,7 @@ pub returns-clause-finds : goal.returns-clause-finds
 returns-clause-finds g c =
     let S = g.S.TypeStore in
     let w = c.args.walk.now in
-    let bases = w.frame.parents.now in
+    let bases = w.context.globals.now.outline.now.parents.now in
     let k = standing_in S w c.args.env.now in
     let r = c.args.iterable.now in
     let callee = expr_of r.callee.now in
@@ -71,11 +71,11 @@ returns-clause-finds g c =
     let walk = record w { store = record w.store { now = store }; found = record w.found { now = found } } in
     let new = notes_of found in
     let old = notes_of w.found.now in
-    let codes = codes_at r.place (call_mark bases offers).codes in
+    let codes = codes_at r.place (call_label bases offers).codes in
     let pushed = subst (λ (fs : List Note). new ≡ old ++ fs)
-    (sym (range_found (frame_in S w) k r.place callee arguments keywords c.requires.range))
+    (sym (range_found (body_context_in S w) k r.place callee arguments keywords c.requires.range))
     (subst (λ (ds : List Tree). let s : Standing = record {
-      context = context_in S.tree w.frame;
+      context = context_in S.tree w.context;
       declared = ds;
       env = env_of S.tree c.args.env.now;
     } in new ≡ old

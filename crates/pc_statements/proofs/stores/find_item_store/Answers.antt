@@ -7,17 +7,17 @@ use Rattle.pc_types.specs.Tree.{Tree}
 use Rattle.pc_flow.specs.WellFormed.{AreWellFormed}
 use Rattle.pc_flow.proofs.Given.{keeps_both}
 use Rattle.pc_notes.specs.Notes.{Note, notes_of}
-use Rattle.pc_rules.specs.Operations.{Mark, StoreOffer, stored_types, store_index_types}
-use Rattle.pc_rules.specs.Found.{flows_at}
-use Rattle.pc_rules.specs.Computed.{flows_of}
-use Rattle.pc_rules.specs.Standing.{Standing, mark_in, finds_in}
-use Rattle.pc_operate.specs.Storing.{HasStoreOffer, store_offer_with}
-use Rattle.pc_operate.proofs.Storing.{all_stores_kept}
-use Rattle.pc_labels.specs.ComputedStatements.{BodyFrame, stored_finds, store_finds, index_stores}
-use Rattle.pc_labels.proofs.StoredTypes.{items_stored}
-use Rattle.pc_frames.specs.declared.frame.Frame.{Frame as RustFrame}
-use Rattle.pc_frames.specs.Walks.{GoesOn, frame_in, standing_in}
-use Rattle.pc_frames.proofs.Walks.{grown, goes_further, same_standing, stands_on, found_by, found_quiet, found_then}
+use Rattle.pc_rules.specs.Operations.{Label, StoreOffer, stored_types, store_index_types}
+use Rattle.pc_rules.specs.Computed.Findings.{flows_at}
+use Rattle.pc_rules.specs.Computed.Expressions.{flows_of}
+use Rattle.pc_rules.specs.Computed.Standing.{Standing, label_in, finds_in}
+use Rattle.pc_operations.specs.Storing.{HasStoreOffer, store_offer_with}
+use Rattle.pc_operations.proofs.Storing.{all_stores_kept}
+use Rattle.pc_module_rules.specs.Computed.Statements.{BodyContext, stored_finds, store_finds, index_stores}
+use Rattle.pc_module_rules.proofs.StoredTypes.{items_stored}
+use Rattle.pc_walk.specs.declared.context.BodyContext.{BodyContext as RustBodyContext}
+use Rattle.pc_walk.specs.Walks.{GoesOn, body_context_in, standing_in}
+use Rattle.pc_walk.proofs.Walks.{grown, goes_further, same_standing, stands_on, found_by, found_quiet, found_then}
 use Rattle.pc_statements.proofs.stores.find_item_store.Goals as goal
 
 pub type_in-requires-2-clause-stands : goal.type_in-requires-2-clause-stands
@@ -47,17 +47,17 @@ pub find_stored-requires-clause-well_formed : goal.find_stored-requires-clause-w
 find_stored-requires-clause-well_formed g c =
     let tree = g.S.TypeStore.tree in
     let ty = tree c.in_ok-label.label.ty in
-    subst (λ (os : List StoreOffer). AreWellFormed c.find_flows_in.new.walk.frame.parents.now (stored_types os))
+    subst (λ (os : List StoreOffer). AreWellFormed c.find_flows_in.new.walk.context.globals.now.outline.now.parents.now (stored_types os))
     (sym (ap (map (store_offer_with tree)) c.deref-3.ensures.value ∙ c.in_ok-offers.ensures.value))
-    (subst (λ (f : RustFrame _). AreWellFormed f.parents.now
-    (stored_types (index_stores (frame_in g.S.TypeStore c.type_in.new.walk) ty)))
-    (sym (c.find_flows_in.ensures.goes_on.frame ∙ c.type_in-2.ensures.goes_on.frame)) (items_stored c.type_in.new.walk.frame.parents.now ty
+    (subst (λ (f : RustBodyContext _). AreWellFormed f.globals.now.outline.now.parents.now
+    (stored_types (index_stores (body_context_in g.S.TypeStore c.type_in.new.walk) ty)))
+    (sym (c.find_flows_in.ensures.goes_on.context ∙ c.type_in-2.ensures.goes_on.context)) (items_stored c.type_in.new.walk.context.globals.now.outline.now.parents.now ty
     c.in_ok-label.ensures.labelled.well_formed))
 
 -- what is found in a store to an item
-item_as : (f : BodyFrame) (k : Standing) (place p : Place) (o i v : Expr) (m : Mark) (types : List Tree)
-    (offers : List StoreOffer) → m ≡ mark_in k None i → types ≡ store_index_types offers
-    → offers ≡ index_stores f (mark_in k None o).type → p ≡ place_of i →
+item_as : (f : BodyContext) (k : Standing) (place p : Place) (o i v : Expr) (m : Label) (types : List Tree)
+    (offers : List StoreOffer) → m ≡ label_in k None i → types ≡ store_index_types offers
+    → offers ≡ index_stores f (label_in k None o).type → p ≡ place_of i →
     ((finds_in k None o ++ finds_in k None i) ++ flows_at p (flows_of f.context.bases m types))
     ++ stored_finds f k offers place v ≡ store_finds f k (to_index place o i) v
 item_as f k place p o i v m types offers mi ti oi pi =
@@ -67,15 +67,15 @@ item_as f k place p o i v m types offers mi ti oi pi =
     (stored_finds f k offers place v)
     ∙ ap (λ (l : List Note). finds_in k None o ++ l)
     (append_assoc (finds_in k None i) (flows_at p (flows_of f.context.bases m types)) (stored_finds f k offers place v))
-    ∙ ap (λ (x : Mark). finds_in k None o ++ (finds_in k None i ++
+    ∙ ap (λ (x : Label). finds_in k None o ++ (finds_in k None i ++
     (flows_at p (flows_of f.context.bases x types) ++ stored_finds f k offers place v))) mi
     ∙ ap (λ (ts : List Tree). finds_in k None o ++ (finds_in k None i ++
-    (flows_at p (flows_of f.context.bases (mark_in k None i) ts) ++ stored_finds f k offers place v))) ti
+    (flows_at p (flows_of f.context.bases (label_in k None i) ts) ++ stored_finds f k offers place v))) ti
     ∙ ap (λ (x : Place). finds_in k None o ++ (finds_in k None i ++
-    (flows_at x (flows_of f.context.bases (mark_in k None i) (store_index_types offers))
+    (flows_at x (flows_of f.context.bases (label_in k None i) (store_index_types offers))
     ++ stored_finds f k offers place v))) pi
     ∙ ap (λ (os : List StoreOffer). finds_in k None o ++
-    (finds_in k None i ++ (flows_at (place_of i) (flows_of f.context.bases (mark_in k None i) (store_index_types os))
+    (finds_in k None i ++ (flows_at (place_of i) (flows_of f.context.bases (label_in k None i) (store_index_types os))
     ++ stored_finds f k os place v))) oi
 
 pub returns-clause-finds : goal.returns-clause-finds
@@ -85,21 +85,21 @@ returns-clause-finds g c =
     let first = c.type_in.new.walk in
     let second = c.type_in-2.new.walk in
     let env = c.args.env.now in
-    let F = frame_in S old in
+    let F = body_context_in S old in
     let K = standing_in S old env in
     let o = expr_of c.args.object.now in
     let i = expr_of c.args.index.now in
     let v = expr_of c.args.value.now in
     let offers = map (store_offer_with S.tree) c.deref-3.result.now in
     let types = map S.tree c.deref-2.result.now in
-    let m = mark_in (standing_in S first env) None i in
-    let flows = flows_at c.place.result (flows_of old.frame.parents.now m types) in
-    let of_object : BodyFrame → Standing → List Note = λ f k. finds_in k None o in
-    let of_index : BodyFrame → Standing → List Note = λ f k. finds_in k None i in
-    let of_both : BodyFrame → Standing → List Note = λ f k. finds_in k None o ++ finds_in k None i in
-    let flowed : BodyFrame → Standing → List Note = λ f k. flows in
-    let before : BodyFrame → Standing → List Note = λ f k. (finds_in k None o ++ finds_in k None i) ++ flows in
-    let stored : BodyFrame → Standing → List Note = λ f k. stored_finds f k offers c.args.place v in
+    let m = label_in (standing_in S first env) None i in
+    let flows = flows_at c.place.result (flows_of old.context.globals.now.outline.now.parents.now m types) in
+    let of_object : BodyContext → Standing → List Note = λ f k. finds_in k None o in
+    let of_index : BodyContext → Standing → List Note = λ f k. finds_in k None i in
+    let of_both : BodyContext → Standing → List Note = λ f k. finds_in k None o ++ finds_in k None i in
+    let flowed : BodyContext → Standing → List Note = λ f k. flows in
+    let before : BodyContext → Standing → List Note = λ f k. (finds_in k None o ++ finds_in k None i) ++ flows in
+    let stored : BodyContext → Standing → List Note = λ f k. stored_finds f k offers c.args.place v in
     let typed = c.in_ok-label.ensures.finds in
     let is_same : c.deref.result.now ≡ c.deref-3.result.now = c.deref.ensures.value ∙ sym c.deref-3.ensures.value in
     let offered = record first { store = record first.store { now = c.store_offers.new.store } } in
@@ -109,9 +109,9 @@ returns-clause-finds g c =
     let to_offered = goes_further to_first first_on in
     let to_second = goes_further to_offered c.type_in-2.ensures.goes_on in
     let second_on : GoesOn S second flown = c.find_flows_in.ensures.goes_on in
-    let flowing = subst (λ (f : RustFrame _). notes_of flown.found.now ≡ notes_of second.found.now
-    ++ flows_at c.place.result (flows_of f.parents.now m types)) to_second.frame
-    (c.in_ok-find_flows_in.ensures.found m c.in_ok-at.ensures.labelled.mark.is) in
+    let flowing = subst (λ (f : RustBodyContext _). notes_of flown.found.now ≡ notes_of second.found.now
+    ++ flows_at c.place.result (flows_of f.globals.now.outline.now.parents.now m types)) to_second.context
+    (c.in_ok-find_flows_in.ensures.found m c.in_ok-at.ensures.labelled.label.is) in
     found_then S old flown c.find_stored.new.walk env env before stored _ (goes_further to_second second_on)
     c.find_stored.ensures.goes_on
     (found_then S old second flown env env of_both flowed before to_second second_on
@@ -122,9 +122,9 @@ returns-clause-finds g c =
     refl)
     c.in_ok-find_stored.ensures.finds
     (item_as F K c.args.place c.place.result o i v m types offers
-    (same_standing S old first env (λ (f : BodyFrame) (k : Standing). mark_in k None i) to_first typed.declared)
+    (same_standing S old first env (λ (f : BodyContext) (k : Standing). label_in k None i) to_first typed.declared)
     (ap (map S.tree) c.deref-2.ensures.value ∙ c.in_ok-types.ensures.value
     ∙ ap (λ os. store_index_types (map (store_offer_with S.tree) os)) is_same)
     (ap (map (store_offer_with S.tree)) c.deref-3.ensures.value ∙ c.in_ok-offers.ensures.value
-    ∙ ap (λ (x : Mark). index_stores F x.type) c.in_ok-label.ensures.labelled.mark.is)
+    ∙ ap (λ (x : Label). index_stores F x.type) c.in_ok-label.ensures.labelled.label.is)
     c.place.ensures)

@@ -1,8 +1,8 @@
 use Rattle.std.proofs.Common.{sym, ap, subst}
 use Rattle.std.specs.Prelude.{OnOk}
 use Rattle.pc_tree.specs.Tree.{Target, expr_of, target_of}
-use Rattle.pc_labels.specs.ComputedStatements.{store_finds}
-use Rattle.pc_frames.specs.Walks.{Found}
+use Rattle.pc_module_rules.specs.Computed.Statements.{store_finds}
+use Rattle.pc_walk.specs.Walks.{Found}
 use Rattle.pc_statements.proofs.stores.find_store.Goals as goal
 
 pub returns-in-Attribute-clause-finds : goal.returns-in-Attribute-clause-finds

@@ -7,7 +7,7 @@ use Rattle.pc_tree.specs.Lists.{keywords_of_list}
 use Rattle.pc_tree.specs.Stopping.{one_if, given_again}
 use Rattle.pc_tree.proofs.Stops.{cons_at}
 use Rattle.pc_tree.specs.Code.{at_code}
-use Rattle.pc_names.specs.Names.{texts_in}
+use Rattle.pc_tree.specs.Names.{texts_in}
 use Rattle.pc_tree.proofs.Finds.{stepped}
 use Rattle.pc_stop.proofs.Passed.{same_given}
 use Rattle.pc_stop.proofs.calls.find_given_again.Goals as goal

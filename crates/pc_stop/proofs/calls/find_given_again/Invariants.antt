@@ -3,7 +3,7 @@ use Rattle.pc_tree.specs.declared.code.Code.TheVariants.{E01}
 use Rattle.pc_tree.specs.Stopping.{given_again}
 use Rattle.pc_tree.specs.Lists.{keywords_of_list}
 use Rattle.pc_tree.specs.Code.{at_code}
-use Rattle.pc_names.specs.Names.{texts_in}
+use Rattle.pc_tree.specs.Names.{texts_in}
 use Rattle.pc_stop.proofs.calls.find_given_again.Given as goal
 
 abbrev pub invariant-loop-argument : goal.invariant-loop-argument

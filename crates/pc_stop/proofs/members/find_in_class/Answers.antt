@@ -3,7 +3,7 @@ use Rattle.pc_source.specs.declared.place.Place.{Place}
 use Rattle.pc_tree.specs.declared.code.Code.TheVariants.{E06}
 use Rattle.pc_tree.specs.Tree.{member_of}
 use Rattle.pc_tree.specs.Stopping.{HeldMember, name_of_member, clashes_among, own_members}
-use Rattle.pc_names.specs.Names.{text_seen, texts_in}
+use Rattle.pc_tree.specs.Names.{text_seen, texts_in}
 use Rattle.pc_tree.specs.Code.{at_code}
 use Rattle.pc_tree.proofs.Finds.{stepped}
 use Rattle.pc_stop.proofs.Clashes.{Owns, none_left, same_clashing, clash_next, owns_first, owns_more, owns_all}

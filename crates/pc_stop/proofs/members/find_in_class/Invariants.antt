@@ -2,7 +2,7 @@ use Rattle.std.proofs.Common.{◌≡◌, ◌++◌, [], map, drop, List, ℕ}
 use Rattle.pc_tree.specs.declared.code.Code.TheVariants.{E06}
 use Rattle.pc_tree.specs.Tree.{member_of}
 use Rattle.pc_tree.specs.Stopping.{HeldMember, clashes_among, own_members}
-use Rattle.pc_names.specs.Names.{texts_in}
+use Rattle.pc_tree.specs.Names.{texts_in}
 use Rattle.pc_tree.specs.Code.{at_code}
 use Rattle.pc_stop.specs.Holdings.{HasIn, Keeps}
 use Rattle.pc_stop.proofs.Clashes.{Owns}

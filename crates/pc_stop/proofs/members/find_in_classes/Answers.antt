@@ -7,7 +7,7 @@ use Rattle.pc_tree.specs.declared.tree.Item.{Item as RustItem}
 use Rattle.pc_tree.specs.Tree.{Name, Item, item_of}
 use Rattle.pc_tree.specs.Stopping.{clashing_in}
 use Rattle.pc_tree.proofs.Stops.{cons_at}
-use Rattle.pc_names.specs.Names.{at_text, first_of, bound_as}
+use Rattle.pc_tree.specs.Names.{at_text, first_of, bound_as}
 use Rattle.pc_tree.specs.Code.{at_code}
 use Rattle.pc_stop.specs.Holdings.{HasIn}
 use Rattle.pc_stop.specs.Members.{Stands}

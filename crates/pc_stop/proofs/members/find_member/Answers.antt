@@ -6,7 +6,7 @@ use Rattle.pc_source.specs.declared.place.Place.{Place}
 use Rattle.pc_tree.specs.declared.code.Code.TheVariants.{E06}
 use Rattle.pc_tree.specs.Tree.{Name, member_of}
 use Rattle.pc_tree.specs.Stopping.{HeldMember, is_field, name_of_member, is_among, is_clash, one_if}
-use Rattle.pc_names.specs.Names.{texts_in}
+use Rattle.pc_tree.specs.Names.{texts_in}
 use Rattle.pc_stop.specs.declared.holdings.TheConstants.{DIGITS}
 use Rattle.pc_tree.specs.Code.{at_code}
 use Rattle.pc_stop.specs.Holdings.{HasIn}

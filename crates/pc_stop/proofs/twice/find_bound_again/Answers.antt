@@ -9,7 +9,7 @@ use Rattle.pc_tree.specs.Lists.{name_seen}
 use Rattle.pc_tree.specs.Stopping.{one_if, bound_again}
 use Rattle.pc_tree.proofs.Stops.{cons_at}
 use Rattle.pc_tree.specs.Code.{at_code}
-use Rattle.pc_names.specs.Names.{texts_in}
+use Rattle.pc_tree.specs.Names.{texts_in}
 use Rattle.pc_tree.proofs.Finds.{stepped}
 use Rattle.pc_stop.proofs.Passed.{same_again}
 use Rattle.pc_stop.proofs.twice.find_bound_again.Goals as goal

@@ -3,7 +3,7 @@ use Rattle.pc_tree.specs.declared.code.Code.TheVariants.{E01}
 use Rattle.pc_tree.specs.Stopping.{bound_again}
 use Rattle.pc_tree.specs.Code.{at_code}
 use Rattle.pc_tree.specs.Lists.{name_seen}
-use Rattle.pc_names.specs.Names.{texts_in}
+use Rattle.pc_tree.specs.Names.{texts_in}
 use Rattle.pc_stop.proofs.twice.find_bound_again.Given as goal
 
 abbrev pub invariant-loop-name : goal.invariant-loop-name

@@ -6,7 +6,7 @@ use Rattle.pc_tree.specs.Lists.{name_seen}
 use Rattle.pc_tree.specs.Tree.{param_of}
 use Rattle.pc_tree.specs.Stopping.{is_among, bound_again, name_of_param, self_before}
 use Rattle.pc_tree.specs.Code.{at_code}
-use Rattle.pc_names.specs.Names.{text_seen, texts_in}
+use Rattle.pc_tree.specs.Names.{text_seen, texts_in}
 use Rattle.pc_stop.proofs.Passed.{same_again}
 use Rattle.pc_stop.proofs.twice.find_parameters_again.Goals as goal
 

@@ -6,7 +6,7 @@ use Rattle.pc_class.specs.OverrideFindings.{override_findings}
 use Rattle.pc_class.proofs.ClassOverrides.{entries_keep}
 use Rattle.pc_notes.specs.declared.notes.Entry.{Entry}
 use Rattle.pc_notes.specs.Notes.{plain_note, notes_of}
-use Rattle.pc_labels.specs.ComputedModules.{module_finds}
+use Rattle.pc_module_rules.specs.Computed.Modules.{module_finds}
 use Rattle.pc_top.proofs.ModuleFindings.{exactly, same_flows, told_flows}
 use Rattle.pc_top.proofs.checking.findings_by.Goals as goal
 
@@ -21,7 +21,7 @@ returns g c =
     let listed = c.deref-2.ensures.value ∙ classes in
     let all : notes_of c.put_all-2.new.self ≡ (module_finds m [] ++ map plain_note of_scopes) ++ map plain_note (class_findings m ++ override_findings m) = c.in_ok-put_all-2.ensures ∙ (λ i. first i ++ map plain_note (listed i)) in
     record {
-      found = exactly m of_scopes (c.in_ok-of_scopes.ensures.found c.requires.scopes) (notes_of c.put_all-2.new.self) all;
+      found = exactly m of_scopes (c.in_ok-of_scopes.ensures.found c.requires) (notes_of c.put_all-2.new.self) all;
       flows = told_flows m (notes_of c.put_all-2.new.self) (λ p. same_flows p (notes_of c.put_all-2.new.self) (module_finds m []) of_scopes (class_findings m ++ override_findings m) all);
       kept = λ ty h. c.check_module.ensures.kept ty (c.override_findings.ensures.kept ty (c.class_table.ensures.kept ty h));
     }

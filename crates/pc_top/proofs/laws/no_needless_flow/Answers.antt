@@ -1,7 +1,7 @@
 use Rattle.pc_ann.specs.Bases.{bases_of}
 use Rattle.pc_ann.proofs.Earlier.{smaller}
 use Rattle.pc_class.specs.Facts.{classes_of}
-use Rattle.pc_dynamic.proofs.StandingFlows.{flows_dynamic, flows_well_formed}
+use Rattle.pc_module_rules.proofs.StandingFlows.{flows_dynamic, flows_well_formed}
 use Rattle.pc_sound.proofs.Heap.FurnishedHeaps.{is_needed}
 use Rattle.pc_sound.proofs.Values.ReadTypes.{module_fields_without}
 use Rattle.pc_top.proofs.laws.no_needless_flow.Goals as goal

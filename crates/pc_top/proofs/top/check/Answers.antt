@@ -5,7 +5,7 @@ use Rattle.pc_tree.specs.declared.code.Finding.{Finding}
 use Rattle.pc_tree.specs.Tree.{module_of}
 use Rattle.pc_front.specs.Bytes.{IsModuleOf, IsRefusalOf}
 use Rattle.pc_notes.specs.Notes.{notes_of}
-use Rattle.pc_labels.specs.Modules.{IsFinding}
+use Rattle.pc_module_rules.specs.Modules.{IsFinding}
 use Rattle.pc_report.specs.Flows.{FlowEntry}
 use Rattle.pc_report.specs.Report.{Lists, ExplainsRows}
 use Rattle.pc_top.proofs.ExplainedRows.{rows_explained}

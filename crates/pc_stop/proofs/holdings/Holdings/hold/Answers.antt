@@ -2,7 +2,7 @@ use Rattle.std.proofs.Common.{◌∙◌, ℕ, List, ap, subst, arith}
 use Rattle.std.specs.Prelude.{Result, Ok, Err, IfOk, OnOk}
 use Rattle.pc_tree.specs.Tree.{member_of}
 use Rattle.pc_tree.specs.Stopping.{held_by, is_field}
-use Rattle.pc_names.specs.Names.{texts_in}
+use Rattle.pc_tree.specs.Names.{texts_in}
 use Rattle.pc_stop.specs.declared.holdings.TheConstants.{DIGITS}
 use Rattle.pc_stop.specs.declared.holdings.Holding.{Holding}
 use Rattle.pc_stop.specs.Tables.{IsWith}

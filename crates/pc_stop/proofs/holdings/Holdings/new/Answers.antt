@@ -1,7 +1,7 @@
 use Rattle.std.proofs.Common.{◌≡◌, ◌∙◌, ◌++◌, ◌∷◌, [], List, ap, sym, subst, map}
 use Rattle.std.specs.Borrow.{Bor}
 use Rattle.std.proofs.Common.{ℕ}
-use Rattle.pc_names.specs.Names.{text_seen}
+use Rattle.pc_tree.specs.Names.{text_seen}
 use Rattle.pc_stop.specs.Holdings.{Has}
 use Rattle.pc_stop.specs.declared.holdings.TheConstants.{DIGITS}
 use Rattle.pc_stop.specs.declared.tables.Node.{Node}

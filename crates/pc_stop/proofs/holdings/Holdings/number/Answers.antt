@@ -4,8 +4,8 @@ use Rattle.std.specs.List.{list_any}
 use Rattle.std.specs.Borrow.{Bor}
 use Rattle.std.proofs.lemmas.List.{map-append}
 use Rattle.std.proofs.lemmas.Slice.Eq.{bytes_eq-Decides}
-use Rattle.pc_names.specs.Names.{text_seen}
-use Rattle.pc_names.proofs.InSets.{has}
+use Rattle.pc_tree.specs.Names.{text_seen}
+use Rattle.pc_tree.proofs.InSets.{has}
 use Rattle.pc_tree.specs.Stopping.{HeldMember}
 use Rattle.pc_stop.specs.Holdings.{Has}
 use Rattle.pc_stop.specs.declared.holdings.TheConstants.{DIGITS}

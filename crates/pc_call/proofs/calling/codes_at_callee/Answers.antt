@@ -1,8 +1,0 @@
-use Rattle.pc_call.proofs.ErrorsOfCalls.{callee_more, callee_all}
-use Rattle.pc_call.proofs.calling.codes_at_callee.Goals as goal
-
-pub loop-offer-preserved : goal.loop-offer-preserved
-loop-offer-preserved g c = rw c.in_ok-add_found.ensures (callee_more c.loop-offer.codes.items _ c.args.offers.now c.loop-offer.offer-index c.offer-item.result c.loop-offer-test.true c.offer-item.is c.loop-offer.invariant)
-
-pub returns : goal.returns
-returns g c = callee_all c.loop-offer.codes.items _ c.args.offers.now c.loop-offer.offer-index c.loop-offer-test.false c.loop-offer.invariant

@@ -1,0 +1,226 @@
+-- What the programs that judge calls hold and answer, in terms of the definitions.
+-- Own rule of the profile.
+use Rattle.std.specs.Prelude.{◌≡◌, ◌||◌, ◌&&◌, not, ℕ, List, [], ◌∷◌, if◌then◌else◌, map, flat_map, Bool as Test, true}
+use Rattle.std.specs.Prelude.{false, nat_eq, Option, Some, None, All, option_to_list, slice_get, bytes_eq}
+use Rattle.std.specs.Option.{option_map}
+use Rattle.std.specs.Borrow.{Bor}
+use Rattle.indexmap.specs.IndexMap.{IndexMap, get_by}
+use Rattle.indexmap.specs.IndexSet.{IndexSet}
+use Rattle.pc_tree.specs.declared.code.Code.{Code}
+use Rattle.pc_tree.specs.declared.code.Code.TheVariants.{A4, E15}
+use Rattle.pc_tree.specs.Tree.{Exprs}
+use Rattle.pc_scope.specs.declared.resolution.Res.{Res}
+use Rattle.pc_scope.specs.Resolution.{is_one_of, index_of}
+use Rattle.pc_types.specs.Tree.{Tree, Any, ListOf, DictOf}
+use Rattle.pc_types.specs.Below.{Bases}
+use Rattle.pc_types.specs.declared.head.Head.{Head}
+use Rattle.pc_types.specs.declared.head.Head.TheVariants as heads
+use Rattle.pc_class.specs.Facts.{TypedParameter, field_by_name}
+use Rattle.pc_class.specs.declared.table.Parameter.{Parameter as RustParameter}
+use Rattle.pc_class.specs.Tables.{HasParameter}
+use Rattle.pc_flow.specs.Narrowing.{second_argument, test_of_argument}
+use Rattle.pc_rules.specs.Context.{Signature}
+use Rattle.pc_rules.specs.Calls.{GivenArguments, CallOffer, CallRule, member_rule, length_rule, test_rule, CalleeLabel}
+use Rattle.pc_rules.specs.Calls.{Seat, positional_seat, named_seat, builtin_signature, type_at, list_offers}
+use Rattle.pc_rules.specs.Calls.{dict_offers, fails_at_callee, second_code}
+use Rattle.pc_rules.specs.Computed.Findings.{brief}
+use Rattle.pc_rules.specs.Computed.Standing.{label_with, HasIfAny}
+use Rattle.pc_calls.specs.declared.arguments.Given.{Given as RustGiven}
+use Rattle.pc_calls.specs.declared.params.Param.{Param}
+use Rattle.pc_calls.specs.declared.params.Params.{Params}
+use Rattle.pc_calls.specs.declared.call_offers.Called.{Called}
+use Rattle.pc_calls.specs.declared.call_offers.Called.TheVariants as called
+use Rattle.pc_calls.specs.declared.call_offers.CallOffer.{CallOffer as RustCallOffer}
+use Rattle.pc_calls.specs.declared.call_offers.CallRule.{CallRule as RustCallRule}
+use Rattle.pc_calls.specs.declared.call_offers.CallRule.TheVariants as rule
+use Rattle.pc_calls.specs.declared.callee.Callee.{Callee as RustCallee}
+use Rattle.pc_calls.specs.declared.seats.Argument.{Argument}
+use Rattle.pc_calls.specs.declared.seats.Argument.TheVariants as argument
+use Rattle.pc_calls.specs.declared.seats.Seat.{Seat as RustSeat}
+
+-- ---- arguments and parameters
+
+-- the names that a set has, in their order
+abbrev pub names_in : {S : Type 0} → IndexSet (Bor (List ℕ)) S → List (List ℕ)
+names_in s = map (λ k. k.now) s.keys
+
+-- what the arguments of a call give
+abbrev pub given_with : RustGiven → GivenArguments
+given_with g = record { positional = g.positional; named = names_in g.named }
+
+-- the names of parameters of what is called
+abbrev pub names_called : {Ty : Type 0} → List (Param Ty) → List (List ℕ)
+names_called ps = map (λ p. p.name.now) ps
+
+-- each parameter of what is called has a default, or an argument by name, which the first of a name takes
+abbrev pub filled_called : {Ty : Type 0} → List (List ℕ) → List (List ℕ) → List (Param Ty) → Test
+filled_called named before [] = true
+filled_called named before (p ∷ ps) =
+    (p.has_default || (is_one_of p.name.now named && not (is_one_of p.name.now before)))
+    && filled_called named (p.name.now ∷ before) ps
+
+-- a place that was found is this one
+abbrev pub is_place : Option ℕ → ℕ → Test
+is_place None i = false
+is_place (Some j) i = nat_eq j i
+
+-- the number that a map has at a name
+abbrev pub number_in : {S : Type 0} → IndexMap (Bor (List ℕ)) ℕ S → List ℕ → Option ℕ
+number_in m word = get_by (λ k. bytes_eq word k.now) m
+
+-- a map has at each name the place where the name stands first
+abbrev pub AreNumbers : {S : Type 0} → IndexMap (Bor (List ℕ)) ℕ S → List (List ℕ) → Type 0
+AreNumbers m names = (word : List ℕ) → number_in m word ≡ index_of word names
+
+-- a map, if there is one, has at each name the place where the name stands first
+abbrev pub AreNumbersIfAny : {S : Type 0} → Option (IndexMap (Bor (List ℕ)) ℕ S) → List (List ℕ) → Type 0
+AreNumbersIfAny None names = Unit {0}
+AreNumbersIfAny (Some m) names = AreNumbers m names
+
+-- the map of parameters, if there is one, has the number of the first of each name
+abbrev pub AreNumbered : {Ty : Type 0} → Params Ty → Type 0
+AreNumbered ps = AreNumbersIfAny ps.numbers (names_called ps.all.items)
+
+-- ---- what a call comes to
+
+module _ {Ty : Type 0} (tree : Ty → Tree) where
+  -- a parameter of what is called, with the type that it means
+  abbrev pub param_called : Param Ty → TypedParameter
+  param_called p = record { name = p.name.now; type = tree p.ty; has_default = p.has_default }
+
+  -- parameters as what is called, which returns this type
+  abbrev pub params_called : (returns : Tree) → List (Param Ty) → Signature
+  params_called returns ps = record { parameters = map param_called ps; returns = returns; takes_names = true }
+
+  -- what is called, which returns this type
+  abbrev pub signature_called : (returns : Tree) → Called Ty → Signature
+  signature_called returns (called.Named params) = params_called returns params.all.items
+  signature_called returns (called.Builtin types) = builtin_signature (map tree types.items) returns
+
+  -- what a call comes to on one member, with the types that it means
+  abbrev pub offer_called : RustCallOffer Ty → CallOffer
+  offer_called o = record {
+    at_callee = option_to_list o.at_callee;
+    at_call = option_to_list o.at_call;
+    gives = tree o.gives;
+    calls = option_to_list (option_map (signature_called (tree o.gives)) o.calls);
+  }
+
+-- what is found at the callee, and at the call, on each member
+abbrev pub found_at_callee : {Ty : Type 0} → List (RustCallOffer Ty) → List Code
+found_at_callee os = flat_map (λ o. option_to_list o.at_callee) os
+
+abbrev pub found_at_call : {Ty : Type 0} → List (RustCallOffer Ty) → List Code
+found_at_call os = flat_map (λ o. option_to_list o.at_call) os
+
+-- the rule of a call
+abbrev pub rule_of : RustCallRule → CallRule
+rule_of rule.Member = member_rule
+rule_of rule.Length = length_rule
+rule_of rule.Test = test_rule
+
+module _ {Ty : Type 0} (has : Ty → Type 0) where
+  -- the store gave the type of a parameter that is lent
+  abbrev pub HasLent : Bor (RustParameter Ty) → Type 0
+  HasLent p = HasParameter has p.now
+
+  -- the store gave the type of a parameter of what is called
+  abbrev pub HasParam : Param Ty → Type 0
+  HasParam p = has p.ty
+
+  -- the store gave the types of parameters, and their map is right
+  pub record HasParams (ps : Params Ty) : Type 0 where
+    pub all : All HasParam ps.all.items
+    pub numbers : AreNumbered ps
+
+  -- the store gave the types of what is called
+  abbrev pub HasCalled : Called Ty → Type 0
+  HasCalled (called.Named params) = HasParams params
+  HasCalled (called.Builtin types) = All has types.items
+
+  -- of what is called, if anything is
+  abbrev pub HasCalledIfAny : Option (Called Ty) → Type 0
+  HasCalledIfAny None = Unit {0}
+  HasCalledIfAny (Some c) = HasCalled c
+
+  -- the store gave the types of what a call comes to on one member
+  pub record HasCallOffer (o : RustCallOffer Ty) : Type 0 where
+    pub gives : has o.gives
+    pub calls : HasCalledIfAny o.calls
+
+-- ---- callees and seats
+
+module _ {Store Ty : Type 0} (has : Store → Ty → Type 0) (tree : Ty → Tree) (store : Store) where
+  -- a call offer with types of the store, which means this one
+  pub record IsCallOffer (o : RustCallOffer Ty) (meant : CallOffer) : Type 0 where
+    pub given : HasCallOffer (has store) o
+    pub is : offer_called tree o ≡ meant
+
+  -- a call offer with types of the store, which means the only one of these
+  pub record IsOnlyOffer (o : RustCallOffer Ty) (meant : List CallOffer) : Type 0 where
+    pub given : HasCallOffer (has store) o
+    pub is : offer_called tree o ∷ [] ≡ meant
+
+  -- call offers with types of the store, which mean these
+  pub record AreCallOffers (os : List (RustCallOffer Ty)) (meant : List CallOffer) : Type 0 where
+    pub given : All (HasCallOffer (has store)) os
+    pub is : map (offer_called tree) os ≡ meant
+
+  -- a callee with types of the store, which means this one, but with each code at it once
+  pub record IsCallee (c : RustCallee Ty) (callee : CalleeLabel) : Type 0 where
+    pub given : has store c.label.ty
+    pub held : All (HasCallOffer (has store)) c.offers.items
+    pub label : label_with tree c.label ≡ brief callee.label
+    pub rule : rule_of c.rule ≡ callee.rule
+    pub offers : map (offer_called tree) c.offers.items ≡ callee.offers
+
+  -- a seat with types of the store, which means this one
+  pub record IsSeat (seat : RustSeat Ty) (s : Seat) : Type 0 where
+    pub want : HasIfAny (has store) seat.want
+    pub into : All (has store) seat.into.items
+    pub wants : option_map tree seat.want ≡ s.want
+    pub flows : map tree seat.into.items ≡ s.into
+
+-- the number of the parameter that an argument is for, among parameters of these names
+abbrev pub number_for : Argument → List (List ℕ) → Option ℕ
+number_for (argument.Position k) names = Some k
+number_for (argument.Name word) names = index_of word.now names
+
+-- the number of the parameter of a built-in that an argument is for, where each has the empty name
+abbrev pub builtin_number : Argument → Option ℕ
+builtin_number (argument.Position k) = Some k
+builtin_number (argument.Name word) = if bytes_eq word.now [] then Some 0 else None
+
+-- what an argument flows into of what is called: the type of the parameter at its position, or of the first of its name
+abbrev pub types_at : Argument → Signature → List Tree
+types_at (argument.Position k) s = type_at (slice_get s.parameters k)
+types_at (argument.Name word) s = type_at (field_by_name s.parameters word.now)
+
+-- a head is that of Any or object
+abbrev pub is_head_of_any : Head → Test
+is_head_of_any heads.Any = true
+is_head_of_any heads.Object = true
+is_head_of_any _ = false
+
+-- the class whose instances have a head, if it is that of a class
+abbrev pub class_in_head : Head → Option ℕ
+class_in_head (heads.Class c) = Some c
+class_in_head _ = None
+
+-- a method call on what is no instance of a class
+abbrev pub other_offers : Bases → GivenArguments → List ℕ → Tree → List CallOffer
+other_offers bases g word (ListOf t) = list_offers g word t
+other_offers bases g word (DictOf k v) = dict_offers bases g word k v
+other_offers bases g word Any = fails_at_callee A4 ∷ []
+other_offers bases g word _ = fails_at_callee E15 ∷ []
+
+-- the code at the second argument of a call of a rule, which only a test of an instance has
+abbrev pub second_code_of : (List ℕ → Res) → CallRule → Exprs → (early : Test) → Option Code
+second_code_of resolve test_rule arguments early =
+    second_code (test_of_argument resolve (second_argument arguments)) early
+second_code_of resolve _ arguments early = None
+
+-- the seat of an argument by position or by name
+abbrev pub seat_of : List CallOffer → Argument → Seat
+seat_of offers (argument.Position k) = positional_seat offers k
+seat_of offers (argument.Name word) = named_seat offers word.now

@@ -1,0 +1,39 @@
+//! How many arguments a call gives by position, and the names of those that it gives by name.
+
+ghost use Rattle.std.specs.Prelude.{◌≡◌};
+ghost use Rattle.pc_scope.specs.Resolution.{is_one_of};
+ghost use Rattle.pc_rules.specs.Calls.{is_one, is_two};
+ghost use Rattle.pc_calls.specs.JudgedCalls.{names_in, given_with};
+
+use indexmap::IndexSet;
+
+/// Names, each once.
+pub type Names<'e> = IndexSet<&'e str>;
+
+/// What the arguments of a call give: how many there are by position, and the names of those by name, each once.
+#[derive(Drop)]
+pub struct Given<'e> {
+    pub positional: usize,
+    pub named: Names<'e>,
+}
+
+/// Whether a name is one of these.
+pub fn is_among(names: &Names, name: &str) -> bool
+    ensures { result ≡ is_one_of name.now (names_in names.now) }
+{
+    names.contains(name)
+}
+
+/// Exactly one argument, by position.
+pub fn is_one(given: &Given) -> bool
+    ensures { result ≡ is_one (given_with given.now) }
+{
+    given.positional == 1 && given.named.is_empty()
+}
+
+/// Exactly two arguments, by position.
+pub fn is_two(given: &Given) -> bool
+    ensures { result ≡ is_two (given_with given.now) }
+{
+    given.positional == 2 && given.named.is_empty()
+}

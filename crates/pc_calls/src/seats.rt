@@ -1,0 +1,301 @@
+//! What is expected of the arguments of a call, and what they flow into.
+
+ghost use Rattle.std.specs.Prelude.{◌≡◌, ◌++◌, map, flat_map, All, IfOk, OnOk, option_to_list};
+ghost use Rattle.std.specs.Option.{option_map};
+ghost use Rattle.pc_tree.specs.Tree.{name_of};
+ghost use Rattle.pc_types.specs.Tree.{Tree};
+ghost use Rattle.pc_rules.specs.Operations.{has_error};
+ghost use Rattle.pc_rules.specs.Calls.{all_codes, expected_type, positional_seat, named_seat, builtin_signature};
+ghost use Rattle.pc_rules.specs.Lawful.{keyword_seat};
+ghost use Rattle.pc_rules.specs.Computed.Standing.{HasIfAny};
+ghost use Rattle.pc_calls.specs.JudgedCalls.{names_in, names_called, number_for, builtin_number, offer_called};
+ghost use Rattle.pc_calls.specs.JudgedCalls.{params_called, signature_called, AreNumbered, HasParams, HasCalled};
+ghost use Rattle.pc_calls.specs.JudgedCalls.{HasCallOffer, types_at, seat_of, IsSeat};
+
+use crate::arguments::{Names, is_among};
+use crate::call_offers::{CallOffer, Called};
+use crate::params::Params;
+use pc_source::OutOfMemory;
+use pc_tree::{Code, Name};
+use pc_types::TypeStore;
+use std::alloc::Global;
+
+/// What is expected of an argument or an item, and what it flows into.
+#[derive(Drop)]
+pub struct Seat<Ty: Drop> {
+    pub want: Option<Ty>,
+    pub into: Vec<Ty>,
+}
+
+/// An argument by position, or by name.
+#[derive(Clone, Copy)]
+pub enum Argument<'n> {
+    Position(usize),
+    Name(&'n str),
+}
+
+/// The number of the parameter that an argument is for: the one at its position, or the first of its name.
+fn param_number<Ty: Drop>(params: &Params<'_, Ty>, argument: Argument) -> Option<usize>
+    requires { AreNumbered params.now }
+    ensures { result ≡ number_for argument.entry (names_called params.now.all.items) }
+{
+    match argument {
+        Argument::Position(position) => Some(position),
+        Argument::Name(name) => params.number(name),
+    }
+}
+
+/// The type of a parameter: the one at a position, or the first of a name.
+fn param_type<S: TypeStore>(
+    store: &S,
+    alloc: Global,
+    params: &Params<'_, S::Ty>,
+    argument: Argument,
+) -> Result<Option<S::Ty>, OutOfMemory>
+    requires { HasParams (S.has store.now) params.now }
+    ensures held { IfOk result (λ t. HasIfAny (S.has store.now) t) }
+    ensures value { IfOk result
+        (λ t. (returns : Tree) → option_to_list (option_map S.tree t)
+        ≡ types_at argument.entry (params_called S.tree returns params.now.all.items)) }
+{
+    match param_number(params, argument) {
+        None => Ok(None),
+        Some(number) => {
+            if number >= params.all.len() {
+                return Ok(None);
+            }
+            let ty = store.copy(alloc, &params.all[number].ty)?;
+            Ok(Some(ty))
+        }
+    }
+}
+
+/// The number of the parameter of a built-in that an argument is for: by position, since they have the empty name.
+fn builtin_number(argument: Argument) -> Option<usize>
+    ensures { result ≡ builtin_number argument.entry }
+{
+    match argument {
+        Argument::Position(position) => Some(position),
+        Argument::Name(name) => { if name == "" { Some(0) } else { None } }
+    }
+}
+
+/// The type that an argument of a built-in flows into.
+fn builtin_type<S: TypeStore>(
+    store: &S,
+    alloc: Global,
+    types: &[S::Ty],
+    argument: Argument,
+) -> Result<Option<S::Ty>, OutOfMemory>
+    requires { All (S.has store.now) types.now }
+    ensures held { IfOk result (λ t. HasIfAny (S.has store.now) t) }
+    ensures value { IfOk result
+        (λ t. (returns : Tree) → option_to_list (option_map S.tree t)
+        ≡ types_at argument.entry (builtin_signature (map S.tree types.now) returns)) }
+{
+    match builtin_number(argument) {
+        None => Ok(None),
+        Some(number) => {
+            if number >= types.len() {
+                return Ok(None);
+            }
+            let ty = store.copy(alloc, &types[number])?;
+            Ok(Some(ty))
+        }
+    }
+}
+
+/// The type of a parameter of what is called: the one at a position, or the first of a name.
+fn type_for<S: TypeStore>(
+    store: &S,
+    alloc: Global,
+    called: &Called<'_, S::Ty>,
+    argument: Argument,
+) -> Result<Option<S::Ty>, OutOfMemory>
+    requires { HasCalled (S.has store.now) called.now }
+    ensures held { IfOk result (λ t. HasIfAny (S.has store.now) t) }
+    ensures value { IfOk result
+        (λ t. (returns : Tree) → option_to_list (option_map S.tree t)
+        ≡ types_at argument.entry (signature_called S.tree returns called.now)) }
+{
+    match called {
+        Called::Named(params) => param_type(store, alloc, params, argument),
+        Called::Builtin(types) => builtin_type(store, alloc, types, argument),
+    }
+}
+
+/// The type that an argument flows into where one member is called, if anything is called there.
+fn offered_type<S: TypeStore>(
+    store: &S,
+    alloc: Global,
+    offer: &CallOffer<'_, S::Ty>,
+    argument: Argument,
+) -> Result<Option<S::Ty>, OutOfMemory>
+    requires { HasCallOffer (S.has store.now) offer.now }
+    ensures held { IfOk result (λ t. HasIfAny (S.has store.now) t) }
+    ensures value { IfOk result
+        (λ t. option_to_list (option_map S.tree t)
+        ≡ flat_map (types_at argument.entry) (offer_called S.tree offer.now).calls) }
+{
+    match &offer.calls {
+        Some(called) => type_for(store, alloc, called, argument),
+        None => Ok(None),
+    }
+}
+
+/// Adds a type, if there is one.
+fn push_type<Ty: Drop>(types: &mut Vec<Ty>, ty: Option<Ty>) -> Result<(), OutOfMemory>
+    ensures { OnOk result (types.new.items ≡ types.old.items ++ option_to_list ty) }
+{
+    if let Some(ty) = ty {
+        types.push(ty)?;
+    }
+    Ok(())
+}
+
+/// The types that an argument flows into, one for each member that is called.
+fn types_for<S: TypeStore>(
+    store: &S,
+    alloc: Global,
+    offers: &[CallOffer<'_, S::Ty>],
+    argument: Argument,
+) -> Result<Vec<S::Ty>, OutOfMemory>
+    requires { All (HasCallOffer (S.has store.now)) offers.now }
+    ensures held { IfOk result (λ ts. All (S.has store.now) ts.items) }
+    ensures value { IfOk result
+        (λ ts. map S.tree ts.items
+        ≡ flat_map (types_at argument.entry) (flat_map (λ o. o.calls) (map (offer_called S.tree) offers.now))) }
+{
+    let mut types = Vec::new(alloc);
+    for i in 0..offers.len() {
+        let ty = offered_type(store, alloc, &offers[i], argument)?;
+        push_type(&mut types, ty)?;
+    }
+    Ok(types)
+}
+
+/// Whether an error is found at the callee or at the call.
+pub fn is_in_error<Ty: Drop>(offers: &[CallOffer<'_, Ty>]) -> bool
+    ensures { (tree : Ty → Tree) → result ≡ has_error (all_codes (map (offer_called tree) offers.now)) }
+{
+    for offer in offers {
+        if is_error(offer.at_callee) || is_error(offer.at_call) {
+            return true;
+        }
+    }
+    false
+}
+
+/// Whether a code that there may be is an error.
+fn is_error(code: Option<Code>) -> bool
+    ensures { result ≡ has_error (option_to_list code) }
+{
+    match code {
+        Some(code) => code.is_error(),
+        None => false,
+    }
+}
+
+/// The types that an argument flows into; where something is in error it flows nowhere.
+fn flow_types<S: TypeStore>(
+    store: &S,
+    alloc: Global,
+    offers: &[CallOffer<'_, S::Ty>],
+    argument: Argument,
+) -> Result<Vec<S::Ty>, OutOfMemory>
+    requires { All (HasCallOffer (S.has store.now)) offers.now }
+    ensures held { IfOk result (λ ts. All (S.has store.now) ts.items) }
+    ensures value { IfOk result
+        (λ ts. map S.tree ts.items ≡ (seat_of (map (offer_called S.tree) offers.now) argument.entry).into) }
+{
+    if is_in_error(offers) {
+        return Ok(Vec::new(alloc));
+    }
+    let types = types_for(store, alloc, offers, argument)?;
+    Ok(types)
+}
+
+/// What is expected of an argument: the type that it flows into, where one member is called and there is one such type.
+fn wanted<S: TypeStore>(
+    store: &S,
+    alloc: Global,
+    only_member: bool,
+    types: &[S::Ty],
+) -> Result<Option<S::Ty>, OutOfMemory>
+    requires { All (S.has store.now) types.now }
+    ensures held { IfOk result (λ t. HasIfAny (S.has store.now) t) }
+    ensures value { IfOk result (λ t. option_map S.tree t ≡ expected_type only_member (map S.tree types.now)) }
+{
+    if only_member && types.len() == 1 {
+        return Ok(Some(store.copy(alloc, &types[0])?));
+    }
+    Ok(None)
+}
+
+/// The seat of an argument: it flows into the parameter there of each member that is called, and is expected of its
+/// type where one member is called. Language Reference 6.3.4 "Calls".
+fn seat_of<S: TypeStore>(
+    store: &S,
+    alloc: Global,
+    offers: &[CallOffer<'_, S::Ty>],
+    argument: Argument,
+) -> Result<Seat<S::Ty>, OutOfMemory>
+    requires { All (HasCallOffer (S.has store.now)) offers.now }
+    ensures { IfOk result (λ s.
+        IsSeat S.has S.tree store.now s (seat_of (map (offer_called S.tree) offers.now) argument.entry)) }
+{
+    let into = flow_types(store, alloc, offers, argument)?;
+    let want = wanted(store, alloc, offers.len() == 1, &into)?;
+    Ok(Seat { want, into })
+}
+
+/// The seat of an argument by position. Language Reference 6.3.4 "Calls".
+pub fn positional_seat<S: TypeStore>(
+    store: &S,
+    alloc: Global,
+    offers: &[CallOffer<'_, S::Ty>],
+    position: usize,
+) -> Result<Seat<S::Ty>, OutOfMemory>
+    requires { All (HasCallOffer (S.has store.now)) offers.now }
+    ensures { IfOk result (λ s.
+        IsSeat S.has S.tree store.now s (positional_seat (map (offer_called S.tree) offers.now) position)) }
+{
+    seat_of(store, alloc, offers, Argument::Position(position))
+}
+
+/// The seat of an argument by name. Language Reference 6.3.4 "Calls".
+pub fn named_seat<S: TypeStore>(
+    store: &S,
+    alloc: Global,
+    offers: &[CallOffer<'_, S::Ty>],
+    name: &str,
+) -> Result<Seat<S::Ty>, OutOfMemory>
+    requires { All (HasCallOffer (S.has store.now)) offers.now }
+    ensures { IfOk result (λ s.
+        IsSeat S.has S.tree store.now s (named_seat (map (offer_called S.tree) offers.now) name.now)) }
+{
+    seat_of(store, alloc, offers, Argument::Name(name))
+}
+
+/// The seat of an argument by name after arguments of these names: of a name given twice the later argument flows
+/// nowhere. Own rule of the profile.
+pub fn keyword_seat<S: TypeStore>(
+    store: &S,
+    alloc: Global,
+    offers: &[CallOffer<'_, S::Ty>],
+    before: &Names,
+    name: &Name,
+) -> Result<Seat<S::Ty>, OutOfMemory>
+    requires { All (HasCallOffer (S.has store.now)) offers.now }
+    ensures { IfOk result (λ s.
+        IsSeat S.has S.tree store.now s
+        (keyword_seat (named_seat (map (offer_called S.tree) offers.now)) (names_in before.now) (name_of name.now))) }
+{
+    if is_among(before, name.text.as_str()) {
+        return Ok(Seat {
+            want: None,
+            into: Vec::new(alloc),
+        });
+    }
+    named_seat(store, alloc, offers, name.text.as_str())
+}

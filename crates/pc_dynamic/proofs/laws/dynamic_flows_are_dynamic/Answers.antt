@@ -1,8 +1,0 @@
-use Rattle.pc_dynamic.proofs.StandingFlows.{flows_dynamic, flows_well_formed}
-use Rattle.pc_dynamic.proofs.laws.dynamic_flows_are_dynamic.Goals as goal
-
-pub returns : goal.returns
-returns c = record {
-  flows = flows_dynamic;
-  types = flows_well_formed;
-}

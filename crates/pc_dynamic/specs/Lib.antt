@@ -1,4 +1,0 @@
-pub mod FlowLaw
-pub mod FlowsOfExpressions
-pub mod FlowsOfModules
-pub mod FlowsOfStatements

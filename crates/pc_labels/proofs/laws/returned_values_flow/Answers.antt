@@ -1,5 +1,0 @@
-use Rattle.pc_labels.proofs.ReturnedValues.{returned_flows}
-use Rattle.pc_labels.proofs.laws.returned_values_flow.Goals as goal
-
-pub returns : goal.returns
-returns c = returned_flows

@@ -1,0 +1,156 @@
+-- The first dynamic flow at a place; notes that tell of just the dynamic flows of a list, at each place of the first one there.
+use Rattle.std.proofs.Common.{◌≡◌, List, [], ◌∷◌, ◌++◌, Option, Some, None, refl, sym, ap, ◌∙◌, subst, inl, inr, map, append_assoc, Contains}
+use Rattle.std.specs.Prelude.{Bool as Test, true, false, if◌then◌else◌, unwrap_or}
+use Rattle.std.proofs.lemmas.Bool.{false≢true}
+use Rattle.pc_source.specs.declared.place.Place.{Place}
+use Rattle.pc_tree.specs.declared.code.Finding.{Finding}
+use Rattle.pc_tree.proofs.Among.{none_among, first_among, later_among, among_first}
+use Rattle.pc_types.specs.Tree.{Tree}
+use Rattle.pc_notes.specs.Notes.{Note, plain_note, is_same_place, or_else, flow_or, flow_noted}
+use Rattle.pc_module_rules.specs.FlowsOfExpressions.{DynamicFlow}
+use Rattle.pc_module_rules.specs.Laws.Flows.{IsFirstAt}
+use Rattle.pc_module_rules.proofs.Places.{same_place, own_place}
+
+-- two types, if there are any
+abbrev pub Pair : Type 0
+Pair = Option (Tree × Tree)
+
+-- ---- one, else another
+
+pub or_none : (o : Pair) → or_else o None ≡ o
+or_none None = refl
+or_none (Some f) = refl
+
+or_assoc : (a b c : Pair) → or_else (or_else a b) c ≡ or_else a (or_else b c)
+or_assoc None b c = refl
+or_assoc (Some f) b c = refl
+
+both_or : {a a' b b' : Pair} → a ≡ a' → b ≡ b' → or_else a b ≡ or_else a' b'
+both_or e f = λ i. or_else (e i) (f i)
+
+pub same_either : (b : Test) (o : Pair) → (if b then o else o) ≡ o
+same_either true o = refl
+same_either false o = refl
+
+if_or : (b : Test) (o a c : Pair) → (if b then or_else o (or_else a c) else or_else a c) ≡ or_else (if b then or_else o a else a) c
+if_or true None a c = refl
+if_or true (Some f) a c = refl
+if_or false o a c = refl
+
+-- ---- the first flow at a place
+
+-- a flow at this place, else what comes behind
+abbrev pub at_or : Place → DynamicFlow → (rest : Pair) → Pair
+at_or p d rest = if is_same_place p d.place then or_else (Some (d.from, d.into)) rest else rest
+
+-- the two types of the first flow at a place
+abbrev pub first_at : Place → List DynamicFlow → Pair
+first_at p [] = None
+first_at p (d ∷ ds) = at_or p d (first_at p ds)
+
+pub noted_append : (p : Place) (xs ys : List Note) → flow_noted p (xs ++ ys) ≡ or_else (flow_noted p xs) (flow_noted p ys)
+noted_append p [] ys = refl
+noted_append p (n ∷ ns) ys = ap (flow_or p n) (noted_append p ns ys) ∙ if_or (is_same_place p n.finding.place) n.flow (flow_noted p ns) (flow_noted p ys)
+
+first_append : (p : Place) (ds es : List DynamicFlow) → first_at p (ds ++ es) ≡ or_else (first_at p ds) (first_at p es)
+first_append p [] es = refl
+first_append p (d ∷ ds) es = ap (at_or p d) (first_append p ds es) ∙ if_or (is_same_place p d.place) (Some (d.from, d.into)) (first_at p ds) (first_at p es)
+
+-- ---- notes that tell of just these flows
+
+-- at each place notes tell of the first of these flows there, and of none where there is none
+abbrev pub Tells : List Note → List DynamicFlow → Type 0
+Tells notes flows = (p : Place) → flow_noted p notes ≡ first_at p flows
+
+pub tell_then : (xs ys : List Note) (ds es : List DynamicFlow) → Tells xs ds → Tells ys es → Tells (xs ++ ys) (ds ++ es)
+tell_then xs ys ds es h k = λ p. noted_append p xs ys ∙ both_or (h p) (k p) ∙ sym (first_append p ds es)
+
+-- with others behind them that tell of none
+pub tell_behind : (xs ys : List Note) (ds : List DynamicFlow) → Tells xs ds → Tells ys [] → Tells (xs ++ ys) ds
+tell_behind xs ys ds h k = λ p. noted_append p xs ys ∙ both_or (h p) (k p) ∙ or_none (first_at p ds)
+
+pub tell_plain : (fs : List Finding) → Tells (map plain_note fs) []
+tell_plain [] = λ p. refl
+tell_plain (f ∷ fs) = λ p. same_either (is_same_place p f.place) (flow_noted p (map plain_note fs)) ∙ tell_plain fs p
+
+-- of flows in other brackets
+pub tell_grouped : (xs : List Note) (a b c : List DynamicFlow) → Tells xs (a ++ (b ++ c)) → Tells xs ((a ++ b) ++ c)
+tell_grouped xs a b c h = subst (Tells xs) (sym (append_assoc a b c)) h
+
+-- ---- more notes
+
+-- more notes tell of just these flows besides
+abbrev pub Grows : (found after : List Note) → List DynamicFlow → Type 0
+Grows found after flows = (p : Place) → flow_noted p after ≡ or_else (flow_noted p found) (first_at p flows)
+
+pub grow_none : (found : List Note) → Grows found found []
+grow_none found = λ p. sym (or_none (flow_noted p found))
+
+pub grow : (found xs : List Note) (ds : List DynamicFlow) → Tells xs ds → Grows found (found ++ xs) ds
+grow found xs ds h = λ p. noted_append p found xs ∙ ap (λ (o : Pair). or_else (flow_noted p found) o) (h p)
+
+pub grow_then : (f g h : List Note) (ds es : List DynamicFlow) → Grows f g ds → Grows g h es → Grows f h (ds ++ es)
+grow_then f g h ds es a b = λ p. b p ∙ ap (λ (o : Pair). or_else o (first_at p es)) (a p) ∙ or_assoc (flow_noted p f) (first_at p ds) (first_at p es) ∙ sym (ap (λ (o : Pair). or_else (flow_noted p f) o) (first_append p ds es))
+
+-- with more before
+pub grow_behind : (f xs h : List Note) (es : List DynamicFlow) → Tells xs [] → Grows (f ++ xs) h es → Grows f h es
+grow_behind f xs h es a b = grow_then f (f ++ xs) h [] es (grow f xs [] a) b
+
+-- of notes that tell of just these flows, with more behind them
+pub tell_grown : (found after : List Note) (ds es : List DynamicFlow) → Tells found ds → Grows found after es → Tells after (ds ++ es)
+tell_grown found after ds es h k = λ p. k p ∙ ap (λ (o : Pair). or_else o (first_at p es)) (h p) ∙ sym (first_append p ds es)
+
+-- of flows in other brackets
+pub grow_grouped : (found after : List Note) (a b c : List DynamicFlow) → Grows found after (a ++ (b ++ c)) → Grows found after ((a ++ b) ++ c)
+grow_grouped found after a b c h = subst (Grows found after) (sym (append_assoc a b c)) h
+
+-- ---- the first flow at a place stands behind none there
+
+other_place : (p q : Place) → ¬ (q ≡ p) → is_same_place p q ≡ false
+other_place p q other = test (is_same_place p q) refl
+  where
+    test : (b : Test) → is_same_place p q ≡ b → b ≡ false
+    test true e = absurd (other (sym (same_place p q e)))
+    test false e = refl
+
+module _ (p : Place) (s t : Tree) where
+  -- a flow of these types at this place
+  abbrev here : DynamicFlow
+  here = record { place = p; from = s; into = t }
+
+  first_of_order : (before behind : List DynamicFlow) → ((d : DynamicFlow) → Contains before d → ¬ (d.place ≡ p)) → first_at p (before ++ (here ∷ behind)) ≡ Some (s, t)
+  first_of_order [] behind none = ap (λ (b : Test). if b then or_else (Some (s, t)) (first_at p behind) else first_at p behind) (own_place p)
+  first_of_order (d ∷ ds) behind none =
+      let rest = first_at p (ds ++ (here ∷ behind)) in
+      ap (λ (b : Test). if b then or_else (Some (d.from, d.into)) rest else rest) (other_place p d.place (none d (first_among d ds)))
+      ∙ first_of_order ds behind (λ e h. none e (later_among d ds e h))
+
+  pub first_is : (flows : List DynamicFlow) → IsFirstAt p s t flows → first_at p flows ≡ Some (s, t)
+  first_is flows h = ap (first_at p) h.order ∙ first_of_order h.before h.behind h.none_before
+
+  -- the flow at the head, or one behind it
+  first_or : (d : DynamicFlow) (ds : List DynamicFlow) (b : Test) → is_same_place p d.place ≡ b → (first_at p ds ≡ Some (s, t) → IsFirstAt p s t ds)
+      → (if b then or_else (Some (d.from, d.into)) (first_at p ds) else first_at p ds) ≡ Some (s, t) → IsFirstAt p s t (d ∷ ds)
+  first_or d ds true e rest is =
+      let types : (d.from, d.into) ≡ (s, t) = ap (λ (o : Pair). unwrap_or o (s, t)) is in
+      record {
+        before = [];
+        behind = ds;
+        order = λ i. record { place = sym (same_place p d.place e) i; from = (types i).0; into = (types i).1 } ∷ ds;
+        none_before = λ e h. absurd (none_among e h);
+      }
+  first_or d ds false e rest is =
+      let h : IsFirstAt p s t ds = rest is in
+      record {
+        before = d ∷ h.before;
+        behind = h.behind;
+        order = ap (λ (l : List DynamicFlow). d ∷ l) h.order;
+        none_before = λ f k. elim (among_first d h.before f k) [
+          | inl same ↦ λ there. false≢true (sym e ∙ subst (λ (q : Place). is_same_place p q ≡ true) (sym (ap (λ (x : DynamicFlow). x.place) same ∙ there)) (own_place p))
+          | inr r ↦ h.none_before f r
+        ];
+      }
+
+  pub is_first : (flows : List DynamicFlow) → first_at p flows ≡ Some (s, t) → IsFirstAt p s t flows
+  is_first [] is = absurd (cc is)
+  is_first (d ∷ ds) is = first_or d ds (is_same_place p d.place) refl (is_first ds) is

@@ -1,0 +1,418 @@
+-- What a walk over statements comes to, computed by recursion on the tree: the computed twin of the lawful labels of
+-- statements and of what is found under them. Declared types are settled in text order: a local has none as long as no
+-- name was bound that means it, and the first binding gives it one. So a name is bound first where its local has no
+-- declared type yet. Own rule of the profile.
+use Rattle.std.specs.Prelude.{ℕ, List, [], ◌∷◌, ◌++◌, map, length, Bool as Test, true, false, if◌then◌else◌, Option}
+use Rattle.std.specs.Prelude.{Some, None, unwrap_or, slice_set, slice_index_or}
+use Rattle.pc_source.specs.declared.place.Place.{Place}
+use Rattle.pc_tree.specs.declared.code.Code.TheVariants.{E21, E24}
+use Rattle.pc_tree.specs.Code.{finding}
+use Rattle.pc_tree.specs.Tree.{Name, Expr, name, call, Ann, Target, to_name, to_attribute, to_index, Stmt, Stmts}
+use Rattle.pc_tree.specs.Tree.{Branches, pass, breaks, continues, returns, asserts, annotated, assigns, evaluates}
+use Rattle.pc_tree.specs.Tree.{while_loop, for_loop, conditional, no_stmts, more_stmts, no_branches, more_branches}
+use Rattle.pc_tree.specs.Tree.{FuncDef, Module}
+use Rattle.pc_tree.specs.Stopping.{bound_by, bound_by_stmt}
+use Rattle.pc_tree.specs.Depth.{place_of}
+use Rattle.pc_scope.specs.declared.resolution.Owner.{Owner}
+use Rattle.pc_scope.specs.declared.resolution.Res.{Res}
+use Rattle.pc_scope.specs.declared.resolution.Res.TheVariants as res
+use Rattle.pc_scope.specs.Resolution.{locals}
+use Rattle.pc_types.specs.Tree.{Tree, Any, NoneType}
+use Rattle.pc_types.specs.Below.{Bases}
+use Rattle.pc_types.specs.Shape.{members}
+use Rattle.pc_ann.specs.Annotations.{read_ann}
+use Rattle.pc_types.specs.Computed.{static_test}
+use Rattle.pc_ann.specs.Listed.{ann_findings}
+use Rattle.pc_class.specs.Bases.{bases_of}
+use Rattle.pc_class.specs.Facts.{TypedParameter, return_type}
+use Rattle.pc_flow.specs.Environment.{Env, assign, assigned_type, join_env, loop_head, none_assigned}
+use Rattle.pc_flow.specs.Narrowing.{narrow}
+use Rattle.pc_notes.specs.Notes.{Note, plain_note}
+use Rattle.pc_rules.specs.Operations.{Label, clean, offers_label, iterate_member, StoreOffer, store_attribute_member}
+use Rattle.pc_rules.specs.Operations.{store_index_member, store_codes, store_index_types, stored_types, only_type}
+use Rattle.pc_rules.specs.Context.{Context}
+use Rattle.pc_rules.specs.Calls.{arguments_given, is_range, range_item}
+use Rattle.pc_rules.specs.Computed.Expressions.{flows_of}
+use Rattle.pc_rules.specs.Computed.Findings.{codes_at, flows_at}
+use Rattle.pc_rules.specs.Computed.Standing.{Standing, label_in, finds_in}
+use Rattle.pc_rules.specs.Signatures.{body_context}
+use Rattle.pc_rules.specs.Computed.Ranges.{range_finds}
+use Rattle.pc_module_rules.specs.Statements.{only_code, binds_number}
+use Rattle.pc_module_rules.specs.Modules.{entry_parameters}
+
+-- ---- declared types so far
+
+-- for each local its declared type so far, or none where it is not bound so far
+abbrev pub Table : Type 0
+Table = List (Option Tree)
+
+-- the declared types, Any for locals not bound so far
+abbrev pub type_table : Table → List Tree
+type_table table = map (λ o. unwrap_or o Any) table
+
+-- the declared type of a local, if it is bound so far
+abbrev pub bound_type : Table → ℕ → Option Tree
+bound_type table x = slice_index_or table x None
+
+-- with a declared type for a local, unless it has this one already
+abbrev pub with_declared : {A : Type 0} → (bound : Option A) → List (Option A) → ℕ → A → List (Option A)
+with_declared (Some d) table x t = table
+with_declared None table x t = slice_set table x (Some t)
+
+-- the declared type of a local that is known before a value is bound to it: the one that it has, else its annotation
+abbrev pub known_declared : (bound : Option Tree) → (annotation : Option Tree) → Option Tree
+known_declared (Some d) annotation = Some d
+known_declared None annotation = annotation
+
+-- ---- what a walk has come to
+
+-- what the statements of a function stand in: the module, what they may name, and the type that the function returns
+pub record BodyContext : Type 0 where
+  pub whole : Module
+  pub context : Context
+  pub returned : Tree
+
+-- what a walk over statements has come to: declared types, the environment, none where no run comes, inside a loop the
+-- way out of it joined with each `break` so far, and what was found
+pub record Walk : Type 0 where
+  pub table : Table
+  pub env : Option Env
+  pub broken : Option Env
+  pub found : List Note
+
+-- what a name bound comes to: declared types, the environment after it, and what was found
+pub record BindingResult : Type 0 where
+  pub table : Table
+  pub env : Env
+  pub found : List Note
+
+-- what a walk over branches has come to: declared types, the environment where all conditions so far are false, the
+-- ways out of the suites joined, breaks, and what was found
+pub record BranchesResult : Type 0 where
+  pub table : Table
+  pub last : Env
+  pub ways : Option Env
+  pub broken : Option Env
+  pub found : List Note
+
+-- an environment joined onto a way, if there is one
+abbrev pub join_onto_way : Bases → Table → (way : Option Env) → Env → Option Env
+join_onto_way bases table None env = None
+join_onto_way bases table (Some way) env = Some (join_env bases (type_table table) way env)
+
+-- one way more where several meet, if a run comes out of it
+abbrev pub with_way : Bases → Table → (ways : Option Env) → (out : Option Env) → Option Env
+with_way bases table ways None = ways
+with_way bases table None (Some env) = Some env
+with_way bases table (Some way) (Some env) = Some (join_env bases (type_table table) way env)
+
+module _ (context : BodyContext) where
+  -- what an expression stands in
+  abbrev pub at : Table → Env → Standing
+  at table env = record { context = context.context; declared = type_table table; env = env }
+
+  -- an environment where a condition is true, or where it is false
+  abbrev pub narrowed_at : Table → (holds : Test) → Expr → Env → Env
+  narrowed_at table holds c env = narrow context.context.bases (type_table table) context.context.resolve holds c env
+
+  -- ---- names that no run binds
+
+  -- a local that is first bound where no run comes has Any
+  abbrev pub unreached_name : Table → Res → Table
+  unreached_name table (res.Local x) = with_declared (bound_type table x) table x Any
+  unreached_name table r = table
+
+  -- each of several locals that are first bound where no run comes has Any
+  abbrev pub unreached_names : Table → List Name → Table
+  unreached_names table [] = table
+  unreached_names table (n ∷ ns) = unreached_names (unreached_name table (context.context.resolve n.text)) ns
+
+  -- ---- binding a name
+
+  -- a local bound to what has this label, at this place: its declared type, the flow into it, and its current type
+  abbrev pub bind_label : (table : Table) → Env → ℕ → (want : Option Tree) → Place → Label → List Note → BindingResult
+  bind_label table env x want p label found =
+      let d = unwrap_or want label.type in
+      let flows = flows_of context.context.bases label (d ∷ []) in
+      record {
+        table = with_declared (bound_type table x) table x d;
+        env = assign env x (assigned_type d label.type (only_code flows));
+        found = found ++ flows_at p flows;
+      }
+
+  -- a value bound to a name, with its annotation if it is one that counts; what is reserved binds nothing
+  abbrev pub bind_value : Table → Env → Res → (annotation : Option Tree) → Expr → List Note → BindingResult
+  bind_value table env (res.Local x) annotation e found =
+      let want = known_declared (bound_type table x) annotation in
+      bind_label table env x want (place_of e) (label_in (at table env) want e) (found ++ finds_in (at table env) want e)
+  bind_value table env r annotation e found = record {
+    table = table;
+    env = env;
+    found = found ++ finds_in (at table env) None e;
+  }
+
+  -- a name annotated alone
+  abbrev pub declared_alone : Table → Res → Tree → Table
+  declared_alone table (res.Local x) t = with_declared (bound_type table x) table x t
+  declared_alone table r t = table
+
+  -- what is found at an annotation: E24 of a local that is bound already, else what is found in it
+  abbrev pub annotation_finds : (bound : Option Tree) → Name → Ann → List Note
+  annotation_finds (Some d) n a = plain_note (finding n.place E24) ∷ []
+  annotation_finds None n a = map plain_note (ann_findings context.whole context.context.bases a)
+
+  -- the declared type of the local that a name means, if it means one that is bound so far
+  abbrev pub bound_name : Table → Res → Option Tree
+  bound_name table (res.Local x) = bound_type table x
+  bound_name table r = None
+
+  -- a name annotated, with a value or alone
+  abbrev pub bind_annotated : Table → Env → Name → Ann → Option Expr → List Note → BindingResult
+  bind_annotated table env n a None found = record {
+    table = declared_alone table (context.context.resolve n.text) (read_ann context.whole context.context.bases a);
+    env = env;
+    found = found ++ annotation_finds (bound_name table (context.context.resolve n.text)) n a;
+  }
+  bind_annotated table env n a (Some e) found =
+      bind_value table env (context.context.resolve n.text) (Some (read_ann context.whole context.context.bases a)) e
+      (found ++ annotation_finds (bound_name table (context.context.resolve n.text)) n a)
+
+  -- ---- stores
+
+  -- what storing to an attribute comes to on each member of the object's type
+  abbrev pub attribute_stores : List ℕ → Tree → List StoreOffer
+  attribute_stores field t = map (store_attribute_member context.context.classes field) (members t)
+
+  -- what storing to an item comes to on each member of the object's type
+  abbrev pub index_stores : Tree → List StoreOffer
+  index_stores t = map store_index_member (members t)
+
+  -- what is found at a store, and of the value: it flows into what the members take
+  abbrev pub stored_finds : Standing → List StoreOffer → Place → Expr → List Note
+  stored_finds k offers p e =
+      let want = only_type offers (stored_types offers) in
+      codes_at p (store_codes offers)
+      ++ (finds_in k want e ++ flows_at (place_of e)
+      (flows_of context.context.bases (label_in k want e) (stored_types offers)))
+
+  -- what is found in a store to a target that is no name: in the object, in the index and of its flow, and then of the
+  -- value
+  abbrev pub store_finds : Standing → Target → Expr → List Note
+  store_finds k (to_name n) e = []
+  store_finds k (to_attribute p o field) e = finds_in k None o
+      ++ stored_finds k (attribute_stores field.text (label_in k None o).type) p e
+  store_finds k (to_index p o i) e =
+      let offers = index_stores (label_in k None o).type in
+      finds_in k None o ++ (finds_in k None i
+      ++ (flows_at (place_of i) (flows_of context.context.bases (label_in k None i) (store_index_types offers))
+      ++ stored_finds k offers p e))
+
+  -- an assignment: a name is bound, any other target is stored to
+  abbrev pub assign_target : Table → Env → Target → Expr → List Note → BindingResult
+  assign_target table env (to_name n) e found = bind_value table env (context.context.resolve n.text) None e found
+  assign_target table env t e found = record {
+    table = table;
+    env = env;
+    found = found ++ store_finds (at table env) t e;
+  }
+
+  -- ---- what a `for` goes over
+
+  -- the label of a turn's item, of any iterable but a call of `range`
+  abbrev pub values_item : Standing → Expr → Label
+  values_item k e = offers_label context.context.bases
+      (map (iterate_member context.context.bases) (members (label_in k None e).type))
+
+  -- the label of a turn's item
+  abbrev pub item_label_of : Standing → Expr → Label
+  item_label_of k (call p (name n) arguments keywords) =
+      if is_range (context.context.resolve n.text) then range_item (arguments_given arguments keywords)
+      else values_item k (call p (name n) arguments keywords)
+  item_label_of k e = values_item k e
+
+  -- what is found in an iterable
+  abbrev pub iterable_finds : Standing → Expr → List Note
+  iterable_finds k (call p (name n) arguments keywords) =
+      if is_range (context.context.resolve n.text) then range_finds k p (name n) arguments keywords
+      else finds_in k None (call p (name n) arguments keywords)
+  iterable_finds k e = finds_in k None e
+
+  -- the target of a `for` bound to an item of this type, in the environment at the head
+  abbrev pub bind_item : Table → (head : Env) → Res → Place → Tree → List Note → BindingResult
+  bind_item table head (res.Local x) p t found = bind_label table head x (bound_type table x) p (clean t) found
+  bind_item table head r p t found = record { table = table; env = head; found = found }
+
+  -- the environment at the head of a loop that binds these names
+  abbrev pub head_at : Table → List Name → Env → Env
+  head_at table names env = loop_head (binds_number context.context.resolve names) (type_table table) env
+
+  -- ---- statements
+
+  -- what is found in an expression that may be missing
+  abbrev pub option_finds : Standing → (want : Option Tree) → Option Expr → List Note
+  option_finds k want None = []
+  option_finds k want (Some e) = finds_in k want e
+
+  -- what is found in a `return`: in its value, and of the flow into the return type; without a value None flows
+  abbrev pub return_finds : Standing → Place → Option Expr → List Note
+  return_finds k p None = flows_at p (flows_of context.context.bases (clean NoneType) (context.returned ∷ []))
+  return_finds k p (Some e) = finds_in k (Some context.returned) e
+      ++ flows_at (place_of e) (flows_of context.context.bases (label_in k (Some context.returned) e) (context.returned ∷ []))
+
+  -- after a name that is bound
+  abbrev pub behind_binding : (broken : Option Env) → BindingResult → Walk
+  behind_binding broken b = record { table = b.table; env = Some b.env; broken = broken; found = b.found }
+
+  -- in the body of a `for`, whose way out is the head
+  abbrev pub inside_for : (head : Env) → BindingResult → Walk
+  inside_for head b = record { table = b.table; env = Some b.env; broken = Some head; found = b.found }
+
+  -- after a loop: the way out of it, with each `break`; the breaks of a loop around it are as before it
+  abbrev pub behind_loop : (broken : Option Env) → Walk → Walk
+  behind_loop broken body = record { table = body.table; env = body.broken; broken = broken; found = body.found }
+
+  -- after an `if`: the ways out of its branches and of `else` joined
+  abbrev pub behind_branches : (ways : Option Env) → Walk → Walk
+  behind_branches ways last = record {
+    table = last.table;
+    env = with_way context.context.bases last.table ways last.env;
+    broken = last.broken;
+    found = last.found;
+  }
+
+  -- what a walk comes to over a statement from an environment, over a suite, and over branches
+  abbrev mutual
+    pub step : Table → (env : Option Env) → (broken : Option Env) → List Note → Stmt → Walk
+    -- no run comes to it: nothing is found, and what it binds first has Any
+    step table None broken found s = record {
+      table = unreached_names table (bound_by_stmt s);
+      env = None;
+      broken = broken;
+      found = found;
+    }
+    step table (Some env) broken found (pass p) = record {
+      table = table;
+      env = Some env;
+      broken = broken;
+      found = found;
+    }
+    step table (Some env) broken found (breaks p) = record {
+      table = table;
+      env = None;
+      broken = join_onto_way context.context.bases table broken env;
+      found = found;
+    }
+    step table (Some env) broken found (continues p) = record {
+      table = table;
+      env = None;
+      broken = broken;
+      found = found;
+    }
+    step table (Some env) broken found (returns p e) = record {
+      table = table;
+      env = None;
+      broken = broken;
+      found = found ++ return_finds (at table env) p e;
+    }
+    step table (Some env) broken found (asserts p c e) = record {
+      table = table;
+      env = Some (narrowed_at table true c env);
+      broken = broken;
+      found = (found ++ finds_in (at table env) None c)
+          ++ option_finds (at table (narrowed_at table false c env)) None e;
+    }
+    step table (Some env) broken found (annotated p n a e) =
+        behind_binding broken (bind_annotated table env n a e found)
+    step table (Some env) broken found (assigns p t e) = behind_binding broken (assign_target table env t e found)
+    step table (Some env) broken found (evaluates p e) = record {
+      table = table;
+      env = Some env;
+      broken = broken;
+      found = found ++ finds_in (at table env) None e;
+    }
+    step table (Some env) broken found (while_loop p c b) =
+        let head = head_at table (bound_by b) env in
+        behind_loop broken (walk_suite (record {
+          table = table;
+          env = Some (narrowed_at table true c head);
+          broken = Some (narrowed_at table false c head);
+          found = found ++ finds_in (at table head) None c;
+        }) b)
+    step table (Some env) broken found (for_loop p n e b) =
+        let head = head_at table (n ∷ bound_by b) env in
+        let item = item_label_of (at table env) e in
+        behind_loop broken (walk_suite
+        (inside_for head (bind_item table head (context.context.resolve n.text) (place_of e) item.type
+        ((found ++ iterable_finds (at table env) e) ++ codes_at (place_of e) item.codes))) b)
+    step table (Some env) broken found (conditional p bs o) =
+        let fork = walk_branches
+        (record { table = table; last = env; ways = None; broken = broken; found = found }) bs in
+        behind_branches fork.ways
+        (walk_suite (record { table = fork.table; env = Some fork.last; broken = fork.broken; found = fork.found })
+        o)
+
+    pub walk_suite : Walk → Stmts → Walk
+    walk_suite w no_stmts = w
+    walk_suite w (more_stmts s rest) = walk_suite (step w.table w.env w.broken w.found s) rest
+
+    pub walk_branches : BranchesResult → Branches → BranchesResult
+    walk_branches w no_branches = w
+    walk_branches w (more_branches c b rest) =
+        let body = walk_suite (record {
+          table = w.table;
+          env = Some (narrowed_at w.table true c w.last);
+          broken = w.broken;
+          found = w.found ++ finds_in (at w.table w.last) None c;
+        }) b in
+        walk_branches (record {
+          table = body.table;
+          last = narrowed_at w.table false c w.last;
+          ways = with_way context.context.bases body.table w.ways body.env;
+          broken = body.broken;
+          found = body.found;
+        }) rest
+
+-- ---- functions
+
+-- what a function is entered with, each parameter declared and assigned; a name that is bound already, or reserved,
+-- binds nothing
+abbrev pub enter_local : (bound : Option Tree) → Table → Env → ℕ → Tree → Table × Env
+enter_local (Some d) table env x t = (table, env)
+enter_local None table env x t = (slice_set table x (Some t), assign env x t)
+
+abbrev pub enter_name : Table → Env → Res → Tree → Table × Env
+enter_name table env (res.Local x) t = enter_local (bound_type table x) table env x t
+enter_name table env r t = (table, env)
+
+abbrev pub enter_parameters : (List ℕ → Res) → Table → Env → List TypedParameter → Table × Env
+enter_parameters resolve table env [] = (table, env)
+enter_parameters resolve table env (p ∷ ps) = let r = enter_name table env (resolve p.name) p.type in
+    enter_parameters resolve r.0 r.1 ps
+
+-- E21 at this place: the end of the body can be reached, and None is not static to the return type
+abbrev pub end_finds : Bases → (return_type : Tree) → Place → (out : Option Env) → List Note
+end_finds bases return_type p None = []
+end_finds bases return_type p (Some env) = if static_test bases NoneType return_type then []
+    else plain_note (finding p E21) ∷ []
+
+-- what the statements of a function stand in
+abbrev pub body_context_of : Module → (constants : List Tree) → Owner → FuncDef → BodyContext
+body_context_of m constants owner f = record {
+  whole = m;
+  context = body_context m constants (locals owner f);
+  returned = return_type m f;
+}
+
+-- the walk over the body of a function, from its entry
+abbrev pub walk_body : Module → (constants : List Tree) → Owner → FuncDef → List Note → Walk
+walk_body m constants owner f found =
+    let context = body_context_of m constants owner f in
+    let start = enter_parameters context.context.resolve (none_assigned (length (locals owner f)))
+    (none_assigned (length (locals owner f))) (entry_parameters m owner f) in
+    walk_suite context (record { table = start.0; env = Some start.1; broken = None; found = found }) f.body
+
+-- what was found, and then what is found in the body of a function, and E21 at its name
+abbrev pub function_finds : Module → (constants : List Tree) → Owner → FuncDef → List Note → List Note
+function_finds m constants owner f found =
+    let body = walk_body m constants owner f found in
+    body.found ++ end_finds (bases_of m) (return_type m f) f.name.place body.env

@@ -1,0 +1,71 @@
+-- The laws on the dynamic flows of a module: A1 is found at a place exactly where there is one under the lawful
+-- labelling of the module; of the first one there, the one type flows into the other by a reading of Any alone, and both
+-- are well-formed; and it is the one that is computed. Own rule of the profile.
+use Rattle.std.specs.Prelude.{◌≡◌, ◌↔◌, List, ◌∷◌, ◌++◌, Option, Some, None, Contains}
+use Rattle.pc_source.specs.declared.place.Place.{Place}
+use Rattle.pc_tree.specs.declared.code.Code.TheVariants.{A1}
+use Rattle.pc_tree.specs.Code.{finding}
+use Rattle.pc_tree.specs.Tree.{Module}
+use Rattle.pc_types.specs.Tree.{Tree}
+use Rattle.pc_types.specs.Below.{Static}
+use Rattle.pc_types.specs.Assignable.{Assignable}
+use Rattle.pc_types.specs.WellFormed.{IsWellFormed}
+use Rattle.pc_class.specs.Bases.{bases_of}
+use Rattle.pc_notes.specs.Notes.{Note, flow_noted}
+use Rattle.pc_module_rules.specs.Modules.{Labelling, IsLawful, IsFinding}
+use Rattle.pc_module_rules.specs.Computed.DynamicFlows.{dynamic_flow}
+use Rattle.pc_module_rules.specs.FlowsOfExpressions.{DynamicFlow}
+use Rattle.pc_module_rules.specs.FlowsOfModules.{dynamic_flows}
+
+-- among flows one of this type into that one is the first at this place
+pub record IsFirstAt (place : Place) (from into : Tree) (flows : List DynamicFlow) : Type 0 where
+  pub before : List DynamicFlow
+  pub behind : List DynamicFlow
+  pub order : flows ≡ before ++ (record { place = place; from = from; into = into } ∷ behind)
+  pub none_before : (d : DynamicFlow) → Contains before d → ¬ (d.place ≡ place)
+
+-- the first type flows dynamically into the second at this place: under every lawful labelling of the module theirs is
+-- the first of the dynamic flows there
+abbrev pub FlowsDynamically : Module → Place → (from into : Tree) → Type 0
+FlowsDynamically m p s t = (labels : Labelling m) → IsLawful m labels → IsFirstAt p s t (dynamic_flows m labels)
+
+-- notes tell of just the dynamic flows of a module: at each place, of the two types of the dynamic flow there
+pub record TellsFlows (m : Module) (notes : List Note) : Type 0 where
+  pub just : (p : Place) (s t : Tree) → flow_noted p notes ≡ Some (s, t) ↔ FlowsDynamically m p s t
+
+-- some type flows dynamically at this place
+pub record HasDynamicFlow (m : Module) (place : Place) : Type 0 where
+  pub from : Tree
+  pub into : Tree
+  pub flows : FlowsDynamically m place from into
+
+-- A1 is found at a place exactly where a type flows dynamically
+abbrev pub DynamicFlowsAreFound : Type 0
+DynamicFlowsAreFound = (m : Module) (p : Place) → IsFinding m (finding p A1) ↔ HasDynamicFlow m p
+
+-- the type that flows is assignable to the one that it flows into, and is not static to it
+abbrev pub DynamicFlowsAreDynamic : Type 0
+DynamicFlowsAreDynamic = (m : Module) (p : Place) (s t : Tree) → FlowsDynamically m p s t
+    → Assignable (bases_of m) s t × ¬ (Static (bases_of m) s t)
+
+-- both are in normal form, without absorbed members and of at most 256 nodes
+abbrev pub DynamicFlowsAreWellFormed : Type 0
+DynamicFlowsAreWellFormed = (m : Module) (p : Place) (s t : Tree) → FlowsDynamically m p s t
+    → IsWellFormed (bases_of m) s × IsWellFormed (bases_of m) t
+
+-- no other types flow dynamically at the same place
+abbrev pub DynamicFlowsAreUnique : Type 0
+DynamicFlowsAreUnique = (m : Module) (p : Place) (s t u v : Tree) → FlowsDynamically m p s t → FlowsDynamically m p u v
+    → (s ≡ u) × (t ≡ v)
+
+-- the flow that is computed at a place is the dynamic flow there
+abbrev pub DynamicFlowsAreComputed : Type 0
+DynamicFlowsAreComputed = (m : Module) (p : Place) (s t : Tree)
+    → dynamic_flow m p ≡ Some (s, t) ↔ FlowsDynamically m p s t
+
+-- types of a store that mean the two that flow dynamically at a place, or none where A1 is not found there
+abbrev pub ExplainsPlace : {Store Ty : Type 0} → (has : Store → Ty → Type 0) → (tree : Ty → Tree) → Module → Place
+    → Store → Option (Ty × Ty) → Type 0
+ExplainsPlace has tree m p store None = ¬ (IsFinding m (finding p A1))
+ExplainsPlace has tree m p store (Some pair) = has store pair.0 × has store pair.1
+    × FlowsDynamically m p (tree pair.0) (tree pair.1)

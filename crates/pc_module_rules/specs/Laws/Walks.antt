@@ -1,0 +1,118 @@
+-- The law that a walk over statements comes to just what their lawful labels say: the computed twin of the rules of
+-- statements has the environments of the labels, and finds just what stands under them, but for what is found of
+-- scopes. Own rule of the profile.
+use Rattle.std.specs.Prelude.{◌≡◌, ◌⊎◌, ◌↔◌, ℕ, List, [], ◌++◌, length, true, false, Option, Some, None, Contains}
+use Rattle.pc_tree.specs.declared.code.Finding.{Finding}
+use Rattle.pc_tree.specs.Tree.{Stmt, Stmts, FuncDef, Module}
+use Rattle.pc_tree.specs.Stopping.{bound_by, bound_by_stmt}
+use Rattle.pc_scope.specs.declared.resolution.Owner.{Owner}
+use Rattle.pc_scope.specs.declared.resolution.Res.TheVariants as res
+use Rattle.pc_scope.specs.Bindings.{texts}
+use Rattle.pc_scope.specs.Resolution.{is_one_of, locals}
+use Rattle.pc_types.specs.Tree.{Tree}
+use Rattle.pc_types.specs.Below.{Bases}
+use Rattle.pc_types.specs.WellFormed.{IsWellFormed}
+use Rattle.pc_class.specs.Bases.{bases_of}
+use Rattle.pc_flow.specs.Agreement.{SameWhere}
+use Rattle.pc_flow.specs.Environment.{Env, declared_type, join_envs_onto}
+use Rattle.pc_flow.specs.WellFormed.{AreWellFormed, IsWellFormedEnv}
+use Rattle.pc_notes.specs.Notes.{Note, findings_of}
+use Rattle.pc_rules.specs.Labels.{is_of_scopes, IsCodeAt}
+use Rattle.pc_rules.specs.Signatures.{body_context}
+use Rattle.pc_module_rules.specs.StatementLabels.{StmtLabels, SuiteLabels, breaks_in, breaks_in_suite}
+use Rattle.pc_module_rules.specs.Statements.{NamesBound, LawfulStmt, LawfulSuite, StmtFinds, SuiteFinds}
+use Rattle.pc_module_rules.specs.Modules.{FunctionLabels, LawfulFunction, entry_parameters, names_entered}
+use Rattle.pc_module_rules.specs.Laws.Labellings.{Setting}
+use Rattle.pc_module_rules.specs.Computed.Statements.{Table, type_table, bound_type, BodyContext, Walk, step, walk_suite}
+use Rattle.pc_module_rules.specs.Computed.Statements.{function_finds}
+
+-- what the statements of a function that returns this type stand in
+abbrev pub body_context_in : Setting → (returned : Tree) → BodyContext
+body_context_in setting returned = record { whole = setting.whole; context = setting.context; returned = returned }
+
+-- a table of a walk fits declared types, behind the names bound so far: each local that one of them means has its
+-- declared type there, and no other local has one
+pub record TableFits (setting : Setting) (declared : List Tree) (seen : NamesBound) (table : Table) : Type 0 where
+  pub long : length table ≡ setting.count
+  pub well_formed : IsWellFormedEnv setting.context.bases table
+  pub bound : (word : List ℕ) (x : ℕ) → is_one_of word seen ≡ true → setting.context.resolve word ≡ res.Local x
+      → bound_type table x ≡ Some (declared_type declared x)
+  pub unbound : (word : List ℕ) (x : ℕ) → is_one_of word seen ≡ false → setting.context.resolve word ≡ res.Local x
+      → bound_type table x ≡ None
+
+-- an environment fits a table of a walk and declared types: they agree on each local that it assigns, and its types are
+-- well-formed
+pub record EnvFits (setting : Setting) (declared : List Tree) (table : Table) (env : Env) : Type 0 where
+  pub same : SameWhere declared (type_table table) env
+  pub well_formed : IsWellFormedEnv setting.context.bases env
+
+-- so does an environment, if there is one
+abbrev pub OutFits : Setting → List Tree → Table → Option Env → Type 0
+OutFits setting declared table None = Unit {0}
+OutFits setting declared table (Some env) = EnvFits setting declared table env
+
+-- the way out of a loop, if there is a loop, joined with the environments at several `break`s
+abbrev pub with_breaks : Bases → (declared : List Tree) → (broken : Option Env) → List Env → Option Env
+with_breaks bases declared None envs = None
+with_breaks bases declared (Some way) envs = Some (join_envs_onto bases declared way envs)
+
+-- more was found: just what is said, but for what is found of scopes
+abbrev pub Adds : (before after : List Note) → (Says : Finding → Type 0) → Type 0
+Adds before after Says = (f : Finding)
+    → Contains (findings_of after) f ↔ (Contains (findings_of before) f ⊎ (Says f × (is_of_scopes f.code ≡ false)))
+
+-- a list has just what is said, but for what is found of scopes
+abbrev pub Lists : List Note → (Says : Finding → Type 0) → Type 0
+Lists notes Says = (f : Finding) → Contains (findings_of notes) f ↔ (Says f × (is_of_scopes f.code ≡ false))
+
+-- A walk has come to what labels say: from a table to one that fits behind these names, to this environment, with these
+-- `break`s joined, and with what is said found; and what fitted the table before fits the one behind.
+pub record WalkSays (setting : Setting) (declared : List Tree) (seen : NamesBound) (table : Table) (broken : Option Env)
+    (found : List Note) (w : Walk) (out : Option Env) (breaks : List Env) (Says : Finding → Type 0) : Type 0 where
+  pub fits : TableFits setting declared seen w.table
+  pub grows : (env : Env) → EnvFits setting declared table env → EnvFits setting declared w.table env
+  pub env_is : w.env ≡ out
+  pub env_fits : OutFits setting declared w.table out
+  pub broken_is : w.broken ≡ with_breaks setting.context.bases declared broken breaks
+  pub broken_fits : OutFits setting declared w.table w.broken
+  pub found_is : Adds found w.found Says
+
+-- a walk over a statement comes to what any lawful labels of it say
+abbrev pub WalksOfStatementsSayWhatLabelsSay : Type 0
+WalksOfStatementsSayWhatLabelsSay =
+    (setting : Setting) (returned : Tree) → IsWellFormed setting.context.bases returned →
+    (declared : List Tree) (seen : NamesBound) (table : Table) (env : Env) (broken : Option Env) (found : List Note) →
+    TableFits setting declared seen table → EnvFits setting declared table env → OutFits setting declared table broken →
+    (s : Stmt) (labels : StmtLabels s) (out : Option Env)
+    → LawfulStmt setting.whole setting.context declared returned seen env s labels out →
+    WalkSays setting declared (texts (bound_by_stmt s) ++ seen) table broken found
+    (step (body_context_in setting returned) table (Some env) broken found s) out (breaks_in s labels)
+    (StmtFinds setting.whole setting.context seen s labels)
+
+-- and so does a walk over a suite
+abbrev pub WalksOfSuitesSayWhatLabelsSay : Type 0
+WalksOfSuitesSayWhatLabelsSay =
+    (setting : Setting) (returned : Tree) → IsWellFormed setting.context.bases returned →
+    (declared : List Tree) (seen : NamesBound) (table : Table) (env : Env) (broken : Option Env) (found : List Note) →
+    TableFits setting declared seen table → EnvFits setting declared table env → OutFits setting declared table broken →
+    (b : Stmts) (labels : SuiteLabels b) (out : Option Env)
+    → LawfulSuite setting.whole setting.context declared returned seen env b labels out →
+    WalkSays setting declared (texts (bound_by b) ++ seen) table broken found
+    (walk_suite (body_context_in setting returned)
+    (record { table = table; env = Some env; broken = broken; found = found }) b) out (breaks_in_suite b labels)
+    (SuiteFinds setting.whole setting.context seen b labels)
+
+-- what labels say in the body of a function and at its name
+abbrev pub BodySays : Module → (constants : List Tree) → Owner → (f : FuncDef) → FunctionLabels f → Finding → Type 0
+BodySays m constants owner f labels g =
+    IsCodeAt f.name.place labels.completing g
+    ⊎ SuiteFinds m (body_context m constants (locals owner f))
+    (names_entered [] (entry_parameters m owner f)) f.body labels.body g
+
+-- the walk over the body of a function finds just what any lawful labels of the function say in its body and at its
+-- name, but for what is found of scopes
+abbrev pub BodiesFindWhatLabelsSay : Type 0
+BodiesFindWhatLabelsSay =
+    (m : Module) (constants : List Tree) → AreWellFormed (bases_of m) constants
+    → (owner : Owner) (f : FuncDef) (labels : FunctionLabels f) → LawfulFunction m constants owner f labels →
+    (found : List Note) → Adds found (function_finds m constants owner f found) (BodySays m constants owner f labels)

@@ -1,0 +1,9 @@
+pub mod Computed
+pub mod FlowsOfExpressions
+pub mod FlowsOfModules
+pub mod FlowsOfStatements
+pub mod Laws
+pub mod Modules
+pub mod SignaturesSaid
+pub mod StatementLabels
+pub mod Statements

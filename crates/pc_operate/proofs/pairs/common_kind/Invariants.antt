@@ -1,5 +1,0 @@
-use Rattle.pc_operate.proofs.Operators.{IsCommon}
-use Rattle.pc_operate.proofs.pairs.common_kind.Given as goal
-
-abbrev pub invariant-loop-ty : goal.invariant-loop-ty
-invariant-loop-ty g l = IsCommon g.S.TypeStore.tree l.types l.ty-index l.common

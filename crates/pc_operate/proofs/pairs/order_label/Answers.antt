@@ -1,4 +1,0 @@
-use Rattle.pc_operate.proofs.pairs.order_label.Goals as goal
-
-pub returns-clause-value : goal.returns-clause-value
-returns-clause-value g c = c.operator_label.ensures.value c.args.parents.now

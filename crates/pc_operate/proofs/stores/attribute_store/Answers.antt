@@ -1,5 +1,0 @@
-use Rattle.pc_operate.proofs.ByHead.{field_given}
-use Rattle.pc_operate.proofs.stores.attribute_store.Goals as goal
-
-pub copy-requires : goal.copy-requires
-copy-requires g c = field_given (g.S.TypeStore.has c.args.store.now) c.args.classes.now c.in-Some.field.now c.requires.classes c.in-Some.ensures.listed

@@ -1,0 +1,9 @@
+use Rattle.std.proofs.Common.{All}
+use Rattle.pc_operations.proofs.Storing.{AreTaken}
+use Rattle.pc_operations.proofs.stores.stored_types.Given as goal
+
+abbrev pub invariant-loop-offer : goal.invariant-loop-offer
+invariant-loop-offer g l = record {
+  held : All (g.S.TypeStore.has l.store) l.types.items;
+  taken : AreTaken g.S.TypeStore.tree l.offers (λ o. o.stores) l.offer-index l.types.items;
+}

@@ -1,0 +1,35 @@
+-- What the program is given and answers of stores to attributes and items, in terms of the tables of operations.
+-- Own rule of the profile.
+use Rattle.std.specs.Prelude.{◌≡◌, List, option_to_list}
+use Rattle.std.specs.Option.{option_map}
+use Rattle.pc_types.specs.Tree.{Tree}
+use Rattle.pc_class.specs.Facts as facts
+use Rattle.pc_rules.specs.Operations.{StoreOffer, store_attribute_member, store_index_member}
+use Rattle.pc_rules.specs.Computed.Standing.{HasIfAny}
+use Rattle.pc_operations.specs.declared.stores.StoreOffer.{StoreOffer as RustStoreOffer}
+use Rattle.pc_operations.specs.declared.stores.StoreTarget.{StoreTarget}
+use Rattle.pc_operations.specs.declared.stores.StoreTarget.TheVariants as targets
+
+-- what a store comes to on one member
+abbrev pub store_on : List facts.ClassFacts → StoreTarget → Tree → StoreOffer
+store_on classes (targets.Attribute name) t = store_attribute_member classes name.now t
+store_on classes targets.Index t = store_index_member t
+
+-- a store offer with the types that it means
+abbrev pub store_offer_with : {Ty : Type 0} → (tree : Ty → Tree) → RustStoreOffer Ty → StoreOffer
+store_offer_with tree o = record {
+  found = option_to_list o.found;
+  takes = option_to_list (option_map tree o.takes);
+  stores = option_to_list (option_map tree o.stores);
+}
+
+-- the store gave the types of a store offer
+pub record HasStoreOffer {Ty : Type 0} (has : Ty → Type 0) (o : RustStoreOffer Ty) : Type 0 where
+  pub takes : HasIfAny has o.takes
+  pub stores : HasIfAny has o.stores
+
+module _ {Store Ty : Type 0} (has : Store → Ty → Type 0) (tree : Ty → Tree) where
+  -- a store offer with types of the store, which means this one
+  pub record IsStoreOffer (store : Store) (o : RustStoreOffer Ty) (offer : StoreOffer) : Type 0 where
+    pub given : HasStoreOffer (has store) o
+    pub is : store_offer_with tree o ≡ offer

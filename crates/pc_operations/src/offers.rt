@@ -1,0 +1,214 @@
+//! Operations on values whose types may be unions.
+
+ghost use Rattle.std.specs.Prelude.{◌≡◌, ◌≤◌, ◌++◌, All, IfOk, OnOk, map, option_to_list, MatchOption};
+ghost use Rattle.std.specs.Option.{option_map};
+ghost use Rattle.pc_tree.specs.Tree.{expr_of};
+ghost use Rattle.pc_types.specs.Tree.{Tree};
+ghost use Rattle.pc_types.specs.Below.{Bases};
+ghost use Rattle.pc_types.specs.Shape.{members, nodes, node_limit};
+ghost use Rattle.pc_types.specs.Store.{Means, KeepsTypes};
+ghost use Rattle.pc_class.specs.Tables.{HasEntries, classes_with};
+ghost use Rattle.pc_rules.specs.Operations.{has_error, found_of, offers_label, operand_types, index_member};
+ghost use Rattle.pc_rules.specs.Lawful.{number_behind, int_literal};
+ghost use Rattle.pc_rules.specs.Computed.Standing.{HasIfAny, HasOffer, offer_with, MeansLabel};
+ghost use Rattle.pc_operations.specs.JudgedOperations.{IsOffer, offer_on};
+
+use crate::members::{
+    attribute_offer, contain_offer, index_offer, iterate_offer, length_offer, negative_offer,
+};
+use pc_class::ClassTable;
+use pc_flow::join_or_object;
+use pc_rules::{Label, Offer, add_found};
+use pc_source::OutOfMemory;
+use pc_tree::{Code, Expr};
+use pc_types::{Parents, TypeStore};
+use std::alloc::Global;
+
+/// An operation on a value, whose type may be a union: it must suit each member.
+#[derive(Clone, Copy)]
+pub enum Operation<'n> {
+    /// `-e`
+    Negative,
+    /// `e.name`
+    Attribute(&'n str),
+    /// `e[i]`, with the number where the index is an int literal.
+    Index(Option<usize>),
+    /// `for x in e`
+    Iterate,
+    /// `a in e`
+    Contain,
+    /// `len(e)`
+    Length,
+}
+
+/// What an operation comes to on a member.
+fn offer_on<S: TypeStore>(
+    store: &mut S,
+    alloc: Global,
+    parents: &Parents,
+    classes: &ClassTable<S::Ty>,
+    operation: Operation<'_>,
+    member: &S::Ty,
+) -> Result<Offer<S::Ty>, OutOfMemory>
+    requires member { S.has store.old member.now }
+    requires classes { HasEntries (S.has store.old) classes.now }
+    ensures value { IfOk result
+        (λ o. IsOffer S.has S.tree store.new o
+        (offer_on parents.now (classes_with S.tree classes.now) operation.entry (S.tree member.now))) }
+    ensures kept { KeepsTypes S.has store.old store.new }
+{
+    match operation {
+        Operation::Negative => negative_offer(store, alloc, member),
+        Operation::Attribute(name) => attribute_offer(store, alloc, classes, name, member),
+        Operation::Index(literal) => index_offer(store, alloc, parents, literal, member),
+        Operation::Iterate => iterate_offer(store, alloc, parents, member),
+        Operation::Contain => contain_offer(store, alloc, member),
+        Operation::Length => length_offer(store, alloc, member),
+    }
+}
+
+/// What an operation comes to on each member of a type, in order.
+pub fn member_offers<S: TypeStore>(
+    store: &mut S,
+    alloc: Global,
+    parents: &Parents,
+    classes: &ClassTable<S::Ty>,
+    operation: Operation<'_>,
+    ty: &S::Ty,
+) -> Result<Vec<Offer<S::Ty>>, OutOfMemory>
+    requires ty { S.has store.old ty.now }
+    requires classes { HasEntries (S.has store.old) classes.now }
+    ensures held { IfOk result (λ os. All (HasOffer (S.has store.new)) os.items) }
+    ensures value { IfOk result
+        (λ os. map (offer_with S.tree) os.items
+        ≡ map (offer_on parents.now (classes_with S.tree classes.now) operation.entry) (members (S.tree ty.now))) }
+    ensures kept { KeepsTypes S.has store.old store.new }
+{
+    let members = store.members(alloc, ty)?;
+    let mut offers = Vec::new(alloc);
+    for i in 0..members.len() {
+        let offer = offer_on(store, alloc, parents, classes, operation, &members[i])?;
+        offers.push(offer)?;
+    }
+    Ok(offers)
+}
+
+/// Whether one of the codes is an error.
+pub(crate) fn has_error(codes: &[Code]) -> bool
+    ensures { result ≡ has_error codes.now }
+{
+    codes.iter().any(|code| code.is_error())
+}
+
+/// The label of an operation, by what it comes to on each member: the join of the results, `Any` where one is in error;
+/// each code once.
+pub fn offers_label<S: TypeStore>(
+    store: &mut S,
+    alloc: Global,
+    parents: &Parents,
+    offers: &[Offer<S::Ty>],
+) -> Result<Label<S::Ty>, OutOfMemory>
+    requires { All (HasOffer (S.has store.old)) offers.now }
+    ensures value { IfOk result
+        (λ l. MeansLabel S.has S.tree store.new l (offers_label parents.now (map (offer_with S.tree) offers.now))) }
+    ensures kept { KeepsTypes S.has store.old store.new }
+{
+    let mut codes = Vec::new(alloc);
+    let mut ty = store.never(alloc)?;
+    for offer in offers {
+        add_found(&mut codes, offer.found)?;
+        ty = join_or_object(store, alloc, parents, &ty, &offer.gives)?;
+    }
+    if has_error(&codes) {
+        let ty = store.any(alloc)?;
+        return Ok(Label { ty, codes });
+    }
+    Ok(Label { ty, codes })
+}
+
+/// Whether a code is an error, if there is one.
+fn is_error(found: Option<Code>) -> bool
+    ensures { result ≡ has_error (option_to_list found) }
+{
+    match found {
+        Some(code) => code.is_error(),
+        None => false,
+    }
+}
+
+/// Whether an operation is in error on one of the members.
+fn is_wrong<Ty: Drop>(offers: &[Offer<Ty>]) -> bool
+    ensures { (tree : Ty → Tree) → result ≡ has_error (found_of (map (offer_with tree) offers.now)) }
+{
+    for offer in offers {
+        if is_error(offer.found) {
+            return true;
+        }
+    }
+    false
+}
+
+/// Adds a type again, if there is one.
+pub(crate) fn add_copy<S: TypeStore>(
+    store: &S,
+    alloc: Global,
+    ty: &Option<S::Ty>,
+    types: &mut Vec<S::Ty>,
+) -> Result<(), OutOfMemory>
+    requires ty { HasIfAny (S.has store.now) ty.now }
+    requires types { All (S.has store.now) types.old.items }
+    ensures held { OnOk result (All (S.has store.now) types.new.items) }
+    ensures value { OnOk result
+        (map S.tree types.new.items ≡ map S.tree types.old.items ++ option_to_list (option_map S.tree ty.now)) }
+{
+    if let Some(ty) = ty {
+        types.push(store.copy(alloc, ty)?)?;
+    }
+    Ok(())
+}
+
+/// The types that an operand flows into, member by member; none where the operation is in error.
+pub fn operand_types<S: TypeStore>(
+    store: &S,
+    alloc: Global,
+    offers: &[Offer<S::Ty>],
+) -> Result<Vec<S::Ty>, OutOfMemory>
+    requires { All (HasOffer (S.has store.now)) offers.now }
+    ensures held { IfOk result (λ ts. All (S.has store.now) ts.items) }
+    ensures value { IfOk result (λ ts. map S.tree ts.items ≡ operand_types (map (offer_with S.tree) offers.now)) }
+{
+    let mut types = Vec::new(alloc);
+    if is_wrong(offers) {
+        return Ok(types);
+    }
+    for offer in offers {
+        add_copy(store, alloc, &offer.takes, &mut types)?;
+    }
+    Ok(types)
+}
+
+/// The number that digits stand for, where it is below 256; digits may be many, and are read no further than that.
+fn small_number(digits: &str) -> Option<usize>
+    ensures { MatchOption result (node_limit ≤ number_behind 0 digits.now) (λ n. n ≡ number_behind 0 digits.now) }
+{
+    let bytes = digits.as_bytes();
+    let mut number = 0;
+    for digit in bytes {
+        number = 10 * number + usize::from(digit.saturating_sub(b'0'));
+        if number >= 256 {
+            return None;
+        }
+    }
+    Some(number)
+}
+
+/// The number of an int literal as an index, where it may be one of a tuple's: a type has at most 256 nodes.
+pub(crate) fn literal_index(e: &Expr) -> Option<usize>
+    ensures { (bases : Bases) (t : Tree) → nodes t ≤ node_limit
+        → index_member bases result t ≡ index_member bases (int_literal (expr_of e.now)) t }
+{
+    match e {
+        Expr::Int(_, digits) => small_number(digits.as_str()),
+        _ => None,
+    }
+}

@@ -1,0 +1,187 @@
+//! Labels of the forms of expressions over the labels of their operands.
+#![tactic(auto, using(pc_rules::proofs::Checkers::goes_further))]
+
+ghost use Rattle.std.specs.Prelude.{◌≡◌, map, All, IfOk, OnOk};
+ghost use Rattle.pc_tree.specs.Tree.{name_of, expr_of};
+ghost use Rattle.pc_tree.specs.Depth.{place_of};
+ghost use Rattle.pc_types.specs.Tree.{Int, Bool, Str, NoneType};
+ghost use Rattle.pc_types.specs.Shape.{members};
+ghost use Rattle.pc_types.specs.Store.{KeepsTypes};
+ghost use Rattle.pc_class.specs.Tables.{classes_with, HasEntries};
+ghost use Rattle.pc_flow.specs.Environment.{join_or_object};
+ghost use Rattle.pc_rules.specs.Computed.Checkers.{Finds, GoesOn, IsLabel};
+ghost use Rattle.pc_rules.specs.Operations.{Label as LabelOf, clean, offers_label, operand_types, negative_member, attribute_member};
+ghost use Rattle.pc_rules.specs.Operations.{index_member};
+ghost use Rattle.pc_rules.specs.Lawful.{int_literal};
+ghost use Rattle.pc_rules.specs.Computed.Expressions.{flows_of};
+ghost use Rattle.pc_rules.specs.Computed.Findings.{brief, flows_at};
+ghost use Rattle.pc_rules.specs.Computed.Standing.{label_with, HasGivenAll, MeansLabel};
+
+use crate::offers::{Operation, literal_index, member_offers, offers_label, operand_types};
+use pc_flow::{Env, join_or_object};
+use pc_rules::{Checker, Label, Setting, find_flows};
+use pc_source::OutOfMemory;
+use pc_tree::{Expr, Name};
+use pc_types::{Parents, TypeStore};
+use std::alloc::Global;
+
+/// The label of a whole number.
+pub fn label_int<S: TypeStore>(store: &mut S, alloc: Global) -> Result<Label<S::Ty>, OutOfMemory>
+    ensures value { IfOk result (λ l. MeansLabel S.has S.tree store.new l (clean Int)) }
+    ensures kept { KeepsTypes S.has store.old store.new }
+{
+    let ty = store.int(alloc)?;
+    let codes = Vec::new(alloc);
+    Ok(Label { ty, codes })
+}
+
+/// The label of a text.
+pub fn label_str<S: TypeStore>(store: &mut S, alloc: Global) -> Result<Label<S::Ty>, OutOfMemory>
+    ensures value { IfOk result (λ l. MeansLabel S.has S.tree store.new l (clean Str)) }
+    ensures kept { KeepsTypes S.has store.old store.new }
+{
+    let ty = store.str(alloc)?;
+    let codes = Vec::new(alloc);
+    Ok(Label { ty, codes })
+}
+
+/// The label of a truth value.
+pub fn label_bool<S: TypeStore>(store: &mut S, alloc: Global) -> Result<Label<S::Ty>, OutOfMemory>
+    ensures value { IfOk result (λ l. MeansLabel S.has S.tree store.new l (clean Bool)) }
+    ensures kept { KeepsTypes S.has store.old store.new }
+{
+    let ty = store.bool(alloc)?;
+    let codes = Vec::new(alloc);
+    Ok(Label { ty, codes })
+}
+
+/// The label of `None`.
+pub fn label_none<S: TypeStore>(store: &mut S, alloc: Global) -> Result<Label<S::Ty>, OutOfMemory>
+    ensures value { IfOk result (λ l. MeansLabel S.has S.tree store.new l (clean NoneType)) }
+    ensures kept { KeepsTypes S.has store.old store.new }
+{
+    let ty = store.none(alloc)?;
+    let codes = Vec::new(alloc);
+    Ok(Label { ty, codes })
+}
+
+/// The label of `-` before an operand of a type. Language Reference 6.6 "Unary arithmetic and bitwise operations".
+pub fn label_negative<S: TypeStore>(
+    store: &mut S,
+    alloc: Global,
+    setting: &Setting<'_, S::Ty>,
+    operand: &S::Ty,
+) -> Result<Label<S::Ty>, OutOfMemory>
+    requires operand { S.has store.old operand.now }
+    requires classes { HasEntries (S.has store.old) setting.now.globals.now.classes.now }
+    ensures value { IfOk result
+        (λ l. MeansLabel S.has S.tree store.new l
+        (offers_label setting.now.globals.now.outline.now.parents.now (map negative_member (members (S.tree operand.now))))) }
+    ensures kept { KeepsTypes S.has store.old store.new }
+{
+    let parents = setting.globals.outline.parents;
+    let offers = member_offers(
+        store,
+        alloc,
+        parents,
+        setting.globals.classes,
+        Operation::Negative,
+        operand,
+    )?;
+    offers_label(store, alloc, parents, &offers)
+}
+
+/// The label of an attribute of an object of a type. Language Reference 6.3.1 "Attribute references".
+pub fn label_attribute<S: TypeStore>(
+    store: &mut S,
+    alloc: Global,
+    setting: &Setting<'_, S::Ty>,
+    field: &Name,
+    object: &S::Ty,
+) -> Result<Label<S::Ty>, OutOfMemory>
+    requires object { S.has store.old object.now }
+    requires classes { HasEntries (S.has store.old) setting.now.globals.now.classes.now }
+    ensures value { IfOk result
+        (λ l. MeansLabel S.has S.tree store.new l
+        (offers_label setting.now.globals.now.outline.now.parents.now
+        (map (attribute_member (classes_with S.tree setting.now.globals.now.classes.now) (name_of field.now).text)
+        (members (S.tree object.now))))) }
+    ensures kept { KeepsTypes S.has store.old store.new }
+{
+    let parents = setting.globals.outline.parents;
+    let attribute = Operation::Attribute(field.text.as_str());
+    let offers = member_offers(
+        store,
+        alloc,
+        parents,
+        setting.globals.classes,
+        attribute,
+        object,
+    )?;
+    offers_label(store, alloc, parents, &offers)
+}
+
+/// The label of an object of a type at an index, and what is found where the index flows. Language Reference 6.3.2
+/// "Subscriptions".
+pub fn label_index<S: TypeStore>(
+    checker: &mut Checker<'_, S>,
+    setting: &Setting<'_, S::Ty>,
+    object: &S::Ty,
+    key: &Expr,
+    label: &Label<S::Ty>,
+) -> Result<Label<S::Ty>, OutOfMemory>
+    requires object { S.has checker.old.store.now object.now }
+    requires key { S.has checker.old.store.now label.now.ty }
+    requires classes { HasEntries (S.has checker.old.store.now) setting.now.globals.now.classes.now }
+    ensures value { IfOk result
+        (λ l. IsLabel S.TypeStore checker.new l
+        (offers_label setting.now.globals.now.outline.now.parents.now
+        (map (index_member setting.now.globals.now.outline.now.parents.now (int_literal (expr_of key.now))) (members (S.tree object.now))))) }
+    ensures found { (m : LabelOf) → label_with S.tree label.now ≡ brief m
+        → OnOk result (Finds checker.old checker.new (flows_at (place_of (expr_of key.now))
+        (flows_of setting.now.globals.now.outline.now.parents.now m
+        (operand_types (map (index_member setting.now.globals.now.outline.now.parents.now (int_literal (expr_of key.now)))
+        (members (S.tree object.now))))))) }
+    ensures goes_on { GoesOn S.TypeStore checker.old checker.new }
+{
+    let parents = setting.globals.outline.parents;
+    let index = Operation::Index(literal_index(key));
+    let offers = member_offers(
+        checker.store,
+        checker.alloc,
+        parents,
+        setting.globals.classes,
+        index,
+        object,
+    )?;
+    let types = operand_types(checker.store, checker.alloc, &offers)?;
+    find_flows(checker, parents, key.place(), label, &types)?;
+    offers_label(checker.store, checker.alloc, parents, &offers)
+}
+
+/// The label of `and` and `or` over operands of two types. Language Reference 6.11 "Boolean operations".
+pub fn label_junction<S: TypeStore>(
+    store: &mut S,
+    alloc: Global,
+    parents: &Parents,
+    left: &S::Ty,
+    right: &S::Ty,
+) -> Result<Label<S::Ty>, OutOfMemory>
+    requires left { S.has store.old left.now }
+    requires right { S.has store.old right.now }
+    ensures value { IfOk result
+        (λ l. MeansLabel S.has S.tree store.new l
+        (clean (join_or_object parents.now (S.tree left.now) (S.tree right.now)))) }
+    ensures kept { KeepsTypes S.has store.old store.new }
+{
+    let ty = join_or_object(store, alloc, parents, left, right)?;
+    let codes = Vec::new(alloc);
+    Ok(Label { ty, codes })
+}
+
+/// Does nothing: it says again that a setting and an environment hold types of the store, for a call that needs it
+/// next.
+pub fn still_stands<S: TypeStore>(_store: &S, _setting: &Setting<'_, S::Ty>, _env: &Env<S::Ty>)
+    requires { HasGivenAll (S.has _store.now) S.tree _setting.now _env.now }
+    ensures { HasGivenAll (S.has _store.now) S.tree _setting.now _env.now }
+{}

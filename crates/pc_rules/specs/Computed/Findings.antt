@@ -1,0 +1,168 @@
+-- What is found under the labels of an expression, as a list in the order in which a walk comes to it, each dynamic
+-- flow with its two types: computed twin of what stands under labels, but for E02 and E03, which are found of scopes.
+-- Own rule of the profile.
+use Rattle.std.specs.Prelude.{◌≡◌, ◌↔◌, List, [], ◌∷◌, ◌++◌, flat_map, Bool as Test, true, false, if◌then◌else◌, Option}
+use Rattle.std.specs.Prelude.{Some, None, Contains, option_to_list, bytes_eq}
+use Rattle.std.specs.List.{list_any}
+use Rattle.pc_source.specs.declared.place.Place.{Place}
+use Rattle.pc_tree.specs.declared.code.Code.{Code}
+use Rattle.pc_tree.specs.declared.code.Code.TheVariants.{A1}
+use Rattle.pc_tree.specs.declared.code.Finding.{Finding}
+use Rattle.pc_tree.specs.Code.{finding, text_of}
+use Rattle.pc_tree.specs.Tree.{Expr, Exprs, Entries, Keywords, name, number, text, truth, nothing, tuple, list, dict}
+use Rattle.pc_tree.specs.Tree.{negative, negation, binary, compare, is_none, is_not_none, conjunction, disjunction}
+use Rattle.pc_tree.specs.Tree.{attribute, index, call, no_exprs, more_exprs, no_entries, more_entries, no_keywords}
+use Rattle.pc_tree.specs.Tree.{more_keywords}
+use Rattle.pc_tree.specs.Depth.{place_of}
+use Rattle.pc_types.specs.Tree.{Tree}
+use Rattle.pc_scope.specs.Expressions.{is_instance_test}
+use Rattle.pc_notes.specs.Notes.{Note, plain_note, dynamic, findings_of}
+use Rattle.pc_rules.specs.Operations.{Label}
+use Rattle.pc_rules.specs.Labels.{FlowLabels, Labels, ItemsLabels, EntriesLabels, KeywordsLabels, whole_label, is_of_scopes}
+use Rattle.pc_rules.specs.Labels.{second_place, Finds}
+
+-- the finding of a code at a place, none of a code that is found of scopes
+abbrev pub own_at : Place → Code → List Note
+own_at p c = if is_of_scopes c then [] else plain_note (finding p c) ∷ []
+
+-- a code is one of these
+abbrev pub has_code : List Code → Code → Test
+has_code cs c = list_any (λ d. bytes_eq (text_of c) (text_of d)) cs
+
+-- codes with one more after them, unless it is one of them
+abbrev pub add_code : List Code → Code → List Code
+add_code cs c = if has_code cs c then cs else cs ++ c ∷ []
+
+-- codes with others after them, each of those that is new, once
+abbrev pub once_onto : List Code → List Code → List Code
+once_onto before [] = before
+once_onto before (c ∷ cs) = once_onto (add_code before c) cs
+
+-- each code once, where it stands first
+abbrev pub once : List Code → List Code
+once cs = once_onto [] cs
+
+-- a label with each code once
+abbrev pub brief : Label → Label
+brief m = record { type = m.type; codes = once m.codes }
+
+-- the findings of a label's codes at its place, each once
+abbrev pub codes_at : Place → List Code → List Note
+codes_at p codes = flat_map (own_at p) (once codes)
+
+-- the finding of a code that there may be
+abbrev pub notes_of_code : Place → Option Code → List Note
+notes_of_code p None = []
+notes_of_code p (Some c) = own_at p c
+
+-- the codes of flows
+abbrev pub flow_codes : FlowLabels → List Code
+flow_codes flows = flat_map (λ f. option_to_list f.code) flows
+
+-- what is found of a flow of a type into another, at the place of what flows: a dynamic one with its two types
+abbrev pub flow_note : Place → (from into : Tree) → Code → Note
+flow_note p s t A1 = dynamic p s t
+flow_note p s t c = plain_note (finding p c)
+
+-- what is found of a flow, without the codes that are found of scopes
+abbrev pub own_flow : Place → (from into : Tree) → Code → List Note
+own_flow p s t c = if is_of_scopes c then [] else flow_note p s t c ∷ []
+
+-- what is found of a flow with this code, if it has one
+abbrev pub flow_at : Place → (from into : Tree) → Option Code → List Note
+flow_at p s t None = []
+flow_at p s t (Some c) = own_flow p s t c
+
+-- what is found of one flow, unless its code is among these, and of others after it
+abbrev pub flow_then : Place → (before : List Code) → (from into : Tree) → Option Code → (rest : List Code → List Note)
+    → List Note
+flow_then p before s t None rest = rest before
+flow_then p before s t (Some c) rest = if has_code before c then rest before
+    else own_flow p s t c ++ rest (before ++ c ∷ [])
+
+-- what is found of flows whose codes are not among these, each code once, of the first flow that has it
+abbrev pub flows_behind : Place → (before : List Code) → FlowLabels → List Note
+flows_behind p before [] = []
+flows_behind p before (f ∷ fs) = flow_then p before f.from f.into f.code (λ codes. flows_behind p codes fs)
+
+-- the findings of flows at the place of what flows, each code once, of the first flow that has it
+abbrev pub flows_at : Place → FlowLabels → List Note
+flows_at p flows = flows_behind p [] flows
+
+-- the findings in the parts of an expression, with those of its own codes after them
+abbrev pub whole : (e : Expr) → Labels e → List Note → List Note
+whole e m parts = parts ++ codes_at (place_of e) (whole_label e m).codes
+
+-- the findings in the parts of an expression, under the labels of items, of arguments, and of the entries of a dict
+abbrev mutual
+  -- what is found in the parts of an expression and of their flows
+  pub found_in_parts : (e : Expr) → Labels e → List Note
+  found_in_parts (name n) m = []
+  found_in_parts (number p digits) m = []
+  found_in_parts (text p characters) m = []
+  found_in_parts (truth p value) m = []
+  found_in_parts (nothing p) m = []
+  found_in_parts (tuple p items) m = found_in_items items m.items
+  found_in_parts (list p items) m = found_in_items items m.items
+  found_in_parts (dict p entries) m = found_in_entries entries m.entries
+  found_in_parts (negative p e) m = whole e m.operand (found_in_parts e m.operand)
+  found_in_parts (negation p e) m = whole e m.operand (found_in_parts e m.operand)
+  found_in_parts (binary p operator l r) m = whole l m.left (found_in_parts l m.left)
+      ++ whole r m.right (found_in_parts r m.right)
+  found_in_parts (compare p operator l r) m = whole l m.left (found_in_parts l m.left)
+      ++ (whole r m.right (found_in_parts r m.right) ++ flows_at (place_of l) m.flows)
+  found_in_parts (is_none p e) m = whole e m.operand (found_in_parts e m.operand)
+  found_in_parts (is_not_none p e) m = whole e m.operand (found_in_parts e m.operand)
+  found_in_parts (conjunction p l r) m = whole l m.left (found_in_parts l m.left)
+      ++ whole r m.right (found_in_parts r m.right)
+  found_in_parts (disjunction p l r) m = whole l m.left (found_in_parts l m.left)
+      ++ whole r m.right (found_in_parts r m.right)
+  found_in_parts (attribute p e field) m = whole e m.object (found_in_parts e m.object)
+  found_in_parts (index p e i) m = whole e m.object (found_in_parts e m.object)
+      ++ (whole i m.key (found_in_parts i m.key) ++ flows_at (place_of i) m.flows)
+  found_in_parts (call p callee arguments keywords) m =
+      whole callee m.callee (found_in_parts callee m.callee)
+      ++ (found_in_arguments (is_instance_test callee arguments keywords) arguments m.arguments
+      ++ (found_in_keywords keywords m.keywords ++ notes_of_code (second_place arguments p) m.second))
+
+  -- of items, each with its flows
+  pub found_in_items : (es : Exprs) → ItemsLabels es → List Note
+  found_in_items no_exprs m = []
+  found_in_items (more_exprs e rest) m = whole e m.first (found_in_parts e m.first)
+      ++ (flows_at (place_of e) m.flows ++ found_in_items rest m.rest)
+
+  -- of arguments; of a test of an instance what stands second is not looked at
+  pub found_in_arguments : (is_test : Test) → (es : Exprs) → ItemsLabels es → List Note
+  found_in_arguments is_test no_exprs m = []
+  found_in_arguments true (more_exprs e rest) m = whole e m.first (found_in_parts e m.first)
+  found_in_arguments false (more_exprs e rest) m = whole e m.first (found_in_parts e m.first)
+      ++ (flows_at (place_of e) m.flows ++ found_in_arguments false rest m.rest)
+
+  -- of the entries of a dict, each key and value with its flows
+  pub found_in_entries : (es : Entries) → EntriesLabels es → List Note
+  found_in_entries no_entries m = []
+  found_in_entries (more_entries key value rest) m =
+      whole key m.key (found_in_parts key m.key)
+      ++ (flows_at (place_of key) m.key_flows
+      ++ (whole value m.value (found_in_parts value m.value)
+      ++ (flows_at (place_of value) m.value_flows ++ found_in_entries rest m.rest)))
+
+  -- of arguments by name, each with its flows
+  pub found_in_keywords : (es : Keywords) → KeywordsLabels es → List Note
+  found_in_keywords no_keywords m = []
+  found_in_keywords (more_keywords parameter value rest) m = whole value m.first (found_in_parts value m.first)
+      ++ (flows_at (place_of value) m.flows ++ found_in_keywords rest m.rest)
+
+-- the findings under the labels of an expression: what is found in its parts, and then at it
+abbrev pub notes_under : (e : Expr) → Labels e → List Note
+notes_under e m = whole e m (found_in_parts e m)
+
+-- a finding under labels that is not found of scopes
+pub record IsOwn (e : Expr) (m : Labels e) (f : Finding) : Type 0 where
+  pub stands : Finds e m f
+  pub own : is_of_scopes f.code ≡ false
+
+-- the law that the list has just what stands under the labels and is not found of scopes
+abbrev pub LabelFindingsAreListed : Type 0
+LabelFindingsAreListed = (e : Expr) (m : Labels e) (f : Finding)
+    → Contains (findings_of (notes_under e m)) f ↔ IsOwn e m f

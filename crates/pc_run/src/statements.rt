@@ -1,0 +1,194 @@
+//! The execution of statements.
+
+ghost use Rattle.std.specs.Prelude.{◌≤◌, ◌<◌, ◌≢◌, ℕ, [], OnOk, if◌then◌else◌};
+ghost use Rattle.pc_tree.specs.Tree.{expr_of, stmts_of_list, stmt_of_kind, target_of};
+ghost use Rattle.pc_value.specs.Meaning.{value_of};
+ghost use Rattle.pc_machine.specs.Runs.{plain_parts};
+ghost use Rattle.pc_run.specs.Internal.Nodes.{exec_one};
+ghost use Rattle.pc_run.specs.Internal.Nodes.{assign_traced, branches_in};
+ghost use Rattle.pc_machine.specs.Machine.{TellsProgress, progress_of, flow_of};
+ghost use Rattle.pc_tree.specs.Lists.{branches_of_list};
+ghost use Rattle.pc_source.specs.declared.place.Place.{Place as PlaceOf};
+ghost use Rattle.pc_tree.specs.Tree.{asserts, assigns, evaluates, option_expr_of};
+
+use crate::evaluate::eval;
+use crate::loops::{eval_iterable, run_for, run_while};
+use pc_machine::{Flow, Halt, Machine, Stop};
+use pc_tree::{Branch, Expr, Name, Stmt, StmtKind, Target};
+use pc_value::Value;
+use std::alloc::Global as Allocator;
+
+/// Statements, one after another.
+#[cycle(evaluate)]
+pub(crate) fn exec<'m>(
+    machine: &mut Machine<'m>,
+    alloc: Allocator,
+    body: &'m [Stmt],
+) -> Result<Flow, Halt>
+    ensures plain { (n : ℕ) → machine.old.fuel < n
+        → TellsProgress flow_of result machine.new
+        ((plain_parts n).exec (stmts_of_list body.now) (progress_of machine.old)) }
+    ensures fuel { machine.new.fuel ≤ machine.old.fuel }
+    ensures spent { OnOk result (body.now ≢ [] → machine.new.fuel < machine.old.fuel) }
+{
+    for statement in body {
+        machine.charge()?;
+        match exec_node(machine, alloc, &statement.kind)? {
+            Flow::Next => {}
+            flow => return Ok(flow),
+        }
+    }
+    Ok(Flow::Next)
+}
+
+/// A statement that was charged.
+#[cycle(evaluate)]
+#[inline(never)]
+fn exec_node<'m>(
+    machine: &mut Machine<'m>,
+    alloc: Allocator,
+    kind: &'m StmtKind,
+) -> Result<Flow, Halt>
+    ensures plain { (n : ℕ) (p : PlaceOf) → machine.old.fuel < n
+        → TellsProgress flow_of result machine.new (exec_one n (stmt_of_kind p kind.now) (progress_of machine.old)) }
+    ensures fuel { machine.new.fuel ≤ machine.old.fuel }
+{
+    match kind {
+        StmtKind::Pass => Ok(Flow::Next),
+        StmtKind::Break => Ok(Flow::Breaking),
+        StmtKind::Continue => Ok(Flow::Continuing),
+        StmtKind::Return(None) => Ok(Flow::Leaves(Value::None)),
+        StmtKind::Return(Some(e)) => {
+            let v = eval(machine, alloc, e)?;
+            Ok(Flow::Leaves(v))
+        }
+        StmtKind::Assert(condition, message) => exec_assert(machine, alloc, condition, message),
+        StmtKind::Annotated(_, _, None) => Ok(Flow::Next),
+        StmtKind::Annotated(name, _, Some(e)) => {
+            let v = eval(machine, alloc, e)?;
+            machine.bind_local(name.text.as_str(), v);
+            Ok(Flow::Next)
+        }
+        StmtKind::Assign(target, e) => exec_assignment(machine, alloc, target, e),
+        StmtKind::Expr(e) => exec_expression(machine, alloc, e),
+        StmtKind::While(condition, body) => run_while(machine, alloc, condition, body),
+        StmtKind::For(name, e, body) => {
+            let over = eval_iterable(machine, alloc, e)?;
+            run_for(machine, alloc, over, name.text.as_str(), body)
+        }
+        StmtKind::If(branches, otherwise) => exec_branches(machine, alloc, branches, otherwise),
+    }
+}
+
+/// An assignment: its value, then its target. Language Reference 7.2 "Assignment statements".
+#[cycle(evaluate)]
+#[inline(never)]
+fn exec_assignment<'m>(
+    machine: &mut Machine<'m>,
+    alloc: Allocator,
+    target: &'m Target,
+    e: &'m Expr,
+) -> Result<Flow, Halt>
+    ensures plain { (n : ℕ) (p : PlaceOf) → machine.old.fuel < n
+        → TellsProgress flow_of result machine.new
+        (exec_one n (assigns p (target_of target.now) (expr_of e.now)) (progress_of machine.old)) }
+    ensures fuel { machine.new.fuel ≤ machine.old.fuel }
+{
+    let v = eval(machine, alloc, e)?;
+    assign(machine, alloc, target, v)
+}
+
+/// An expression whose value is not kept. Language Reference 7.1 "Expression statements".
+#[cycle(evaluate)]
+#[inline(never)]
+fn exec_expression<'m>(
+    machine: &mut Machine<'m>,
+    alloc: Allocator,
+    e: &'m Expr,
+) -> Result<Flow, Halt>
+    ensures plain { (n : ℕ) (p : PlaceOf) → machine.old.fuel < n
+        → TellsProgress flow_of result machine.new
+        (exec_one n (evaluates p (expr_of e.now)) (progress_of machine.old)) }
+    ensures fuel { machine.new.fuel ≤ machine.old.fuel }
+{
+    eval(machine, alloc, e)?;
+    Ok(Flow::Next)
+}
+
+/// An `assert`: its condition, and where that is false its message, then another exception.
+#[cycle(evaluate)]
+#[inline(never)]
+fn exec_assert<'m>(
+    machine: &mut Machine<'m>,
+    alloc: Allocator,
+    condition: &'m Expr,
+    message: &'m Option<Box<Expr>>,
+) -> Result<Flow, Halt>
+    ensures plain { (n : ℕ) (p : PlaceOf) → machine.old.fuel < n
+        → TellsProgress flow_of result machine.new
+        (exec_one n (asserts p (expr_of condition.now) (option_expr_of message.now)) (progress_of machine.old)) }
+    ensures fuel { machine.new.fuel ≤ machine.old.fuel }
+{
+    let v = eval(machine, alloc, condition)?;
+    if machine.is_true(&v) {
+        return Ok(Flow::Next);
+    }
+    if let Some(e) = message {
+        eval(machine, alloc, e)?;
+    }
+    Err(Halt::Stopped(Stop::Other))
+}
+
+/// After its value, a target: its parts, its event, the store.
+#[cycle(evaluate)]
+#[inline(never)]
+fn assign<'m>(
+    machine: &mut Machine<'m>,
+    alloc: Allocator,
+    target: &'m Target,
+    value: Value,
+) -> Result<Flow, Halt>
+    ensures plain { (n : ℕ) → machine.old.fuel < n
+        → TellsProgress flow_of result machine.new
+        (assign_traced n (target_of target.now) (value_of value) (progress_of machine.old)) }
+    ensures fuel { machine.new.fuel ≤ machine.old.fuel }
+{
+    match target {
+        Target::Name(name) => {
+            machine.bind_local(name.text.as_str(), value);
+            Ok(Flow::Next)
+        }
+        Target::Attribute(place, object, field) => {
+            let o = eval(machine, alloc, object)?;
+            machine.store_attribute(alloc, *place, o, field.text.as_str(), value)
+        }
+        Target::Index(place, object, key) => {
+            let o = eval(machine, alloc, object)?;
+            let k = eval(machine, alloc, key)?;
+            machine.store_item(alloc, *place, o, k, value)
+        }
+    }
+}
+
+/// The first branch whose condition is true, else the suite of `else`.
+#[cycle(evaluate)]
+#[inline(never)]
+fn exec_branches<'m>(
+    machine: &mut Machine<'m>,
+    alloc: Allocator,
+    branches: &'m [Branch],
+    otherwise: &'m [Stmt],
+) -> Result<Flow, Halt>
+    ensures plain { (n : ℕ) → machine.old.fuel < n
+        → TellsProgress flow_of result machine.new
+        (branches_in n (branches_of_list branches.now) (stmts_of_list otherwise.now) (progress_of machine.old)) }
+    ensures fuel { machine.new.fuel ≤ machine.old.fuel }
+{
+    for branch in branches {
+        let v = eval(machine, alloc, &branch.condition)?;
+        if machine.is_true(&v) {
+            return exec(machine, alloc, &branch.body);
+        }
+    }
+    exec(machine, alloc, otherwise)
+}

@@ -1,0 +1,31 @@
+//! Maps by names.
+ghost use Rattle.std.specs.Prelude.{◌≡◌, OnOk, OnErr, List, ℕ};
+ghost use Rattle.pc_tree.specs.Names.{at_text, first_of, bound_as};
+
+use indexmap::IndexMap;
+use pc_source::OutOfMemory;
+use std::hash::RandomState;
+
+/// What each name has, in the order in which they were bound.
+pub type NameMap<'m, V> = IndexMap<&'m str, V, RandomState>;
+
+/// A name has this value, unless it has one already.
+///
+/// # Errors
+///
+/// `OutOfMemory` where the map has no room; it stays as it was.
+pub fn bind_first<'m, V: Drop>(
+    map: &mut NameMap<'m, V>,
+    name: &'m str,
+    value: V,
+) -> Result<(), OutOfMemory>
+    ensures bound { OnOk result
+        ((text : List ℕ) → at_text map.new text ≡ first_of (at_text map.old text) (bound_as name.now value text)) }
+    ensures kept { OnErr result ((text : List ℕ) → at_text map.new text ≡ at_text map.old text) }
+{
+    if map.contains_key(name) {
+        return Ok(());
+    }
+    map.insert(name, value)?;
+    Ok(())
+}

@@ -1,0 +1,167 @@
+//! Names that are bound: their declared types, the annotations of names, and a local bound to what has a label.
+
+#![tactic(auto, using(crate::proofs::Walks::goes_further))]
+
+ghost use Rattle.std.specs.Prelude.{◌≡◌, ◌++◌, IfOk, OnOk, None, slice_index_or, unwrap_or};
+ghost use Rattle.std.specs.Prelude.{is_some};
+ghost use Rattle.std.specs.Option.{option_map};
+ghost use Rattle.pc_tree.specs.Tree.{ann_of, name_of, module_of};
+ghost use Rattle.pc_types.specs.Tree.{Tree};
+ghost use Rattle.pc_types.specs.Store.{Means};
+ghost use Rattle.pc_ann.specs.Annotations.{read_ann};
+ghost use Rattle.pc_flow.specs.Stored.{env_of, HasOne, HasEach, GivesOne};
+ghost use Rattle.pc_notes.specs.Notes.{notes_of};
+ghost use Rattle.pc_rules.specs.Operations.{Label as LabelOf};
+ghost use Rattle.pc_rules.specs.Computed.Findings.{brief};
+ghost use Rattle.pc_rules.specs.Computed.Standing.{label_with};
+ghost use Rattle.pc_module_rules.specs.Computed.Statements.{BodyContext as BodyContextOf, with_declared, known_declared, bound_type};
+ghost use Rattle.pc_module_rules.specs.Computed.Statements.{bound_name, bind_label, annotation_finds};
+ghost use Rattle.pc_walk.specs.AnnotatedNames.{annotation_unless, declared_by};
+ghost use Rattle.pc_walk.specs.StatementsHeld.{HoldsContext};
+ghost use Rattle.pc_walk.specs.Walks.{Stands, HoldsOne, HoldsWant, GoesOn, Bound, body_context_in};
+
+use crate::flows::find_flow_in;
+use crate::walk::Walk;
+use pc_ann::read_ann;
+use pc_flow::{DeclaredTypes, Env, assigned_type};
+use pc_rules::Label;
+use pc_scope::Res;
+use pc_source::{OutOfMemory, Place};
+use pc_tree::{Ann, Code, Name};
+use pc_types::TypeStore;
+use std::alloc::Global;
+
+/// Declares a local, unless its declared type is settled already.
+pub(crate) fn settle<Ty: Drop>(declared: &mut DeclaredTypes<Ty>, local: usize, ty: Ty)
+    ensures { declared.new ≡ with_declared (slice_index_or declared.old local None) declared.old local ty }
+{
+    match declared.declared(local) {
+        Some(_) => {}
+        None => declared.declare(local, ty),
+    }
+}
+
+/// The declared type of a local that is known before a value is bound to it: the one that it has, else its annotation.
+pub fn known_type<S: TypeStore>(
+    store: &S,
+    alloc: Global,
+    declared: &DeclaredTypes<S::Ty>,
+    local: usize,
+    annotation: Option<S::Ty>,
+) -> Result<Option<S::Ty>, OutOfMemory>
+    requires declared { HasEach (S.has store.now) declared.now }
+    requires annotation { HasOne (S.has store.now) annotation }
+    ensures { IfOk result (λ o.
+        GivesOne S.has S.tree store.now o
+        (known_declared (bound_type (env_of S.tree declared.now) local) (option_map S.tree annotation))) }
+{
+    match declared.declared(local) {
+        Some(ty) => Ok(Some(store.copy(alloc, ty)?)),
+        None => Ok(annotation),
+    }
+}
+
+/// A type, or else this one again.
+fn type_or<S: TypeStore>(
+    store: &S,
+    alloc: Global,
+    ty: Option<S::Ty>,
+    other: &S::Ty,
+) -> Result<S::Ty, OutOfMemory>
+    requires ty { HasOne (S.has store.now) ty }
+    requires other { S.has store.now other.now }
+    ensures { IfOk result (λ t. Means S.has S.tree store.now t (unwrap_or (option_map S.tree ty) (S.tree other.now))) }
+{
+    match ty {
+        Some(ty) => Ok(ty),
+        None => store.copy(alloc, other),
+    }
+}
+
+/// Binds a local to what has this label, at this place. Where its declared type isn't known it is that of the label.
+pub fn bind_label<S: TypeStore>(
+    walk: &mut Walk<'_, S>,
+    env: Env<S::Ty>,
+    local: usize,
+    want: Option<S::Ty>,
+    place: Place,
+    label: &Label<S::Ty>,
+) -> Result<Env<S::Ty>, OutOfMemory>
+    requires stands { Stands S.TypeStore walk.old env }
+    requires want { HoldsWant S.TypeStore walk.old want }
+    requires label { HoldsOne S.TypeStore walk.old label.now.ty }
+    ensures bound { (m : LabelOf) → label_with S.tree label.now ≡ brief m
+        → IfOk result (λ b. Bound S.TypeStore walk.old env walk.new b
+        (λ f t k. bind_label f t k local (option_map S.tree want) place m)) }
+    ensures goes_on { GoesOn S.TypeStore walk.old walk.new }
+{
+    let ty = type_or(walk.store, walk.alloc, want, &label.ty)?;
+    let code = find_flow_in(walk, place, label, &ty)?;
+    let current = assigned_type(walk.store, walk.alloc, &ty, &label.ty, code)?;
+    settle(walk.declared, local, ty);
+    let mut behind = env;
+    behind.assign(walk.alloc, local, current)?;
+    Ok(behind)
+}
+
+/// Whether a name means a local whose declared type is settled.
+fn is_bound<Ty: Drop>(declared: &DeclaredTypes<Ty>, meaning: Res) -> bool
+    ensures { (f : BodyContextOf) (tree : Ty → Tree) → result ≡ is_some (bound_name f (env_of tree declared.now) meaning) }
+{
+    match meaning {
+        Res::Local(local) => declared.declared(local).is_some(),
+        _ => false,
+    }
+}
+
+/// The type that the annotation of a name is read as, with what is found in it; none with E24 where the name means a
+/// local that is bound already.
+pub fn annotated_type<S: TypeStore>(
+    walk: &mut Walk<'_, S>,
+    meaning: Res,
+    name: &Name,
+    annotation: &Ann,
+) -> Result<Option<S::Ty>, OutOfMemory>
+    requires { HoldsContext (S.has walk.old.store.now) S.tree walk.old.context }
+    ensures typed { IfOk result (λ t. HoldsWant S.TypeStore walk.new t × (option_map S.tree t ≡ annotation_unless
+        (bound_name (body_context_in S.TypeStore walk.old) (env_of S.tree walk.old.declared.now) meaning)
+        (read_ann (module_of walk.old.context.globals.now.outline.now.tree.now) walk.old.context.globals.now.outline.now.parents.now (ann_of annotation.now)))) }
+    ensures pushed { OnOk result (notes_of walk.new.found.now ≡ notes_of walk.old.found.now
+        ++ annotation_finds (body_context_in S.TypeStore walk.old)
+        (bound_name (body_context_in S.TypeStore walk.old) (env_of S.tree walk.old.declared.now) meaning)
+        (name_of name.now) (ann_of annotation.now)) }
+    ensures goes_on { GoesOn S.TypeStore walk.old walk.new }
+    ensures declared { OnOk result (walk.new.declared.now ≡ walk.old.declared.now) }
+{
+    if is_bound(walk.declared, meaning) {
+        walk.found.put(name.place, Code::E24)?;
+        return Ok(None);
+    }
+    let mut in_it = Vec::new(walk.alloc);
+    let ty = read_ann(
+        walk.store,
+        walk.alloc,
+        walk.context.globals.outline,
+        &mut in_it,
+        annotation,
+    )?;
+    walk.found.put_all(&in_it)?;
+    Ok(Some(ty))
+}
+
+/// Declares what a name that is annotated alone means, if it is a local and the annotation counts.
+pub fn declare_alone<Ty: Drop>(
+    declared: &mut DeclaredTypes<Ty>,
+    meaning: Res,
+    annotation: Option<Ty>,
+)
+    ensures { declared.new ≡ declared_by declared.old meaning annotation }
+{
+    match annotation {
+        None => {}
+        Some(ty) => match meaning {
+            Res::Local(local) => settle(declared, local, ty),
+            _ => {}
+        },
+    }
+}

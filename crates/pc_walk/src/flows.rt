@@ -1,0 +1,83 @@
+//! Flows where a walk over statements stands.
+
+#![tactic(auto, using(crate::proofs::Walks::goes_further))]
+
+ghost use Rattle.std.specs.Prelude.{◌≡◌, ◌++◌, All, IfOk, OnOk, map};
+ghost use Rattle.pc_types.specs.Computed.{static_test, assignable_test};
+ghost use Rattle.pc_notes.specs.Notes.{notes_of};
+ghost use Rattle.pc_rules.specs.Operations.{Label as LabelOf};
+ghost use Rattle.pc_rules.specs.Context.{is_early};
+ghost use Rattle.pc_rules.specs.Computed.Expressions.{code_unless, flows_of};
+ghost use Rattle.pc_rules.specs.Computed.Findings.{flow_at, flows_at, brief};
+ghost use Rattle.pc_rules.specs.Computed.Standing.{label_with};
+ghost use Rattle.pc_walk.specs.Walks.{GoesOn};
+
+use crate::walk::Walk;
+use pc_rules::{Checker, Label, find_flow, find_flows};
+use pc_source::{OutOfMemory, Place};
+use pc_tree::Code;
+use pc_types::TypeStore;
+
+/// Finds the flow of a labelled expression, which stands at this place, into a type, and answers its code. Typing
+/// specification, "Type system concepts", assignability; own rule of the profile.
+pub fn find_flow_in<S: TypeStore>(
+    walk: &mut Walk<'_, S>,
+    place: Place,
+    label: &Label<S::Ty>,
+    into: &S::Ty,
+) -> Result<Option<Code>, OutOfMemory>
+    requires label { S.has walk.old.store.now label.now.ty }
+    requires into { S.has walk.old.store.now into.now }
+    ensures value { IfOk result
+        (λ c. c ≡ code_unless (static_test walk.old.context.globals.now.outline.now.parents.now) (assignable_test walk.old.context.globals.now.outline.now.parents.now)
+        (is_early label.now.codes.items) (S.tree label.now.ty) (S.tree into.now)) }
+    ensures found { IfOk result
+        (λ c. notes_of walk.new.found.now
+        ≡ notes_of walk.old.found.now ++ flow_at place (S.tree label.now.ty) (S.tree into.now) c) }
+    ensures declared { walk.new.declared.now ≡ walk.old.declared.now }
+    ensures goes_on { GoesOn S.TypeStore walk.old walk.new }
+{
+    let mut checker = Checker {
+        store: walk.store,
+        alloc: walk.alloc,
+        found: walk.found,
+    };
+    let code = find_flow(
+        &mut checker,
+        walk.context.globals.outline.parents,
+        place,
+        label,
+        into,
+    )?;
+    Ok(code)
+}
+
+/// Finds the flows of a labelled expression, which stands at this place, into several types, each code once.
+pub fn find_flows_in<S: TypeStore>(
+    walk: &mut Walk<'_, S>,
+    place: Place,
+    label: &Label<S::Ty>,
+    into: &[S::Ty],
+) -> Result<(), OutOfMemory>
+    requires label { S.has walk.old.store.now label.now.ty }
+    requires into { All (S.has walk.old.store.now) into.now }
+    ensures found { (m : LabelOf) → label_with S.tree label.now ≡ brief m
+        → OnOk result (notes_of walk.new.found.now ≡ notes_of walk.old.found.now
+        ++ flows_at place (flows_of walk.old.context.globals.now.outline.now.parents.now m (map S.tree into.now))) }
+    ensures declared { walk.new.declared.now ≡ walk.old.declared.now }
+    ensures goes_on { GoesOn S.TypeStore walk.old walk.new }
+{
+    let mut checker = Checker {
+        store: walk.store,
+        alloc: walk.alloc,
+        found: walk.found,
+    };
+    find_flows(
+        &mut checker,
+        walk.context.globals.outline.parents,
+        place,
+        label,
+        into,
+    )?;
+    Ok(())
+}

@@ -1,0 +1,24 @@
+//! What the statements of a function stand in, and what they come to where no expression is typed.
+#![tactic(auto)]
+
+mod binding;
+mod context;
+mod flows;
+mod laws;
+mod locals;
+mod loops;
+mod standing;
+mod touched;
+mod unreached;
+mod walk;
+mod ways;
+
+pub use binding::{annotated_type, bind_label, declare_alone, known_type};
+pub use context::BodyContext;
+pub use flows::{find_flow_in, find_flows_in};
+pub use laws::suites_keep_untouched_locals;
+pub use loops::{bind_item, for_start, while_start};
+pub use touched::{touched_by, touched_by_for, touched_by_while};
+pub use unreached::declare_unreached;
+pub use walk::Walk;
+pub use ways::{break_out, meet};

@@ -1,0 +1,113 @@
+//! Heads of loops, and the targets of `for`.
+
+#![tactic(auto, using(crate::proofs::Walks::goes_further))]
+
+ghost use Rattle.std.specs.Prelude.{◌≡◌, ◌∷◌, List, IfOk, OnOk};
+ghost use Rattle.pc_tree.specs.Tree.{Name as NameOf, name_of, stmts_of_list};
+ghost use Rattle.pc_tree.specs.Stopping.{bound_by};
+ghost use Rattle.pc_flow.specs.Stored.{env_of};
+ghost use Rattle.pc_module_rules.specs.Computed.Statements.{head_at, bind_item};
+ghost use Rattle.pc_walk.specs.Touched.{numbers_of};
+ghost use Rattle.pc_walk.specs.Walks.{Stands, HoldsOne, HoldsEnv, IsEnv, IsQuiet, GoesOn, Bound, body_context_in};
+ghost use Rattle.pc_flow.specs.Naming.{meanings};
+
+use crate::binding::{bind_label, known_type};
+use crate::locals::locals_of;
+use crate::standing::head_in;
+use crate::walk::Walk;
+use pc_flow::Env;
+use pc_rules::Label;
+use pc_scope::Res;
+use pc_source::{OutOfMemory, Place};
+use pc_tree::{Name, Stmt, add_bound};
+use pc_types::TypeStore;
+
+/// The environment at the head of a loop that binds these locals, from the one before it: each of them that is assigned
+/// has its declared type there. Own rule of the profile.
+fn loop_start<S: TypeStore>(
+    walk: &mut Walk<'_, S>,
+    env: &Env<S::Ty>,
+    locals: &[usize],
+) -> Result<Env<S::Ty>, OutOfMemory>
+    requires declared { HoldsEnv S.TypeStore walk.old walk.old.declared.now }
+    requires env { HoldsEnv S.TypeStore walk.old env.now }
+    ensures head { (names : List NameOf) → locals.now ≡ numbers_of (meanings walk.old.context.names.now) names
+        → IfOk result (λ e. IsEnv S.TypeStore walk.new e (head_at (body_context_in S.TypeStore walk.old)
+        (env_of S.tree walk.old.declared.now) names (env_of S.tree env.now))) }
+    ensures quiet { OnOk result (IsQuiet S.TypeStore walk.old walk.new) }
+    ensures goes_on { GoesOn S.TypeStore walk.old walk.new }
+{
+    let head = head_in(walk, locals, env)?;
+    Ok(head)
+}
+
+/// The environment at the head of a `while`.
+pub fn while_start<S: TypeStore>(
+    walk: &mut Walk<'_, S>,
+    env: &Env<S::Ty>,
+    body: &[Stmt],
+) -> Result<Env<S::Ty>, OutOfMemory>
+    requires declared { HoldsEnv S.TypeStore walk.old walk.old.declared.now }
+    requires env { HoldsEnv S.TypeStore walk.old env.now }
+    ensures head { IfOk result (λ e. IsEnv S.TypeStore walk.new e (head_at (body_context_in S.TypeStore walk.old)
+        (env_of S.tree walk.old.declared.now) (bound_by (stmts_of_list body.now)) (env_of S.tree env.now))) }
+    ensures quiet { OnOk result (IsQuiet S.TypeStore walk.old walk.new) }
+    ensures goes_on { GoesOn S.TypeStore walk.old walk.new }
+{
+    let mut bound = Vec::new(walk.alloc);
+    add_bound(&mut bound, body)?;
+    let locals = locals_of(walk.alloc, walk.context.names, &bound)?;
+    let head = loop_start(walk, env, &locals)?;
+    Ok(head)
+}
+
+/// The environment at the head of a `for`, which binds its target too.
+pub fn for_start<S: TypeStore>(
+    walk: &mut Walk<'_, S>,
+    env: &Env<S::Ty>,
+    target: &Name,
+    body: &[Stmt],
+) -> Result<Env<S::Ty>, OutOfMemory>
+    requires declared { HoldsEnv S.TypeStore walk.old walk.old.declared.now }
+    requires env { HoldsEnv S.TypeStore walk.old env.now }
+    ensures head { IfOk result (λ e. IsEnv S.TypeStore walk.new e (head_at (body_context_in S.TypeStore walk.old)
+        (env_of S.tree walk.old.declared.now) (name_of target.now ∷ bound_by (stmts_of_list body.now))
+        (env_of S.tree env.now))) }
+    ensures quiet { OnOk result (IsQuiet S.TypeStore walk.old walk.new) }
+    ensures goes_on { GoesOn S.TypeStore walk.old walk.new }
+{
+    let mut bound = Vec::new(walk.alloc);
+    bound.push(target)?;
+    add_bound(&mut bound, body)?;
+    let locals = locals_of(walk.alloc, walk.context.names, &bound)?;
+    let head = loop_start(walk, env, &locals)?;
+    Ok(head)
+}
+
+/// Binds the target of a `for` to an item of this type, in the environment at the head. What is reserved binds nothing.
+pub fn bind_item<S: TypeStore>(
+    walk: &mut Walk<'_, S>,
+    head: Env<S::Ty>,
+    target: &Name,
+    place: Place,
+    item: S::Ty,
+) -> Result<Env<S::Ty>, OutOfMemory>
+    requires stands { Stands S.TypeStore walk.old head }
+    requires item { HoldsOne S.TypeStore walk.old item }
+    ensures bound { IfOk result (λ b. Bound S.TypeStore walk.old head walk.new b
+        (λ f t k. bind_item f t k (f.context.resolve (name_of target.now).text) place (S.tree item))) }
+    ensures goes_on { GoesOn S.TypeStore walk.old walk.new }
+{
+    match walk.context.names.resolve(target.text.as_str()) {
+        Res::Local(local) => {
+            let want = known_type(walk.store, walk.alloc, walk.declared, local, None)?;
+            let label = Label {
+                ty: item,
+                codes: Vec::new(walk.alloc),
+            };
+            let inside = bind_label(walk, head, local, want, place, &label)?;
+            Ok(inside)
+        }
+        _ => Ok(head),
+    }
+}

@@ -1,0 +1,59 @@
+//! Environments where a walk over statements stands.
+
+#![tactic(auto, using(crate::proofs::Walks::goes_further))]
+
+ghost use Rattle.std.specs.Prelude.{IfOk, OnOk};
+ghost use Rattle.pc_flow.specs.Environment.{join_env, loop_head};
+ghost use Rattle.pc_flow.specs.Stored.{env_of};
+ghost use Rattle.pc_module_rules.specs.Computed.Statements.{type_table};
+ghost use Rattle.pc_walk.specs.Walks.{HoldsEnv, IsEnv, IsQuiet, GoesOn};
+ghost use Rattle.pc_flow.specs.Agreement.{is_among, AgreeOutside};
+
+use crate::walk::Walk;
+use pc_flow::{Declarations, Env, join_env_at, loop_head};
+use pc_source::OutOfMemory;
+use pc_types::TypeStore;
+
+/// Two environments where their ways meet, which agree at each local that is not among these.
+pub(crate) fn join_at<S: TypeStore>(
+    walk: &mut Walk<'_, S>,
+    locals: &[usize],
+    a: Env<S::Ty>,
+    b: &Env<S::Ty>,
+) -> Result<Env<S::Ty>, OutOfMemory>
+    requires declared { HoldsEnv S.TypeStore walk.old walk.old.declared.now }
+    requires left { HoldsEnv S.TypeStore walk.old a }
+    requires right { HoldsEnv S.TypeStore walk.old b.now }
+    requires agree { AgreeOutside locals.now (env_of S.tree a) (env_of S.tree b.now) }
+    ensures joined { IfOk result (λ e. IsEnv S.TypeStore walk.new e (join_env walk.old.context.globals.now.outline.now.parents.now
+        (type_table (env_of S.tree walk.old.declared.now)) (env_of S.tree a) (env_of S.tree b.now))) }
+    ensures quiet { OnOk result (IsQuiet S.TypeStore walk.old walk.new) }
+    ensures goes_on { GoesOn S.TypeStore walk.old walk.new }
+{
+    let parents = walk.context.globals.outline.parents;
+    parents.ordered();
+    let declarations = Declarations {
+        parents,
+        declared: walk.declared,
+        names: walk.context.names,
+    };
+    let joined = join_env_at(walk.store, walk.alloc, &declarations, locals, a, b)?;
+    Ok(joined)
+}
+
+/// The environment at the head of a loop, from the one before it and the locals that the loop binds.
+pub(crate) fn head_in<S: TypeStore>(
+    walk: &mut Walk<'_, S>,
+    bound: &[usize],
+    env: &Env<S::Ty>,
+) -> Result<Env<S::Ty>, OutOfMemory>
+    requires declared { HoldsEnv S.TypeStore walk.old walk.old.declared.now }
+    requires env { HoldsEnv S.TypeStore walk.old env.now }
+    ensures head { IfOk result (λ e. IsEnv S.TypeStore walk.new e (loop_head (λ x. is_among bound.now x)
+        (type_table (env_of S.tree walk.old.declared.now)) (env_of S.tree env.now))) }
+    ensures quiet { OnOk result (IsQuiet S.TypeStore walk.old walk.new) }
+    ensures goes_on { GoesOn S.TypeStore walk.old walk.new }
+{
+    let head = loop_head(walk.store, walk.alloc, bound, walk.declared, env)?;
+    Ok(head)
+}
