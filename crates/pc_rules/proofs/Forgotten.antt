@@ -17,7 +17,7 @@ use Rattle.pc_scope.specs.Expressions.{is_instance_test}
 use Rattle.pc_notes.specs.Notes.{Note, plain_note, findings_of}
 use Rattle.pc_rules.specs.Operations.{Label}
 use Rattle.pc_rules.specs.Computed.Findings.{has_code, add_code, once_onto, once, flow_note, own_flow, flow_then, flows_behind}
-use Rattle.pc_rules.specs.Found as noted
+use Rattle.pc_rules.specs.Computed.Findings as noted
 use Rattle.pc_rules.specs.Labels.{FlowLabels, Labels, ItemsLabels, EntriesLabels, KeywordsLabels, whole_label, is_of_scopes, second_place, Finds}
 
 -- the finding of a code at a place, none of a code that is found of scopes

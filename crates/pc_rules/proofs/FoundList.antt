@@ -15,7 +15,7 @@ use Rattle.pc_rules.specs.Operations.{FlowLabel}
 use Rattle.pc_rules.specs.Labels.{FlowLabels, Labels, ItemsLabels, EntriesLabels, KeywordsLabels, is_of_scopes, second_place, IsFoundAt, IsFlowAt, IsCodeAt, Finds, ItemsFind, ArgumentsFind, EntriesFind, KeywordsFind}
 use Rattle.pc_notes.specs.Notes.{Note, plain_note, findings_of}
 use Rattle.pc_rules.specs.Computed.Findings.{once, IsOwn}
-use Rattle.pc_rules.specs.Found as noted
+use Rattle.pc_rules.specs.Computed.Findings as noted
 use Rattle.pc_rules.proofs.Forgotten.{own_at, codes_at, code_at, flow_codes, flows_at, found_in, found_in_items, found_in_arguments, found_in_entries, found_in_keywords, forget_inside, forget_flows}
 use Rattle.pc_rules.proofs.SameCodes.{once_has, once_from}
 
