@@ -19,19 +19,26 @@ use Rattle.pc_calls.proofs.ErrorsOfCalls.{callee_meant}
 
 module _ {Store Ty : Type 0} (has : Store → Ty → Type 0) (tree : Ty → Tree) where
   -- a callee at which nothing is found
-  pub good_meant : (old new : Store) (c : RustCallee Ty) (o : RustCallOffer Ty) → Means has tree new c.label.ty Any → c.label.codes.items ≡ [] → c.rule ≡ rule.Member → c.offers.items ≡ o ∷ [] → KeepsTypes has old new → HasCallOffer (has old) o
+  pub good_meant : (old new : Store) (c : RustCallee Ty) (o : RustCallOffer Ty) → Means has tree new c.label.ty Any
+      → c.label.codes.items ≡ [] → c.rule ≡ rule.Member → c.offers.items ≡ o ∷ [] → KeepsTypes has old new
+      → HasCallOffer (has old) o
       → IsCallee has tree new c (good_callee (offer_called tree o ∷ []))
   good_meant old new c o m codes r items k h = record {
     given = m.0;
-    held = subst (All (HasCallOffer (has new))) (sym items) (All-cons (HasCallOffer (has new)) o [] (offer_kept has old new k o h) (All-nil (HasCallOffer (has new))));
+    held = subst (All (HasCallOffer (has new))) (sym items) (All-cons (HasCallOffer (has new)) o []
+        (offer_kept has old new k o h) (All-nil (HasCallOffer (has new))));
     label = label_is tree c.label (clean Any) m.1 codes;
     rule = ap rule_of r;
     offers = ap (map (offer_called tree)) items;
   }
 
   -- a callee by the members of an object's type
-  pub method_meant : (ctx : Context) (g : GivenArguments) (word : List ℕ) (t : Tree) (old now new : Store) (ms : List Ty) (offers : List (RustCallOffer Ty)) (i : ℕ) (c : RustCallee Ty) → KeepsTypes has now new → map tree ms ≡ members t → length ms ≤ i
-      → IsAdded has tree old now (flat_map (method_offers ctx g word) (map tree (drop i ms))) (flat_map (method_offers ctx g word) (map tree ms)) offers → Means has tree new c.label.ty Any → c.label.codes.items ≡ once (found_at_callee offers) → c.rule ≡ rule.Member → c.offers.items ≡ offers
+  pub method_meant : (ctx : Context) (g : GivenArguments) (word : List ℕ) (t : Tree) (old now new : Store)
+      (ms : List Ty) (offers : List (RustCallOffer Ty)) (i : ℕ) (c : RustCallee Ty) → KeepsTypes has now new
+      → map tree ms ≡ members t → length ms ≤ i
+      → IsAdded has tree old now (flat_map (method_offers ctx g word) (map tree (drop i ms)))
+      (flat_map (method_offers ctx g word) (map tree ms)) offers → Means has tree new c.label.ty Any
+      → c.label.codes.items ≡ once (found_at_callee offers) → c.rule ≡ rule.Member → c.offers.items ≡ offers
       → IsCallee has tree new c (method_callee ctx g word t)
   method_meant ctx g word t old now new ms offers i c k e h a m codes r same =
       let all = members_all has tree (method_offers ctx g word) old now _ offers ms i h a in
@@ -39,7 +46,8 @@ module _ {Store Ty : Type 0} (has : Store → Ty → Type 0) (tree : Ty → Tree
       record {
         given = m.0;
         held = subst (All (HasCallOffer (has new))) (sym same) (offers_kept has now new k offers all.given);
-        label = label_is tree c.label (method_callee ctx g word t).label m.1 (codes ∙ ap once (sym (callee_meant tree offers) ∙ ap (flat_map (λ (o : CallOffer). o.at_callee)) is));
+        label = label_is tree c.label (method_callee ctx g word t).label m.1
+            (codes ∙ ap once (sym (callee_meant tree offers) ∙ ap (flat_map (λ (o : CallOffer). o.at_callee)) is));
         rule = ap rule_of r;
         offers = ap (map (offer_called tree)) same ∙ is;
       }

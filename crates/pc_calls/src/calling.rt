@@ -10,7 +10,8 @@ ghost use Rattle.pc_flow.specs.Environment.{join_all};
 ghost use Rattle.pc_rules.specs.Computed.Findings.{once};
 ghost use Rattle.pc_rules.specs.Calls.{call_codes, call_label, is_object_or_any};
 ghost use Rattle.pc_rules.specs.Computed.Standing.{MeansLabel};
-ghost use Rattle.pc_calls.specs.JudgedCalls.{is_head_of_any, offer_called, found_at_callee, found_at_call, HasCallOffer};
+ghost use Rattle.pc_calls.specs.JudgedCalls.{is_head_of_any, offer_called, found_at_callee, found_at_call};
+ghost use Rattle.pc_calls.specs.JudgedCalls.{HasCallOffer};
 
 use crate::call_offers::CallOffer;
 use crate::seats::is_in_error;

@@ -124,7 +124,8 @@ fn list_offer<'t, S: TypeStore>(
 ) -> Result<CallOffer<'t, S::Ty>, OutOfMemory>
     requires { S.has store.old item }
     ensures offer { IfOk result
-        (λ o. IsOnlyOffer S.has S.tree store.new o (list_offers (given_with call.now.given.now) call.now.name.now (S.tree item))) }
+        (λ o. IsOnlyOffer S.has S.tree store.new o (list_offers (given_with call.now.given.now) call.now.name.now
+        (S.tree item))) }
     ensures kept { KeepsTypes S.has store.old store.new }
 {
     let mut types = Vec::new(alloc);

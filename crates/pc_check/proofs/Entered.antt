@@ -1,4 +1,5 @@
--- What a function is entered with: its receiver and its parameters, declared and assigned; and what is found in its body from there.
+-- What a function is entered with: its receiver and its parameters, declared and assigned; and what is found in its
+-- body from there.
 use Rattle.std.proofs.Common.{◌≡◌, ◌∙◌, ◌++◌, ℕ, zero, suc, List, [], ◌∷◌, Option, Some, None, length, refl, sym, ap}
 use Rattle.std.proofs.Common.{subst, arith}
 use Rattle.std.specs.Prelude.{All, true, false, is_some, replicate, slice_set, slice_index_or}
@@ -23,7 +24,8 @@ use Rattle.pc_flow.specs.WellFormed.{IsWellFormedEnv}
 use Rattle.pc_flow.specs.Stored.{HasOne, env_of}
 use Rattle.pc_flow.proofs.Assigned.{local_current}
 use Rattle.pc_notes.specs.Notes.{Note}
-use Rattle.pc_module_rules.specs.Computed.Statements.{BodyContext, Table, Walk, enter_parameters, enter_local, enter_name}
+use Rattle.pc_module_rules.specs.Computed.Statements.{BodyContext, Table, Walk, enter_parameters, enter_local}
+use Rattle.pc_module_rules.specs.Computed.Statements.{enter_name}
 use Rattle.pc_module_rules.specs.Computed.Statements.{end_finds, body_context_of, function_finds, walk_suite}
 use Rattle.pc_module_rules.specs.Modules.{entry_parameters, receiver_parameter}
 use Rattle.pc_walk.specs.StatementsHeld.{HoldsType, HoldsTypes}
@@ -137,7 +139,8 @@ walk_from context f found start = walk_suite context (record
 -- what is found in a function of so many locals that is entered with these parameters
 abbrev found_from : BodyContext → FuncDef → List Note → ℕ → List TypedParameter → List Note
 found_from context f found n ps =
-    let body = walk_from context f found (enter_parameters context.context.resolve (none_assigned n) (none_assigned n) ps)
+    let body = walk_from context f found (enter_parameters context.context.resolve (none_assigned n) (none_assigned n)
+    ps)
     in
     body.found ++ end_finds context.context.bases context.returned f.name.place body.env
 

@@ -1,4 +1,5 @@
--- What the bodies of a module stand in: types stay of the store, signatures are those of the module's functions, and a context is that of a body.
+-- What the bodies of a module stand in: types stay of the store, signatures are those of the module's functions, and a
+-- context is that of a body.
 use Rattle.std.proofs.Common.{◌≡◌, ℕ, List, map, length, refl, sym, ap, subst, ◌∙◌, All, arith}
 use Rattle.std.specs.Prelude.{true, Option, Some, None, slice_get, unwrap_or}
 use Rattle.std.specs.Option.{option_map}

@@ -1,5 +1,6 @@
 -- What a walk over statements comes to, put together from its parts.
-use Rattle.std.proofs.Common.{◌≡◌, ◌∙◌, ◌++◌, ◌≤◌, ℕ, List, Option, Some, None, length, drop, sym, ap, subst, append_assoc}
+use Rattle.std.proofs.Common.{◌≡◌, ◌∙◌, ◌++◌, ◌≤◌, ℕ, List, Option, Some, None, length, drop, sym, ap, subst}
+use Rattle.std.proofs.Common.{append_assoc}
 use Rattle.std.specs.Prelude.{Bool as Test, true, false}
 use Rattle.std.specs.Option.{option_map}
 use Rattle.std.proofs.lemmas.List.{drop_all}
@@ -12,7 +13,8 @@ use Rattle.pc_flow.specs.Environment.{Env}
 use Rattle.pc_flow.specs.Stored.{env_of}
 use Rattle.pc_notes.specs.Notes.{Note, notes_of}
 use Rattle.pc_rules.specs.Computed.Standing.{Standing, finds_in}
-use Rattle.pc_module_rules.specs.Computed.Statements.{BodyContext, Table, Walk as Reached, BranchesResult, at, narrowed_at}
+use Rattle.pc_module_rules.specs.Computed.Statements.{BodyContext, Table, Walk as Reached, BranchesResult, at}
+use Rattle.pc_module_rules.specs.Computed.Statements.{narrowed_at}
 use Rattle.pc_module_rules.specs.Computed.Statements.{with_way, behind_branches, walk_suite, walk_branches}
 use Rattle.pc_walk.specs.StatementsHeld.{body_context_with}
 use Rattle.pc_walk.specs.declared.walk.Walk.{Walk}
@@ -51,7 +53,8 @@ module _ (context : BodyContext) where
       → walk_branches context
       (record { table = body.table; last = last'; ways = ways'; broken = body.broken; found = body.found }) no_branches
       ≡ walk_branches context
-      (record { table = table; last = last; ways = ways; broken = broken; found = found }) (more_branches c b no_branches)
+      (record { table = table; last = last; ways = ways; broken = broken; found = found })
+      (more_branches c b no_branches)
   branch_walked table last ways broken found c b start body last' ways' es eb el ew =
       let e = eb ∙ ap (λ w. walk_suite context w b) es in
       let joined = ew ∙ ap (λ (w : Reached). with_way context.context.bases w.table ways w.env) e in
@@ -82,7 +85,8 @@ module _ {Store Ty : Type 0} (S : StoreOf Store Ty) where
     pub found_reached : (behind way : Option (List (Option Ty)))
         → reached S new behind way
         ≡ reached_by (env_of S.tree old.declared.now) (option_map (env_of S.tree) behind)
-        (option_map (env_of S.tree) way) (notes_of old.found.now ++ finds (body_context_in S old) (standing_in S old env))
+        (option_map (env_of S.tree) way) (notes_of old.found.now ++ finds (body_context_in S old)
+        (standing_in S old env))
     found_reached behind way = λ i. record {
       table = env_of S.tree (a.declared i);
       env = option_map (env_of S.tree) behind;

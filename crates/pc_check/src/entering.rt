@@ -12,7 +12,8 @@ ghost use Rattle.pc_flow.specs.Stored.{env_of};
 ghost use Rattle.pc_notes.specs.Notes.{notes_of};
 ghost use Rattle.pc_rules.specs.Computed.Checkers.{GoesOn as CheckerGoesOn};
 ghost use Rattle.pc_module_rules.specs.Modules.{receiver_parameter};
-ghost use Rattle.pc_module_rules.specs.Computed.Statements.{body_context_of, function_finds, enter_parameters, enter_name};
+ghost use Rattle.pc_module_rules.specs.Computed.Statements.{body_context_of, function_finds, enter_parameters};
+ghost use Rattle.pc_module_rules.specs.Computed.Statements.{enter_name};
 ghost use Rattle.pc_module_rules.specs.Computed.Statements.{end_finds};
 ghost use Rattle.pc_walk.specs.StatementsHeld.{body_context_with, HoldsContext};
 ghost use Rattle.pc_walk.specs.Walks.{Stands, HoldsOne, GoesOn, Bound, body_context_in};
@@ -134,7 +135,8 @@ fn walk_function<S: TypeStore>(
     def: &FuncDef,
 ) -> Result<(), OutOfMemory>
     requires context { HoldsContext (S.has walk.old.store.now) S.tree walk.old.context }
-    requires body { body_context_in S.TypeStore walk.old ≡ body_context_of (module_of walk.old.context.globals.now.outline.now.tree.now)
+    requires body { body_context_in S.TypeStore walk.old ≡ body_context_of
+        (module_of walk.old.context.globals.now.outline.now.tree.now)
         (map S.tree walk.old.context.globals.now.constants.now) owner (func_of def.now) }
     requires count { count ≡ length (locals owner (func_of def.now)) }
     requires declared { walk.old.declared.now ≡ replicate count None }
@@ -167,13 +169,15 @@ pub(crate) fn check_function<S: TypeStore>(
 ) -> Result<(), OutOfMemory>
     requires context { HoldsContext (S.has checker.old.store.now) S.tree context }
     requires body { body_context_with S.tree context
-        ≡ body_context_of (module_of context.globals.now.outline.now.tree.now) (map S.tree context.globals.now.constants.now) owner (func_of def.now) }
+        ≡ body_context_of (module_of context.globals.now.outline.now.tree.now)
+        (map S.tree context.globals.now.constants.now) owner (func_of def.now) }
     requires count { count ≡ length (locals owner (func_of def.now)) }
     requires given { All (HasParameter (S.has checker.old.store.now)) params.now }
     requires params { parameters_with S.tree params.now
         ≡ parameters_of (module_of context.globals.now.outline.now.tree.now) (func_of def.now).params }
     ensures found { OnOk result
-        (notes_of checker.new.found.now ≡ function_finds (module_of context.entry.tree.now) (map S.tree context.entry.constants.now) owner
+        (notes_of checker.new.found.now ≡ function_finds (module_of context.entry.tree.now)
+        (map S.tree context.entry.constants.now) owner
         (func_of def.now) (notes_of checker.old.found.now)) }
     ensures goes_on { CheckerGoesOn S.TypeStore checker.old checker.new }
 {

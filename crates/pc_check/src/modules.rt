@@ -52,7 +52,8 @@ fn check_methods<S: TypeStore>(
     requires bodies { IsModuleBodies (S.has checker.old.store.now) S.tree bodies.now }
     requires class { slice_get (classes_in (module_in bodies.now).items) class ≡ Some (class_of def.now) }
     ensures found { OnOk result
-        (notes_of checker.new.found.now ≡ methods_find (module_in bodies.now) (constants_of (module_in bodies.now)) class 0
+        (notes_of checker.new.found.now ≡ methods_find (module_in bodies.now) (constants_of (module_in bodies.now))
+        class 0
         (class_of def.now).members (notes_of checker.old.found.now)) }
     ensures goes_on { GoesOn S.TypeStore checker.old checker.new }
 {

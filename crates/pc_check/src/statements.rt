@@ -224,7 +224,8 @@ fn check_otherwise<S: TypeStore>(
     requires agree { ForkAgrees locals.now (forked S.TypeStore walk.old fork.last fork.ways broken.old) }
     requires breaks { Breaks S.TypeStore walk.old breaking.now (Some fork.last) broken.old
         (λ resolve. touched_by resolve (stmts_of_list otherwise.now)) }
-    requires touched { AreAmong locals.now (touched_by (meanings walk.old.context.names.now) (stmts_of_list otherwise.now)) }
+    requires touched { AreAmong locals.now (touched_by (meanings walk.old.context.names.now)
+        (stmts_of_list otherwise.now)) }
     ensures walked { IfOk result (λ out. Walked S.TypeStore walk.old (Some fork.last) broken.old walk.new out broken.new
         (λ f w. behind_branches f (forked S.TypeStore walk.old fork.last fork.ways broken.old).ways
         (walk_suite f w (stmts_of_list otherwise.now)))) }

@@ -1,5 +1,6 @@
 -- A file, `--json` or not, and `--format` with a number or not: plain words, in each order.
-use Rattle.std.proofs.Common.{◌≡◌, ◌∙◌, ◌&&◌, ◌||◌, refl, sym, ap, ap₂, Bool, true, false, true≢false, List, [], ◌∷◌, Some, None, cond, codes}
+use Rattle.std.proofs.Common.{◌≡◌, ◌∙◌, ◌&&◌, ◌||◌, refl, sym, ap, ap₂, Bool, true, false, true≢false, List, [], ◌∷◌}
+use Rattle.std.proofs.Common.{Some, None, cond, codes}
 use Rattle.std.specs.Prelude.{find, option_and_then}
 use Rattle.std.specs.List.{list_any}
 use Rattle.clap.proofs.WalkLemmas.{both}
@@ -8,17 +9,25 @@ use Rattle.std.proofs.lemmas.Bool.{not-true}
 use Rattle.std.proofs.lemmas.Slice.Eq.{bytes_eq-Decides}
 use Rattle.clap.specs.Words.{Kinds, Text}
 use Rattle.clap.proofs.OnLiterals.{clap_on_literals}
-use Rattle.pc_commands.specs.CheckWords.{Reading, are_plain, asked, asked_by, faults, format_in, in_format, is_choice, is_file, is_flag, plainly_asked, readings, value_of}
+use Rattle.pc_commands.specs.CheckWords.{Reading, are_plain, asked, asked_by, faults, format_in, in_format, is_choice}
+use Rattle.pc_commands.specs.CheckWords.{is_file, is_flag, plainly_asked, readings, value_of}
 use Rattle.pc_commands.specs.Faults.{begins_with_dash, without_faults}
 use Rattle.pc_commands.proofs.SaidOfFaults.{long_none, not_dashes, short_none}
 
 -- what `clap` makes of words: its faults, and the values of the three arguments
 abbrev found : List Text → Kinds × Text × Text × Text
-found words = (faults words, value_of (codes "json") words, value_of (codes "format") words, value_of (codes "file") words)
+found words = (
+  faults words,
+  value_of (codes "json") words,
+  value_of (codes "format") words,
+  value_of (codes "file") words,
+)
 
 -- what is asked, by what `clap` makes of the words
-asks : (words : List Text) (json number file : Text) → found words ≡ ([], json, number, file) → asked words ≡ in_format (bytes_eq json (codes "true")) (format_in number) file
-asks words json number file is = ap (λ (all : Kinds × Text × Text × Text). without_faults all.0 (in_format (bytes_eq all.1 (codes "true")) (format_in all.2) all.3)) is
+asks : (words : List Text) (json number file : Text) → found words ≡ ([], json, number, file)
+    → asked words ≡ in_format (bytes_eq json (codes "true")) (format_in number) file
+asks words json number file is = ap (λ (all : Kinds × Text × Text × Text). without_faults all.0
+    (in_format (bytes_eq all.1 (codes "true")) (format_in all.2) all.3)) is
 
 -- ---- what `clap` makes of each order
 
@@ -37,35 +46,79 @@ file_flag f bf = rw (not_dashes f bf, long_none f bf, short_none f bf) refl
 module _ (n f : Text) (bn : begins_with_dash n ≡ false) (bf : begins_with_dash f ≡ false) where
   choice_file : found (codes "--format" ∷ n ∷ f ∷ []) ≡ ([], codes "false", n, f)
   unfolding clap_on_literals
-  choice_file = rw (not_dashes n bn, long_none n bn, short_none n bn, not_dashes f bf, long_none f bf, short_none f bf) refl
+  choice_file = rw (not_dashes n bn, long_none n bn, short_none n bn, not_dashes f bf, long_none f bf, short_none f bf)
+      refl
 
   file_choice : found (f ∷ codes "--format" ∷ n ∷ []) ≡ ([], codes "false", n, f)
   unfolding clap_on_literals
-  file_choice = rw (not_dashes f bf, long_none f bf, short_none f bf, not_dashes n bn, long_none n bn, short_none n bn) refl
+  file_choice = rw (not_dashes f bf, long_none f bf, short_none f bf, not_dashes n bn, long_none n bn, short_none n bn)
+      refl
 
   flag_choice_file : found (codes "--json" ∷ codes "--format" ∷ n ∷ f ∷ []) ≡ ([], codes "true", n, f)
   unfolding clap_on_literals
-  flag_choice_file = rw (not_dashes n bn, long_none n bn, short_none n bn, not_dashes f bf, long_none f bf, short_none f bf) refl
+  flag_choice_file = rw (
+    not_dashes n bn,
+    long_none n bn,
+    short_none n bn,
+    not_dashes f bf,
+    long_none f bf,
+    short_none f bf,
+  ) refl
 
   flag_file_choice : found (codes "--json" ∷ f ∷ codes "--format" ∷ n ∷ []) ≡ ([], codes "true", n, f)
   unfolding clap_on_literals
-  flag_file_choice = rw (not_dashes f bf, long_none f bf, short_none f bf, not_dashes n bn, long_none n bn, short_none n bn) refl
+  flag_file_choice = rw (
+    not_dashes f bf,
+    long_none f bf,
+    short_none f bf,
+    not_dashes n bn,
+    long_none n bn,
+    short_none n bn,
+  ) refl
 
   choice_flag_file : found (codes "--format" ∷ n ∷ codes "--json" ∷ f ∷ []) ≡ ([], codes "true", n, f)
   unfolding clap_on_literals
-  choice_flag_file = rw (not_dashes n bn, long_none n bn, short_none n bn, not_dashes f bf, long_none f bf, short_none f bf) refl
+  choice_flag_file = rw (
+    not_dashes n bn,
+    long_none n bn,
+    short_none n bn,
+    not_dashes f bf,
+    long_none f bf,
+    short_none f bf,
+  ) refl
 
   choice_file_flag : found (codes "--format" ∷ n ∷ f ∷ codes "--json" ∷ []) ≡ ([], codes "true", n, f)
   unfolding clap_on_literals
-  choice_file_flag = rw (not_dashes n bn, long_none n bn, short_none n bn, not_dashes f bf, long_none f bf, short_none f bf) refl
+  choice_file_flag = rw (
+    not_dashes n bn,
+    long_none n bn,
+    short_none n bn,
+    not_dashes f bf,
+    long_none f bf,
+    short_none f bf,
+  ) refl
 
   file_flag_choice : found (f ∷ codes "--json" ∷ codes "--format" ∷ n ∷ []) ≡ ([], codes "true", n, f)
   unfolding clap_on_literals
-  file_flag_choice = rw (not_dashes f bf, long_none f bf, short_none f bf, not_dashes n bn, long_none n bn, short_none n bn) refl
+  file_flag_choice = rw (
+    not_dashes f bf,
+    long_none f bf,
+    short_none f bf,
+    not_dashes n bn,
+    long_none n bn,
+    short_none n bn,
+  ) refl
 
   file_choice_flag : found (f ∷ codes "--format" ∷ n ∷ codes "--json" ∷ []) ≡ ([], codes "true", n, f)
   unfolding clap_on_literals
-  file_choice_flag = rw (not_dashes f bf, long_none f bf, short_none f bf, not_dashes n bn, long_none n bn, short_none n bn) refl
+  file_choice_flag = rw (
+    not_dashes f bf,
+    long_none f bf,
+    short_none f bf,
+    not_dashes n bn,
+    long_none n bn,
+    short_none n bn,
+  ) refl
 
 -- ---- what the tests of words tell
 
@@ -92,11 +145,14 @@ AllSay words [] = Unit {0}
 AllSay words (r ∷ rest) = Says words r × AllSay words rest
 
 -- of readings that all say what is asked, the first that holds says it
-first_says : (words : List Text) (rs : List Reading) → AllSay words rs → list_any (λ r. r.holds) rs ≡ true → asked words ≡ option_and_then asked_by (find (λ r. r.holds) rs)
+first_says : (words : List Text) (rs : List Reading) → AllSay words rs → list_any (λ r. r.holds) rs ≡ true
+    → asked words ≡ option_and_then asked_by (find (λ r. r.holds) rs)
 first_says words [] all e = absurd (true≢false (sym e))
 first_says words (r ∷ rest) all e =
-    let go : (b : Bool) → r.holds ≡ b → (b || list_any (λ r. r.holds) rest) ≡ true → asked words ≡ option_and_then asked_by (cond b (Some r) (find (λ r. r.holds) rest)) =
-    λ b. elim b as (λ b. r.holds ≡ b → (b || list_any (λ r. r.holds) rest) ≡ true → asked words ≡ option_and_then asked_by (cond b (Some r) (find (λ r. r.holds) rest))) [
+    let go : (b : Bool) → r.holds ≡ b → (b || list_any (λ r. r.holds) rest) ≡ true
+    → asked words ≡ option_and_then asked_by (cond b (Some r) (find (λ r. r.holds) rest)) =
+    λ b. elim b as (λ b. r.holds ≡ b → (b || list_any (λ r. r.holds) rest) ≡ true
+    → asked words ≡ option_and_then asked_by (cond b (Some r) (find (λ r. r.holds) rest))) [
       | true ↦ λ holds _. all.0 holds
       | false ↦ λ _ more. first_says words rest all.1 more
     ] in
@@ -107,56 +163,72 @@ one_word a = (λ h. asks _ _ _ _ (file_alone a (file_is a h)), tt)
 
 two_words : (a b : Text) → AllSay (a ∷ b ∷ []) (readings (a ∷ b ∷ []))
 two_words a b = (
-  λ h. let parts = both _ _ h in ap (λ w. asked (w ∷ b ∷ [])) (flag_is a parts.0) ∙ asks _ _ _ _ (flag_file b (file_is b parts.1)),
-  (λ h. let parts = both _ _ h in ap (λ w. asked (a ∷ w ∷ [])) (flag_is b parts.1) ∙ asks _ _ _ _ (file_flag a (file_is a parts.0)), tt),
+  λ h. let parts = both _ _ h in ap (λ w. asked (w ∷ b ∷ [])) (flag_is a parts.0)
+      ∙ asks _ _ _ _ (flag_file b (file_is b parts.1)),
+  (
+    λ h. let parts = both _ _ h in ap (λ w. asked (a ∷ w ∷ [])) (flag_is b parts.1)
+        ∙ asks _ _ _ _ (file_flag a (file_is a parts.0)),
+    tt,
+  ),
 )
 
 three_words : (a b c : Text) → AllSay (a ∷ b ∷ c ∷ []) (readings (a ∷ b ∷ c ∷ []))
 three_words a b c = (
-  λ h. let parts = both _ _ h in ap (λ w. asked (w ∷ b ∷ c ∷ [])) (name_is a b parts.0) ∙ asks _ _ _ _ (choice_file b c (number_is a b parts.0) (file_is c parts.1)),
-  (λ h. let parts = both _ _ h in ap (λ w. asked (a ∷ w ∷ c ∷ [])) (name_is b c parts.1) ∙ asks _ _ _ _ (file_choice c a (number_is b c parts.1) (file_is a parts.0)), tt),
+  λ h. let parts = both _ _ h in ap (λ w. asked (w ∷ b ∷ c ∷ [])) (name_is a b parts.0)
+      ∙ asks _ _ _ _ (choice_file b c (number_is a b parts.0) (file_is c parts.1)),
+  (
+    λ h. let parts = both _ _ h in ap (λ w. asked (a ∷ w ∷ c ∷ [])) (name_is b c parts.1)
+        ∙ asks _ _ _ _ (file_choice c a (number_is b c parts.1) (file_is a parts.0)),
+    tt,
+  ),
 )
 
 module _ (a b c d : Text) where
   abbrev four : List Text
   four = a ∷ b ∷ c ∷ d ∷ []
 
-  says_flag_choice_file : (is_flag a && (is_choice b c && is_file d)) ≡ true → asked four ≡ in_format true (format_in c) d
+  says_flag_choice_file : (is_flag a && (is_choice b c && is_file d)) ≡ true → asked four ≡ in_format true (format_in c)
+      d
   says_flag_choice_file h =
       let parts = both _ _ h in
       let rest = both _ _ parts.1 in
       ap₂ (λ v w. asked (v ∷ w ∷ c ∷ d ∷ [])) (flag_is a parts.0) (name_is b c rest.0)
       ∙ asks _ _ _ _ (flag_choice_file c d (number_is b c rest.0) (file_is d rest.1))
 
-  says_flag_file_choice : (is_flag a && (is_file b && is_choice c d)) ≡ true → asked four ≡ in_format true (format_in d) b
+  says_flag_file_choice : (is_flag a && (is_file b && is_choice c d)) ≡ true → asked four ≡ in_format true (format_in d)
+      b
   says_flag_file_choice h =
       let parts = both _ _ h in
       let rest = both _ _ parts.1 in
       ap₂ (λ v w. asked (v ∷ b ∷ w ∷ d ∷ [])) (flag_is a parts.0) (name_is c d rest.1)
       ∙ asks _ _ _ _ (flag_file_choice d b (number_is c d rest.1) (file_is b rest.0))
 
-  says_choice_flag_file : (is_choice a b && (is_flag c && is_file d)) ≡ true → asked four ≡ in_format true (format_in b) d
+  says_choice_flag_file : (is_choice a b && (is_flag c && is_file d)) ≡ true → asked four ≡ in_format true (format_in b)
+      d
   says_choice_flag_file h =
       let parts = both _ _ h in
       let rest = both _ _ parts.1 in
       ap₂ (λ v w. asked (v ∷ b ∷ w ∷ d ∷ [])) (name_is a b parts.0) (flag_is c rest.0)
       ∙ asks _ _ _ _ (choice_flag_file b d (number_is a b parts.0) (file_is d rest.1))
 
-  says_choice_file_flag : (is_choice a b && (is_file c && is_flag d)) ≡ true → asked four ≡ in_format true (format_in b) c
+  says_choice_file_flag : (is_choice a b && (is_file c && is_flag d)) ≡ true → asked four ≡ in_format true (format_in b)
+      c
   says_choice_file_flag h =
       let parts = both _ _ h in
       let rest = both _ _ parts.1 in
       ap₂ (λ v w. asked (v ∷ b ∷ c ∷ w ∷ [])) (name_is a b parts.0) (flag_is d rest.1)
       ∙ asks _ _ _ _ (choice_file_flag b c (number_is a b parts.0) (file_is c rest.0))
 
-  says_file_flag_choice : (is_file a && (is_flag b && is_choice c d)) ≡ true → asked four ≡ in_format true (format_in d) a
+  says_file_flag_choice : (is_file a && (is_flag b && is_choice c d)) ≡ true → asked four ≡ in_format true (format_in d)
+      a
   says_file_flag_choice h =
       let parts = both _ _ h in
       let rest = both _ _ parts.1 in
       ap₂ (λ v w. asked (a ∷ v ∷ w ∷ d ∷ [])) (flag_is b rest.0) (name_is c d rest.1)
       ∙ asks _ _ _ _ (file_flag_choice d a (number_is c d rest.1) (file_is a parts.0))
 
-  says_file_choice_flag : (is_file a && (is_choice b c && is_flag d)) ≡ true → asked four ≡ in_format true (format_in c) a
+  says_file_choice_flag : (is_file a && (is_choice b c && is_flag d)) ≡ true → asked four ≡ in_format true (format_in c)
+      a
   says_file_choice_flag h =
       let parts = both _ _ h in
       let rest = both _ _ parts.1 in
@@ -166,7 +238,10 @@ module _ (a b c d : Text) where
   four_words : AllSay four (readings four)
   four_words = (
     says_flag_choice_file,
-    (says_flag_file_choice, (says_choice_flag_file, (says_choice_file_flag, (says_file_flag_choice, (says_file_choice_flag, tt))))),
+    (
+      says_flag_file_choice,
+      (says_choice_flag_file, (says_choice_file_flag, (says_file_flag_choice, (says_file_choice_flag, tt)))),
+    ),
   )
 
 -- what plain words ask for is said without `clap`
@@ -175,5 +250,6 @@ plain_words [] e = absurd (true≢false (sym e))
 plain_words (a ∷ []) e = first_says (a ∷ []) (readings (a ∷ [])) (one_word a) e
 plain_words (a ∷ b ∷ []) e = first_says (a ∷ b ∷ []) (readings (a ∷ b ∷ [])) (two_words a b) e
 plain_words (a ∷ b ∷ c ∷ []) e = first_says (a ∷ b ∷ c ∷ []) (readings (a ∷ b ∷ c ∷ [])) (three_words a b c) e
-plain_words (a ∷ b ∷ c ∷ d ∷ []) e = first_says (a ∷ b ∷ c ∷ d ∷ []) (readings (a ∷ b ∷ c ∷ d ∷ [])) (four_words a b c d) e
+plain_words (a ∷ b ∷ c ∷ d ∷ []) e = first_says (a ∷ b ∷ c ∷ d ∷ []) (readings (a ∷ b ∷ c ∷ d ∷ []))
+    (four_words a b c d) e
 plain_words (a ∷ b ∷ c ∷ d ∷ other ∷ more) e = absurd (true≢false (sym e))

@@ -1,8 +1,10 @@
 -- What the words for a check come to, by what `clap` says of them.
-use Rattle.std.proofs.Common.{◌≡◌, ◌∙◌, ◌⊎◌, refl, sym, ap, ap₂, true, Bool, List, [], Option, Some, None, codes, option_map, Bor}
+use Rattle.std.proofs.Common.{◌≡◌, ◌∙◌, ◌⊎◌, refl, sym, ap, ap₂, true, Bool, List, [], Option, Some, None, codes}
+use Rattle.std.proofs.Common.{option_map, Bor}
 use Rattle.std.specs.Str.{bytes_eq}
 use Rattle.std.specs.Prelude.{unwrap_or}
-use Rattle.clap.specs.Words.{IsAmong, Kinds, Text, first_of, first_value, found_of, is_simple, is_simple_and_free, matches_of, rows_of}
+use Rattle.clap.specs.Words.{IsAmong, Kinds, Text, first_of, first_value, found_of, is_simple, is_simple_and_free}
+use Rattle.clap.specs.Words.{matches_of, rows_of}
 use Rattle.clap.specs.declared.parser.matches.ArgMatches.{ArgMatches}
 use Rattle.clap.specs.declared.error.kind.ErrorKind.{ErrorKind}
 use Rattle.clap.specs.declared.error.kind.ErrorKind.TheVariants as kind
@@ -11,7 +13,8 @@ use Rattle.clap.proofs.WalkLemmas.{first_value-rows}
 use Rattle.pc_report.specs.declared.format.Format.{Format}
 use Rattle.pc_commands.specs.declared.faults.OptionFault.{OptionFault}
 use Rattle.pc_commands.specs.Faults.{OnFault, is_mistake, is_request, without_faults}
-use Rattle.pc_commands.specs.CheckWords.{Asked, asked, asks_for_help, command_line, faults, format_in, in_format, is_mistaken, value_of}
+use Rattle.pc_commands.specs.CheckWords.{Asked, asked, asks_for_help, command_line, faults, format_in, in_format}
+use Rattle.pc_commands.specs.CheckWords.{is_mistaken, value_of}
 use Rattle.pc_commands.proofs.SaidOfFaults.{error_says, value_at_fault}
 
 pub simple : is_simple command_line ≡ true
@@ -23,46 +26,61 @@ unfolding clap_on_literals
 simple_and_free = refl
 
 -- a getter reads the value of an argument, and where there is none the empty text
-pub value_read : (m : ArgMatches) (id : Text) (words : List Text) (got : Option (Bor Text)) (other text : Bor Text) → text ≡ unwrap_or got other
-    → option_map (λ s. s.now) got ≡ first_value (found_of m) id → rows_of (found_of m) ≡ matches_of command_line words → other.now ≡ [] → text.now ≡ value_of id words
+pub value_read : (m : ArgMatches) (id : Text) (words : List Text) (got : Option (Bor Text)) (other text : Bor Text)
+    → text ≡ unwrap_or got other
+    → option_map (λ s. s.now) got ≡ first_value (found_of m) id → rows_of (found_of m) ≡ matches_of command_line words
+    → other.now ≡ [] → text.now ≡ value_of id words
 value_read m id words got other text so is rows empty =
-    ap (λ (t : Bor Text). t.now) so ∙ or_empty got ∙ ap (λ o. unwrap_or o []) (is ∙ first_value-rows (found_of m) id ∙ ap (first_of id) rows)
+    ap (λ (t : Bor Text). t.now) so ∙ or_empty got ∙ ap (λ o. unwrap_or o []) (is ∙ first_value-rows (found_of m) id
+    ∙ ap (first_of id) rows)
   where
     or_empty : (got : Option (Bor Text)) → (unwrap_or got other).now ≡ unwrap_or (option_map (λ s. s.now) got) []
     or_empty None = empty
     or_empty (Some t) = refl
 
 -- where `clap` finds no fault, the words ask for a check of what was read
-asked_is : (words : List Text) (flag number file : Text) → faults words ≡ [] → flag ≡ value_of (codes "json") words → number ≡ value_of (codes "format") words → file ≡ value_of (codes "file") words
+asked_is : (words : List Text) (flag number file : Text) → faults words ≡ [] → flag ≡ value_of (codes "json") words
+    → number ≡ value_of (codes "format") words → file ≡ value_of (codes "file") words
     → asked words ≡ in_format (bytes_eq flag (codes "true")) (format_in number) file
 asked_is words flag number file none flag_is number_is file_is = rw (flag_is, number_is, file_is) (
-    ap (λ kinds. without_faults kinds (in_format (bytes_eq (value_of (codes "json") words) (codes "true")) (format_in (value_of (codes "format") words)) (value_of (codes "file") words))) none
+    ap (λ kinds. without_faults kinds (in_format (bytes_eq (value_of (codes "json") words) (codes "true"))
+    (format_in (value_of (codes "format") words)) (value_of (codes "file") words))) none
     )
 
 -- the number names a format, and the file was copied
-pub gives : (words : List Text) (flag number file copy : Text) (json : Bool) (format : Format) → faults words ≡ [] → flag ≡ value_of (codes "json") words → number ≡ value_of (codes "format") words
-    → file ≡ value_of (codes "file") words → json ≡ bytes_eq flag (codes "true") → format_in number ≡ Some format → copy ≡ file
+pub gives : (words : List Text) (flag number file copy : Text) (json : Bool) (format : Format) → faults words ≡ []
+    → flag ≡ value_of (codes "json") words → number ≡ value_of (codes "format") words
+    → file ≡ value_of (codes "file") words → json ≡ bytes_eq flag (codes "true") → format_in number ≡ Some format
+    → copy ≡ file
     → asked words ≡ Some (record { json = json; format = format; file = copy })
 gives words flag number file copy json format none flag_is number_is file_is json_is format_is copy_is =
-    asked_is words flag number file none flag_is number_is file_is ∙ ap (λ o. in_format (bytes_eq flag (codes "true")) o file) format_is
+    asked_is words flag number file none flag_is number_is file_is
+    ∙ ap (λ o. in_format (bytes_eq flag (codes "true")) o file) format_is
     ∙ sym (ap₂ (λ (j : Bool) (f : Text). in_format j (Some format) f) json_is copy_is)
 
 -- the number names no format
-pub misses : (words : List Text) (number : Text) → faults words ≡ [] → number ≡ value_of (codes "format") words → format_in number ≡ None → asked words ≡ None
+pub misses : (words : List Text) (number : Text) → faults words ≡ [] → number ≡ value_of (codes "format") words
+    → format_in number ≡ None → asked words ≡ None
 misses words number none number_is format_is =
     asked_is words _ number _ none refl number_is refl
-    ∙ ap (λ o. in_format (bytes_eq (value_of (codes "json") words) (codes "true")) o (value_of (codes "file") words)) format_is
+    ∙ ap (λ o. in_format (bytes_eq (value_of (codes "json") words) (codes "true")) o (value_of (codes "file") words))
+    format_is
 
 -- what `clap` reads of the words
 abbrev read : List Text → Option Asked
-read words = in_format (bytes_eq (value_of (codes "json") words) (codes "true")) (format_in (value_of (codes "format") words)) (value_of (codes "file") words)
+read words = in_format (bytes_eq (value_of (codes "json") words) (codes "true"))
+    (format_in (value_of (codes "format") words)) (value_of (codes "file") words)
 
 -- what is said of an error of `clap` holds of the words
-pub says : (words : List Text) (k : ErrorKind) (r : OptionFault) → (k ≡ kind.OutOfMemory) ⊎ IsAmong k (faults words) → OnFault (is_mistake k ≡ true) (is_request k ≡ true) r
-    → OnFault (asked words ≡ None) (asked words ≡ None) r × OnFault (is_mistaken words ≡ true) (asks_for_help words ≡ true) r
+pub says : (words : List Text) (k : ErrorKind) (r : OptionFault) → (k ≡ kind.OutOfMemory) ⊎ IsAmong k (faults words)
+    → OnFault (is_mistake k ≡ true) (is_request k ≡ true) r
+    → OnFault (asked words ≡ None) (asked words ≡ None) r × OnFault (is_mistaken words ≡ true)
+    (asks_for_help words ≡ true) r
 says words k r has said = error_says (faults words) (read words) k r has said
 
 -- the number is at fault
-pub number_at_fault : (words : List Text) (r : OptionFault) → faults words ≡ [] → asked words ≡ None → OnFault (Unit {0}) ⊥ r
-    → OnFault (asked words ≡ None) (asked words ≡ None) r × OnFault (is_mistaken words ≡ true) (asks_for_help words ≡ true) r
+pub number_at_fault : (words : List Text) (r : OptionFault) → faults words ≡ [] → asked words ≡ None
+    → OnFault (Unit {0}) ⊥ r
+    → OnFault (asked words ≡ None) (asked words ≡ None) r × OnFault (is_mistaken words ≡ true)
+    (asks_for_help words ≡ true) r
 number_at_fault words r none nothing said = value_at_fault (faults words) (asked words) r none nothing said

@@ -15,12 +15,15 @@ kept (Ok fuel) = Some fuel
 kept (Err e) = None
 
 -- what `parse` says of a word of digits alone
-says : {E : Type 0} (bs : List ℕ) (r : Result ℕ E) → all_ascii_digits bs ≡ true → ParsesUnsigned 64 10 bs r → OkIff r ((0 < length bs) × (digits_value 10 bs < 2 ^ 64)) (digits_value 10 bs)
+says : {E : Type 0} (bs : List ℕ) (r : Result ℕ E) → all_ascii_digits bs ≡ true → ParsesUnsigned 64 10 bs r
+    → OkIff r ((0 < length bs) × (digits_value 10 bs < 2 ^ 64)) (digits_value 10 bs)
 says bs r digits parsed = parse_digits own 64 bs r parsed digits
 
-as_fuel : {E : Type 0} (bs : List ℕ) (r : Result ℕ E) → all_ascii_digits bs ≡ true → OkIff r ((0 < length bs) × (digits_value 10 bs < 2 ^ 64)) (digits_value 10 bs) → kept r ≡ fuel_in bs
+as_fuel : {E : Type 0} (bs : List ℕ) (r : Result ℕ E) → all_ascii_digits bs ≡ true
+    → OkIff r ((0 < length bs) × (digits_value 10 bs < 2 ^ 64)) (digits_value 10 bs) → kept r ≡ fuel_in bs
 as_fuel bs (Ok fuel) digits said = search (rules, arith)
 as_fuel bs (Err e) digits said = search (rules, arith)
 
-pub read_fuel : {E : Type 0} (bs : List ℕ) (r : Result ℕ E) → all_ascii_digits bs ≡ true → ParsesUnsigned 64 10 bs r → kept r ≡ fuel_in bs
+pub read_fuel : {E : Type 0} (bs : List ℕ) (r : Result ℕ E) → all_ascii_digits bs ≡ true → ParsesUnsigned 64 10 bs r
+    → kept r ≡ fuel_in bs
 read_fuel bs r digits parsed = as_fuel bs r digits (says bs r digits parsed)

@@ -12,19 +12,44 @@ use Rattle.pc_commands.specs.RunWords.{are_plain, asked, faults, fuel_in, plainl
 use Rattle.pc_commands.specs.Faults.{begins_with_dash}
 use Rattle.pc_commands.proofs.SaidOfFaults.{long_none, not_dashes, short_none}
 
-pub plain_faults : (n f : Text) → begins_with_dash n ≡ false → begins_with_dash f ≡ false → faults (codes "--fuel" ∷ n ∷ f ∷ []) ≡ []
+pub plain_faults : (n f : Text) → begins_with_dash n ≡ false → begins_with_dash f ≡ false
+    → faults (codes "--fuel" ∷ n ∷ f ∷ []) ≡ []
 unfolding clap_on_literals
-plain_faults n f bn bf = rw (not_dashes n bn, long_none n bn, short_none n bn, not_dashes f bf, long_none f bf, short_none f bf) refl
+plain_faults n f bn bf = rw (
+  not_dashes n bn,
+  long_none n bn,
+  short_none n bn,
+  not_dashes f bf,
+  long_none f bf,
+  short_none f bf,
+) refl
 
-pub plain_number : (n f : Text) → begins_with_dash n ≡ false → begins_with_dash f ≡ false → value_of (codes "fuel") (codes "--fuel" ∷ n ∷ f ∷ []) ≡ Some n
+pub plain_number : (n f : Text) → begins_with_dash n ≡ false → begins_with_dash f ≡ false
+    → value_of (codes "fuel") (codes "--fuel" ∷ n ∷ f ∷ []) ≡ Some n
 unfolding clap_on_literals
-plain_number n f bn bf = rw (not_dashes n bn, long_none n bn, short_none n bn, not_dashes f bf, long_none f bf, short_none f bf) refl
+plain_number n f bn bf = rw (
+  not_dashes n bn,
+  long_none n bn,
+  short_none n bn,
+  not_dashes f bf,
+  long_none f bf,
+  short_none f bf,
+) refl
 
-pub plain_file : (n f : Text) → begins_with_dash n ≡ false → begins_with_dash f ≡ false → value_of (codes "file") (codes "--fuel" ∷ n ∷ f ∷ []) ≡ Some f
+pub plain_file : (n f : Text) → begins_with_dash n ≡ false → begins_with_dash f ≡ false
+    → value_of (codes "file") (codes "--fuel" ∷ n ∷ f ∷ []) ≡ Some f
 unfolding clap_on_literals
-plain_file n f bn bf = rw (not_dashes n bn, long_none n bn, short_none n bn, not_dashes f bf, long_none f bf, short_none f bf) refl
+plain_file n f bn bf = rw (
+  not_dashes n bn,
+  long_none n bn,
+  short_none n bn,
+  not_dashes f bf,
+  long_none f bf,
+  short_none f bf,
+) refl
 
-plain_asked : (n f : Text) → begins_with_dash n ≡ false → begins_with_dash f ≡ false → asked (codes "--fuel" ∷ n ∷ f ∷ []) ≡ with_file (fuel_in n) (Some f)
+plain_asked : (n f : Text) → begins_with_dash n ≡ false → begins_with_dash f ≡ false
+    → asked (codes "--fuel" ∷ n ∷ f ∷ []) ≡ with_file (fuel_in n) (Some f)
 plain_asked n f bn bf = asked_is _ (plain_faults n f bn bf)
     ∙ ap₂ (λ o p. with_file (option_and_then fuel_in o) p) (plain_number n f bn bf) (plain_file n f bn bf)
 

@@ -1,7 +1,9 @@
 -- What the words for a run come to, by what `clap` says of them.
-use Rattle.std.proofs.Common.{◌≡◌, ◌∙◌, ◌⊎◌, refl, sym, ap, ap₂, inl, inr, true, true≢false, List, [], Option, Some, None, codes, ℕ}
+use Rattle.std.proofs.Common.{◌≡◌, ◌∙◌, ◌⊎◌, refl, sym, ap, ap₂, inl, inr, true, true≢false, List, [], Option, Some}
+use Rattle.std.proofs.Common.{None, codes, ℕ}
 use Rattle.std.specs.Prelude.{is_some, option_and_then}
-use Rattle.clap.specs.Words.{IsAmong, Kinds, Text, first_of, first_value, found_of, is_simple, is_simple_and_free, matches_of, rows_of}
+use Rattle.clap.specs.Words.{IsAmong, Kinds, Text, first_of, first_value, found_of, is_simple, is_simple_and_free}
+use Rattle.clap.specs.Words.{matches_of, rows_of}
 use Rattle.clap.specs.declared.parser.matches.ArgMatches.{ArgMatches}
 use Rattle.clap.specs.declared.error.kind.ErrorKind.{ErrorKind}
 use Rattle.clap.specs.declared.error.kind.ErrorKind.TheVariants as kind
@@ -9,7 +11,8 @@ use Rattle.clap.proofs.OnLiterals.{clap_on_literals}
 use Rattle.clap.proofs.WalkLemmas.{first_value-rows}
 use Rattle.pc_commands.specs.declared.faults.OptionFault.{OptionFault}
 use Rattle.pc_commands.specs.Faults.{OnFault, is_mistake, is_request, without_faults}
-use Rattle.pc_commands.specs.RunWords.{Asked, asked, asks_for_help, command_line, faults, fuel_in, is_mistaken, value_of, with_file}
+use Rattle.pc_commands.specs.RunWords.{Asked, asked, asks_for_help, command_line, faults, fuel_in, is_mistaken}
+use Rattle.pc_commands.specs.RunWords.{value_of, with_file}
 use Rattle.pc_commands.proofs.SaidOfFaults.{error_says, value_at_fault}
 
 pub simple : is_simple command_line ≡ true
@@ -26,19 +29,28 @@ value_read : (m : ArgMatches) (id : Text) (words : List Text) (got : Option Text
 value_read m id words got is rows = is ∙ first_value-rows (found_of m) id ∙ ap (first_of id) rows
 
 -- where `clap` finds no fault, the words ask for a run of what was read
-pub asked_is : (words : List Text) → faults words ≡ [] → asked words ≡ with_file (option_and_then fuel_in (value_of (codes "fuel") words)) (value_of (codes "file") words)
-asked_is words none = ap (λ kinds. without_faults kinds (with_file (option_and_then fuel_in (value_of (codes "fuel") words)) (value_of (codes "file") words))) none
+pub asked_is : (words : List Text) → faults words ≡ [] → asked words
+    ≡ with_file (option_and_then fuel_in (value_of (codes "fuel") words)) (value_of (codes "file") words)
+asked_is words none =
+    ap (λ kinds. without_faults kinds (with_file (option_and_then fuel_in (value_of (codes "fuel") words))
+    (value_of (codes "file") words))) none
 
 -- what is asked, by what the getters gave
-pub reads : (words : List Text) (m : ArgMatches) (fuel : Option ℕ) (file : Option Text) → faults words ≡ [] → rows_of (found_of m) ≡ matches_of command_line words
-    → fuel ≡ option_and_then fuel_in (first_value (found_of m) (codes "fuel")) → file ≡ first_value (found_of m) (codes "file") → asked words ≡ with_file fuel file
+pub reads : (words : List Text) (m : ArgMatches) (fuel : Option ℕ) (file : Option Text) → faults words ≡ []
+    → rows_of (found_of m) ≡ matches_of command_line words
+    → fuel ≡ option_and_then fuel_in (first_value (found_of m) (codes "fuel"))
+    → file ≡ first_value (found_of m) (codes "file") → asked words ≡ with_file fuel file
 reads words m fuel file none rows fuel_is file_is =
-    asked_is words none ∙ sym (ap₂ with_file (fuel_is ∙ ap (option_and_then fuel_in) (value_read m (codes "fuel") words _ refl rows)) (value_read m (codes "file") words _ file_is rows))
+    asked_is words none
+    ∙ sym (ap₂ with_file (fuel_is ∙ ap (option_and_then fuel_in) (value_read m (codes "fuel") words _ refl rows))
+    (value_read m (codes "file") words _ file_is rows))
 
 -- a fuel and a file were read, and the file was copied
-pub gives : (words : List Text) (fuel : Option ℕ) (file : Option Text) (n : ℕ) (text copy : Text) → asked words ≡ with_file fuel file → fuel ≡ Some n → file ≡ Some text → copy ≡ text
+pub gives : (words : List Text) (fuel : Option ℕ) (file : Option Text) (n : ℕ) (text copy : Text)
+    → asked words ≡ with_file fuel file → fuel ≡ Some n → file ≡ Some text → copy ≡ text
     → asked words ≡ Some (record { fuel = n; file = copy })
-gives words fuel file n text copy so fuel_is file_is same = so ∙ ap₂ with_file fuel_is file_is ∙ ap (λ t. with_file (Some n) (Some t)) (sym same)
+gives words fuel file n text copy so fuel_is file_is same = so ∙ ap₂ with_file fuel_is file_is
+    ∙ ap (λ t. with_file (Some n) (Some t)) (sym same)
 
 -- what is asked where one of the values that were read is missing
 pub misses : (fuel : Option ℕ) (file : Option Text) → (fuel ≡ None) ⊎ (file ≡ None) → with_file fuel file ≡ None
@@ -52,11 +64,15 @@ abbrev read : List Text → Option Asked
 read words = with_file (option_and_then fuel_in (value_of (codes "fuel") words)) (value_of (codes "file") words)
 
 -- what is said of an error of `clap` holds of the words
-pub says : (words : List Text) (k : ErrorKind) (r : OptionFault) → (k ≡ kind.OutOfMemory) ⊎ IsAmong k (faults words) → OnFault (is_mistake k ≡ true) (is_request k ≡ true) r
-    → OnFault (asked words ≡ None) (asked words ≡ None) r × OnFault (is_mistaken words ≡ true) (asks_for_help words ≡ true) r
+pub says : (words : List Text) (k : ErrorKind) (r : OptionFault) → (k ≡ kind.OutOfMemory) ⊎ IsAmong k (faults words)
+    → OnFault (is_mistake k ≡ true) (is_request k ≡ true) r
+    → OnFault (asked words ≡ None) (asked words ≡ None) r × OnFault (is_mistaken words ≡ true)
+    (asks_for_help words ≡ true) r
 says words k r has said = error_says (faults words) (read words) k r has said
 
 -- the number is at fault
-pub number_at_fault : (words : List Text) (r : OptionFault) → faults words ≡ [] → asked words ≡ None → OnFault (Unit {0}) ⊥ r
-    → OnFault (asked words ≡ None) (asked words ≡ None) r × OnFault (is_mistaken words ≡ true) (asks_for_help words ≡ true) r
+pub number_at_fault : (words : List Text) (r : OptionFault) → faults words ≡ [] → asked words ≡ None
+    → OnFault (Unit {0}) ⊥ r
+    → OnFault (asked words ≡ None) (asked words ≡ None) r × OnFault (is_mistaken words ≡ true)
+    (asks_for_help words ≡ true) r
 number_at_fault words r none nothing said = value_at_fault (faults words) (asked words) r none nothing said

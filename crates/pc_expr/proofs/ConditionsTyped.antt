@@ -15,13 +15,22 @@ use Rattle.pc_expr.proofs.Typed.{and_found, or_found}
 
 module _ {T : Type 0} (tree : T → Tree) (k : Standing) where
   clean_found : (e : Expr) (t : Tree) → label_in k None e ≡ clean t → parts_find k None e ≡ finds_in k None e
-  clean_found e t h = sym (finds_whole k None e ∙ ap (λ (m : Label). parts_find k None e ++ codes_at (place_of e) m.codes) h ∙ append-nil (parts_find k None e))
+  clean_found e t h = sym (finds_whole k None e ∙ ap (λ (m : Label). parts_find k None e ++ codes_at (place_of e)
+      m.codes) h ∙ append-nil (parts_find k None e))
 
-  pub negation_found : (p : Place) (e : Expr) (old new : List Note) → new ≡ old ++ finds_in k None e → new ≡ old ++ finds_in k None (negation p e)
-  negation_found p e old new h = h ∙ ap (λ fs. old ++ fs) (sym (parts_negation k None p e) ∙ clean_found (negation p e) _ (label_negation k None p e))
+  pub negation_found : (p : Place) (e : Expr) (old new : List Note) → new ≡ old ++ finds_in k None e
+      → new ≡ old ++ finds_in k None (negation p e)
+  negation_found p e old new h = h ∙ ap (λ fs. old ++ fs) (sym (parts_negation k None p e)
+      ∙ clean_found (negation p e) _ (label_negation k None p e))
 
-  pub conjunction_found : (p : Place) (a b : Expr) (after : Standing) (old new last : List Note) → after ≡ narrowed_standing k true a → new ≡ old ++ finds_in k None a → last ≡ new ++ finds_in after None b → last ≡ old ++ finds_in k None (conjunction p a b)
-  conjunction_found p a b after old new last e h j = and_found tree k None p a b after old new last e h j ∙ ap (λ fs. old ++ fs) (clean_found (conjunction p a b) _ (label_conjunction k None p a b))
+  pub conjunction_found : (p : Place) (a b : Expr) (after : Standing) (old new last : List Note)
+      → after ≡ narrowed_standing k true a → new ≡ old ++ finds_in k None a → last ≡ new ++ finds_in after None b
+      → last ≡ old ++ finds_in k None (conjunction p a b)
+  conjunction_found p a b after old new last e h j = and_found tree k None p a b after old new last e h j
+      ∙ ap (λ fs. old ++ fs) (clean_found (conjunction p a b) _ (label_conjunction k None p a b))
 
-  pub disjunction_found : (p : Place) (a b : Expr) (after : Standing) (old new last : List Note) → after ≡ narrowed_standing k false a → new ≡ old ++ finds_in k None a → last ≡ new ++ finds_in after None b → last ≡ old ++ finds_in k None (disjunction p a b)
-  disjunction_found p a b after old new last e h j = or_found tree k None p a b after old new last e h j ∙ ap (λ fs. old ++ fs) (clean_found (disjunction p a b) _ (label_disjunction k None p a b))
+  pub disjunction_found : (p : Place) (a b : Expr) (after : Standing) (old new last : List Note)
+      → after ≡ narrowed_standing k false a → new ≡ old ++ finds_in k None a → last ≡ new ++ finds_in after None b
+      → last ≡ old ++ finds_in k None (disjunction p a b)
+  disjunction_found p a b after old new last e h j = or_found tree k None p a b after old new last e h j
+      ∙ ap (λ fs. old ++ fs) (clean_found (disjunction p a b) _ (label_disjunction k None p a b))

@@ -5,26 +5,37 @@ use Rattle.pc_source.specs.declared.place.Place.{Place}
 use Rattle.pc_tree.specs.declared.code.Code.TheVariants.{E03}
 use Rattle.pc_tree.specs.declared.tree.BinaryOperator.{BinaryOperator}
 use Rattle.pc_tree.specs.declared.tree.ComparisonOperator.{ComparisonOperator}
-use Rattle.pc_tree.specs.Tree.{Name, Expr, Exprs, Entries, Keywords, name, number, text, truth, nothing, tuple, list, dict, negative, negation, binary, compare, is_none, is_not_none, conjunction, disjunction, attribute, index, call, no_exprs, more_exprs, no_entries, more_entries, no_keywords, more_keywords}
+use Rattle.pc_tree.specs.Tree.{Name, Expr, Exprs, Entries, Keywords, name, number, text, truth, nothing, tuple, list}
+use Rattle.pc_tree.specs.Tree.{dict, negative, negation, binary, compare, is_none, is_not_none, conjunction}
+use Rattle.pc_tree.specs.Tree.{disjunction, attribute, index, call, no_exprs, more_exprs, no_entries, more_entries}
+use Rattle.pc_tree.specs.Tree.{no_keywords, more_keywords}
 use Rattle.pc_tree.specs.Depth.{place_of}
 use Rattle.pc_types.specs.Tree.{Tree, Int, Bool, Str, NoneType, TupleOf}
 use Rattle.pc_types.specs.Shape.{members, trees}
 use Rattle.pc_types.specs.Computed.{static_test, assignable_test}
 use Rattle.pc_flow.specs.Environment.{join_or_object}
-use Rattle.pc_rules.specs.Operations.{Label, clean, in_error, offers_label, operand_types, negative_member, attribute_member, index_member, binary_label, display_label}
+use Rattle.pc_rules.specs.Operations.{Label, clean, in_error, offers_label, operand_types, negative_member}
+use Rattle.pc_rules.specs.Operations.{attribute_member, index_member, binary_label, display_label}
 use Rattle.pc_rules.specs.Context.{name_label, is_early}
-use Rattle.pc_rules.specs.Calls.{Seat, GivenArguments, arguments_given, count_exprs, value_callee, name_callee, method_callee, positional_seat}
+use Rattle.pc_rules.specs.Calls.{Seat, GivenArguments, arguments_given, count_exprs, value_callee, name_callee}
+use Rattle.pc_rules.specs.Calls.{method_callee, positional_seat}
 use Rattle.pc_rules.specs.Labels.{Labels, ItemsLabels, whole_label, type_of, with_label}
-use Rattle.pc_rules.specs.Lawful.{list_item, dict_parts, tuple_parts, members_of_expected, item_seat, part_seat, list_label, key_seat, value_seat, int_literal, compare_label, compare_types, whole_call_label, keyword_seat}
+use Rattle.pc_rules.specs.Lawful.{list_item, dict_parts, tuple_parts, members_of_expected, item_seat, part_seat}
+use Rattle.pc_rules.specs.Lawful.{list_label, key_seat, value_seat, int_literal, compare_label, compare_types}
+use Rattle.pc_rules.specs.Lawful.{whole_call_label, keyword_seat}
 use Rattle.pc_rules.specs.Computed.Expressions.{flows_of, dict_label, labels_of}
-use Rattle.pc_rules.specs.Computed.Findings.{codes_at, flows_at, notes_under, found_in_parts, found_in_items, found_in_arguments}
-use Rattle.pc_rules.specs.Computed.Standing.{Standing, narrowed_standing, label_in, finds_in, parts_find, items_in, types_in, items_find, arguments_find, keys_in, values_in, entries_find, keywords_find}
+use Rattle.pc_rules.specs.Computed.Findings.{codes_at, flows_at, notes_under, found_in_parts, found_in_items}
+use Rattle.pc_rules.specs.Computed.Findings.{found_in_arguments}
+use Rattle.pc_rules.specs.Computed.Standing.{Standing, narrowed_standing, label_in, finds_in, parts_find, items_in}
+use Rattle.pc_rules.specs.Computed.Standing.{types_in, items_find, arguments_find, keys_in, values_in, entries_find}
+use Rattle.pc_rules.specs.Computed.Standing.{keywords_find}
 use Rattle.pc_rules.proofs.PartsKept.{parts_kept}
 use Rattle.pc_expr.specs.Typing.{is_other, unnamed_callee, callee_in, callee_finds, early_in}
 
 module _ (k : Standing) (want : Option Tree) where
   -- what is found in an expression: in its parts, and then at it
-  pub finds_whole : (e : Expr) → finds_in k want e ≡ parts_find k want e ++ codes_at (place_of e) (label_in k want e).codes
+  pub finds_whole : (e : Expr) → finds_in k want e ≡ parts_find k want e ++ codes_at (place_of e)
+      (label_in k want e).codes
   unfolding finds_in parts_find label_in
   finds_whole e = refl
 
@@ -70,32 +81,42 @@ module _ (k : Standing) (want : Option Tree) where
   parts_nothing p = refl
 
   -- ---- displays
-  pub label_tuple : (p : Place) (es : Exprs) → label_in k want (tuple p es) ≡ display_label (TupleOf (trees (types_in k (part_seat (tuple_parts (count_exprs es) (members_of_expected want))) es)))
+  pub label_tuple : (p : Place) (es : Exprs) → label_in k want (tuple p es) ≡ display_label
+      (TupleOf (trees (types_in k (part_seat (tuple_parts (count_exprs es) (members_of_expected want))) es)))
   unfolding label_in types_in
   label_tuple p es = refl
 
-  pub parts_tuple : (p : Place) (es : Exprs) → parts_find k want (tuple p es) ≡ items_find k (part_seat (tuple_parts (count_exprs es) (members_of_expected want))) es
+  pub parts_tuple : (p : Place) (es : Exprs) → parts_find k want (tuple p es) ≡ items_find k
+      (part_seat (tuple_parts (count_exprs es) (members_of_expected want))) es
   unfolding parts_find items_find
   parts_tuple p es = refl
 
-  pub label_list : (p : Place) (es : Exprs) → label_in k want (list p es) ≡ list_label k.context.bases (list_item (members_of_expected want)) (types_in k (λ i. item_seat (list_item (members_of_expected want))) es)
+  pub label_list : (p : Place) (es : Exprs) → label_in k want (list p es) ≡ list_label k.context.bases
+      (list_item (members_of_expected want)) (types_in k (λ i. item_seat (list_item (members_of_expected want))) es)
   unfolding label_in types_in
   label_list p es = refl
 
-  pub parts_list : (p : Place) (es : Exprs) → parts_find k want (list p es) ≡ items_find k (λ i. item_seat (list_item (members_of_expected want))) es
+  pub parts_list : (p : Place) (es : Exprs) → parts_find k want (list p es) ≡ items_find k
+      (λ i. item_seat (list_item (members_of_expected want))) es
   unfolding parts_find items_find
   parts_list p es = refl
 
-  pub label_dict : (p : Place) (es : Entries) → label_in k want (dict p es) ≡ dict_label k.context k.declared (static_test k.context.bases) (assignable_test k.context.bases) (dict_parts (members_of_expected want)) (keys_in k (key_seat (dict_parts (members_of_expected want))) (value_seat (dict_parts (members_of_expected want))) es) (values_in k (key_seat (dict_parts (members_of_expected want))) (value_seat (dict_parts (members_of_expected want))) es)
+  pub label_dict : (p : Place) (es : Entries) → label_in k want (dict p es) ≡ dict_label k.context k.declared
+      (static_test k.context.bases) (assignable_test k.context.bases) (dict_parts (members_of_expected want))
+      (keys_in k (key_seat (dict_parts (members_of_expected want))) (value_seat (dict_parts (members_of_expected want)))
+      es) (values_in k (key_seat (dict_parts (members_of_expected want)))
+      (value_seat (dict_parts (members_of_expected want))) es)
   unfolding label_in keys_in values_in
   label_dict p es = refl
 
-  pub parts_dict : (p : Place) (es : Entries) → parts_find k want (dict p es) ≡ entries_find k (key_seat (dict_parts (members_of_expected want))) (value_seat (dict_parts (members_of_expected want))) es
+  pub parts_dict : (p : Place) (es : Entries) → parts_find k want (dict p es) ≡ entries_find k
+      (key_seat (dict_parts (members_of_expected want))) (value_seat (dict_parts (members_of_expected want))) es
   unfolding parts_find entries_find
   parts_dict p es = refl
 
   -- ---- operators of one operand
-  pub label_negative : (p : Place) (e : Expr) → label_in k want (negative p e) ≡ offers_label k.context.bases (map negative_member (members (label_in k None e).type))
+  pub label_negative : (p : Place) (e : Expr) → label_in k want (negative p e) ≡ offers_label k.context.bases
+      (map negative_member (members (label_in k None e).type))
   unfolding label_in
   label_negative p e = refl
 
@@ -127,52 +148,68 @@ module _ (k : Standing) (want : Option Tree) where
   unfolding parts_find finds_in
   parts_is_not_none p e = refl
 
-  pub label_attribute : (p : Place) (e : Expr) (field : Name) → label_in k want (attribute p e field) ≡ offers_label k.context.bases (map (attribute_member k.context.classes field.text) (members (label_in k None e).type))
+  pub label_attribute : (p : Place) (e : Expr) (field : Name) → label_in k want (attribute p e field) ≡ offers_label
+      k.context.bases (map (attribute_member k.context.classes field.text) (members (label_in k None e).type))
   unfolding label_in
   label_attribute p e field = refl
 
-  pub parts_attribute : (p : Place) (e : Expr) (field : Name) → parts_find k want (attribute p e field) ≡ finds_in k None e
+  pub parts_attribute : (p : Place) (e : Expr) (field : Name) → parts_find k want (attribute p e field)
+      ≡ finds_in k None e
   unfolding parts_find finds_in
   parts_attribute p e field = refl
 
   -- ---- operators of two operands
-  pub label_binary : (p : Place) (o : BinaryOperator) (l r : Expr) → label_in k want (binary p o l r) ≡ binary_label k.context.bases o (label_in k None l).type (label_in k None r).type
+  pub label_binary : (p : Place) (o : BinaryOperator) (l r : Expr) → label_in k want (binary p o l r) ≡ binary_label
+      k.context.bases o (label_in k None l).type (label_in k None r).type
   unfolding label_in
   label_binary p o l r = refl
 
-  pub parts_binary : (p : Place) (o : BinaryOperator) (l r : Expr) → parts_find k want (binary p o l r) ≡ finds_in k None l ++ finds_in k None r
+  pub parts_binary : (p : Place) (o : BinaryOperator) (l r : Expr) → parts_find k want (binary p o l r)
+      ≡ finds_in k None l ++ finds_in k None r
   unfolding parts_find finds_in
   parts_binary p o l r = refl
 
-  pub label_compare : (p : Place) (o : ComparisonOperator) (l r : Expr) → label_in k want (compare p o l r) ≡ compare_label k.context.bases o (label_in k None l).type (label_in k None r).type
+  pub label_compare : (p : Place) (o : ComparisonOperator) (l r : Expr) → label_in k want (compare p o l r)
+      ≡ compare_label k.context.bases o (label_in k None l).type (label_in k None r).type
   unfolding label_in
   label_compare p o l r = refl
 
-  pub parts_compare : (p : Place) (o : ComparisonOperator) (l r : Expr) → parts_find k want (compare p o l r) ≡ finds_in k None l ++ (finds_in k None r ++ flows_at (place_of l) (flows_of k.context.bases (label_in k None l) (compare_types o (label_in k None r).type)))
+  pub parts_compare : (p : Place) (o : ComparisonOperator) (l r : Expr) → parts_find k want (compare p o l r)
+      ≡ finds_in k None l ++ (finds_in k None r ++ flows_at (place_of l)
+      (flows_of k.context.bases (label_in k None l) (compare_types o (label_in k None r).type)))
   unfolding parts_find finds_in label_in
   parts_compare p o l r = refl
 
-  pub label_conjunction : (p : Place) (l r : Expr) → label_in k want (conjunction p l r) ≡ clean (join_or_object k.context.bases (label_in k None l).type (label_in (narrowed_standing k true l) None r).type)
+  pub label_conjunction : (p : Place) (l r : Expr) → label_in k want (conjunction p l r)
+      ≡ clean (join_or_object k.context.bases (label_in k None l).type
+      (label_in (narrowed_standing k true l) None r).type)
   unfolding label_in
   label_conjunction p l r = refl
 
-  pub parts_conjunction : (p : Place) (l r : Expr) → parts_find k want (conjunction p l r) ≡ finds_in k None l ++ finds_in (narrowed_standing k true l) None r
+  pub parts_conjunction : (p : Place) (l r : Expr) → parts_find k want (conjunction p l r) ≡ finds_in k None l
+      ++ finds_in (narrowed_standing k true l) None r
   unfolding parts_find finds_in
   parts_conjunction p l r = refl
 
-  pub label_disjunction : (p : Place) (l r : Expr) → label_in k want (disjunction p l r) ≡ clean (join_or_object k.context.bases (label_in k None l).type (label_in (narrowed_standing k false l) None r).type)
+  pub label_disjunction : (p : Place) (l r : Expr) → label_in k want (disjunction p l r)
+      ≡ clean (join_or_object k.context.bases (label_in k None l).type
+      (label_in (narrowed_standing k false l) None r).type)
   unfolding label_in
   label_disjunction p l r = refl
 
-  pub parts_disjunction : (p : Place) (l r : Expr) → parts_find k want (disjunction p l r) ≡ finds_in k None l ++ finds_in (narrowed_standing k false l) None r
+  pub parts_disjunction : (p : Place) (l r : Expr) → parts_find k want (disjunction p l r) ≡ finds_in k None l
+      ++ finds_in (narrowed_standing k false l) None r
   unfolding parts_find finds_in
   parts_disjunction p l r = refl
 
-  pub label_index : (p : Place) (e i : Expr) → label_in k want (index p e i) ≡ offers_label k.context.bases (map (index_member k.context.bases (int_literal i)) (members (label_in k None e).type))
+  pub label_index : (p : Place) (e i : Expr) → label_in k want (index p e i) ≡ offers_label k.context.bases
+      (map (index_member k.context.bases (int_literal i)) (members (label_in k None e).type))
   unfolding label_in
   label_index p e i = refl
 
-  pub parts_index : (p : Place) (e i : Expr) → parts_find k want (index p e i) ≡ finds_in k None e ++ (finds_in k None i ++ flows_at (place_of i) (flows_of k.context.bases (label_in k None i) (operand_types (map (index_member k.context.bases (int_literal i)) (members (label_in k None e).type)))))
+  pub parts_index : (p : Place) (e i : Expr) → parts_find k want (index p e i) ≡ finds_in k None e
+      ++ (finds_in k None i ++ flows_at (place_of i) (flows_of k.context.bases (label_in k None i)
+      (operand_types (map (index_member k.context.bases (int_literal i)) (members (label_in k None e).type)))))
   unfolding parts_find finds_in label_in
   parts_index p e i = refl
 
@@ -180,14 +217,16 @@ module _ (k : Standing) (want : Option Tree) where
 
 arguments_are_items : (es : Exprs) (m : ItemsLabels es) → found_in_arguments false es m ≡ found_in_items es m
 arguments_are_items no_exprs m = refl
-arguments_are_items (more_exprs e rest) m = ap (λ fs. notes_under e m.first ++ (flows_at (place_of e) m.flows ++ fs)) (arguments_are_items rest m.rest)
+arguments_are_items (more_exprs e rest) m = ap (λ fs. notes_under e m.first ++ (flows_at (place_of e) m.flows ++ fs))
+    (arguments_are_items rest m.rest)
 
 module _ (k : Standing) (seat : ℕ → Seat) where
   pub types_none : types_in k seat no_exprs ≡ []
   unfolding types_in
   types_none = refl
 
-  pub types_more : (e : Expr) (es : Exprs) → types_in k seat (more_exprs e es) ≡ (label_in k (seat 0).want e).type ∷ types_in k (λ i. seat (suc i)) es
+  pub types_more : (e : Expr) (es : Exprs) → types_in k seat (more_exprs e es) ≡ (label_in k (seat 0).want e).type
+      ∷ types_in k (λ i. seat (suc i)) es
   unfolding types_in label_in
   types_more e es = refl
 
@@ -195,7 +234,9 @@ module _ (k : Standing) (seat : ℕ → Seat) where
   unfolding items_find
   items_none = refl
 
-  pub items_more : (e : Expr) (es : Exprs) → items_find k seat (more_exprs e es) ≡ finds_in k (seat 0).want e ++ (flows_at (place_of e) (flows_of k.context.bases (label_in k (seat 0).want e) (seat 0).into) ++ items_find k (λ i. seat (suc i)) es)
+  pub items_more : (e : Expr) (es : Exprs) → items_find k seat (more_exprs e es) ≡ finds_in k (seat 0).want e
+      ++ (flows_at (place_of e) (flows_of k.context.bases (label_in k (seat 0).want e) (seat 0).into) ++ items_find k
+      (λ i. seat (suc i)) es)
   unfolding items_find finds_in label_in
   items_more e es = refl
 
@@ -205,7 +246,8 @@ module _ (k : Standing) (seat : ℕ → Seat) where
   arguments_all es = arguments_are_items es (items_in k seat es)
 
   -- the first argument of a test of an instance alone
-  pub arguments_first : (e : Expr) (es : Exprs) → arguments_find k true seat (more_exprs e es) ≡ finds_in k (seat 0).want e
+  pub arguments_first : (e : Expr) (es : Exprs) → arguments_find k true seat (more_exprs e es)
+      ≡ finds_in k (seat 0).want e
   unfolding arguments_find finds_in
   arguments_first e es = refl
 
@@ -218,7 +260,8 @@ module _ (k : Standing) (seat : ℕ → Seat) where
   unfolding early_in
   early_one e = refl
 
-  pub early_two : (e f : Expr) (es : Exprs) → early_in k seat (more_exprs e (more_exprs f es)) ≡ is_early (label_in k (seat (suc 0)).want f).codes
+  pub early_two : (e f : Expr) (es : Exprs) → early_in k seat (more_exprs e (more_exprs f es))
+      ≡ is_early (label_in k (seat (suc 0)).want f).codes
   unfolding early_in label_in
   early_two e f es = refl
 
@@ -227,7 +270,8 @@ module _ (k : Standing) (x y : Seat) where
   unfolding keys_in
   keys_none = refl
 
-  pub keys_more : (a b : Expr) (es : Entries) → keys_in k x y (more_entries a b es) ≡ (label_in k x.want a).type ∷ keys_in k x y es
+  pub keys_more : (a b : Expr) (es : Entries) → keys_in k x y (more_entries a b es) ≡ (label_in k x.want a).type
+      ∷ keys_in k x y es
   unfolding keys_in label_in
   keys_more a b es = refl
 
@@ -235,7 +279,8 @@ module _ (k : Standing) (x y : Seat) where
   unfolding values_in
   values_none = refl
 
-  pub values_more : (a b : Expr) (es : Entries) → values_in k x y (more_entries a b es) ≡ (label_in k y.want b).type ∷ values_in k x y es
+  pub values_more : (a b : Expr) (es : Entries) → values_in k x y (more_entries a b es) ≡ (label_in k y.want b).type
+      ∷ values_in k x y es
   unfolding values_in label_in
   values_more a b es = refl
 
@@ -245,7 +290,8 @@ module _ (k : Standing) (x y : Seat) where
 
   pub entries_more : (a b : Expr) (es : Entries) → entries_find k x y (more_entries a b es) ≡
       finds_in k x.want a ++ (flows_at (place_of a) (flows_of k.context.bases (label_in k x.want a) x.into)
-      ++ (finds_in k y.want b ++ (flows_at (place_of b) (flows_of k.context.bases (label_in k y.want b) y.into) ++ entries_find k x y es)))
+      ++ (finds_in k y.want b ++ (flows_at (place_of b) (flows_of k.context.bases (label_in k y.want b) y.into)
+      ++ entries_find k x y es)))
   unfolding entries_find finds_in label_in
   entries_more a b es = refl
 
@@ -255,7 +301,9 @@ module _ (k : Standing) (seat : List ℕ → Seat) (before : List (List ℕ)) wh
   keywords_none = refl
 
   pub keywords_more : (n : Name) (e : Expr) (es : Keywords) → keywords_find k seat before (more_keywords n e es) ≡
-      finds_in k (keyword_seat seat before n).want e ++ (flows_at (place_of e) (flows_of k.context.bases (label_in k (keyword_seat seat before n).want e) (keyword_seat seat before n).into) ++ keywords_find k seat (n.text ∷ before) es)
+      finds_in k (keyword_seat seat before n).want e ++ (flows_at (place_of e)
+      (flows_of k.context.bases (label_in k (keyword_seat seat before n).want e) (keyword_seat seat before n).into)
+      ++ keywords_find k seat (n.text ∷ before) es)
   unfolding keywords_find finds_in label_in
   keywords_more n e es = refl
 
@@ -284,57 +332,83 @@ label_put (call p c args kws) m here = refl
 
 module _ (k : Standing) (g : GivenArguments) where
   -- what is found in a callee: in its parts, and then at it
-  pub callee_whole : (e : Expr) → callee_finds k g e ≡ parts_find k None e ++ codes_at (place_of e) (callee_in k g e).label.codes
+  pub callee_whole : (e : Expr) → callee_finds k g e ≡ parts_find k None e ++ codes_at (place_of e)
+      (callee_in k g e).label.codes
   unfolding callee_finds parts_find
   callee_whole e =
       let m = labels_of k.context k.declared k.env None e in
       let here = (callee_in k g e).label in
-      ap (λ fs. fs ++ codes_at (place_of e) (whole_label e (with_label e m here)).codes) (parts_kept e m here) ∙ ap (λ (x : Label). found_in_parts e m ++ codes_at (place_of e) x.codes) (label_put e m here)
+      ap (λ fs. fs ++ codes_at (place_of e) (whole_label e (with_label e m here)).codes) (parts_kept e m here)
+      ∙ ap (λ (x : Label). found_in_parts e m ++ codes_at (place_of e) x.codes) (label_put e m here)
 
   pub callee_name : (n : Name) → callee_in k g (name n) ≡ name_callee k.context k.env g (k.context.resolve n.text)
   unfolding callee_in
   callee_name n = refl
 
-  pub callee_attribute : (p : Place) (e : Expr) (field : Name) → k.context.in_body ≡ true → callee_in k g (attribute p e field) ≡ method_callee k.context g field.text (label_in k None e).type
+  pub callee_attribute : (p : Place) (e : Expr) (field : Name) → k.context.in_body ≡ true
+      → callee_in k g (attribute p e field) ≡ method_callee k.context g field.text (label_in k None e).type
   unfolding callee_in label_in
-  callee_attribute p e field h = ap (λ b. if b then method_callee k.context g field.text (type_of e (labels_of k.context k.declared k.env None e)) else value_callee (in_error E03)) h
+  callee_attribute p e field h = ap (λ b. if b then method_callee k.context g field.text
+      (type_of e (labels_of k.context k.declared k.env None e)) else value_callee (in_error E03)) h
 
   by_body : (b : Test) (m : Label) → (if b then value_callee m else value_callee (in_error E03)) ≡ unnamed_callee b m
   by_body true m = refl
   by_body false m = refl
 
   -- any other callee
-  pub callee_other : (e : Expr) → is_other e ≡ true → callee_in k g e ≡ unnamed_callee k.context.in_body (label_in k None e)
+  pub callee_other : (e : Expr) → is_other e ≡ true → callee_in k g e ≡ unnamed_callee k.context.in_body
+      (label_in k None e)
   unfolding callee_in label_in
   callee_other (name n) h = absurd (cc h)
-  callee_other (number p d) h = by_body k.context.in_body (whole_label (number p d) (labels_of k.context k.declared k.env None (number p d)))
-  callee_other (text p d) h = by_body k.context.in_body (whole_label (text p d) (labels_of k.context k.declared k.env None (text p d)))
-  callee_other (truth p d) h = by_body k.context.in_body (whole_label (truth p d) (labels_of k.context k.declared k.env None (truth p d)))
-  callee_other (nothing p) h = by_body k.context.in_body (whole_label (nothing p) (labels_of k.context k.declared k.env None (nothing p)))
-  callee_other (tuple p es) h = by_body k.context.in_body (whole_label (tuple p es) (labels_of k.context k.declared k.env None (tuple p es)))
-  callee_other (list p es) h = by_body k.context.in_body (whole_label (list p es) (labels_of k.context k.declared k.env None (list p es)))
-  callee_other (dict p es) h = by_body k.context.in_body (whole_label (dict p es) (labels_of k.context k.declared k.env None (dict p es)))
-  callee_other (negative p e) h = by_body k.context.in_body (whole_label (negative p e) (labels_of k.context k.declared k.env None (negative p e)))
-  callee_other (negation p e) h = by_body k.context.in_body (whole_label (negation p e) (labels_of k.context k.declared k.env None (negation p e)))
-  callee_other (binary p o l r) h = by_body k.context.in_body (whole_label (binary p o l r) (labels_of k.context k.declared k.env None (binary p o l r)))
-  callee_other (compare p o l r) h = by_body k.context.in_body (whole_label (compare p o l r) (labels_of k.context k.declared k.env None (compare p o l r)))
-  callee_other (is_none p e) h = by_body k.context.in_body (whole_label (is_none p e) (labels_of k.context k.declared k.env None (is_none p e)))
-  callee_other (is_not_none p e) h = by_body k.context.in_body (whole_label (is_not_none p e) (labels_of k.context k.declared k.env None (is_not_none p e)))
-  callee_other (conjunction p l r) h = by_body k.context.in_body (whole_label (conjunction p l r) (labels_of k.context k.declared k.env None (conjunction p l r)))
-  callee_other (disjunction p l r) h = by_body k.context.in_body (whole_label (disjunction p l r) (labels_of k.context k.declared k.env None (disjunction p l r)))
+  callee_other (number p d) h = by_body k.context.in_body (whole_label (number p d)
+      (labels_of k.context k.declared k.env None (number p d)))
+  callee_other (text p d) h = by_body k.context.in_body (whole_label (text p d)
+      (labels_of k.context k.declared k.env None (text p d)))
+  callee_other (truth p d) h = by_body k.context.in_body (whole_label (truth p d)
+      (labels_of k.context k.declared k.env None (truth p d)))
+  callee_other (nothing p) h = by_body k.context.in_body (whole_label (nothing p)
+      (labels_of k.context k.declared k.env None (nothing p)))
+  callee_other (tuple p es) h = by_body k.context.in_body (whole_label (tuple p es)
+      (labels_of k.context k.declared k.env None (tuple p es)))
+  callee_other (list p es) h = by_body k.context.in_body (whole_label (list p es)
+      (labels_of k.context k.declared k.env None (list p es)))
+  callee_other (dict p es) h = by_body k.context.in_body (whole_label (dict p es)
+      (labels_of k.context k.declared k.env None (dict p es)))
+  callee_other (negative p e) h = by_body k.context.in_body (whole_label (negative p e)
+      (labels_of k.context k.declared k.env None (negative p e)))
+  callee_other (negation p e) h = by_body k.context.in_body (whole_label (negation p e)
+      (labels_of k.context k.declared k.env None (negation p e)))
+  callee_other (binary p o l r) h = by_body k.context.in_body (whole_label (binary p o l r)
+      (labels_of k.context k.declared k.env None (binary p o l r)))
+  callee_other (compare p o l r) h = by_body k.context.in_body
+      (whole_label (compare p o l r) (labels_of k.context k.declared k.env None (compare p o l r)))
+  callee_other (is_none p e) h = by_body k.context.in_body (whole_label (is_none p e)
+      (labels_of k.context k.declared k.env None (is_none p e)))
+  callee_other (is_not_none p e) h = by_body k.context.in_body
+      (whole_label (is_not_none p e) (labels_of k.context k.declared k.env None (is_not_none p e)))
+  callee_other (conjunction p l r) h = by_body k.context.in_body
+      (whole_label (conjunction p l r) (labels_of k.context k.declared k.env None (conjunction p l r)))
+  callee_other (disjunction p l r) h = by_body k.context.in_body
+      (whole_label (disjunction p l r) (labels_of k.context k.declared k.env None (disjunction p l r)))
   callee_other (attribute p e field) h = absurd (cc h)
-  callee_other (index p e i) h = by_body k.context.in_body (whole_label (index p e i) (labels_of k.context k.declared k.env None (index p e i)))
-  callee_other (call p c args kws) h = by_body k.context.in_body (whole_label (call p c args kws) (labels_of k.context k.declared k.env None (call p c args kws)))
+  callee_other (index p e i) h = by_body k.context.in_body (whole_label (index p e i)
+      (labels_of k.context k.declared k.env None (index p e i)))
+  callee_other (call p c args kws) h = by_body k.context.in_body
+      (whole_label (call p c args kws) (labels_of k.context k.declared k.env None (call p c args kws)))
 
   -- in an initializer an attribute too
-  pub callee_early : (p : Place) (e : Expr) (field : Name) → k.context.in_body ≡ false → callee_in k g (attribute p e field) ≡ unnamed_callee k.context.in_body (label_in k None (attribute p e field))
+  pub callee_early : (p : Place) (e : Expr) (field : Name) → k.context.in_body ≡ false
+      → callee_in k g (attribute p e field) ≡ unnamed_callee k.context.in_body (label_in k None (attribute p e field))
   unfolding callee_in
   callee_early p e field h =
-      ap (λ b. if b then method_callee k.context g field.text (type_of e (labels_of k.context k.declared k.env None e)) else value_callee (in_error E03)) h
+      ap (λ b. if b then method_callee k.context g field.text (type_of e (labels_of k.context k.declared k.env None e))
+      else value_callee (in_error E03)) h
       ∙ sym (ap (λ b. unnamed_callee b (label_in k None (attribute p e field))) h)
 
 module _ (k : Standing) (want : Option Tree) where
   pub label_call : (p : Place) (c : Expr) (args : Exprs) (kws : Keywords) → label_in k want (call p c args kws) ≡
-      whole_call_label k.context k.env (callee_in k (arguments_given args kws) c).rule (callee_in k (arguments_given args kws) c).offers args (types_in k (positional_seat (callee_in k (arguments_given args kws) c).offers) args)
+      whole_call_label k.context k.env (callee_in k (arguments_given args kws) c).rule
+      (callee_in k (arguments_given args kws) c).offers args
+      (types_in k (positional_seat (callee_in k (arguments_given args kws) c).offers) args)
   unfolding label_in callee_in types_in
   label_call p c args kws = refl

@@ -10,10 +10,13 @@ use Rattle.pc_expr.proofs.EntrySteps.{HaveSame}
 pub same_with : (names : List (List ℕ)) (t : List ℕ) → HaveSame (with_name names t) (t ∷ names)
 same_with names t word = go (is_one_of t names) refl
   where
-    known : (d : Test) → bytes_eq word t ≡ d → is_one_of t names ≡ true → is_one_of word names ≡ (bytes_eq word t || is_one_of word names)
+    known : (d : Test) → bytes_eq word t ≡ d → is_one_of t names ≡ true
+        → is_one_of word names ≡ (bytes_eq word t || is_one_of word names)
     known false d e = sym (ap (λ b. b || is_one_of word names) d)
-    known true d e = ap (λ w. is_one_of w names) ((bytes_eq-Decides word t).0 d) ∙ e ∙ sym (ap (λ b. b || is_one_of word names) d)
+    known true d e = ap (λ w. is_one_of w names) ((bytes_eq-Decides word t).0 d) ∙ e
+        ∙ sym (ap (λ b. b || is_one_of word names) d)
 
-    go : (b : Test) → is_one_of t names ≡ b → is_one_of word (if b then names else names ++ t ∷ []) ≡ (bytes_eq word t || is_one_of word names)
+    go : (b : Test) → is_one_of t names ≡ b → is_one_of word (if b then names else names ++ t ∷ [])
+        ≡ (bytes_eq word t || is_one_of word names)
     go false e = among_behind t names word
     go true e = known (bytes_eq word t) refl e

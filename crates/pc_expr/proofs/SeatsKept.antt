@@ -12,7 +12,10 @@ module _ {Ty : Type 0} (has later : Ty → Type 0) (k : (ty : Ty) → has ty →
   seats_kept (Parts types) h = types_kept has later k types.items h
 
   seat_kept : (s : Seat Ty) → HasSeat has s → HasSeat later s
-  seat_kept s h = record { want = any_kept has later k s.want h.want; into = types_kept has later k s.into.items h.into }
+  seat_kept s h = record {
+    want = any_kept has later k s.want h.want;
+    into = types_kept has later k s.into.items h.into;
+  }
 
   pub entry_seats_kept : (s : EntrySeats Ty) → HasEntrySeats has s → HasEntrySeats later s
   entry_seats_kept s h = record { key = seat_kept s.key h.key; value = seat_kept s.value h.value }

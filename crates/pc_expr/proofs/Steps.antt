@@ -1,5 +1,6 @@
 -- One more item of several: their types and what is found in them, from one item to the next.
-use Rattle.std.proofs.Common.{◌≡◌, ◌<◌, ◌+◌, ℕ, zero, suc, List, [], ◌∷◌, ◌++◌, refl, sym, ap, ◌∙◌, map, length, drop, get_or, append_assoc, Option, arith}
+use Rattle.std.proofs.Common.{◌≡◌, ◌<◌, ◌+◌, ℕ, zero, suc, List, [], ◌∷◌, ◌++◌, refl, sym, ap, ◌∙◌, map, length, drop}
+use Rattle.std.proofs.Common.{get_or, append_assoc, Option, arith}
 use Rattle.std.proofs.lemmas.List.{map_push, append-nil, drop_all}
 use Rattle.std.proofs.lemmas.Bool.Decides.{nat_tests}
 use Rattle.std.specs.Prelude.{Bool as Test, true, false, ◌||◌, ◌&&◌, nat_eq, ◌≤◌}
@@ -47,24 +48,35 @@ module _ (k : Standing) (seat : ℕ → Seat) (items : List RustExpr) (i : ℕ) 
   abbrev pub finds_from : List Note
   finds_from = items_find k (seats_from i seat) (exprs_of_list (drop i items))
 
-module _ (k : Standing) (seat : ℕ → Seat) (items : List RustExpr) (i : ℕ) (e : RustExpr) (lt : i < length items) (is : e ≡ get_or items i e) where
+module _ (k : Standing) (seat : ℕ → Seat) (items : List RustExpr) (i : ℕ) (e : RustExpr) (lt : i < length items)
+    (is : e ≡ get_or items i e) where
   types_at : types_from k seat items i ≡ (label_in k (seat i).want (expr_of e)).type ∷ types_from k seat items (i + 1)
   types_at =
       ap (λ es. types_in k (seats_from i seat) (exprs_of_list es)) (cons_at items i e lt is)
       ∙ types_more k (seats_from i seat) (expr_of e) (exprs_of_list (drop (i + 1) items))
-      ∙ ap (λ (s : Seat). (label_in k s.want (expr_of e)).type ∷ types_in k (λ j. seats_from i seat (suc j)) (exprs_of_list (drop (i + 1) items))) (seat_first i seat)
-      ∙ ap (λ (f : ℕ → Seat). (label_in k (seat i).want (expr_of e)).type ∷ types_in k f (exprs_of_list (drop (i + 1) items))) (seats_further i seat)
+      ∙ ap (λ (s : Seat). (label_in k s.want (expr_of e)).type ∷ types_in k (λ j. seats_from i seat (suc j))
+      (exprs_of_list (drop (i + 1) items))) (seat_first i seat)
+      ∙ ap (λ (f : ℕ → Seat). (label_in k (seat i).want (expr_of e)).type ∷ types_in k f
+      (exprs_of_list (drop (i + 1) items))) (seats_further i seat)
 
-  finds_at : finds_from k seat items i ≡ finds_in k (seat i).want (expr_of e) ++ (flows_at (place_of (expr_of e)) (flows_of k.context.bases (label_in k (seat i).want (expr_of e)) (seat i).into) ++ finds_from k seat items (i + 1))
+  finds_at : finds_from k seat items i ≡ finds_in k (seat i).want (expr_of e)
+      ++ (flows_at (place_of (expr_of e)) (flows_of k.context.bases (label_in k (seat i).want (expr_of e))
+      (seat i).into) ++ finds_from k seat items (i + 1))
   finds_at =
       ap (λ es. items_find k (seats_from i seat) (exprs_of_list es)) (cons_at items i e lt is)
       ∙ items_more k (seats_from i seat) (expr_of e) (exprs_of_list (drop (i + 1) items))
-      ∙ ap (λ (s : Seat). finds_in k s.want (expr_of e) ++ (flows_at (place_of (expr_of e)) (flows_of k.context.bases (label_in k s.want (expr_of e)) s.into) ++ items_find k (λ j. seats_from i seat (suc j)) (exprs_of_list (drop (i + 1) items)))) (seat_first i seat)
-      ∙ ap (λ (f : ℕ → Seat). finds_in k (seat i).want (expr_of e) ++ (flows_at (place_of (expr_of e)) (flows_of k.context.bases (label_in k (seat i).want (expr_of e)) (seat i).into) ++ items_find k f (exprs_of_list (drop (i + 1) items)))) (seats_further i seat)
+      ∙ ap (λ (s : Seat). finds_in k s.want (expr_of e) ++ (flows_at (place_of (expr_of e))
+      (flows_of k.context.bases (label_in k s.want (expr_of e)) s.into) ++ items_find k
+      (λ j. seats_from i seat (suc j)) (exprs_of_list (drop (i + 1) items)))) (seat_first i seat)
+      ∙ ap (λ (f : ℕ → Seat). finds_in k (seat i).want (expr_of e)
+      ++ (flows_at (place_of (expr_of e)) (flows_of k.context.bases (label_in k (seat i).want (expr_of e))
+      (seat i).into) ++ items_find k f (exprs_of_list (drop (i + 1) items)))) (seats_further i seat)
 
   -- an item further: the types so far
-  pub types_step : {T : Type 0} (tree : T → Tree) (out : List T) (t : T) (all : List Tree) → tree t ≡ (label_in k (seat i).want (expr_of e)).type →
-      map tree out ++ types_from k seat items i ≡ all → map tree (out ++ t ∷ []) ++ types_from k seat items (i + 1) ≡ all
+  pub types_step : {T : Type 0} (tree : T → Tree) (out : List T) (t : T) (all : List Tree)
+      → tree t ≡ (label_in k (seat i).want (expr_of e)).type →
+      map tree out ++ types_from k seat items i ≡ all → map tree (out ++ t ∷ []) ++ types_from k seat items (i + 1)
+      ≡ all
   types_step tree out t all q h =
       ap (λ l. l ++ types_from k seat items (i + 1)) (map_push tree out t)
       ∙ append_assoc (map tree out) (tree t ∷ []) (types_from k seat items (i + 1))
@@ -73,11 +85,14 @@ module _ (k : Standing) (seat : ℕ → Seat) (items : List RustExpr) (i : ℕ) 
       ∙ h
 
   -- and what is found so far
-  pub finds_step : (old new last all : List Note) → new ≡ old ++ finds_in k (seat i).want (expr_of e) → last ≡ new ++ flows_at (place_of (expr_of e)) (flows_of k.context.bases (label_in k (seat i).want (expr_of e)) (seat i).into) →
+  pub finds_step : (old new last all : List Note) → new ≡ old ++ finds_in k (seat i).want (expr_of e)
+      → last ≡ new ++ flows_at (place_of (expr_of e)) (flows_of k.context.bases (label_in k (seat i).want (expr_of e))
+      (seat i).into) →
       old ++ finds_from k seat items i ≡ all → last ++ finds_from k seat items (i + 1) ≡ all
   finds_step old new last all n l h =
       let a = finds_in k (seat i).want (expr_of e) in
-      let b = flows_at (place_of (expr_of e)) (flows_of k.context.bases (label_in k (seat i).want (expr_of e)) (seat i).into) in
+      let b = flows_at (place_of (expr_of e)) (flows_of k.context.bases (label_in k (seat i).want (expr_of e))
+      (seat i).into) in
       let c = finds_from k seat items (i + 1) in
       ap (λ x. x ++ c) (l ∙ ap (λ x. x ++ b) n)
       ∙ append_assoc (old ++ a) b c
@@ -87,13 +102,18 @@ module _ (k : Standing) (seat : ℕ → Seat) (items : List RustExpr) (i : ℕ) 
 
 -- ---- an item with its seat
 
-module _ (k : Standing) (seat : ℕ → Seat) (items : List RustExpr) (i : ℕ) (e : RustExpr) (lt : i < length items) (is : e ≡ get_or items i e) (w : Option Tree) (wants : w ≡ (seat i).want) where
-  pub seated_types : {T : Type 0} (tree : T → Tree) (out : List T) (l : RustLabel T) (all : List Tree) → label_with tree l ≡ brief (label_in k w (expr_of e)) →
-      map tree out ++ types_from k seat items i ≡ all → map tree (out ++ l.ty ∷ []) ++ types_from k seat items (i + 1) ≡ all
-  seated_types tree out l all m h = types_step k seat items i e lt is tree out l.ty all (type_is tree l (label_in k w (expr_of e)) m ∙ ap (λ x. (label_in k x (expr_of e)).type) wants) h
+module _ (k : Standing) (seat : ℕ → Seat) (items : List RustExpr) (i : ℕ) (e : RustExpr) (lt : i < length items)
+    (is : e ≡ get_or items i e) (w : Option Tree) (wants : w ≡ (seat i).want) where
+  pub seated_types : {T : Type 0} (tree : T → Tree) (out : List T) (l : RustLabel T) (all : List Tree)
+      → label_with tree l ≡ brief (label_in k w (expr_of e)) →
+      map tree out ++ types_from k seat items i ≡ all → map tree (out ++ l.ty ∷ []) ++ types_from k seat items (i + 1)
+      ≡ all
+  seated_types tree out l all m h = types_step k seat items i e lt is tree out l.ty all
+      (type_is tree l (label_in k w (expr_of e)) m ∙ ap (λ x. (label_in k x (expr_of e)).type) wants) h
 
   pub seated_finds : (ts : List Tree) → ts ≡ (seat i).into → (old last all : List Note) →
-      last ≡ old ++ (finds_in k w (expr_of e) ++ flows_at (place_of (expr_of e)) (flows_of k.context.bases (label_in k w (expr_of e)) ts)) →
+      last ≡ old ++ (finds_in k w (expr_of e) ++ flows_at (place_of (expr_of e))
+      (flows_of k.context.bases (label_in k w (expr_of e)) ts)) →
       old ++ finds_from k seat items i ≡ all → last ++ finds_from k seat items (i + 1) ≡ all
   seated_finds ts into old last all l h =
       let p = place_of (expr_of e) in
@@ -101,17 +121,22 @@ module _ (k : Standing) (seat : ℕ → Seat) (items : List RustExpr) (i : ℕ) 
       let flows = flows_at p (flows_of k.context.bases (label_in k w (expr_of e)) ts) in
       let new = old ++ finds in
       finds_step k seat items i e lt is old new last all (ap (λ x. old ++ finds_in k x (expr_of e)) wants)
-      (in_turn old finds flows last l ∙ ap (λ x. new ++ flows_at p (flows_of k.context.bases (label_in k x (expr_of e)) ts)) wants
+      (in_turn old finds flows last l
+      ∙ ap (λ x. new ++ flows_at p (flows_of k.context.bases (label_in k x (expr_of e)) ts)) wants
       ∙ ap (λ y. new ++ flows_at p (flows_of k.context.bases (label_in k (seat i).want (expr_of e)) y)) into) h
 
 -- ---- the end
 
 module _ (k : Standing) (seat : ℕ → Seat) (items : List RustExpr) (i : ℕ) (le : length items ≤ i) where
   pub types_end : (out all : List Tree) → out ++ types_from k seat items i ≡ all → out ≡ all
-  types_end out all h = sym (append-nil out) ∙ ap (λ l. out ++ l) (sym (ap (λ es. types_in k (seats_from i seat) (exprs_of_list es)) (drop_all i items le) ∙ types_none k (seats_from i seat))) ∙ h
+  types_end out all h = sym (append-nil out) ∙ ap (λ l. out ++ l)
+      (sym (ap (λ es. types_in k (seats_from i seat) (exprs_of_list es)) (drop_all i items le)
+      ∙ types_none k (seats_from i seat))) ∙ h
 
   pub finds_end : (out all : List Note) → out ++ finds_from k seat items i ≡ all → out ≡ all
-  finds_end out all h = sym (append-nil out) ∙ ap (λ l. out ++ l) (sym (ap (λ es. items_find k (seats_from i seat) (exprs_of_list es)) (drop_all i items le) ∙ items_none k (seats_from i seat))) ∙ h
+  finds_end out all h = sym (append-nil out) ∙ ap (λ l. out ++ l)
+      (sym (ap (λ es. items_find k (seats_from i seat) (exprs_of_list es)) (drop_all i items le)
+      ∙ items_none k (seats_from i seat))) ∙ h
 
 -- ---- whether the second stands too early
 
@@ -126,7 +151,8 @@ early_from zero k seat es = early_in k seat es
 early_from (suc zero) k seat es = first_early k seat es
 early_from (suc (suc n)) k seat es = false
 
-early_second_is : (k : Standing) (seat : ℕ → Seat) (e : Expr) (es : Exprs) → early_in k seat (more_exprs e es) ≡ first_early k (λ i. seat (suc i)) es
+early_second_is : (k : Standing) (seat : ℕ → Seat) (e : Expr) (es : Exprs) → early_in k seat (more_exprs e es)
+    ≡ first_early k (λ i. seat (suc i)) es
 early_second_is k seat e no_exprs = early_one k seat e
 early_second_is k seat e (more_exprs f es) = early_two k seat e f es
 
@@ -150,23 +176,36 @@ early_empty (suc (suc n)) k seat = refl
 
 module _ (k : Standing) (seat : ℕ → Seat) (items : List RustExpr) (e : RustExpr) where
   early_at : (i : ℕ) → i < length items → e ≡ get_or items i e →
-      early_from i k (seats_from i seat) (exprs_of_list (drop i items)) ≡ ((nat_eq i 1 && is_early (label_in k (seat i).want (expr_of e)).codes) || early_from (i + 1) k (seats_from (i + 1) seat) (exprs_of_list (drop (i + 1) items)))
-  early_at zero lt is = ap (λ es. early_in k seat (exprs_of_list es)) (cons_at items 0 e lt is) ∙ early_second_is k seat (expr_of e) (exprs_of_list (drop 1 items))
-  early_at (suc zero) lt is = ap (λ es. first_early k (seats_from 1 seat) (exprs_of_list es)) (cons_at items 1 e lt is) ∙ sym (or_none (is_early (label_in k (seat 1).want (expr_of e)).codes))
+      early_from i k (seats_from i seat) (exprs_of_list (drop i items))
+      ≡ ((nat_eq i 1 && is_early (label_in k (seat i).want (expr_of e)).codes) || early_from (i + 1) k
+      (seats_from (i + 1) seat) (exprs_of_list (drop (i + 1) items)))
+  early_at zero lt is = ap (λ es. early_in k seat (exprs_of_list es)) (cons_at items 0 e lt is)
+      ∙ early_second_is k seat (expr_of e) (exprs_of_list (drop 1 items))
+  early_at (suc zero) lt is = ap (λ es. first_early k (seats_from 1 seat) (exprs_of_list es)) (cons_at items 1 e lt is)
+      ∙ sym (or_none (is_early (label_in k (seat 1).want (expr_of e)).codes))
   early_at (suc (suc n)) lt is =
       let other : nat_eq (suc (suc n)) 1 ≡ false = grind (arith, nat_tests) in
-      let past : early_from (suc (suc n) + 1) k (seats_from (suc (suc n) + 1) seat) (exprs_of_list (drop (suc (suc n) + 1) items)) ≡ false = early_past (suc (suc n) + 1) (omega arith) k (seats_from (suc (suc n) + 1) seat) (exprs_of_list (drop (suc (suc n) + 1) items)) in
-      sym (ap (λ b. (b && is_early (label_in k (seat (suc (suc n))).want (expr_of e)).codes) || early_from (suc (suc n) + 1) k (seats_from (suc (suc n) + 1) seat) (exprs_of_list (drop (suc (suc n) + 1) items))) other ∙ past)
+      let past : early_from (suc (suc n) + 1) k (seats_from (suc (suc n) + 1) seat)
+      (exprs_of_list (drop (suc (suc n) + 1) items)) ≡ false = early_past (suc (suc n) + 1) (omega arith) k
+      (seats_from (suc (suc n) + 1) seat) (exprs_of_list (drop (suc (suc n) + 1) items)) in
+      sym (ap (λ b. (b && is_early (label_in k (seat (suc (suc n))).want (expr_of e)).codes) || early_from
+      (suc (suc n) + 1) k (seats_from (suc (suc n) + 1) seat) (exprs_of_list (drop (suc (suc n) + 1) items))) other
+      ∙ past)
 
-  pub early_step : (i : ℕ) → i < length items → e ≡ get_or items i e → (early next all : Test) (codes : List Code) → codes ≡ once (label_in k (seat i).want (expr_of e)).codes → next ≡ (early || (nat_eq i 1 && is_early codes)) →
-      (early || early_from i k (seats_from i seat) (exprs_of_list (drop i items))) ≡ all → (next || early_from (i + 1) k (seats_from (i + 1) seat) (exprs_of_list (drop (i + 1) items))) ≡ all
+  pub early_step : (i : ℕ) → i < length items → e ≡ get_or items i e → (early next all : Test) (codes : List Code)
+      → codes ≡ once (label_in k (seat i).want (expr_of e)).codes → next ≡ (early || (nat_eq i 1 && is_early codes)) →
+      (early || early_from i k (seats_from i seat) (exprs_of_list (drop i items))) ≡ all
+      → (next || early_from (i + 1) k (seats_from (i + 1) seat) (exprs_of_list (drop (i + 1) items))) ≡ all
   early_step i lt is early next all codes once_is n h =
       let rest = early_from (i + 1) k (seats_from (i + 1) seat) (exprs_of_list (drop (i + 1) items)) in
-      ap (λ b. b || rest) (n ∙ ap (λ cs. early || (nat_eq i 1 && is_early cs)) once_is ∙ ap (λ b. early || (nat_eq i 1 && b)) (once_early (label_in k (seat i).want (expr_of e)).codes))
+      ap (λ b. b || rest) (n ∙ ap (λ cs. early || (nat_eq i 1 && is_early cs)) once_is
+      ∙ ap (λ b. early || (nat_eq i 1 && b)) (once_early (label_in k (seat i).want (expr_of e)).codes))
       ∙ or_in_turn early (nat_eq i 1 && is_early (label_in k (seat i).want (expr_of e)).codes) rest
       ∙ ap (λ b. early || b) (sym (early_at i lt is))
       ∙ h
 
-pub early_end : (k : Standing) (seat : ℕ → Seat) (items : List RustExpr) (i : ℕ) → length items ≤ i → (early all : Test) → (early || early_from i k (seats_from i seat) (exprs_of_list (drop i items))) ≡ all → early ≡ all
+pub early_end : (k : Standing) (seat : ℕ → Seat) (items : List RustExpr) (i : ℕ) → length items ≤ i → (early all : Test)
+    → (early || early_from i k (seats_from i seat) (exprs_of_list (drop i items))) ≡ all → early ≡ all
 early_end k seat items i le early all h =
-    sym (or_none early) ∙ ap (λ b. early || b) (sym (ap (λ es. early_from i k (seats_from i seat) (exprs_of_list es)) (drop_all i items le) ∙ early_empty i k (seats_from i seat))) ∙ h
+    sym (or_none early) ∙ ap (λ b. early || b) (sym (ap (λ es. early_from i k (seats_from i seat) (exprs_of_list es))
+    (drop_all i items le) ∙ early_empty i k (seats_from i seat))) ∙ h

@@ -56,12 +56,14 @@ fn junction_condition<S: TypeStore>(
         (env_of S.tree settled) (env_of S.tree (way_out junction.now.connective second.ways)) }
     ensures labelled { IfOk result
         (λ n. IsLabel S.TypeStore checker.new n.label
-        (clean (join_or_object setting.now.globals.now.outline.now.parents.now (S.tree first.now.ty) (S.tree second.label.ty)))) }
+        (clean (join_or_object setting.now.globals.now.outline.now.parents.now (S.tree first.now.ty)
+        (S.tree second.label.ty)))) }
     ensures asked { IfOk result
         (λ n. way_on junction.now.connective n.ways ≡ way_on junction.now.connective second.ways) }
     ensures met { IfOk result
         (λ n. GivesEnv S.has S.tree checker.new.store.now (way_out junction.now.connective n.ways)
-        (join_env setting.now.globals.now.outline.now.parents.now (declared_of S.tree setting.now.declared.now) (env_of S.tree settled)
+        (join_env setting.now.globals.now.outline.now.parents.now (declared_of S.tree setting.now.declared.now)
+        (env_of S.tree settled)
         (env_of S.tree (way_out junction.now.connective second.ways)))) }
     ensures found { checker.new.found.now ≡ checker.old.found.now }
     ensures goes_on { GoesOn S.TypeStore checker.old checker.new }

@@ -71,7 +71,8 @@ pub(crate) fn label_dict<S: TypeStore>(
     ensures value { IfOk result
         (λ l. MeansLabel S.has S.tree store.new l
         (dict_label (context_with S.tree setting.now) (declared_of S.tree setting.now.declared.now)
-        (static_test setting.now.globals.now.outline.now.parents.now) (assignable_test setting.now.globals.now.outline.now.parents.now)
+        (static_test setting.now.globals.now.outline.now.parents.now)
+        (assignable_test setting.now.globals.now.outline.now.parents.now)
         (dict_parts (members_of_expected (option_map S.tree want.now))) (map S.tree types.now.keys.items)
         (map S.tree types.now.values.items))) }
     ensures kept { KeepsTypes S.has store.old store.new }

@@ -39,7 +39,8 @@ fn find_range<S: TypeStore>(
     requires { Stands S.TypeStore checker.old setting.now env.now }
     ensures found { OnOk result (Finds checker.old checker.new
         (range_finds (standing_of S.tree setting.now env.now) range.now.place
-        (expr_of range.now.callee.now) (exprs_of_list range.now.arguments.now) (keywords_of_list range.now.by_name.now))) }
+        (expr_of range.now.callee.now) (exprs_of_list range.now.arguments.now)
+        (keywords_of_list range.now.by_name.now))) }
     ensures goes_on { GoesOn S.TypeStore checker.old checker.new }
 {
     let given = given(checker.alloc, range.arguments, range.by_name)?;
@@ -66,7 +67,8 @@ pub fn type_range<S: TypeStore>(
         (range_item (arguments_given (exprs_of_list range.now.arguments.now) (keywords_of_list range.now.by_name.now)))) }
     ensures found { OnOk result (Finds checker.old checker.new
         (range_finds (standing_of S.tree setting.now env.now) range.now.place
-        (expr_of range.now.callee.now) (exprs_of_list range.now.arguments.now) (keywords_of_list range.now.by_name.now))) }
+        (expr_of range.now.callee.now) (exprs_of_list range.now.arguments.now)
+        (keywords_of_list range.now.by_name.now))) }
     ensures goes_on { GoesOn S.TypeStore checker.old checker.new }
 {
     find_range(checker, setting, env, range)?;

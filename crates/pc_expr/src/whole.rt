@@ -46,7 +46,8 @@ fn length_label<S: TypeStore>(
     requires classes { HasEntries (S.has store.old) setting.now.globals.now.classes.now }
     requires types { All (S.has store.old) types.now }
     ensures label { IfOk result
-        (λ l. MeansLabel S.has S.tree store.new l (length_label setting.now.globals.now.outline.now.parents.now (map S.tree types.now))) }
+        (λ l. MeansLabel S.has S.tree store.new l (length_label setting.now.globals.now.outline.now.parents.now
+        (map S.tree types.now))) }
     ensures kept { KeepsTypes S.has store.old store.new }
 {
     let ty = first_type(store, alloc, types)?;

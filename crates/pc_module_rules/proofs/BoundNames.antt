@@ -29,7 +29,11 @@ among_cases : (word : List ℕ) (xs ys : List (List ℕ)) → IsAmong word (xs +
 among_cases word [] ys h = inr h
 among_cases word (x ∷ xs) ys h = elim (or_cases (bytes_eq word x) (is_one_of word (xs ++ ys)) h) [
   | inl e ↦ inl (or_left (bytes_eq word x) (is_one_of word xs) e)
-  | inr r ↦ elim (among_cases word xs ys r) [ inl a ↦ inl (or_right (bytes_eq word x) (is_one_of word xs) a) | inr b ↦ inr b ]
+  | inr r ↦ elim (among_cases word xs ys r) [
+    | inl a ↦ inl (or_right (bytes_eq word x) (is_one_of word xs) a)
+    | inr b ↦
+        inr b
+  ]
 ]
 
 pub within_right : (xs seen : NamesBound) → Within seen (xs ++ seen)
@@ -44,7 +48,8 @@ texts_left word (n ∷ a) b h = elim (or_cases (bytes_eq word n.text) (is_one_of
 
 texts_right : (word : List ℕ) (a b : List Name) → IsAmong word (texts b) → IsAmong word (texts (a ++ b))
 texts_right word [] b h = h
-texts_right word (n ∷ a) b h = or_right (bytes_eq word n.text) (is_one_of word (texts (a ++ b))) (texts_right word a b h)
+texts_right word (n ∷ a) b h = or_right (bytes_eq word n.text) (is_one_of word (texts (a ++ b)))
+    (texts_right word a b h)
 
 -- names one after another are names of both
 pub within_both : (a b : List Name) (seen : NamesBound) → Within (texts b ++ (texts a ++ seen)) (texts (a ++ b) ++ seen)
@@ -62,5 +67,6 @@ here_among word seen = or_left (bytes_eq word word) (is_one_of word seen) (same_
 pub within_one : (word : List ℕ) (seen : NamesBound) → Within seen (word ∷ seen)
 within_one word seen w a = or_right (bytes_eq w word) (is_one_of w seen) a
 
-pub within_later : (n : Name) (ns : List Name) (seen : NamesBound) → Within (texts ns ++ (n.text ∷ seen)) (n.text ∷ (texts ns ++ seen))
+pub within_later : (n : Name) (ns : List Name) (seen : NamesBound)
+    → Within (texts ns ++ (n.text ∷ seen)) (n.text ∷ (texts ns ++ seen))
 within_later n ns seen = within_both (n ∷ []) ns seen

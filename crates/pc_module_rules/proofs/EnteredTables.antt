@@ -13,7 +13,8 @@ use Rattle.pc_flow.proofs.Conditions.{assign_well_formed}
 use Rattle.pc_module_rules.specs.Statements.{NamesBound}
 use Rattle.pc_module_rules.specs.Modules.{DeclaredEntry, LawfulEntry, assigned_at_entry, entry_env, names_entered}
 use Rattle.pc_module_rules.specs.Laws.Labellings.{Setting}
-use Rattle.pc_module_rules.specs.Computed.Statements.{Table, type_table, bound_type, with_declared, enter_local, enter_name, enter_parameters}
+use Rattle.pc_module_rules.specs.Computed.Statements.{Table, type_table, bound_type, with_declared, enter_local}
+use Rattle.pc_module_rules.specs.Computed.Statements.{enter_name, enter_parameters}
 use Rattle.pc_module_rules.specs.Laws.Walks.{TableFits, EnvFits}
 use Rattle.pc_module_rules.proofs.BoundNames.{here_among}
 use Rattle.pc_module_rules.proofs.LabelledFunctions.{none_well_formed}
@@ -32,36 +33,57 @@ module _ (setting : Setting) (declared : List Tree) where
     pub env_fits : EnvFits setting declared start.0 env
 
   -- a parameter
-  module _ (seen : NamesBound) (table : Table) (env : Env) (t : TableFits setting declared seen table) (f : EnvFits setting declared table env) (word : List ℕ) (type : Tree) (k : IsWellFormed ctx.bases type) where
-    local_entered : (x : ℕ) → ctx.resolve word ≡ res.Local x → DeclaredEntry declared (not (is_one_of word seen)) (res.Local x) type → EntryFits (word ∷ seen) (enter_local (bound_type table x) table env x type) (assigned_at_entry (not (is_one_of word seen)) (res.Local x) type env)
+  module _ (seen : NamesBound) (table : Table) (env : Env) (t : TableFits setting declared seen table)
+      (f : EnvFits setting declared table env) (word : List ℕ) (type : Tree) (k : IsWellFormed ctx.bases type) where
+    local_entered : (x : ℕ) → ctx.resolve word ≡ res.Local x → DeclaredEntry declared (not (is_one_of word seen))
+        (res.Local x) type → EntryFits (word ∷ seen) (enter_local (bound_type table x) table env x type)
+        (assigned_at_entry (not (is_one_of word seen)) (res.Local x) type env)
     local_entered x i d = go (is_one_of word seen) refl d
       where
-        is_type : (b : Test) → b ≡ false → DeclaredEntry declared (not b) (res.Local x) type → declared_type declared x ≡ type
+        is_type : (b : Test) → b ≡ false → DeclaredEntry declared (not b) (res.Local x) type → declared_type declared x
+            ≡ type
         is_type true e d = absurd (grind (arith, e))
         is_type false e d = d
 
         nf : NameFits setting declared seen word table (with_declared (bound_type table x) table x type)
         nf = name_fits setting declared seen word x i table t type (λ e. is_type (is_one_of word seen) e d) k
 
-        go : (b : Test) → is_one_of word seen ≡ b → DeclaredEntry declared (not b) (res.Local x) type → EntryFits (word ∷ seen) (enter_local (bound_type table x) table env x type) (assigned_at_entry (not b) (res.Local x) type env)
+        go : (b : Test) → is_one_of word seen ≡ b → DeclaredEntry declared (not b) (res.Local x) type
+            → EntryFits (word ∷ seen) (enter_local (bound_type table x) table env x type)
+            (assigned_at_entry (not b) (res.Local x) type env)
         go true e d =
             let here : bound_type table x ≡ Some (declared_type declared x) = t.bound word x e i in
             subst (λ o. EntryFits (word ∷ seen) (enter_local o table env x type) env) (sym here)
-            (record { fits = (subst (λ o. NameFits setting declared seen word table (with_declared o table x type)) here nf).fits; env_is = refl; env_fits = f })
+            (record {
+              fits = (subst (λ o. NameFits setting declared seen word table (with_declared o table x type)) here
+                  nf).fits;
+              env_is = refl;
+              env_fits = f;
+            })
         go false e d =
             let here : bound_type table x ≡ None = t.unbound word x e i in
             let more = slice_set table x (Some type) in
-            let new : NameFits setting declared seen word table more = subst (λ o. NameFits setting declared seen word table (with_declared o table x type)) here nf in
-            let same : declared_type declared x ≡ declared_type (type_table more) x = sym (type_of_bound more x ∙ ap (λ o. unwrap_or o Any) (new.fits.bound word x (here_among word seen) i)) in
+            let new : NameFits setting declared seen word table more =
+            subst (λ o. NameFits setting declared seen word table (with_declared o table x type)) here nf in
+            let same : declared_type declared x ≡ declared_type (type_table more) x =
+            sym (type_of_bound more x ∙ ap (λ o. unwrap_or o Any)
+            (new.fits.bound word x (here_among word seen) i)) in
             subst (λ o. EntryFits (word ∷ seen) (enter_local o table env x type) (assign env x type)) (sym here)
             (record {
               fits = new.fits;
               env_is = refl;
-              env_fits = record { same = assign_kept declared (type_table more) env x type (new.grows env f).same same; well_formed = assign_well_formed ctx.bases env x type k f.well_formed };
+              env_fits = record {
+                same = assign_kept declared (type_table more) env x type (new.grows env f).same same;
+                well_formed = assign_well_formed ctx.bases env x type k f.well_formed;
+              };
             })
 
     other_entered : ((x : ℕ) → ctx.resolve word ≡ res.Local x → ⊥) → EntryFits (word ∷ seen) (table, env) env
-    other_entered other = record { fits = (other_fits setting declared seen word table other t).fits; env_is = refl; env_fits = f }
+    other_entered other = record {
+      fits = (other_fits setting declared seen word table other t).fits;
+      env_is = refl;
+      env_fits = f;
+    }
 
     none_entered : (b : Test) (r : Res) → ((x : ℕ) → r ≡ res.Local x → ⊥) → assigned_at_entry b r type env ≡ env
     none_entered b (res.Local x) other = absurd (other x refl)
@@ -76,10 +98,14 @@ module _ (setting : Setting) (declared : List Tree) where
     none_entered false (res.Builtin c) other = refl
     none_entered false res.None other = refl
 
-    plain_entered : (r : Res) → ctx.resolve word ≡ r → ((x : ℕ) → r ≡ res.Local x → ⊥) → EntryFits (word ∷ seen) (table, env) (assigned_at_entry (not (is_one_of word seen)) r type env)
-    plain_entered r i other = subst (EntryFits (word ∷ seen) (table, env)) (sym (none_entered (not (is_one_of word seen)) r other)) (other_entered (λ x j. other x (sym i ∙ j)))
+    plain_entered : (r : Res) → ctx.resolve word ≡ r → ((x : ℕ) → r ≡ res.Local x → ⊥)
+        → EntryFits (word ∷ seen) (table, env) (assigned_at_entry (not (is_one_of word seen)) r type env)
+    plain_entered r i other = subst (EntryFits (word ∷ seen) (table, env))
+        (sym (none_entered (not (is_one_of word seen)) r other)) (other_entered (λ x j. other x (sym i ∙ j)))
 
-    name_entered : (r : Res) → ctx.resolve word ≡ r → DeclaredEntry declared (not (is_one_of word seen)) r type → EntryFits (word ∷ seen) (enter_name table env r type) (assigned_at_entry (not (is_one_of word seen)) r type env)
+    name_entered : (r : Res) → ctx.resolve word ≡ r → DeclaredEntry declared (not (is_one_of word seen)) r type
+        → EntryFits (word ∷ seen) (enter_name table env r type) (assigned_at_entry (not (is_one_of word seen)) r type
+        env)
     name_entered (res.Local x) i d = local_entered x i d
     name_entered (res.Const c) i d = plain_entered (res.Const c) i (λ x j. absurd (grind (arith, j)))
     name_entered (res.Func c) i d = plain_entered (res.Func c) i (λ x j. absurd (grind (arith, j)))
@@ -88,14 +114,18 @@ module _ (setting : Setting) (declared : List Tree) where
     name_entered res.None i d = plain_entered res.None i (λ x j. absurd (grind (arith, j)))
 
   -- all parameters
-  pub all_entered : (seen : NamesBound) (table : Table) (env : Env) → TableFits setting declared seen table → EnvFits setting declared table env → (ps : List TypedParameter) → ParametersWellFormed ctx.bases ps → LawfulEntry ctx.resolve declared seen ps
-      → EntryFits (names_entered seen ps) (enter_parameters ctx.resolve table env ps) (entry_env ctx.resolve seen ps env)
+  pub all_entered : (seen : NamesBound) (table : Table) (env : Env) → TableFits setting declared seen table
+      → EnvFits setting declared table env → (ps : List TypedParameter) → ParametersWellFormed ctx.bases ps
+      → LawfulEntry ctx.resolve declared seen ps
+      → EntryFits (names_entered seen ps) (enter_parameters ctx.resolve table env ps)
+      (entry_env ctx.resolve seen ps env)
   all_entered seen table env t f [] k l = record { fits = t; env_is = refl; env_fits = f }
   all_entered seen table env t f (p ∷ ps) k l =
       let one = name_entered seen table env t f p.name p.type k.0 (ctx.resolve p.name) refl l.0 in
       let r = enter_name table env (ctx.resolve p.name) p.type in
       let next = assigned_at_entry (not (is_one_of p.name seen)) (ctx.resolve p.name) p.type env in
-      subst (λ e. EntryFits (names_entered (p.name ∷ seen) ps) (enter_parameters ctx.resolve r.0 e ps) (entry_env ctx.resolve (p.name ∷ seen) ps next)) (sym one.env_is)
+      subst (λ e. EntryFits (names_entered (p.name ∷ seen) ps) (enter_parameters ctx.resolve r.0 e ps)
+      (entry_env ctx.resolve (p.name ∷ seen) ps next)) (sym one.env_is)
       (all_entered (p.name ∷ seen) r.0 next one.fits one.env_fits ps k.1 l.1)
 
   -- before the first one
@@ -115,8 +145,10 @@ module _ (setting : Setting) (declared : List Tree) where
     unbound = λ w x a r. none_bound setting.count x;
   }
 
-  pub none_assigned_fits : length declared ≡ setting.count → EnvFits setting declared (none_assigned setting.count) (none_assigned setting.count)
+  pub none_assigned_fits : length declared ≡ setting.count → EnvFits setting declared (none_assigned setting.count)
+      (none_assigned setting.count)
   none_assigned_fits l = record {
-    same = none_kept declared (type_table (none_assigned setting.count)) setting.count l (long_types (none_assigned setting.count) ∙ long_none setting.count);
+    same = none_kept declared (type_table (none_assigned setting.count)) setting.count l
+        (long_types (none_assigned setting.count) ∙ long_none setting.count);
     well_formed = none_well_formed ctx.bases setting.count;
   }

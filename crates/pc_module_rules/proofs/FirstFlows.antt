@@ -1,5 +1,7 @@
--- The first dynamic flow at a place; notes that tell of just the dynamic flows of a list, at each place of the first one there.
-use Rattle.std.proofs.Common.{◌≡◌, List, [], ◌∷◌, ◌++◌, Option, Some, None, refl, sym, ap, ◌∙◌, subst, inl, inr, map, append_assoc, Contains}
+-- The first dynamic flow at a place; notes that tell of just the dynamic flows of a list, at each place of the first
+-- one there.
+use Rattle.std.proofs.Common.{◌≡◌, List, [], ◌∷◌, ◌++◌, Option, Some, None, refl, sym, ap, ◌∙◌, subst, inl, inr, map}
+use Rattle.std.proofs.Common.{append_assoc, Contains}
 use Rattle.std.specs.Prelude.{Bool as Test, true, false, if◌then◌else◌, unwrap_or}
 use Rattle.std.proofs.lemmas.Bool.{false≢true}
 use Rattle.pc_source.specs.declared.place.Place.{Place}
@@ -32,7 +34,8 @@ pub same_either : (b : Test) (o : Pair) → (if b then o else o) ≡ o
 same_either true o = refl
 same_either false o = refl
 
-if_or : (b : Test) (o a c : Pair) → (if b then or_else o (or_else a c) else or_else a c) ≡ or_else (if b then or_else o a else a) c
+if_or : (b : Test) (o a c : Pair) → (if b then or_else o (or_else a c) else or_else a c)
+    ≡ or_else (if b then or_else o a else a) c
 if_or true None a c = refl
 if_or true (Some f) a c = refl
 if_or false o a c = refl
@@ -48,13 +51,16 @@ abbrev pub first_at : Place → List DynamicFlow → Pair
 first_at p [] = None
 first_at p (d ∷ ds) = at_or p d (first_at p ds)
 
-pub noted_append : (p : Place) (xs ys : List Note) → flow_noted p (xs ++ ys) ≡ or_else (flow_noted p xs) (flow_noted p ys)
+pub noted_append : (p : Place) (xs ys : List Note) → flow_noted p (xs ++ ys) ≡ or_else (flow_noted p xs)
+    (flow_noted p ys)
 noted_append p [] ys = refl
-noted_append p (n ∷ ns) ys = ap (flow_or p n) (noted_append p ns ys) ∙ if_or (is_same_place p n.finding.place) n.flow (flow_noted p ns) (flow_noted p ys)
+noted_append p (n ∷ ns) ys = ap (flow_or p n) (noted_append p ns ys) ∙ if_or (is_same_place p n.finding.place) n.flow
+    (flow_noted p ns) (flow_noted p ys)
 
 first_append : (p : Place) (ds es : List DynamicFlow) → first_at p (ds ++ es) ≡ or_else (first_at p ds) (first_at p es)
 first_append p [] es = refl
-first_append p (d ∷ ds) es = ap (at_or p d) (first_append p ds es) ∙ if_or (is_same_place p d.place) (Some (d.from, d.into)) (first_at p ds) (first_at p es)
+first_append p (d ∷ ds) es = ap (at_or p d) (first_append p ds es)
+    ∙ if_or (is_same_place p d.place) (Some (d.from, d.into)) (first_at p ds) (first_at p es)
 
 -- ---- notes that tell of just these flows
 
@@ -90,18 +96,23 @@ pub grow : (found xs : List Note) (ds : List DynamicFlow) → Tells xs ds → Gr
 grow found xs ds h = λ p. noted_append p found xs ∙ ap (λ (o : Pair). or_else (flow_noted p found) o) (h p)
 
 pub grow_then : (f g h : List Note) (ds es : List DynamicFlow) → Grows f g ds → Grows g h es → Grows f h (ds ++ es)
-grow_then f g h ds es a b = λ p. b p ∙ ap (λ (o : Pair). or_else o (first_at p es)) (a p) ∙ or_assoc (flow_noted p f) (first_at p ds) (first_at p es) ∙ sym (ap (λ (o : Pair). or_else (flow_noted p f) o) (first_append p ds es))
+grow_then f g h ds es a b = λ p. b p ∙ ap (λ (o : Pair). or_else o (first_at p es)) (a p)
+    ∙ or_assoc (flow_noted p f) (first_at p ds) (first_at p es)
+    ∙ sym (ap (λ (o : Pair). or_else (flow_noted p f) o) (first_append p ds es))
 
 -- with more before
 pub grow_behind : (f xs h : List Note) (es : List DynamicFlow) → Tells xs [] → Grows (f ++ xs) h es → Grows f h es
 grow_behind f xs h es a b = grow_then f (f ++ xs) h [] es (grow f xs [] a) b
 
 -- of notes that tell of just these flows, with more behind them
-pub tell_grown : (found after : List Note) (ds es : List DynamicFlow) → Tells found ds → Grows found after es → Tells after (ds ++ es)
-tell_grown found after ds es h k = λ p. k p ∙ ap (λ (o : Pair). or_else o (first_at p es)) (h p) ∙ sym (first_append p ds es)
+pub tell_grown : (found after : List Note) (ds es : List DynamicFlow) → Tells found ds → Grows found after es
+    → Tells after (ds ++ es)
+tell_grown found after ds es h k = λ p. k p ∙ ap (λ (o : Pair). or_else o (first_at p es)) (h p)
+    ∙ sym (first_append p ds es)
 
 -- of flows in other brackets
-pub grow_grouped : (found after : List Note) (a b c : List DynamicFlow) → Grows found after (a ++ (b ++ c)) → Grows found after ((a ++ b) ++ c)
+pub grow_grouped : (found after : List Note) (a b c : List DynamicFlow) → Grows found after (a ++ (b ++ c))
+    → Grows found after ((a ++ b) ++ c)
 grow_grouped found after a b c h = subst (Grows found after) (sym (append_assoc a b c)) h
 
 -- ---- the first flow at a place stands behind none there
@@ -118,19 +129,24 @@ module _ (p : Place) (s t : Tree) where
   abbrev here : DynamicFlow
   here = record { place = p; from = s; into = t }
 
-  first_of_order : (before behind : List DynamicFlow) → ((d : DynamicFlow) → Contains before d → ¬ (d.place ≡ p)) → first_at p (before ++ (here ∷ behind)) ≡ Some (s, t)
-  first_of_order [] behind none = ap (λ (b : Test). if b then or_else (Some (s, t)) (first_at p behind) else first_at p behind) (own_place p)
+  first_of_order : (before behind : List DynamicFlow) → ((d : DynamicFlow) → Contains before d → ¬ (d.place ≡ p))
+      → first_at p (before ++ (here ∷ behind)) ≡ Some (s, t)
+  first_of_order [] behind none = ap (λ (b : Test). if b then or_else (Some (s, t)) (first_at p behind) else first_at p
+      behind) (own_place p)
   first_of_order (d ∷ ds) behind none =
       let rest = first_at p (ds ++ (here ∷ behind)) in
-      ap (λ (b : Test). if b then or_else (Some (d.from, d.into)) rest else rest) (other_place p d.place (none d (first_among d ds)))
+      ap (λ (b : Test). if b then or_else (Some (d.from, d.into)) rest else rest)
+      (other_place p d.place (none d (first_among d ds)))
       ∙ first_of_order ds behind (λ e h. none e (later_among d ds e h))
 
   pub first_is : (flows : List DynamicFlow) → IsFirstAt p s t flows → first_at p flows ≡ Some (s, t)
   first_is flows h = ap (first_at p) h.order ∙ first_of_order h.before h.behind h.none_before
 
   -- the flow at the head, or one behind it
-  first_or : (d : DynamicFlow) (ds : List DynamicFlow) (b : Test) → is_same_place p d.place ≡ b → (first_at p ds ≡ Some (s, t) → IsFirstAt p s t ds)
-      → (if b then or_else (Some (d.from, d.into)) (first_at p ds) else first_at p ds) ≡ Some (s, t) → IsFirstAt p s t (d ∷ ds)
+  first_or : (d : DynamicFlow) (ds : List DynamicFlow) (b : Test) → is_same_place p d.place ≡ b
+      → (first_at p ds ≡ Some (s, t) → IsFirstAt p s t ds)
+      → (if b then or_else (Some (d.from, d.into)) (first_at p ds) else first_at p ds) ≡ Some (s, t)
+      → IsFirstAt p s t (d ∷ ds)
   first_or d ds true e rest is =
       let types : (d.from, d.into) ≡ (s, t) = ap (λ (o : Pair). unwrap_or o (s, t)) is in
       record {
@@ -146,7 +162,8 @@ module _ (p : Place) (s t : Tree) where
         behind = h.behind;
         order = ap (λ (l : List DynamicFlow). d ∷ l) h.order;
         none_before = λ f k. elim (among_first d h.before f k) [
-          | inl same ↦ λ there. false≢true (sym e ∙ subst (λ (q : Place). is_same_place p q ≡ true) (sym (ap (λ (x : DynamicFlow). x.place) same ∙ there)) (own_place p))
+          | inl same ↦ λ there. false≢true (sym e ∙ subst (λ (q : Place). is_same_place p q ≡ true)
+              (sym (ap (λ (x : DynamicFlow). x.place) same ∙ there)) (own_place p))
           | inr r ↦ h.none_before f r
         ];
       }

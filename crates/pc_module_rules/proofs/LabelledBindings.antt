@@ -15,11 +15,13 @@ use Rattle.pc_rules.specs.Context.{FlowsInto}
 use Rattle.pc_rules.specs.Labels.{FlowLabels, Labels, whole_label, type_of}
 use Rattle.pc_rules.specs.Lawful.{Lawful}
 use Rattle.pc_module_rules.specs.StatementLabels.{OptionLabels}
-use Rattle.pc_module_rules.specs.Statements.{DeclaredAt, LawfulAnnotated, LawfulBinding, LawfulDeclaration, NamesBound, annotation_at, is_first, known_type, only_code}
+use Rattle.pc_module_rules.specs.Statements.{DeclaredAt, LawfulAnnotated, LawfulBinding, LawfulDeclaration, NamesBound}
+use Rattle.pc_module_rules.specs.Statements.{annotation_at, is_first, known_type, only_code}
 use Rattle.pc_flow.proofs.Conditions.{assigned_well_formed}
 use Rattle.pc_module_rules.specs.Laws.Labellings.{Agree, IsDeclaredTable, Setting, GoesByNames}
 use Rattle.pc_module_rules.proofs.BoundNames.{here_among, within_one}
-use Rattle.pc_module_rules.proofs.Tables.{assign_settled, declared_well_formed, same_less, same_on, same_self, set_is, set_same, set_table, settled_on, still_same}
+use Rattle.pc_module_rules.proofs.Tables.{assign_settled, declared_well_formed, same_less, same_on, same_self, set_is}
+use Rattle.pc_module_rules.proofs.Tables.{set_same, set_table, settled_on, still_same}
 use Rattle.pc_module_rules.proofs.LabelledExpressions.{expr_labelled, flows_labelled}
 
 local_inj : {x y : ℕ} → res.Local x ≡ res.Local y → x ≡ y
@@ -39,21 +41,39 @@ module _ (setting : Setting) where
     pub table : List Tree
     pub is_table : IsDeclaredTable setting table
     pub same : Agree ctx ds table seen
-    pub is : (F : List Tree) → Agree ctx table F (word ∷ seen) → (x : ℕ) → r ≡ res.Local x → not (is_one_of word seen) ≡ true → declared_type F x ≡ t
+    pub is : (F : List Tree) → Agree ctx table F (word ∷ seen) → (x : ℕ) → r ≡ res.Local x → not (is_one_of word seen)
+        ≡ true → declared_type F x ≡ t
 
-  unset : (ds : List Tree) (seen : NamesBound) → IsDeclaredTable setting ds → (word : List ℕ) (r : Res) (t : Tree) → ((x : ℕ) → r ≡ res.Local x → ⊥) → NameSet ds seen word r t
-  unset ds seen g word r t nowhere_local = record { table = ds; is_table = g; same = same_self setting ds seen; is = λ F s x i e. absurd (nowhere_local x i) }
+  unset : (ds : List Tree) (seen : NamesBound) → IsDeclaredTable setting ds → (word : List ℕ) (r : Res) (t : Tree)
+      → ((x : ℕ) → r ≡ res.Local x → ⊥) → NameSet ds seen word r t
+  unset ds seen g word r t nowhere_local = record {
+    table = ds;
+    is_table = g;
+    same = same_self setting ds seen;
+    is =
+        λ F s x i e. absurd (nowhere_local x i);
+  }
 
-  pub local_set : (ds : List Tree) (seen : NamesBound) → IsDeclaredTable setting ds → (word : List ℕ) (x : ℕ) → ctx.resolve word ≡ res.Local x → (t : Tree) → IsWellFormed ctx.bases t → (b : Test) → not (is_one_of word seen) ≡ b → NameSet ds seen word (res.Local x) t
+  pub local_set : (ds : List Tree) (seen : NamesBound) → IsDeclaredTable setting ds → (word : List ℕ) (x : ℕ)
+      → ctx.resolve word ≡ res.Local x → (t : Tree) → IsWellFormed ctx.bases t → (b : Test) → not (is_one_of word seen)
+      ≡ b → NameSet ds seen word (res.Local x) t
   local_set ds seen g word x i t k true e = record {
     table = slice_set ds x t;
     is_table = set_table setting ds x t g k;
     same = set_same setting ds seen word x t (not_first (is_one_of word seen) e) i;
-    is = λ F s y j f. let q : x ≡ y = local_inj j in sym (s word y (here_among word seen) (i ∙ ap res.Local q)) ∙ ap (λ z. declared_type (slice_set ds x t) z) (sym q) ∙ set_is setting ds word x t g i;
+    is = λ F s y j f. let q : x ≡ y = local_inj j in sym (s word y (here_among word seen) (i ∙ ap res.Local q))
+        ∙ ap (λ z. declared_type (slice_set ds x t) z) (sym q) ∙ set_is setting ds word x t g i;
   }
-  local_set ds seen g word x i t k false e = record { table = ds; is_table = g; same = same_self setting ds seen; is = λ F s y j f. absurd (grind (arith, e, f)) }
+  local_set ds seen g word x i t k false e = record {
+    table = ds;
+    is_table = g;
+    same = same_self setting ds seen;
+    is =
+        λ F s y j f. absurd (grind (arith, e, f));
+  }
 
-  pub name_set : (ds : List Tree) (seen : NamesBound) → IsDeclaredTable setting ds → (word : List ℕ) (r : Res) → ctx.resolve word ≡ r → (t : Tree) → IsWellFormed ctx.bases t → NameSet ds seen word r t
+  pub name_set : (ds : List Tree) (seen : NamesBound) → IsDeclaredTable setting ds → (word : List ℕ) (r : Res)
+      → ctx.resolve word ≡ r → (t : Tree) → IsWellFormed ctx.bases t → NameSet ds seen word r t
   name_set ds seen g word (res.Local x) i t k = local_set ds seen g word x i t k (not (is_one_of word seen)) refl
   name_set ds seen g word (res.Const c) i t k = unset ds seen g word (res.Const c) t (λ x e. grind (arith, e))
   name_set ds seen g word (res.Func c) i t k = unset ds seen g word (res.Func c) t (λ x e. grind (arith, e))
@@ -61,46 +81,59 @@ module _ (setting : Setting) where
   name_set ds seen g word (res.Builtin c) i t k = unset ds seen g word (res.Builtin c) t (λ x e. grind (arith, e))
   name_set ds seen g word res.None i t k = unset ds seen g word res.None t (λ x e. grind (arith, e))
 
-  pub at_first : (F : List Tree) (b : Test) (x : ℕ) (t : Tree) → (b ≡ true → declared_type F x ≡ t) → DeclaredAt m ctx F b x None t
+  pub at_first : (F : List Tree) (b : Test) (x : ℕ) (t : Tree) → (b ≡ true → declared_type F x ≡ t)
+      → DeclaredAt m ctx F b x None t
   at_first F true x t h = h refl
   at_first F false x t h = tt
 
-  at_annotation : (F : List Tree) (b : Test) (x : ℕ) (t : Tree) → (b ≡ true → declared_type F x ≡ t) → DeclaredAt m ctx F b x (Some t) t
+  at_annotation : (F : List Tree) (b : Test) (x : ℕ) (t : Tree) → (b ≡ true → declared_type F x ≡ t)
+      → DeclaredAt m ctx F b x (Some t) t
   at_annotation F true x t h = h refl
   at_annotation F false x t h = tt
 
   -- labels of a value, with the declared type of its name
-  pub record LocalLabelled (ds : List Tree) (seen : NamesBound) (env : Env) (b : Test) (n : Name) (x : ℕ) (a : Option Tree) (e : Expr) : Type 0 where
+  pub record LocalLabelled (ds : List Tree) (seen : NamesBound) (env : Env) (b : Test) (n : Name) (x : ℕ)
+      (a : Option Tree) (e : Expr) : Type 0 where
     pub table : List Tree
     pub is_table : IsDeclaredTable setting table
     pub same : Agree ctx ds table seen
     pub labels : Labels e
     pub well_formed : IsWellFormed ctx.bases (type_of e labels)
-    pub value : (F : List Tree) → IsDeclaredTable setting F → Agree ctx table F (n.text ∷ seen) → Lawful ctx F env (known_type m ctx F b x a) e labels
-    pub first : (F : List Tree) → IsDeclaredTable setting F → Agree ctx table F (n.text ∷ seen) → DeclaredAt m ctx F b x a (type_of e labels)
+    pub value : (F : List Tree) → IsDeclaredTable setting F → Agree ctx table F (n.text ∷ seen)
+        → Lawful ctx F env (known_type m ctx F b x a) e labels
+    pub first : (F : List Tree) → IsDeclaredTable setting F → Agree ctx table F (n.text ∷ seen)
+        → DeclaredAt m ctx F b x a (type_of e labels)
 
-  local_labelled : (ds : List Tree) (seen : NamesBound) (env : Env) → IsDeclaredTable setting ds → GoesByNames setting ds seen env → (b : Test) (n : Name) (x : ℕ) → is_first seen n ≡ b → ctx.resolve n.text ≡ res.Local x → (a : Option Tree) → IsWellFormedIfAny ctx.bases a → (e : Expr) → LocalLabelled ds seen env b n x a e
+  local_labelled : (ds : List Tree) (seen : NamesBound) (env : Env) → IsDeclaredTable setting ds
+      → GoesByNames setting ds seen env → (b : Test) (n : Name) (x : ℕ) → is_first seen n ≡ b
+      → ctx.resolve n.text ≡ res.Local x → (a : Option Tree) → IsWellFormedIfAny ctx.bases a → (e : Expr)
+      → LocalLabelled ds seen env b n x a e
   local_labelled ds seen env g h false n x f i a k e =
-      let v = expr_labelled setting ds seen env (Some (declared_type ds x)) e g h (declared_well_formed ctx.bases ds x g.well_formed) in
+      let v = expr_labelled setting ds seen env (Some (declared_type ds x)) e g h
+      (declared_well_formed ctx.bases ds x g.well_formed) in
       record {
         table = ds;
         is_table = g;
         same = same_self setting ds seen;
         labels = v.labels;
         well_formed = v.well_formed;
-        value = λ F gF s. subst (λ t. Lawful ctx F env (Some t) e v.labels) (s n.text x (here_among n.text seen) i) (v.lawful F gF (same_less setting ds F n.text seen s));
+        value = λ F gF s. subst (λ t. Lawful ctx F env (Some t) e v.labels) (s n.text x (here_among n.text seen) i)
+            (v.lawful F gF (same_less setting ds F n.text seen s));
         first = λ F gF s. tt;
       }
   local_labelled ds seen env g h true n x f i (Some t) k e =
       let st = local_set ds seen g n.text x i t k true f in
-      let v = expr_labelled setting st.table seen env (Some (declared_type st.table x)) e st.is_table (settled_on setting ds st.table seen seen env (λ w a. a) st.is_table st.same h) (declared_well_formed ctx.bases st.table x st.is_table.well_formed) in
+      let v = expr_labelled setting st.table seen env (Some (declared_type st.table x)) e st.is_table
+      (settled_on setting ds st.table seen seen env (λ w a. a) st.is_table st.same h)
+      (declared_well_formed ctx.bases st.table x st.is_table.well_formed) in
       record {
         table = st.table;
         is_table = st.is_table;
         same = st.same;
         labels = v.labels;
         well_formed = v.well_formed;
-        value = λ F gF s. subst (λ t. Lawful ctx F env (Some t) e v.labels) (s n.text x (here_among n.text seen) i) (v.lawful F gF (same_less setting st.table F n.text seen s));
+        value = λ F gF s. subst (λ t. Lawful ctx F env (Some t) e v.labels) (s n.text x (here_among n.text seen) i)
+            (v.lawful F gF (same_less setting st.table F n.text seen s));
         first = λ F gF s. st.is F s x refl f;
       }
   local_labelled ds seen env g h true n x f i None k e =
@@ -112,12 +145,14 @@ module _ (setting : Setting) where
         same = st.same;
         labels = v.labels;
         well_formed = v.well_formed;
-        value = λ F gF s. v.lawful F gF (same_on setting ds st.table F seen (n.text ∷ seen) (within_one n.text seen) st.same s);
+        value = λ F gF s. v.lawful F gF (same_on setting ds st.table F seen (n.text ∷ seen) (within_one n.text seen)
+            st.same s);
         first = λ F gF s. st.is F s x refl f;
       }
 
   -- a name that is bound has a declared type, labels of its value, and an environment after it
-  pub record BindingLabelled (ds : List Tree) (seen : NamesBound) (env : Env) (n : Name) (r : Res) (a : Option Tree) (e : Expr) : Type 0 where
+  pub record BindingLabelled (ds : List Tree) (seen : NamesBound) (env : Env) (n : Name) (r : Res) (a : Option Tree)
+      (e : Expr) : Type 0 where
     pub table : List Tree
     pub is_table : IsDeclaredTable setting table
     pub same : Agree ctx ds table seen
@@ -125,20 +160,29 @@ module _ (setting : Setting) where
     pub flows : FlowLabels
     pub after : Env
     pub settled : GoesByNames setting table (n.text ∷ seen) after
-    pub lawful : (F : List Tree) → IsDeclaredTable setting F → Agree ctx table F (n.text ∷ seen) → LawfulBinding m ctx F env seen n r a e labels flows after
+    pub lawful : (F : List Tree) → IsDeclaredTable setting F → Agree ctx table F (n.text ∷ seen)
+        → LawfulBinding m ctx F env seen n r a e labels flows after
 
   -- what is no local binds nothing
   pub record PlainLabelled (ds : List Tree) (seen : NamesBound) (env : Env) (n : Name) (e : Expr) : Type 0 where
     pub labels : Labels e
     pub settled : GoesByNames setting ds (n.text ∷ seen) env
-    pub value : (F : List Tree) → IsDeclaredTable setting F → Agree ctx ds F (n.text ∷ seen) → Lawful ctx F env None e labels
+    pub value : (F : List Tree) → IsDeclaredTable setting F → Agree ctx ds F (n.text ∷ seen)
+        → Lawful ctx F env None e labels
 
-  plain_labelled : (ds : List Tree) (seen : NamesBound) (env : Env) → IsDeclaredTable setting ds → GoesByNames setting ds seen env → (n : Name) (e : Expr) → PlainLabelled ds seen env n e
+  plain_labelled : (ds : List Tree) (seen : NamesBound) (env : Env) → IsDeclaredTable setting ds
+      → GoesByNames setting ds seen env → (n : Name) (e : Expr) → PlainLabelled ds seen env n e
   plain_labelled ds seen env g h n e =
       let v = expr_labelled setting ds seen env None e g h tt in
-      record { labels = v.labels; settled = still_same setting ds seen (n.text ∷ seen) env (within_one n.text seen) g h; value = λ F gF s. v.lawful F gF (same_less setting ds F n.text seen s) }
+      record {
+        labels = v.labels;
+        settled = still_same setting ds seen (n.text ∷ seen) env (within_one n.text seen) g h;
+        value = λ F gF s. v.lawful F gF (same_less setting ds F n.text seen s);
+      }
 
-  pub binding_labelled : (ds : List Tree) (seen : NamesBound) (env : Env) → IsDeclaredTable setting ds → GoesByNames setting ds seen env → (n : Name) (r : Res) → ctx.resolve n.text ≡ r → (a : Option Tree) → IsWellFormedIfAny ctx.bases a → (e : Expr) → BindingLabelled ds seen env n r a e
+  pub binding_labelled : (ds : List Tree) (seen : NamesBound) (env : Env) → IsDeclaredTable setting ds
+      → GoesByNames setting ds seen env → (n : Name) (r : Res) → ctx.resolve n.text ≡ r → (a : Option Tree)
+      → IsWellFormedIfAny ctx.bases a → (e : Expr) → BindingLabelled ds seen env n r a e
   binding_labelled ds seen env g h n (res.Local x) i a k e =
       let l = local_labelled ds seen env g h (is_first seen n) n x refl i a k e in
       let d = declared_type l.table x in
@@ -151,7 +195,10 @@ module _ (setting : Setting) where
         labels = l.labels;
         flows = fl.flows;
         after = assign env x (assigned_type d (type_of e l.labels) (only_code fl.flows));
-        settled = assign_settled setting l.table (n.text ∷ seen) env n.text x (assigned_type d (type_of e l.labels) (only_code fl.flows)) (here_among n.text seen) i (assigned_well_formed ctx.bases d (type_of e l.labels) (only_code fl.flows) kd l.well_formed) (settled_on setting ds l.table seen (n.text ∷ seen) env (within_one n.text seen) l.is_table l.same h);
+        settled = assign_settled setting l.table (n.text ∷ seen) env n.text x
+            (assigned_type d (type_of e l.labels) (only_code fl.flows)) (here_among n.text seen) i
+            (assigned_well_formed ctx.bases d (type_of e l.labels) (only_code fl.flows) kd l.well_formed)
+            (settled_on setting ds l.table seen (n.text ∷ seen) env (within_one n.text seen) l.is_table l.same h);
         lawful = λ F gF s. let q : d ≡ declared_type F x = s n.text x (here_among n.text seen) i in record {
           value = l.value F gF s;
           at_first = l.first F gF s;
@@ -159,14 +206,65 @@ module _ (setting : Setting) where
           after_is = ap (λ t. assign env x (assigned_type t (type_of e l.labels) (only_code fl.flows))) q;
         };
       }
-  binding_labelled ds seen env g h n (res.Const c) i a k e = let v = plain_labelled ds seen env g h n e in record { table = ds; is_table = g; same = same_self setting ds seen; labels = v.labels; flows = []; after = env; settled = v.settled; lawful = λ F gF s. record { value = v.value F gF s; flow = refl; after_is = refl } }
-  binding_labelled ds seen env g h n (res.Func c) i a k e = let v = plain_labelled ds seen env g h n e in record { table = ds; is_table = g; same = same_self setting ds seen; labels = v.labels; flows = []; after = env; settled = v.settled; lawful = λ F gF s. record { value = v.value F gF s; flow = refl; after_is = refl } }
-  binding_labelled ds seen env g h n (res.Class c) i a k e = let v = plain_labelled ds seen env g h n e in record { table = ds; is_table = g; same = same_self setting ds seen; labels = v.labels; flows = []; after = env; settled = v.settled; lawful = λ F gF s. record { value = v.value F gF s; flow = refl; after_is = refl } }
-  binding_labelled ds seen env g h n (res.Builtin c) i a k e = let v = plain_labelled ds seen env g h n e in record { table = ds; is_table = g; same = same_self setting ds seen; labels = v.labels; flows = []; after = env; settled = v.settled; lawful = λ F gF s. record { value = v.value F gF s; flow = refl; after_is = refl } }
-  binding_labelled ds seen env g h n res.None i a k e = let v = plain_labelled ds seen env g h n e in record { table = ds; is_table = g; same = same_self setting ds seen; labels = v.labels; flows = []; after = env; settled = v.settled; lawful = λ F gF s. record { value = v.value F gF s; flow = refl; after_is = refl } }
+  binding_labelled ds seen env g h n (res.Const c) i a k e = let v = plain_labelled ds seen env g h n e in
+      record {
+        table = ds;
+        is_table = g;
+        same = same_self setting ds seen;
+        labels = v.labels;
+        flows = [];
+        after = env;
+        settled = v.settled;
+        lawful = λ F gF s. record { value = v.value F gF s; flow = refl; after_is = refl };
+      }
+  binding_labelled ds seen env g h n (res.Func c) i a k e = let v = plain_labelled ds seen env g h n e in
+      record {
+        table = ds;
+        is_table = g;
+        same = same_self setting ds seen;
+        labels = v.labels;
+        flows = [];
+        after = env;
+        settled = v.settled;
+        lawful = λ F gF s. record { value = v.value F gF s; flow = refl; after_is = refl };
+      }
+  binding_labelled ds seen env g h n (res.Class c) i a k e = let v = plain_labelled ds seen env g h n e in
+      record {
+        table = ds;
+        is_table = g;
+        same = same_self setting ds seen;
+        labels = v.labels;
+        flows = [];
+        after = env;
+        settled = v.settled;
+        lawful = λ F gF s. record { value = v.value F gF s; flow = refl; after_is = refl };
+      }
+  binding_labelled ds seen env g h n (res.Builtin c) i a k e = let v = plain_labelled ds seen env g h n e in
+      record {
+        table = ds;
+        is_table = g;
+        same = same_self setting ds seen;
+        labels = v.labels;
+        flows = [];
+        after = env;
+        settled = v.settled;
+        lawful = λ F gF s. record { value = v.value F gF s; flow = refl; after_is = refl };
+      }
+  binding_labelled ds seen env g h n res.None i a k e = let v = plain_labelled ds seen env g h n e in
+      record {
+        table = ds;
+        is_table = g;
+        same = same_self setting ds seen;
+        labels = v.labels;
+        flows = [];
+        after = env;
+        settled = v.settled;
+        lawful = λ F gF s. record { value = v.value F gF s; flow = refl; after_is = refl };
+      }
 
   -- an annotated name, with or without a value
-  pub record AnnotatedLabelled (ds : List Tree) (seen : NamesBound) (env : Env) (n : Name) (a : Ann) (e : Option Expr) : Type 0 where
+  pub record AnnotatedLabelled (ds : List Tree) (seen : NamesBound) (env : Env) (n : Name) (a : Ann)
+      (e : Option Expr) : Type 0 where
     pub table : List Tree
     pub is_table : IsDeclaredTable setting table
     pub same : Agree ctx ds table seen
@@ -174,9 +272,12 @@ module _ (setting : Setting) where
     pub flows : FlowLabels
     pub after : Env
     pub settled : GoesByNames setting table (n.text ∷ seen) after
-    pub lawful : (F : List Tree) → IsDeclaredTable setting F → Agree ctx table F (n.text ∷ seen) → LawfulAnnotated m ctx F env seen n a e labels flows after
+    pub lawful : (F : List Tree) → IsDeclaredTable setting F → Agree ctx table F (n.text ∷ seen)
+        → LawfulAnnotated m ctx F env seen n a e labels flows after
 
-  declaration_labelled : (F : List Tree) (seen : NamesBound) (n : Name) (r : Res) (t : Tree) → ((x : ℕ) → r ≡ res.Local x → is_first seen n ≡ true → declared_type F x ≡ t) → LawfulDeclaration m ctx F seen n r t
+  declaration_labelled : (F : List Tree) (seen : NamesBound) (n : Name) (r : Res) (t : Tree)
+      → ((x : ℕ) → r ≡ res.Local x → is_first seen n ≡ true → declared_type F x ≡ t)
+      → LawfulDeclaration m ctx F seen n r t
   declaration_labelled F seen n (res.Local x) t h = at_annotation F (is_first seen n) x t (h x refl)
   declaration_labelled F seen n (res.Const c) t h = tt
   declaration_labelled F seen n (res.Func c) t h = tt
@@ -184,13 +285,16 @@ module _ (setting : Setting) where
   declaration_labelled F seen n (res.Builtin c) t h = tt
   declaration_labelled F seen n res.None t h = tt
 
-  annotation_well_formed : (ds : List Tree) (b : Test) (t : Tree) → IsWellFormed ctx.bases t → IsWellFormedIfAny ctx.bases (annotation_at m ctx ds b t)
+  annotation_well_formed : (ds : List Tree) (b : Test) (t : Tree) → IsWellFormed ctx.bases t
+      → IsWellFormedIfAny ctx.bases (annotation_at m ctx ds b t)
   annotation_well_formed ds true t k = k
   annotation_well_formed ds false t k = tt
 
-  pub annotated_labelled : (ds : List Tree) (seen : NamesBound) (env : Env) → IsDeclaredTable setting ds → GoesByNames setting ds seen env → (n : Name) (a : Ann) (e : Option Expr) → AnnotatedLabelled ds seen env n a e
+  pub annotated_labelled : (ds : List Tree) (seen : NamesBound) (env : Env) → IsDeclaredTable setting ds
+      → GoesByNames setting ds seen env → (n : Name) (a : Ann) (e : Option Expr) → AnnotatedLabelled ds seen env n a e
   annotated_labelled ds seen env g h n a None =
-      let st = name_set ds seen g n.text (ctx.resolve n.text) refl (read_ann m ctx.bases a) (read_ann_well_formed m ctx.bases ck.smaller a) in
+      let st = name_set ds seen g n.text (ctx.resolve n.text) refl (read_ann m ctx.bases a)
+      (read_ann_well_formed m ctx.bases ck.smaller a) in
       record {
         table = st.table;
         is_table = st.is_table;
@@ -198,10 +302,26 @@ module _ (setting : Setting) where
         labels = tt;
         flows = [];
         after = env;
-        settled = settled_on setting ds st.table seen (n.text ∷ seen) env (within_one n.text seen) st.is_table st.same h;
-        lawful = λ F gF s. (declaration_labelled F seen n (ctx.resolve n.text) (read_ann m ctx.bases a) (st.is F s), refl, refl);
+        settled = settled_on setting ds st.table seen (n.text ∷ seen) env (within_one n.text seen) st.is_table st.same
+            h;
+        lawful = λ F gF s. (
+          declaration_labelled F seen n (ctx.resolve n.text) (read_ann m ctx.bases a) (st.is F s),
+          refl,
+          refl,
+        );
       }
   annotated_labelled ds seen env g h n a (Some e) =
       let t = read_ann m ctx.bases a in
-      let b = binding_labelled ds seen env g h n (ctx.resolve n.text) refl (annotation_at m ctx ds (is_first seen n) t) (annotation_well_formed ds (is_first seen n) t (read_ann_well_formed m ctx.bases ck.smaller a)) e in
-      record { table = b.table; is_table = b.is_table; same = b.same; labels = b.labels; flows = b.flows; after = b.after; settled = b.settled; lawful = b.lawful }
+      let b = binding_labelled ds seen env g h n (ctx.resolve n.text) refl (annotation_at m ctx ds (is_first seen n) t)
+      (annotation_well_formed ds (is_first seen n) t (read_ann_well_formed m ctx.bases ck.smaller a)) e in
+      record {
+        table = b.table;
+        is_table = b.is_table;
+        same = b.same;
+        labels = b.labels;
+        flows = b.flows;
+        after =
+            b.after;
+        settled = b.settled;
+        lawful = b.lawful;
+      }

@@ -23,9 +23,11 @@ module _ (setting : Setting) where
 
   -- ---- the entry of a function
 
-  among_entered : (word : List ℕ) (seen : NamesBound) (ps : List TypedParameter) → IsAmong word seen → IsAmong word (names_entered seen ps)
+  among_entered : (word : List ℕ) (seen : NamesBound) (ps : List TypedParameter) → IsAmong word seen
+      → IsAmong word (names_entered seen ps)
   among_entered word seen [] h = h
-  among_entered word seen (p ∷ ps) h = among_entered word (p.name ∷ seen) ps (or_right (bytes_eq word p.name) (is_one_of word seen) h)
+  among_entered word seen (p ∷ ps) h = among_entered word (p.name ∷ seen) ps
+      (or_right (bytes_eq word p.name) (is_one_of word seen) h)
 
   -- the parameters of a function have declared types, and an environment after them
   pub record EntryLabelled (ds : List Tree) (seen : NamesBound) (env : Env) (ps : List TypedParameter) : Type 0 where
@@ -35,7 +37,8 @@ module _ (setting : Setting) where
     pub settled : GoesByNames setting table (names_entered seen ps) (entry_env ctx.resolve seen ps env)
     pub lawful : (F : List Tree) → Agree ctx table F (names_entered seen ps) → LawfulEntry ctx.resolve F seen ps
 
-  entry_declared : (F : List Tree) (b : Test) (r : Res) (t : Tree) → ((x : ℕ) → r ≡ res.Local x → b ≡ true → declared_type F x ≡ t) → DeclaredEntry F b r t
+  entry_declared : (F : List Tree) (b : Test) (r : Res) (t : Tree)
+      → ((x : ℕ) → r ≡ res.Local x → b ≡ true → declared_type F x ≡ t) → DeclaredEntry F b r t
   entry_declared F false r t h = tt
   entry_declared F true (res.Local x) t h = h x refl refl
   entry_declared F true (res.Const c) t h = tt
@@ -44,7 +47,9 @@ module _ (setting : Setting) where
   entry_declared F true (res.Builtin c) t h = tt
   entry_declared F true res.None t h = tt
 
-  entered_settled : (ds : List Tree) (seen : NamesBound) (env : Env) (b : Test) (word : List ℕ) (r : Res) (t : Tree) → IsAmong word seen → ctx.resolve word ≡ r → IsWellFormed ctx.bases t → GoesByNames setting ds seen env → GoesByNames setting ds seen (assigned_at_entry b r t env)
+  entered_settled : (ds : List Tree) (seen : NamesBound) (env : Env) (b : Test) (word : List ℕ) (r : Res) (t : Tree)
+      → IsAmong word seen → ctx.resolve word ≡ r → IsWellFormed ctx.bases t → GoesByNames setting ds seen env
+      → GoesByNames setting ds seen (assigned_at_entry b r t env)
   entered_settled ds seen env true word (res.Local x) t a i k h = assign_settled setting ds seen env word x t a i k h
   entered_settled ds seen env false word r t a i k h = h
   entered_settled ds seen env true word (res.Const c) t a i k h = h
@@ -53,17 +58,33 @@ module _ (setting : Setting) where
   entered_settled ds seen env true word (res.Builtin c) t a i k h = h
   entered_settled ds seen env true word res.None t a i k h = h
 
-  pub entry_labelled : (ds : List Tree) (seen : NamesBound) (env : Env) → IsDeclaredTable setting ds → GoesByNames setting ds seen env → (ps : List TypedParameter) → ParametersWellFormed ctx.bases ps → EntryLabelled ds seen env ps
-  entry_labelled ds seen env g h [] k = record { table = ds; is_table = g; same = same_self setting ds seen; settled = h; lawful = λ F s. tt }
+  pub entry_labelled : (ds : List Tree) (seen : NamesBound) (env : Env) → IsDeclaredTable setting ds
+      → GoesByNames setting ds seen env → (ps : List TypedParameter) → ParametersWellFormed ctx.bases ps
+      → EntryLabelled ds seen env ps
+  entry_labelled ds seen env g h [] k = record {
+    table = ds;
+    is_table = g;
+    same = same_self setting ds seen;
+    settled =
+        h;
+    lawful = λ F s. tt;
+  }
   entry_labelled ds seen env g h (p ∷ ps) k =
       let st = name_set setting ds seen g p.name (ctx.resolve p.name) refl p.type k.0 in
       let next = assigned_at_entry (not (is_one_of p.name seen)) (ctx.resolve p.name) p.type env in
-      let hn = entered_settled st.table (p.name ∷ seen) env (not (is_one_of p.name seen)) p.name (ctx.resolve p.name) p.type (here_among p.name seen) refl k.0 (settled_on setting ds st.table seen (p.name ∷ seen) env (within_one p.name seen) st.is_table st.same h) in
+      let hn = entered_settled st.table (p.name ∷ seen) env (not (is_one_of p.name seen)) p.name (ctx.resolve p.name)
+      p.type (here_among p.name seen) refl k.0 (settled_on setting ds st.table seen (p.name ∷ seen) env
+      (within_one p.name seen) st.is_table st.same h) in
       let rest = entry_labelled st.table (p.name ∷ seen) next st.is_table hn ps k.1 in
       record {
         table = rest.table;
         is_table = rest.is_table;
         same = same_on setting ds st.table rest.table seen (p.name ∷ seen) (within_one p.name seen) st.same rest.same;
         settled = rest.settled;
-        lawful = λ F s. (entry_declared F (not (is_one_of p.name seen)) (ctx.resolve p.name) p.type (st.is F (same_on setting st.table rest.table F (p.name ∷ seen) (names_entered (p.name ∷ seen) ps) (λ w a. among_entered w (p.name ∷ seen) ps a) rest.same s)), rest.lawful F s);
+        lawful = λ F s. (
+          entry_declared F (not (is_one_of p.name seen)) (ctx.resolve p.name) p.type
+              (st.is F (same_on setting st.table rest.table F (p.name ∷ seen) (names_entered (p.name ∷ seen) ps)
+              (λ w a. among_entered w (p.name ∷ seen) ps a) rest.same s)),
+          rest.lawful F s,
+        );
       }

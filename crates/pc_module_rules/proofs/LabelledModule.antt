@@ -14,7 +14,8 @@ use Rattle.pc_rules.specs.Labels.{whole_label, type_of}
 use Rattle.pc_rules.specs.Signatures.{binds_name, initializer_context, annotated_types, constant_type, first_of_types}
 use Rattle.pc_rules.proofs.Contexts.{initializers_well_formed}
 use Rattle.pc_rules.proofs.ComputedLawful.{has_labels}
-use Rattle.pc_module_rules.specs.Modules.{BeforeItem, HasLabelling, ItemLabels, ItemsLabels, LawfulItem, LawfulModuleItems, before_next, constant_types, nothing_before}
+use Rattle.pc_module_rules.specs.Modules.{BeforeItem, HasLabelling, ItemLabels, ItemsLabels, LawfulItem}
+use Rattle.pc_module_rules.specs.Modules.{LawfulModuleItems, before_next, constant_types, nothing_before}
 use Rattle.pc_module_rules.proofs.LabelledFunctions.{function_labelled, members_labelled}
 use Rattle.pc_module_rules.proofs.LabelledExpressions.{flows_labelled}
 
@@ -32,19 +33,23 @@ module _ (m : Module) where
   wants_well_formed true None = tt
   wants_well_formed false a = tt
 
-  pub first_well_formed : (ts : List Tree) → AreWellFormed (bases_of m) ts → IsWellFormedIfAny (bases_of m) (first_of_types ts)
+  pub first_well_formed : (ts : List Tree) → AreWellFormed (bases_of m) ts
+      → IsWellFormedIfAny (bases_of m) (first_of_types ts)
   first_well_formed [] k = tt
   first_well_formed (t ∷ ts) k = k.0
 
-  pub constant_well_formed : (a : Option Ann) (t : Tree) → IsWellFormed (bases_of m) t → IsWellFormed (bases_of m) (constant_type m a t)
+  pub constant_well_formed : (a : Option Ann) (t : Tree) → IsWellFormed (bases_of m) t
+      → IsWellFormed (bases_of m) (constant_type m a t)
   constant_well_formed None t k = k
   constant_well_formed (Some a) t k = read_ann_well_formed m (bases_of m) (smaller m) a
 
-  constant_labelled : (b : BeforeItem) → AreWellFormed (bases_of m) b.constants → (p : _) (c : Constant) → ConstantLabelled b p c
+  constant_labelled : (b : BeforeItem) → AreWellFormed (bases_of m) b.constants → (p : _) (c : Constant)
+      → ConstantLabelled b p c
   constant_labelled b kb p c =
       let want = annotated_types m (binds_name b.names c.name) c.annotation in
       let kw = wants_well_formed (binds_name b.names c.name) c.annotation in
-      let v = has_labels (initializer_context m b.constants b.classes) [] [] (first_of_types want) c.value (initializers_well_formed m b.constants b.classes kb) tt tt (first_well_formed want kw) in
+      let v = has_labels (initializer_context m b.constants b.classes) [] [] (first_of_types want) c.value
+      (initializers_well_formed m b.constants b.classes kb) tt tt (first_well_formed want kw) in
       let fl = flows_labelled (bases_of m) (whole_label c.value v.labels) want (smaller m) v.well_formed kw in
       record {
         labels = record { value = v.labels; flows = fl.flows };
@@ -52,7 +57,8 @@ module _ (m : Module) where
         well_formed = constant_well_formed c.annotation (type_of c.value v.labels) v.well_formed;
       }
 
-  pub one_more : (ts : List Tree) (t : Tree) → AreWellFormed (bases_of m) ts → IsWellFormed (bases_of m) t → AreWellFormed (bases_of m) (ts ++ t ∷ [])
+  pub one_more : (ts : List Tree) (t : Tree) → AreWellFormed (bases_of m) ts → IsWellFormed (bases_of m) t
+      → AreWellFormed (bases_of m) (ts ++ t ∷ [])
   one_more [] t k h = (h, tt)
   one_more (u ∷ ts) t k h = (k.0, one_more ts t k.1 h)
 
@@ -68,19 +74,35 @@ module _ (m : Module) where
     well_formed : AreWellFormed (bases_of m) types
     found : (all : List Tree) → AreWellFormed (bases_of m) all → AllLabelled b items types all
 
-  items_labelled : (b : BeforeItem) → AreWellFormed (bases_of m) b.constants → (items : List Item) → ItemsLabelled b items
-  items_labelled b kb [] = record { types = []; well_formed = tt; found = λ all k. record { labels = tt; lawful = tt; is = refl } }
+  items_labelled : (b : BeforeItem) → AreWellFormed (bases_of m) b.constants → (items : List Item)
+      → ItemsLabelled b items
+  items_labelled b kb [] = record {
+    types = [];
+    well_formed = tt;
+    found =
+        λ all k. record { labels = tt; lawful = tt; is = refl };
+  }
   items_labelled b kb (constant_item p c ∷ rest) =
       let q = constant_labelled b kb p c in
       let t = constant_type m c.annotation (type_of c.value q.labels.value) in
-      let r = items_labelled (before_next m b (constant_item p c) q.labels) (one_more b.constants t kb q.well_formed) rest in
+      let r = items_labelled (before_next m b (constant_item p c) q.labels) (one_more b.constants t kb q.well_formed)
+      rest in
       record {
         types = t ∷ r.types;
         well_formed = (q.well_formed, r.well_formed);
-        found = λ all k. let f = r.found all k in record { labels = record { first = q.labels; rest = f.labels }; lawful = (q.lawful all, f.lawful); is = ap (λ ts. t ∷ ts) f.is };
+        found = λ all k. let f = r.found all k in record {
+          labels = record { first = q.labels; rest = f.labels };
+          lawful = (q.lawful all, f.lawful);
+          is = ap (λ ts. t ∷ ts) f.is;
+        };
       }
   items_labelled b kb (class_item p c ∷ rest) =
-      let r = items_labelled (record { constants = b.constants; classes = suc b.classes; functions = b.functions; names = c.name.text ∷ b.names }) kb rest in
+      let r = items_labelled (record {
+        constants = b.constants;
+        classes = suc b.classes;
+        functions = b.functions;
+        names = c.name.text ∷ b.names;
+      }) kb rest in
       record {
         types = r.types;
         well_formed = r.well_formed;
@@ -90,7 +112,12 @@ module _ (m : Module) where
             record { labels = record { first = q.labels; rest = f.labels }; lawful = (q.lawful, f.lawful); is = f.is };
       }
   items_labelled b kb (def_item p d ∷ rest) =
-      let r = items_labelled (record { constants = b.constants; classes = b.classes; functions = suc b.functions; names = d.name.text ∷ b.names }) kb rest in
+      let r = items_labelled (record {
+        constants = b.constants;
+        classes = b.classes;
+        functions = suc b.functions;
+        names = d.name.text ∷ b.names;
+      }) kb rest in
       record {
         types = r.types;
         well_formed = r.well_formed;
@@ -105,4 +132,8 @@ module _ (m : Module) where
   every_module_has_a_labelling =
       let r = items_labelled nothing_before tt m.items in
       let f = r.found r.types r.well_formed in
-      record { labels = f.labels; lawful = subst (λ ts. LawfulModuleItems m ts nothing_before m.items f.labels) (sym f.is) f.lawful }
+      record {
+        labels = f.labels;
+        lawful = subst (λ ts. LawfulModuleItems m ts nothing_before m.items f.labels)
+            (sym f.is) f.lawful;
+      }

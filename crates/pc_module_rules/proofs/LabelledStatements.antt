@@ -1,7 +1,9 @@
 -- Each statement, suite and list of branches is labelled: the induction on statements.
 use Rattle.std.proofs.Common.{List, ap, refl, subst, ◌++◌, ◌∙◌, ◌∷◌}
 use Rattle.std.specs.Prelude.{Bool as Test, None, Some, false, option_to_list, true, ◌||◌}
-use Rattle.pc_tree.specs.Tree.{Branches, Expr, Stmt, Stmts, annotated, asserts, assigns, breaks, conditional, continues, evaluates, for_loop, more_branches, more_stmts, no_branches, no_stmts, pass, returns, while_loop}
+use Rattle.pc_tree.specs.Tree.{Branches, Expr, Stmt, Stmts, annotated, asserts, assigns, breaks, conditional, continues}
+use Rattle.pc_tree.specs.Tree.{evaluates, for_loop, more_branches, more_stmts, no_branches, no_stmts, pass, returns}
+use Rattle.pc_tree.specs.Tree.{while_loop}
 use Rattle.pc_tree.specs.Stopping.{bound_by, bound_by_branches, bound_by_stmt}
 use Rattle.pc_scope.specs.Reach.{completes, some_completes}
 use Rattle.pc_scope.specs.Bindings.{texts}
@@ -11,13 +13,17 @@ use Rattle.pc_flow.specs.Environment.{Env, join_envs_onto, join_ways, loop_head}
 use Rattle.pc_flow.specs.Narrowing.{narrow}
 use Rattle.pc_module_rules.specs.StatementLabels.{behind_list, breaks_in, breaks_in_branches, breaks_in_suite, ways_in}
 use Rattle.pc_module_rules.specs.Statements.{LawfulBranches, LawfulOption, LawfulSuite, NamesBound, binds_number}
-use Rattle.pc_module_rules.specs.Laws.Labellings.{Agree, BranchesLabelled, IsDeclaredTable, Setting, GoesByNames, StmtLabelled, SuiteLabelled}
+use Rattle.pc_module_rules.specs.Laws.Labellings.{Agree, BranchesLabelled, IsDeclaredTable, Setting, GoesByNames}
+use Rattle.pc_module_rules.specs.Laws.Labellings.{StmtLabelled, SuiteLabelled}
 use Rattle.pc_module_rules.proofs.BoundNames.{Within, within_both, within_later, within_one, within_right}
-use Rattle.pc_module_rules.proofs.Tables.{all_both, all_on, all_wider, head_same, head_settled, joined_same, joined_settled, out_all, out_wider, same_on, same_self, settled_on, still_same, truth_same, truth_settled, ways_same, ways_settled}
+use Rattle.pc_module_rules.proofs.Tables.{all_both, all_on, all_wider, head_same, head_settled, joined_same}
+use Rattle.pc_module_rules.proofs.Tables.{joined_settled, out_all, out_wider, same_on, same_self, settled_on}
+use Rattle.pc_module_rules.proofs.Tables.{still_same, truth_same, truth_settled, ways_same, ways_settled}
 use Rattle.pc_module_rules.proofs.LabelledExpressions.{expr_labelled, iterable_labelled}
 use Rattle.pc_module_rules.proofs.LabelledBindings.{annotated_labelled}
 use Rattle.pc_module_rules.proofs.LabelledTargets.{target_labelled}
-use Rattle.pc_module_rules.proofs.LabelledSuites.{any_both, any_join, any_option, assignment_labelled, behind_labelled, empty_reaches, option_labelled, return_labelled}
+use Rattle.pc_module_rules.proofs.LabelledSuites.{any_both, any_join, any_option, assignment_labelled, behind_labelled}
+use Rattle.pc_module_rules.proofs.LabelledSuites.{empty_reaches, option_labelled, return_labelled}
 
 module _ (setting : Setting) where
   open setting use {whole as m, context as ctx, context_well_formed as ck, count, locals as names}
@@ -28,16 +34,60 @@ module _ (setting : Setting) where
     truth_of ds b c env = narrow ctx.bases ds ctx.resolve b c env
 
     mutual
-      pub stmt_labelled : (ds : List Tree) (seen : NamesBound) (env : Env) → IsDeclaredTable setting ds → GoesByNames setting ds seen env → (s : Stmt) → StmtLabelled setting returned ds seen env s
-      stmt_labelled ds seen env g h (pass p) = record { table = ds; is_table = g; same = same_self setting ds seen; labels = tt; out = Some env; ends = h; broken = tt; reaches = refl; lawful = λ F gF s. refl }
-      stmt_labelled ds seen env g h (breaks p) = record { table = ds; is_table = g; same = same_self setting ds seen; labels = env; out = None; ends = tt; broken = (h, tt); reaches = refl; lawful = λ F gF s. (refl, refl) }
-      stmt_labelled ds seen env g h (continues p) = record { table = ds; is_table = g; same = same_self setting ds seen; labels = tt; out = None; ends = tt; broken = tt; reaches = refl; lawful = λ F gF s. refl }
+      pub stmt_labelled : (ds : List Tree) (seen : NamesBound) (env : Env) → IsDeclaredTable setting ds
+          → GoesByNames setting ds seen env → (s : Stmt) → StmtLabelled setting returned ds seen env s
+      stmt_labelled ds seen env g h (pass p) = record {
+        table = ds;
+        is_table = g;
+        same = same_self setting ds seen;
+        labels = tt;
+        out = Some env;
+        ends = h;
+        broken = tt;
+        reaches = refl;
+        lawful = λ F gF s. refl;
+      }
+      stmt_labelled ds seen env g h (breaks p) = record {
+        table = ds;
+        is_table = g;
+        same = same_self setting ds seen;
+        labels = env;
+        out = None;
+        ends = tt;
+        broken = (h, tt);
+        reaches = refl;
+        lawful = λ F gF s. (refl, refl);
+      }
+      stmt_labelled ds seen env g h (continues p) = record {
+        table = ds;
+        is_table = g;
+        same = same_self setting ds seen;
+        labels = tt;
+        out = None;
+        ends = tt;
+        broken = tt;
+        reaches = refl;
+        lawful = λ F gF s. refl;
+      }
       stmt_labelled ds seen env g h (returns p e) =
           let v = return_labelled setting returned kr ds seen env g h e in
-          record { table = ds; is_table = g; same = same_self setting ds seen; labels = record { value = v.labels; flows = v.flows }; out = None; ends = tt; broken = tt; reaches = refl; lawful = λ F gF s. (v.lawful F gF s, refl) }
+          record {
+            table = ds;
+            is_table = g;
+            same = same_self setting ds seen;
+            labels =
+                record { value = v.labels; flows = v.flows };
+            out = None;
+            ends = tt;
+            broken = tt;
+            reaches = refl;
+            lawful =
+                λ F gF s. (v.lawful F gF s, refl);
+          }
       stmt_labelled ds seen env g h (asserts p c e) =
           let v = expr_labelled setting ds seen env None c g h tt in
-          let w = option_labelled setting returned kr ds seen (truth_of ds false c env) g (truth_settled setting ds seen env false c g h) e in
+          let w = option_labelled setting returned kr ds seen (truth_of ds false c env) g
+          (truth_settled setting ds seen env false c g h) e in
           record {
             table = ds;
             is_table = g;
@@ -49,7 +99,8 @@ module _ (setting : Setting) where
             reaches = refl;
             lawful = λ F gF s. record {
               condition = v.lawful F gF s;
-              message = subst (λ x. LawfulOption m ctx F returned x e w.labels) (truth_same setting ds F seen env false c gF s h) (w.lawful F gF s);
+              message = subst (λ x. LawfulOption m ctx F returned x e w.labels)
+                  (truth_same setting ds F seen env false c gF s h) (w.lawful F gF s);
               after = ap Some (truth_same setting ds F seen env true c gF s h);
             };
           }
@@ -69,24 +120,38 @@ module _ (setting : Setting) where
       stmt_labelled ds seen env g h (assigns p t e) = assignment_labelled setting returned kr ds seen env g h p t e
       stmt_labelled ds seen env g h (evaluates p e) =
           let v = expr_labelled setting ds seen env None e g h tt in
-          record { table = ds; is_table = g; same = same_self setting ds seen; labels = v.labels; out = Some env; ends = h; broken = tt; reaches = refl; lawful = λ F gF s. (v.lawful F gF s, refl) }
+          record {
+            table = ds;
+            is_table = g;
+            same = same_self setting ds seen;
+            labels = v.labels;
+            out = Some env;
+            ends =
+                h;
+            broken = tt;
+            reaches = refl;
+            lawful = λ F gF s. (v.lawful F gF s, refl);
+          }
       stmt_labelled ds seen env g h (while_loop p c b) =
           let bound = binds_number ctx.resolve (bound_by b) in
           let head = loop_head bound ds env in
           let hh = head_settled setting ds seen env bound g h in
           let v = expr_labelled setting ds seen head None c g hh tt in
-          let body = suite_labelled ds seen (truth_of ds true c head) g (truth_settled setting ds seen head true c g hh) b in
+          let body = suite_labelled ds seen (truth_of ds true c head) g (truth_settled setting ds seen head true c g hh)
+          b in
           let after = texts (bound_by b) ++ seen in
           let w : Within seen after = within_right (texts (bound_by b)) seen in
           let out = truth_of ds false c head in
-          let ho = settled_on setting ds body.table seen after out w body.is_table body.same (truth_settled setting ds seen head false c g hh) in
+          let ho = settled_on setting ds body.table seen after out w body.is_table body.same
+          (truth_settled setting ds seen head false c g hh) in
           record {
             table = body.table;
             is_table = body.is_table;
             same = body.same;
             labels = record { head = head; condition = v.labels; body = body.labels; out = body.out };
             out = Some (join_envs_onto ctx.bases body.table out (breaks_in_suite b body.labels));
-            ends = joined_settled setting body.table after out (breaks_in_suite b body.labels) body.is_table ho body.broken;
+            ends = joined_settled setting body.table after out (breaks_in_suite b body.labels) body.is_table ho
+                body.broken;
             broken = tt;
             reaches = refl;
             lawful = λ F gF s.
@@ -95,8 +160,11 @@ module _ (setting : Setting) where
                 record {
                   head = q;
                   condition = v.lawful F gF s0;
-                  body = subst (λ x. LawfulSuite m ctx F returned seen x b body.labels body.out) (truth_same setting ds F seen head true c gF s0 hh) (body.lawful F gF s);
-                  after = ap Some (joined_same setting body.table F after out (breaks_in_suite b body.labels) gF s ho body.broken ∙ ap (λ x. join_envs_onto ctx.bases F x (breaks_in_suite b body.labels)) (truth_same setting ds F seen head false c gF s0 hh));
+                  body = subst (λ x. LawfulSuite m ctx F returned seen x b body.labels body.out)
+                      (truth_same setting ds F seen head true c gF s0 hh) (body.lawful F gF s);
+                  after = ap Some (joined_same setting body.table F after out (breaks_in_suite b body.labels) gF s ho
+                      body.broken ∙ ap (λ x. join_envs_onto ctx.bases F x (breaks_in_suite b body.labels))
+                      (truth_same setting ds F seen head false c gF s0 hh));
                 };
           }
       stmt_labelled ds seen env g h (for_loop p n e b) =
@@ -111,14 +179,23 @@ module _ (setting : Setting) where
           let wi : Within (n.text ∷ seen) inner = within_right (texts (bound_by b)) (n.text ∷ seen) in
           let wl : Within inner after = within_later n (bound_by b) seen in
           let w : Within seen after = λ word a. wl word (wi word (within_one n.text seen word a)) in
-          let same = same_on setting ds tg.table body.table seen (n.text ∷ seen) (within_one n.text seen) tg.same body.same in
+          let same = same_on setting ds tg.table body.table seen (n.text ∷ seen) (within_one n.text seen) tg.same
+          body.same in
           let ho = settled_on setting ds body.table seen after head w body.is_table same hh in
-          let broken = all_wider setting body.table inner after (breaks_in_suite b body.labels) wl body.is_table body.broken in
+          let broken = all_wider setting body.table inner after (breaks_in_suite b body.labels) wl body.is_table
+          body.broken in
           record {
             table = body.table;
             is_table = body.is_table;
             same = same;
-            labels = record { iterable = it.labels; item = it.item; flows = tg.flows; head = head; body = body.labels; out = body.out };
+            labels = record {
+              iterable = it.labels;
+              item = it.item;
+              flows = tg.flows;
+              head = head;
+              body = body.labels;
+              out = body.out;
+            };
             out = Some (join_envs_onto ctx.bases body.table head (breaks_in_suite b body.labels));
             ends = joined_settled setting body.table after head (breaks_in_suite b body.labels) body.is_table ho broken;
             broken = tt;
@@ -133,7 +210,8 @@ module _ (setting : Setting) where
                   inside = tg.inside;
                   target = tg.lawful F gF s1;
                   body = body.lawful F gF si;
-                  after = ap Some (joined_same setting body.table F after head (breaks_in_suite b body.labels) gF s ho broken);
+                  after = ap Some (joined_same setting body.table F after head (breaks_in_suite b body.labels) gF s ho
+                      broken);
                 };
           }
       stmt_labelled ds seen env g h (conditional p bs b) =
@@ -146,7 +224,10 @@ module _ (setting : Setting) where
           let wi : Within middle inner = within_right (texts (bound_by b)) middle in
           let wl : Within inner after = within_both (bound_by_branches bs) (bound_by b) seen in
           let w : Within middle after = λ word a. wl word (wi word a) in
-          let ways = all_both setting el.table after (ways_in bs br.labels) (option_to_list el.out) (all_on setting br.table el.table middle after (ways_in bs br.labels) w el.is_table el.same br.ways) (all_wider setting el.table inner after (option_to_list el.out) wl el.is_table (out_all setting el.table inner el.out el.ends)) in
+          let ways = all_both setting el.table after (ways_in bs br.labels) (option_to_list el.out)
+          (all_on setting br.table el.table middle after (ways_in bs br.labels) w el.is_table el.same br.ways)
+          (all_wider setting el.table inner after (option_to_list el.out) wl el.is_table
+          (out_all setting el.table inner el.out el.ends)) in
           record {
             table = el.table;
             is_table = el.is_table;
@@ -154,8 +235,14 @@ module _ (setting : Setting) where
             labels = record { branches = br.labels; last = br.last; otherwise = el.labels; out = el.out };
             out = join_ways ctx.bases el.table (ways_in bs br.labels ++ option_to_list el.out);
             ends = ways_settled setting el.table after (ways_in bs br.labels ++ option_to_list el.out) el.is_table ways;
-            broken = all_both setting el.table after (breaks_in_branches bs br.labels) (breaks_in_suite b el.labels) (all_on setting br.table el.table middle after (breaks_in_branches bs br.labels) w el.is_table el.same br.broken) (all_wider setting el.table inner after (breaks_in_suite b el.labels) wl el.is_table el.broken);
-            reaches = any_join setting returned kr el.table (ways_in bs br.labels ++ option_to_list el.out) ∙ any_both setting returned kr (ways_in bs br.labels) (option_to_list el.out) ∙ (λ i. br.reaches i || (any_option setting returned kr el.out ∙ el.reaches) i) ∙ empty_reaches setting returned kr b (some_completes bs);
+            broken = all_both setting el.table after (breaks_in_branches bs br.labels) (breaks_in_suite b el.labels)
+                (all_on setting br.table el.table middle after (breaks_in_branches bs br.labels) w el.is_table el.same
+                br.broken) (all_wider setting el.table inner after (breaks_in_suite b el.labels) wl el.is_table
+                el.broken);
+            reaches = any_join setting returned kr el.table (ways_in bs br.labels ++ option_to_list el.out)
+                ∙ any_both setting returned kr (ways_in bs br.labels) (option_to_list el.out)
+                ∙ (λ i. br.reaches i || (any_option setting returned kr el.out ∙ el.reaches) i)
+                ∙ empty_reaches setting returned kr b (some_completes bs);
             lawful = λ F gF s.
                 let si : Agree ctx el.table F inner = λ word x a r. s word x (wl word a) r in
                 let sm = same_on setting br.table el.table F middle inner wi el.same si in
@@ -166,11 +253,24 @@ module _ (setting : Setting) where
                 };
           }
 
-      pub suite_labelled : (ds : List Tree) (seen : NamesBound) (env : Env) → IsDeclaredTable setting ds → GoesByNames setting ds seen env → (b : Stmts) → SuiteLabelled setting returned ds seen env b
-      suite_labelled ds seen env g h no_stmts = record { table = ds; is_table = g; same = same_self setting ds seen; labels = tt; out = Some env; ends = h; broken = tt; reaches = refl; lawful = λ F gF s. refl }
+      pub suite_labelled : (ds : List Tree) (seen : NamesBound) (env : Env) → IsDeclaredTable setting ds
+          → GoesByNames setting ds seen env → (b : Stmts) → SuiteLabelled setting returned ds seen env b
+      suite_labelled ds seen env g h no_stmts = record {
+        table = ds;
+        is_table = g;
+        same = same_self setting ds seen;
+        labels = tt;
+        out = Some env;
+        ends = h;
+        broken = tt;
+        reaches = refl;
+        lawful = λ F gF s. refl;
+      }
       suite_labelled ds seen env g h (more_stmts st rest) =
           let first = stmt_labelled ds seen env g h st in
-          let q = behind_labelled setting returned kr (completes st) ds seen env st rest first.table first.is_table first.same first.labels first.out first.ends first.broken first.reaches first.lawful (λ mid k. suite_labelled first.table (texts (bound_by_stmt st) ++ seen) mid first.is_table k rest) in
+          let q = behind_labelled setting returned kr (completes st) ds seen env st rest first.table first.is_table
+          first.same first.labels first.out first.ends first.broken first.reaches first.lawful
+          (λ mid k. suite_labelled first.table (texts (bound_by_stmt st) ++ seen) mid first.is_table k rest) in
           let inner = texts (bound_by rest) ++ (texts (bound_by_stmt st) ++ seen) in
           let after = texts (bound_by_stmt st ++ bound_by rest) ++ seen in
           let wl : Within inner after = within_both (bound_by_stmt st) (bound_by rest) seen in
@@ -181,19 +281,37 @@ module _ (setting : Setting) where
             labels = q.labels;
             out = q.out;
             ends = out_wider setting q.table inner after q.out wl q.is_table q.ends;
-            broken = all_wider setting q.table inner after (breaks_in st q.labels.first ++ behind_list (completes st) q.labels.behind (λ r. breaks_in_suite rest r.rest)) wl q.is_table q.broken;
+            broken = all_wider setting q.table inner after (breaks_in st q.labels.first ++ behind_list (completes st)
+                q.labels.behind (λ r. breaks_in_suite rest r.rest)) wl q.is_table q.broken;
             reaches = q.reaches;
             lawful = λ F gF s. q.lawful F gF (λ word x a r. s word x (wl word a) r);
           }
 
-      pub branches_labelled : (ds : List Tree) (seen : NamesBound) (env : Env) → IsDeclaredTable setting ds → GoesByNames setting ds seen env → (bs : Branches) → BranchesLabelled setting returned ds seen env bs
-      branches_labelled ds seen env g h no_branches = record { table = ds; is_table = g; same = same_self setting ds seen; labels = tt; last = env; ends = h; broken = tt; ways = tt; reaches = refl; lawful = λ F gF s. refl }
+      pub branches_labelled : (ds : List Tree) (seen : NamesBound) (env : Env) → IsDeclaredTable setting ds
+          → GoesByNames setting ds seen env → (bs : Branches) → BranchesLabelled setting returned ds seen env bs
+      branches_labelled ds seen env g h no_branches = record {
+        table = ds;
+        is_table = g;
+        same =
+            same_self setting ds seen;
+        labels = tt;
+        last = env;
+        ends = h;
+        broken = tt;
+        ways = tt;
+        reaches = refl;
+        lawful =
+            λ F gF s. refl;
+      }
       branches_labelled ds seen env g h (more_branches c b rest) =
           let v = expr_labelled setting ds seen env None c g h tt in
-          let body = suite_labelled ds seen (truth_of ds true c env) g (truth_settled setting ds seen env true c g h) b in
+          let body = suite_labelled ds seen (truth_of ds true c env) g (truth_settled setting ds seen env true c g h)
+          b in
           let middle = texts (bound_by b) ++ seen in
           let wm : Within seen middle = within_right (texts (bound_by b)) seen in
-          let others = branches_labelled body.table middle (truth_of ds false c env) body.is_table (settled_on setting ds body.table seen middle (truth_of ds false c env) wm body.is_table body.same (truth_settled setting ds seen env false c g h)) rest in
+          let others = branches_labelled body.table middle (truth_of ds false c env) body.is_table
+          (settled_on setting ds body.table seen middle (truth_of ds false c env) wm body.is_table body.same
+          (truth_settled setting ds seen env false c g h)) rest in
           let inner = texts (bound_by_branches rest) ++ middle in
           let after = texts (bound_by b ++ bound_by_branches rest) ++ seen in
           let wi : Within middle inner = within_right (texts (bound_by_branches rest)) middle in
@@ -206,16 +324,27 @@ module _ (setting : Setting) where
             labels = record { condition = v.labels; body = body.labels; out = body.out; rest = others.labels };
             last = others.last;
             ends = still_same setting others.table inner after others.last wl others.is_table others.ends;
-            broken = all_both setting others.table after (breaks_in_suite b body.labels) (breaks_in_branches rest others.labels) (all_on setting body.table others.table middle after (breaks_in_suite b body.labels) w others.is_table others.same body.broken) (all_wider setting others.table inner after (breaks_in_branches rest others.labels) wl others.is_table others.broken);
-            ways = all_both setting others.table after (option_to_list body.out) (ways_in rest others.labels) (all_on setting body.table others.table middle after (option_to_list body.out) w others.is_table others.same (out_all setting body.table middle body.out body.ends)) (all_wider setting others.table inner after (ways_in rest others.labels) wl others.is_table others.ways);
-            reaches = any_both setting returned kr (option_to_list body.out) (ways_in rest others.labels) ∙ (λ i. (any_option setting returned kr body.out ∙ body.reaches) i || others.reaches i);
+            broken = all_both setting others.table after (breaks_in_suite b body.labels)
+                (breaks_in_branches rest others.labels) (all_on setting body.table others.table middle after
+                (breaks_in_suite b body.labels) w others.is_table others.same body.broken)
+                (all_wider setting others.table inner after (breaks_in_branches rest others.labels) wl others.is_table
+                others.broken);
+            ways = all_both setting others.table after (option_to_list body.out) (ways_in rest others.labels)
+                (all_on setting body.table others.table middle after (option_to_list body.out) w others.is_table
+                others.same (out_all setting body.table middle body.out body.ends))
+                (all_wider setting others.table inner after (ways_in rest others.labels) wl others.is_table
+                others.ways);
+            reaches = any_both setting returned kr (option_to_list body.out) (ways_in rest others.labels)
+                ∙ (λ i. (any_option setting returned kr body.out ∙ body.reaches) i || others.reaches i);
             lawful = λ F gF s.
                 let si : Agree ctx others.table F inner = λ word x a r. s word x (wl word a) r in
                 let sm = same_on setting body.table others.table F middle inner wi others.same si in
                 let s0 = same_on setting ds body.table F seen middle wm body.same sm in
                 record {
                   condition = v.lawful F gF s0;
-                  body = subst (λ x. LawfulSuite m ctx F returned seen x b body.labels body.out) (truth_same setting ds F seen env true c gF s0 h) (body.lawful F gF sm);
-                  others = subst (λ x. LawfulBranches m ctx F returned middle x rest others.labels others.last) (truth_same setting ds F seen env false c gF s0 h) (others.lawful F gF si);
+                  body = subst (λ x. LawfulSuite m ctx F returned seen x b body.labels body.out)
+                      (truth_same setting ds F seen env true c gF s0 h) (body.lawful F gF sm);
+                  others = subst (λ x. LawfulBranches m ctx F returned middle x rest others.labels others.last)
+                      (truth_same setting ds F seen env false c gF s0 h) (others.lawful F gF si);
                 };
           }

@@ -2,7 +2,8 @@
 use Rattle.std.proofs.Common.{List, [], arith, refl, ◌++◌, ◌∷◌, ◌≡◌}
 use Rattle.std.specs.Prelude.{Bool as Test, None, Option, Some, false, is_some, option_to_list, true, ◌&&◌, ◌||◌}
 use Rattle.pc_source.specs.declared.place.Place.{Place}
-use Rattle.pc_tree.specs.Tree.{Expr, Stmt, Stmts, Target, assigns, more_stmts, no_stmts, to_attribute, to_index, to_name}
+use Rattle.pc_tree.specs.Tree.{Expr, Stmt, Stmts, Target, assigns, more_stmts, no_stmts, to_attribute, to_index}
+use Rattle.pc_tree.specs.Tree.{to_name}
 use Rattle.pc_tree.specs.Stopping.{bound_by, bound_by_stmt}
 use Rattle.pc_scope.specs.Reach.{completes_all, is_empty}
 use Rattle.pc_scope.specs.Bindings.{texts}
@@ -11,9 +12,12 @@ use Rattle.pc_types.specs.WellFormed.{IsWellFormed}
 use Rattle.pc_flow.specs.Environment.{Env, join_ways}
 use Rattle.pc_rules.specs.Operations.{clean}
 use Rattle.pc_rules.specs.Labels.{FlowLabels, whole_label}
-use Rattle.pc_module_rules.specs.StatementLabels.{Behind, Following, BehindRule, OptionLabels, StmtLabels, SuiteLabels, behind_list, breaks_in, breaks_in_suite}
-use Rattle.pc_module_rules.specs.Statements.{LawfulOption, LawfulReturn, LawfulStmt, LawfulSuite, NamesBound, AreUndeclared}
-use Rattle.pc_module_rules.specs.Laws.Labellings.{Agree, IsDeclaredTable, OutSettled, Setting, GoesByNames, SettledAll, StmtLabelled, SuiteLabelled, any_way}
+use Rattle.pc_module_rules.specs.StatementLabels.{Behind, Following, BehindRule, OptionLabels, StmtLabels, SuiteLabels}
+use Rattle.pc_module_rules.specs.StatementLabels.{behind_list, breaks_in, breaks_in_suite}
+use Rattle.pc_module_rules.specs.Statements.{LawfulOption, LawfulReturn, LawfulStmt, LawfulSuite, NamesBound}
+use Rattle.pc_module_rules.specs.Statements.{AreUndeclared}
+use Rattle.pc_module_rules.specs.Laws.Labellings.{Agree, IsDeclaredTable, OutSettled, Setting, GoesByNames, SettledAll}
+use Rattle.pc_module_rules.specs.Laws.Labellings.{StmtLabelled, SuiteLabelled, any_way}
 use Rattle.pc_module_rules.proofs.BoundNames.{Within, within_right}
 use Rattle.pc_module_rules.proofs.Tables.{all_both, all_on, same_on, same_self}
 use Rattle.pc_module_rules.proofs.LabelledExpressions.{expr_labelled, flows_labelled}
@@ -28,9 +32,11 @@ module _ (setting : Setting) where
     pub record ReturnLabelled (ds : List Tree) (seen : NamesBound) (env : Env) (e : Option Expr) : Type 0 where
       pub labels : OptionLabels e
       pub flows : FlowLabels
-      pub lawful : (F : List Tree) → IsDeclaredTable setting F → Agree ctx ds F seen → LawfulReturn m ctx F returned env e labels flows
+      pub lawful : (F : List Tree) → IsDeclaredTable setting F → Agree ctx ds F seen
+          → LawfulReturn m ctx F returned env e labels flows
 
-    pub return_labelled : (ds : List Tree) (seen : NamesBound) (env : Env) → IsDeclaredTable setting ds → GoesByNames setting ds seen env → (e : Option Expr) → ReturnLabelled ds seen env e
+    pub return_labelled : (ds : List Tree) (seen : NamesBound) (env : Env) → IsDeclaredTable setting ds
+        → GoesByNames setting ds seen env → (e : Option Expr) → ReturnLabelled ds seen env e
     return_labelled ds seen env g h None =
         let fl = flows_labelled ctx.bases (clean NoneType) (returned ∷ []) ck.smaller (tt, tt, omega arith) (kr, tt) in
         record { labels = tt; flows = fl.flows; lawful = λ F gF s. fl.lawful }
@@ -42,11 +48,14 @@ module _ (setting : Setting) where
     -- an expression that may be left out has labels
     pub record OptionLabelled (ds : List Tree) (seen : NamesBound) (env : Env) (e : Option Expr) : Type 0 where
       pub labels : OptionLabels e
-      pub lawful : (F : List Tree) → IsDeclaredTable setting F → Agree ctx ds F seen → LawfulOption m ctx F returned env e labels
+      pub lawful : (F : List Tree) → IsDeclaredTable setting F → Agree ctx ds F seen
+          → LawfulOption m ctx F returned env e labels
 
-    pub option_labelled : (ds : List Tree) (seen : NamesBound) (env : Env) → IsDeclaredTable setting ds → GoesByNames setting ds seen env → (e : Option Expr) → OptionLabelled ds seen env e
+    pub option_labelled : (ds : List Tree) (seen : NamesBound) (env : Env) → IsDeclaredTable setting ds
+        → GoesByNames setting ds seen env → (e : Option Expr) → OptionLabelled ds seen env e
     option_labelled ds seen env g h None = record { labels = tt; lawful = λ F gF s. tt }
-    option_labelled ds seen env g h (Some e) = let v = expr_labelled setting ds seen env None e g h tt in record { labels = v.labels; lawful = v.lawful }
+    option_labelled ds seen env g h (Some e) = let v = expr_labelled setting ds seen env None e g h tt in
+        record { labels = v.labels; lawful = v.lawful }
 
     pub any_both : (a b : List Env) → any_way (a ++ b) ≡ (any_way a || any_way b)
     any_both [] b = refl
@@ -69,50 +78,87 @@ module _ (setting : Setting) where
     empty_reaches (more_stmts s rest) x = refl
 
     -- a statement, and what stands after it
-    pub record BehindLabelled (b : Test) (ds : List Tree) (seen : NamesBound) (env : Env) (s : Stmt) (rest : Stmts) : Type 0 where
+    pub record BehindLabelled (b : Test) (ds : List Tree) (seen : NamesBound) (env : Env) (s : Stmt)
+        (rest : Stmts) : Type 0 where
       pub table : List Tree
       pub is_table : IsDeclaredTable setting table
       pub same : Agree ctx ds table seen
       pub labels : record { first : StmtLabels s; behind : Behind b (Following (SuiteLabels rest)) }
       pub out : Option Env
       pub ends : OutSettled setting table (texts (bound_by rest) ++ (texts (bound_by_stmt s) ++ seen)) out
-      pub broken : SettledAll setting table (texts (bound_by rest) ++ (texts (bound_by_stmt s) ++ seen)) (breaks_in s labels.first ++ behind_list b labels.behind (λ r. breaks_in_suite rest r.rest))
+      pub broken : SettledAll setting table (texts (bound_by rest) ++ (texts (bound_by_stmt s) ++ seen))
+          (breaks_in s labels.first ++ behind_list b labels.behind (λ r. breaks_in_suite rest r.rest))
       pub reaches : is_some out ≡ (b && completes_all rest)
-      pub lawful : (F : List Tree) → IsDeclaredTable setting F → Agree ctx table F (texts (bound_by rest) ++ (texts (bound_by_stmt s) ++ seen)) → BehindRule b labels.behind (λ r. LawfulStmt m ctx F returned seen env s labels.first (Some r.env) × LawfulSuite m ctx F returned (texts (bound_by_stmt s) ++ seen) r.env rest r.rest out) (LawfulStmt m ctx F returned seen env s labels.first None × AreUndeclared m ctx F (texts (bound_by_stmt s) ++ seen) (bound_by rest) × (out ≡ None))
+      pub lawful : (F : List Tree) → IsDeclaredTable setting F → Agree ctx table F
+          (texts (bound_by rest) ++ (texts (bound_by_stmt s) ++ seen))
+          → BehindRule b labels.behind (λ r. LawfulStmt m ctx F returned seen env s labels.first (Some r.env)
+          × LawfulSuite m ctx F returned (texts (bound_by_stmt s) ++ seen) r.env rest r.rest out)
+          (LawfulStmt m ctx F returned seen env s labels.first None
+          × AreUndeclared m ctx F (texts (bound_by_stmt s) ++ seen) (bound_by rest) × (out ≡ None))
 
-    pub behind_labelled : (b : Test) (ds : List Tree) (seen : NamesBound) (env : Env) (s : Stmt) (rest : Stmts) (t : List Tree) → IsDeclaredTable setting t → Agree ctx ds t seen → (mk : StmtLabels s) (mid : Option Env) → OutSettled setting t (texts (bound_by_stmt s) ++ seen) mid → SettledAll setting t (texts (bound_by_stmt s) ++ seen) (breaks_in s mk) → is_some mid ≡ b → ((F : List Tree) → IsDeclaredTable setting F → Agree ctx t F (texts (bound_by_stmt s) ++ seen) → LawfulStmt m ctx F returned seen env s mk mid) → ((e : Env) → GoesByNames setting t (texts (bound_by_stmt s) ++ seen) e → SuiteLabelled setting returned t (texts (bound_by_stmt s) ++ seen) e rest) → BehindLabelled b ds seen env s rest
+    pub behind_labelled : (b : Test) (ds : List Tree) (seen : NamesBound) (env : Env) (s : Stmt) (rest : Stmts)
+        (t : List Tree) → IsDeclaredTable setting t → Agree ctx ds t seen → (mk : StmtLabels s) (mid : Option Env)
+        → OutSettled setting t (texts (bound_by_stmt s) ++ seen) mid
+        → SettledAll setting t (texts (bound_by_stmt s) ++ seen) (breaks_in s mk) → is_some mid ≡ b
+        → ((F : List Tree) → IsDeclaredTable setting F → Agree ctx t F (texts (bound_by_stmt s) ++ seen)
+        → LawfulStmt m ctx F returned seen env s mk mid) → ((e : Env)
+        → GoesByNames setting t (texts (bound_by_stmt s) ++ seen) e
+        → SuiteLabelled setting returned t (texts (bound_by_stmt s) ++ seen) e rest)
+        → BehindLabelled b ds seen env s rest
     behind_labelled true ds seen env s rest t g same mk (Some mid) ends broken e lawful next =
         let nx = next mid ends in
-        let w : Within (texts (bound_by_stmt s) ++ seen) (texts (bound_by rest) ++ (texts (bound_by_stmt s) ++ seen)) = within_right (texts (bound_by rest)) (texts (bound_by_stmt s) ++ seen) in
+        let w : Within (texts (bound_by_stmt s) ++ seen) (texts (bound_by rest) ++ (texts (bound_by_stmt s) ++ seen)) =
+        within_right (texts (bound_by rest)) (texts (bound_by_stmt s) ++ seen) in
         record {
           table = nx.table;
           is_table = nx.is_table;
-          same = same_on setting ds t nx.table seen (texts (bound_by_stmt s) ++ seen) (within_right (texts (bound_by_stmt s)) seen) same nx.same;
+          same = same_on setting ds t nx.table seen (texts (bound_by_stmt s) ++ seen)
+              (within_right (texts (bound_by_stmt s)) seen) same nx.same;
           labels = record { first = mk; behind = record { env = mid; rest = nx.labels } };
           out = nx.out;
           ends = nx.ends;
-          broken = all_both setting nx.table (texts (bound_by rest) ++ (texts (bound_by_stmt s) ++ seen)) (breaks_in s mk) (breaks_in_suite rest nx.labels) (all_on setting t nx.table (texts (bound_by_stmt s) ++ seen) (texts (bound_by rest) ++ (texts (bound_by_stmt s) ++ seen)) (breaks_in s mk) w nx.is_table nx.same broken) nx.broken;
+          broken = all_both setting nx.table (texts (bound_by rest) ++ (texts (bound_by_stmt s) ++ seen))
+              (breaks_in s mk) (breaks_in_suite rest nx.labels) (all_on setting t nx.table
+              (texts (bound_by_stmt s) ++ seen) (texts (bound_by rest) ++ (texts (bound_by_stmt s) ++ seen))
+              (breaks_in s mk) w nx.is_table nx.same broken) nx.broken;
           reaches = nx.reaches;
-          lawful = λ F gF s'. (lawful F gF (same_on setting t nx.table F (texts (bound_by_stmt s) ++ seen) (texts (bound_by rest) ++ (texts (bound_by_stmt s) ++ seen)) w nx.same s'), nx.lawful F gF s');
+          lawful = λ F gF s'. (
+            lawful F gF (same_on setting t nx.table F (texts (bound_by_stmt s) ++ seen)
+                (texts (bound_by rest) ++ (texts (bound_by_stmt s) ++ seen)) w nx.same s'),
+            nx.lawful F gF s',
+          );
         }
     behind_labelled false ds seen env s rest t g same mk None ends broken e lawful next =
         let u = undeclared_labelled setting t (texts (bound_by_stmt s) ++ seen) g (bound_by rest) in
-        let w : Within (texts (bound_by_stmt s) ++ seen) (texts (bound_by rest) ++ (texts (bound_by_stmt s) ++ seen)) = within_right (texts (bound_by rest)) (texts (bound_by_stmt s) ++ seen) in
+        let w : Within (texts (bound_by_stmt s) ++ seen) (texts (bound_by rest) ++ (texts (bound_by_stmt s) ++ seen)) =
+        within_right (texts (bound_by rest)) (texts (bound_by_stmt s) ++ seen) in
         record {
           table = u.table;
           is_table = u.is_table;
-          same = same_on setting ds t u.table seen (texts (bound_by_stmt s) ++ seen) (within_right (texts (bound_by_stmt s)) seen) same u.same;
+          same = same_on setting ds t u.table seen (texts (bound_by_stmt s) ++ seen)
+              (within_right (texts (bound_by_stmt s)) seen) same u.same;
           labels = record { first = mk; behind = tt };
           out = None;
           ends = tt;
-          broken = all_both setting u.table (texts (bound_by rest) ++ (texts (bound_by_stmt s) ++ seen)) (breaks_in s mk) [] (all_on setting t u.table (texts (bound_by_stmt s) ++ seen) (texts (bound_by rest) ++ (texts (bound_by_stmt s) ++ seen)) (breaks_in s mk) w u.is_table u.same broken) tt;
+          broken = all_both setting u.table (texts (bound_by rest) ++ (texts (bound_by_stmt s) ++ seen))
+              (breaks_in s mk) [] (all_on setting t u.table (texts (bound_by_stmt s) ++ seen)
+              (texts (bound_by rest) ++ (texts (bound_by_stmt s) ++ seen)) (breaks_in s mk) w u.is_table u.same broken)
+              tt;
           reaches = refl;
-          lawful = λ F gF s'. (lawful F gF (same_on setting t u.table F (texts (bound_by_stmt s) ++ seen) (texts (bound_by rest) ++ (texts (bound_by_stmt s) ++ seen)) w u.same s'), u.lawful F s', refl);
+          lawful = λ F gF s'. (
+            lawful F gF (same_on setting t u.table F (texts (bound_by_stmt s) ++ seen)
+                (texts (bound_by rest) ++ (texts (bound_by_stmt s) ++ seen)) w u.same s'),
+            u.lawful F s',
+            refl,
+          );
         }
     behind_labelled true ds seen env s rest t g same mk None ends broken e lawful next = absurd (grind (arith, e))
-    behind_labelled false ds seen env s rest t g same mk (Some mid) ends broken e lawful next = absurd (grind (arith, e))
+    behind_labelled false ds seen env s rest t g same mk (Some mid) ends broken e lawful next =
+        absurd (grind (arith, e))
 
-    pub assignment_labelled : (ds : List Tree) (seen : NamesBound) (env : Env) → IsDeclaredTable setting ds → GoesByNames setting ds seen env → (p : Place) (t : Target) (e : Expr) → StmtLabelled setting returned ds seen env (assigns p t e)
+    pub assignment_labelled : (ds : List Tree) (seen : NamesBound) (env : Env) → IsDeclaredTable setting ds
+        → GoesByNames setting ds seen env → (p : Place) (t : Target) (e : Expr)
+        → StmtLabelled setting returned ds seen env (assigns p t e)
     assignment_labelled ds seen env g h p (to_name n) e =
         let b = binding_labelled setting ds seen env g h n (ctx.resolve n.text) refl None tt e in
         record {

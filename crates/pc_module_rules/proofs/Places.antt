@@ -11,4 +11,5 @@ same_place p q h =
     λ i. record { start = eqb-true p.start q.start e.0 i; end = eqb-true p.end q.end e.1 i }
 
 pub own_place : (p : Place) → is_same_place p p ≡ true
-own_place p = and_from (nat_eq p.start p.start) (nat_eq p.end p.end) (eq-eqb p.start p.start refl) (eq-eqb p.end p.end refl)
+own_place p = and_from (nat_eq p.start p.start) (nat_eq p.end p.end) (eq-eqb p.start p.start refl)
+    (eq-eqb p.end p.end refl)

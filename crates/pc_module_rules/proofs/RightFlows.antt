@@ -1,5 +1,7 @@
--- The dynamic flows that are computed of a module are found, and the other way round; they are dynamic, and of well-formed types.
-use Rattle.std.proofs.Common.{◌≡◌, Bool as Test, true, false, List, [], ◌∷◌, Option, Some, None, refl, sym, ap, ◌∙◌, subst, inl, inr, Contains, ◌↔◌}
+-- The dynamic flows that are computed of a module are found, and the other way round; they are dynamic, and of
+-- well-formed types.
+use Rattle.std.proofs.Common.{◌≡◌, Bool as Test, true, false, List, [], ◌∷◌, Option, Some, None, refl, sym, ap, ◌∙◌}
+use Rattle.std.proofs.Common.{subst, inl, inr, Contains, ◌↔◌}
 use Rattle.std.specs.Prelude.{if◌then◌else◌, IsSome}
 use Rattle.std.proofs.lemmas.Bool.{false≢true}
 use Rattle.pc_source.specs.declared.place.Place.{Place}
@@ -8,7 +10,8 @@ use Rattle.pc_tree.specs.declared.code.Code.TheVariants.{A1}
 use Rattle.pc_tree.specs.declared.code.Finding.{Finding}
 use Rattle.pc_tree.specs.Code.{finding}
 use Rattle.pc_tree.specs.Tree.{Module}
-use Rattle.pc_scope_findings.specs.Findings.{IsScopeCode, IsUnknown, in_constant, in_body, decorator, ScopeFinds, stopping, unknown, early, unreachable}
+use Rattle.pc_scope_findings.specs.Findings.{IsScopeCode, IsUnknown, in_constant, in_body, decorator, ScopeFinds}
+use Rattle.pc_scope_findings.specs.Findings.{stopping, unknown, early, unreachable}
 use Rattle.pc_tree.proofs.Among.{none_among, first_among, later_among, among_first}
 use Rattle.pc_types.specs.Tree.{Tree}
 use Rattle.pc_types.specs.Assignable.{Assignable}
@@ -51,7 +54,8 @@ scope_plain m f (unknown h) = unknown_plain m f h
 scope_plain m f (early h) = elim h.found [ inl n ↦ of_code f _ _ n.is refl | inr c ↦ of_code f _ _ c.is refl ]
 scope_plain m f (unreachable h) = of_code f _ _ h.is refl
 
-judged_plain : {bases : Bases} {olds : List Method} {new : Method} {o : Option Code} → Judges bases olds new o → IsPlainIfAny o
+judged_plain : {bases : Bases} {olds : List Method} {new : Method} {o : Option Code} → Judges bases olds new o
+    → IsPlainIfAny o
 judged_plain (static a) = tt
 judged_plain (dynamic a b) = refl
 judged_plain (wrong a) = refl
@@ -80,13 +84,29 @@ module _ (bases : Bases) (p : Place) where
   module _ (n : Note) (ns : List Note) where
     told_behind : (rest : Option (Tree × Tree)) → ToldIfAny ns rest → ToldIfAny (n ∷ ns) rest
     told_behind None h = tt
-    told_behind (Some f) h = record { stands = later_among n.finding (findings_of ns) (finding p A1) h.stands; static = h.static; assignable = h.assignable; from = h.from; into = h.into }
+    told_behind (Some f) h = record {
+      stands = later_among n.finding (findings_of ns) (finding p A1) h.stands;
+      static =
+          h.static;
+      assignable = h.assignable;
+      from = h.from;
+      into = h.into;
+    }
 
-    told_one : (b : Test) → is_same_place p n.finding.place ≡ b → (o : Option (Tree × Tree)) → IsTestedFlow bases n.finding.code o → IsFormedFlow bases o → (rest : Option (Tree × Tree)) → ToldIfAny ns rest → ToldIfAny (n ∷ ns) (if b then or_else o rest else rest)
+    told_one : (b : Test) → is_same_place p n.finding.place ≡ b → (o : Option (Tree × Tree))
+        → IsTestedFlow bases n.finding.code o → IsFormedFlow bases o → (rest : Option (Tree × Tree)) → ToldIfAny ns rest
+        → ToldIfAny (n ∷ ns) (if b then or_else o rest else rest)
     told_one true e (Some f) t k rest h =
         let place : p ≡ n.finding.place = same_place p n.finding.place e in
         let is : n.finding ≡ finding p A1 = λ i. record { place = sym place i; code = t.0 i } in
-        record { stands = subst (Contains (findings_of (n ∷ ns))) is (first_among n.finding (findings_of ns)); static = t.1; assignable = t.2; from = k.0; into = k.1 }
+        record {
+          stands = subst (Contains (findings_of (n ∷ ns))) is (first_among n.finding (findings_of ns));
+          static =
+              t.1;
+          assignable = t.2;
+          from = k.0;
+          into = k.1;
+        }
     told_one true e None t k rest h = told_behind rest h
     told_one false e o t k rest h = told_behind rest h
 
@@ -96,23 +116,28 @@ module _ (bases : Bases) (p : Place) where
     some_behind true None rest h = h
     some_behind false o rest h = h
 
-    some_here : (b : Test) → b ≡ true → (c : Code) → c ≡ A1 → (o : Option (Tree × Tree)) → IsTestedFlow bases c o → (rest : Option (Tree × Tree)) → IsSome (if b then or_else o rest else rest)
+    some_here : (b : Test) → b ≡ true → (c : Code) → c ≡ A1 → (o : Option (Tree × Tree)) → IsTestedFlow bases c o
+        → (rest : Option (Tree × Tree)) → IsSome (if b then or_else o rest else rest)
     some_here true e c a (Some f) t rest = refl
     some_here true e c a None t rest = absurd (cc (subst IsPlain a t))
     some_here false e c a o t rest = absurd (cc e)
 
   told : (notes : List Note) → AreRight bases notes → ToldIfAny notes (flow_noted p notes)
   told [] h = tt
-  told (n ∷ ns) h = told_one n ns (is_same_place p n.finding.place) refl n.flow h.0.tested h.0.formed (flow_noted p ns) (told ns h.1)
+  told (n ∷ ns) h = told_one n ns (is_same_place p n.finding.place) refl n.flow h.0.tested h.0.formed (flow_noted p ns)
+      (told ns h.1)
 
-  noted : (notes : List Note) → AreRight bases notes → Contains (findings_of notes) (finding p A1) → IsSome (flow_noted p notes)
+  noted : (notes : List Note) → AreRight bases notes → Contains (findings_of notes) (finding p A1)
+      → IsSome (flow_noted p notes)
   noted [] h c = absurd (none_among (finding p A1) c)
   noted (n ∷ ns) h c = elim (among_first n.finding (findings_of ns) (finding p A1) c) [
-    | inl e ↦ some_here n ns (is_same_place p n.finding.place) (subst (λ (f : Finding). is_same_place p f.place ≡ true) (sym e) (own_place p)) n.finding.code (ap (λ (f : Finding). f.code) e) n.flow h.0.tested (flow_noted p ns)
+    | inl e ↦ some_here n ns (is_same_place p n.finding.place) (subst (λ (f : Finding). is_same_place p f.place ≡ true)
+        (sym e) (own_place p)) n.finding.code (ap (λ (f : Finding). f.code) e) n.flow h.0.tested (flow_noted p ns)
     | inr r ↦ some_behind n ns (is_same_place p n.finding.place) n.flow (flow_noted p ns) (noted ns h.1 r)
   ]
 
-  stands_of : (notes : List Note) (o : Option (Tree × Tree)) → ToldIfAny notes o → IsSome o → Contains (findings_of notes) (finding p A1)
+  stands_of : (notes : List Note) (o : Option (Tree × Tree)) → ToldIfAny notes o → IsSome o
+      → Contains (findings_of notes) (finding p A1)
   stands_of notes None h some = absurd (cc some)
   stands_of notes (Some f) h some = h.stands
 
@@ -134,15 +159,23 @@ flow_found m p = (to, from)
     ]
 
     from : IsSome (dynamic_flow m p) → IsFinding m (finding p A1)
-    from some = (findings_computed m (finding p A1)).1 (inr (inr (stands_of (bases_of m) p (module_finds m []) (dynamic_flow m p) (told (bases_of m) p (module_finds m []) (all_right m)) some)))
+    from some = (findings_computed m (finding p A1)).1
+        (inr (inr (stands_of (bases_of m) p (module_finds m []) (dynamic_flow m p)
+        (told (bases_of m) p (module_finds m []) (all_right m)) some)))
 
-told_of : (m : Module) (p : Place) (s t : Tree) → dynamic_flow m p ≡ Some (s, t) → Told (bases_of m) p (module_finds m []) (s, t)
-told_of m p s t e = subst (ToldIfAny (bases_of m) p (module_finds m [])) e (told (bases_of m) p (module_finds m []) (all_right m))
+told_of : (m : Module) (p : Place) (s t : Tree) → dynamic_flow m p ≡ Some (s, t)
+    → Told (bases_of m) p (module_finds m []) (s, t)
+told_of m p s t e = subst (ToldIfAny (bases_of m) p (module_finds m [])) e
+    (told (bases_of m) p (module_finds m []) (all_right m))
 
-pub flow_dynamic : (m : Module) (p : Place) (s t : Tree) → dynamic_flow m p ≡ Some (s, t) → Assignable (bases_of m) s t × ¬ (Static (bases_of m) s t)
+pub flow_dynamic : (m : Module) (p : Place) (s t : Tree) → dynamic_flow m p ≡ Some (s, t) → Assignable (bases_of m) s t
+    × ¬ (Static (bases_of m) s t)
 flow_dynamic m p s t e =
-    let h = told_of m p s t e in
-    ((assignable_decided (bases_of m) s t (smaller m) h.from.0 h.into.0).0 h.assignable, λ q. false≢true (sym h.static ∙ (static_decided (bases_of m) s t (smaller m) h.from.0 h.into.0).1 q))
+    let h = told_of m p s t e in (
+      (assignable_decided (bases_of m) s t (smaller m) h.from.0 h.into.0).0 h.assignable,
+      λ q. false≢true (sym h.static ∙ (static_decided (bases_of m) s t (smaller m) h.from.0 h.into.0).1 q),
+    )
 
-pub flow_well_formed : (m : Module) (p : Place) (s t : Tree) → dynamic_flow m p ≡ Some (s, t) → IsWellFormed (bases_of m) s × IsWellFormed (bases_of m) t
+pub flow_well_formed : (m : Module) (p : Place) (s t : Tree) → dynamic_flow m p ≡ Some (s, t)
+    → IsWellFormed (bases_of m) s × IsWellFormed (bases_of m) t
 flow_well_formed m p s t e = let h = told_of m p s t e in (h.from, h.into)

@@ -1,6 +1,8 @@
--- The notes in an expression are right: each that has two types is a dynamic flow of the one into the other, both well-formed, and each
+-- The notes in an expression are right: each that has two types is a dynamic flow of the one into the other, both
+-- well-formed, and each
 -- other one is no dynamic flow.
-use Rattle.std.proofs.Common.{◌≡◌, ℕ, suc, Bool as Test, true, false, List, [], ◌∷◌, ◌++◌, Option, Some, None, refl, sym, subst}
+use Rattle.std.proofs.Common.{◌≡◌, ℕ, suc, Bool as Test, true, false, List, [], ◌∷◌, ◌++◌, Option, Some, None, refl}
+use Rattle.std.proofs.Common.{sym, subst}
 use Rattle.std.specs.Prelude.{flat_map, map}
 use Rattle.std.specs.List.{AllByRecursion}
 use Rattle.pc_source.specs.declared.place.Place.{Place}
@@ -8,7 +10,10 @@ use Rattle.pc_tree.specs.declared.code.Code.{Code}
 use Rattle.pc_tree.specs.declared.code.Code.TheVariants.{A1}
 use Rattle.pc_tree.specs.declared.code.Finding.{Finding}
 use Rattle.pc_tree.specs.Code.{finding}
-use Rattle.pc_tree.specs.Tree.{Expr, Exprs, Entries, Keywords, name, number, text, truth, nothing, tuple, list, dict, negative, negation, binary, compare, is_none, is_not_none, conjunction, disjunction, attribute, index, call, no_exprs, more_exprs, no_entries, more_entries, no_keywords, more_keywords}
+use Rattle.pc_tree.specs.Tree.{Expr, Exprs, Entries, Keywords, name, number, text, truth, nothing, tuple, list, dict}
+use Rattle.pc_tree.specs.Tree.{negative, negation, binary, compare, is_none, is_not_none, conjunction, disjunction}
+use Rattle.pc_tree.specs.Tree.{attribute, index, call, no_exprs, more_exprs, no_entries, more_entries, no_keywords}
+use Rattle.pc_tree.specs.Tree.{more_keywords}
 use Rattle.pc_tree.specs.Depth.{place_of}
 use Rattle.pc_scope.specs.Expressions.{is_instance_test}
 use Rattle.pc_types.specs.Tree.{Tree, Int, Object, TupleOf}
@@ -22,25 +27,40 @@ use Rattle.pc_flow.specs.WellFormed.{IsWellFormedIfAny, IsWellFormedEnv, AreWell
 use Rattle.pc_notes.specs.Notes.{Note, plain_note}
 use Rattle.pc_rules.specs.Operations.{Label, FlowLabel, operand_types, index_member, attribute_member, negative_member}
 use Rattle.pc_rules.specs.Context.{Context, is_early}
-use Rattle.pc_rules.specs.Calls.{Seat, arguments_given, count_exprs, call_label, positional_seat, named_seat, range_signature, range_offers}
-use Rattle.pc_rules.specs.Labels.{FlowLabels, Labels, ItemsLabels, EntriesLabels, KeywordsLabels, whole_label, type_of, with_label, is_of_scopes, second_place, item_types, key_types, value_types}
-use Rattle.pc_rules.specs.Lawful.{list_item, dict_parts, tuple_parts, members_of_expected, item_seat, part_seat, key_seat, value_seat, int_literal, compare_types, callee_of, keyword_seat}
-use Rattle.pc_rules.specs.Computed.Expressions.{code_by, code_unless, flows_of, labels, items_labels, entries_labels, keywords_labels}
-use Rattle.pc_rules.specs.Computed.Findings.{own_at, has_code, add_code, once_onto, once, codes_at, notes_of_code, flow_note, own_flow, flow_then, flows_behind, flows_at, whole, found_in_parts, found_in_items, found_in_arguments, found_in_entries, found_in_keywords, notes_under}
-use Rattle.pc_rules.specs.Computed.Standing.{Standing, label_in, finds_in, items_in, keywords_in, arguments_find, keywords_find}
-use Rattle.pc_rules.specs.Laws.WellFormed.{ContextWellFormed, FlowsWellFormed, LabelsWellFormed, ItemsWellFormed, EntriesWellFormed, KeywordsWellFormed}
+use Rattle.pc_rules.specs.Calls.{Seat, arguments_given, count_exprs, call_label, positional_seat, named_seat}
+use Rattle.pc_rules.specs.Calls.{range_signature, range_offers}
+use Rattle.pc_rules.specs.Labels.{FlowLabels, Labels, ItemsLabels, EntriesLabels, KeywordsLabels, whole_label, type_of}
+use Rattle.pc_rules.specs.Labels.{with_label, is_of_scopes, second_place, item_types, key_types, value_types}
+use Rattle.pc_rules.specs.Lawful.{list_item, dict_parts, tuple_parts, members_of_expected, item_seat, part_seat}
+use Rattle.pc_rules.specs.Lawful.{key_seat, value_seat, int_literal, compare_types, callee_of, keyword_seat}
+use Rattle.pc_rules.specs.Computed.Expressions.{code_by, code_unless, flows_of, labels, items_labels, entries_labels}
+use Rattle.pc_rules.specs.Computed.Expressions.{keywords_labels}
+use Rattle.pc_rules.specs.Computed.Findings.{own_at, has_code, add_code, once_onto, once, codes_at, notes_of_code}
+use Rattle.pc_rules.specs.Computed.Findings.{flow_note, own_flow, flow_then, flows_behind, flows_at, whole}
+use Rattle.pc_rules.specs.Computed.Findings.{found_in_parts, found_in_items, found_in_arguments, found_in_entries}
+use Rattle.pc_rules.specs.Computed.Findings.{found_in_keywords, notes_under}
+use Rattle.pc_rules.specs.Computed.Standing.{Standing, label_in, finds_in, items_in, keywords_in, arguments_find}
+use Rattle.pc_rules.specs.Computed.Standing.{keywords_find}
+use Rattle.pc_rules.specs.Laws.WellFormed.{ContextWellFormed, FlowsWellFormed, LabelsWellFormed, ItemsWellFormed}
+use Rattle.pc_rules.specs.Laws.WellFormed.{EntriesWellFormed, KeywordsWellFormed}
 use Rattle.pc_rules.specs.Computed.Ranges.{range_finds}
 use Rattle.pc_rules.proofs.WellFormed.{int_well_formed, object_well_formed}
-use Rattle.pc_rules.proofs.Called.{CallsWellFormed, builtin_well_formed, called_well_formed, positional_well_formed, named_well_formed}
+use Rattle.pc_rules.proofs.Called.{CallsWellFormed, builtin_well_formed, called_well_formed, positional_well_formed}
+use Rattle.pc_rules.proofs.Called.{named_well_formed}
 use Rattle.pc_rules.proofs.ComputedFlows.{flows_well_formed, are_tests}
 use Rattle.pc_rules.proofs.ComputedLawful.{labels_are_lawful, items_lawful, keywords_lawful}
 use Rattle.pc_rules.proofs.Saying.{own_label}
 use Rattle.pc_rules.proofs.PartsKept.{parts_kept}
-use Rattle.pc_module_rules.proofs.PlainCodes.{all_append, in_both, tells_flow, IsPlain, ArePlain, LabelPlain, IsPlainIfAny, mapped_plain, index_plain, attribute_plain, negative_plain, binary_plain, compare_plain, display_plain, list_plain, dict_plain, name_plain, callee_label_plain, whole_call_plain, whole_second_plain, range_plain}
+use Rattle.pc_module_rules.proofs.PlainCodes.{all_append, in_both, tells_flow, IsPlain, ArePlain, LabelPlain}
+use Rattle.pc_module_rules.proofs.PlainCodes.{IsPlainIfAny, mapped_plain, index_plain, attribute_plain, negative_plain}
+use Rattle.pc_module_rules.proofs.PlainCodes.{binary_plain, compare_plain, display_plain, list_plain, dict_plain}
+use Rattle.pc_module_rules.proofs.PlainCodes.{name_plain, callee_label_plain, whole_call_plain, whole_second_plain}
+use Rattle.pc_module_rules.proofs.PlainCodes.{range_plain}
 
 -- ---- right notes
 
--- a flow is dynamic by its code and by the tests of static and of consistent subtyping; a note without types is no dynamic flow
+-- a flow is dynamic by its code and by the tests of static and of consistent subtyping; a note without types is no
+-- dynamic flow
 abbrev pub IsTestedFlow : Bases → Code → Option (Tree × Tree) → Type 0
 IsTestedFlow bases c None = IsPlain c
 IsTestedFlow bases c (Some f) = (c ≡ A1) × (static_test bases f.0 f.1 ≡ false) × (assignable_test bases f.0 f.1 ≡ true)
@@ -65,20 +85,24 @@ pub record IsRight (bases : Bases) (n : Note) : Type 0 where
 abbrev pub AreRight : Bases → List Note → Type 0
 AreRight bases notes = AllByRecursion (IsRight bases) notes
 
-right_both : (bases : Bases) (notes : List Note) → AllByRecursion (IsTested bases) notes → AllByRecursion (IsFormed bases) notes → AreRight bases notes
+right_both : (bases : Bases) (notes : List Note) → AllByRecursion (IsTested bases) notes
+    → AllByRecursion (IsFormed bases) notes → AreRight bases notes
 right_both bases [] h k = tt
 right_both bases (n ∷ ns) h k = (record { tested = h.0; formed = k.0 }, right_both bases ns h.1 k.1)
 
-pub right_append : (bases : Bases) (xs ys : List Note) → AreRight bases xs → AreRight bases ys → AreRight bases (xs ++ ys)
+pub right_append : (bases : Bases) (xs ys : List Note) → AreRight bases xs → AreRight bases ys
+    → AreRight bases (xs ++ ys)
 right_append bases xs ys h k = all_append (IsRight bases) xs ys h k
 
 -- ---- codes, each once
 
 module _ (P : Code → Type 0) where
-  onto_holds : (before cs : List Code) → AllByRecursion P before → AllByRecursion P cs → AllByRecursion P (once_onto before cs)
+  onto_holds : (before cs : List Code) → AllByRecursion P before → AllByRecursion P cs
+      → AllByRecursion P (once_onto before cs)
   onto_holds before [] h k = h
   onto_holds before (c ∷ cs) h k =
-      onto_holds (add_code before c) cs (in_both (AllByRecursion P) (has_code before c) before (before ++ c ∷ []) h (all_append P before (c ∷ []) h (k.0, tt))) k.1
+      onto_holds (add_code before c) cs (in_both (AllByRecursion P) (has_code before c) before (before ++ c ∷ []) h
+      (all_append P before (c ∷ []) h (k.0, tt))) k.1
 
 -- ---- what holds of notes of codes and of flows
 
@@ -102,15 +126,20 @@ module _ (P : Note → Type 0) (p : Place) where
   HoldsOfFlow s t None = Unit {0}
   HoldsOfFlow s t (Some c) = P (flow_note p s t c)
 
-  one_flow : (before : List Code) (s t : Tree) (o : Option Code) (rest : List Code → List Note) → HoldsOfFlow s t o → ((codes : List Code) → AllByRecursion P (rest codes)) → AllByRecursion P (flow_then p before s t o rest)
+  one_flow : (before : List Code) (s t : Tree) (o : Option Code) (rest : List Code → List Note) → HoldsOfFlow s t o
+      → ((codes : List Code) → AllByRecursion P (rest codes)) → AllByRecursion P (flow_then p before s t o rest)
   one_flow before s t None rest h k = k before
   one_flow before s t (Some c) rest h k =
-      in_both (AllByRecursion P) (has_code before c) (rest before) (own_flow p s t c ++ rest (before ++ c ∷ [])) (k before)
-      (all_append P (own_flow p s t c) (rest (before ++ c ∷ [])) (in_both (AllByRecursion P) (is_of_scopes c) [] (flow_note p s t c ∷ []) tt (h, tt)) (k (before ++ c ∷ [])))
+      in_both (AllByRecursion P) (has_code before c) (rest before) (own_flow p s t c ++ rest (before ++ c ∷ []))
+      (k before)
+      (all_append P (own_flow p s t c) (rest (before ++ c ∷ []))
+      (in_both (AllByRecursion P) (is_of_scopes c) [] (flow_note p s t c ∷ []) tt (h, tt)) (k (before ++ c ∷ [])))
 
-  behind_holds : (flows : FlowLabels) → AllByRecursion (λ (f : FlowLabel). HoldsOfFlow f.from f.into f.code) flows → (before : List Code) → AllByRecursion P (flows_behind p before flows)
+  behind_holds : (flows : FlowLabels) → AllByRecursion (λ (f : FlowLabel). HoldsOfFlow f.from f.into f.code) flows
+      → (before : List Code) → AllByRecursion P (flows_behind p before flows)
   behind_holds [] h before = tt
-  behind_holds (f ∷ fs) h before = one_flow before f.from f.into f.code (λ codes. flows_behind p codes fs) h.0 (behind_holds fs h.1)
+  behind_holds (f ∷ fs) h before = one_flow before f.from f.into f.code (λ codes. flows_behind p codes fs) h.0
+      (behind_holds fs h.1)
 
 -- ---- what the tests say
 
@@ -120,16 +149,19 @@ module _ (bases : Bases) where
   TestsSay s t None = Unit {0}
   TestsSay s t (Some c) = tells_flow c ≡ true → (static_test bases s t ≡ false) × (assignable_test bases s t ≡ true)
 
-  tests_by : (s t : Tree) (x y : Test) → static_test bases s t ≡ x → assignable_test bases s t ≡ y → TestsSay s t (code_by x y)
+  tests_by : (s t : Tree) (x y : Test) → static_test bases s t ≡ x → assignable_test bases s t ≡ y
+      → TestsSay s t (code_by x y)
   tests_by s t true y e f = tt
   tests_by s t false true e f = λ h. (e, f)
   tests_by s t false false e f = λ h. absurd (cc h)
 
-  tests_unless : (early : Test) (s t : Tree) → TestsSay s t (code_unless (static_test bases) (assignable_test bases) early s t)
+  tests_unless : (early : Test) (s t : Tree) → TestsSay s t (code_unless (static_test bases) (assignable_test bases)
+      early s t)
   tests_unless true s t = tt
   tests_unless false s t = tests_by s t (static_test bases s t) (assignable_test bases s t) refl refl
 
-  tested_note : (p : Place) (s t : Tree) (c : Code) → (tells_flow c ≡ true → (static_test bases s t ≡ false) × (assignable_test bases s t ≡ true)) → IsTested bases (flow_note p s t c)
+  tested_note : (p : Place) (s t : Tree) (c : Code) → (tells_flow c ≡ true → (static_test bases s t ≡ false)
+      × (assignable_test bases s t ≡ true)) → IsTested bases (flow_note p s t c)
   tested_note p s t A1 h = let r = h refl in (refl, r.0, r.1)
   tested_note p s t _ h = refl
 
@@ -137,11 +169,17 @@ module _ (bases : Bases) where
   tested_flow p s t None h = tt
   tested_flow p s t (Some c) h = tested_note p s t c h
 
-  tested_each : (p : Place) (m : Label) (ts : List Tree) → AllByRecursion (λ (f : FlowLabel). HoldsOfFlow (IsTested bases) p f.from f.into f.code) (flows_of bases m ts)
+  tested_each : (p : Place) (m : Label) (ts : List Tree) → AllByRecursion
+      (λ (f : FlowLabel). HoldsOfFlow (IsTested bases) p f.from f.into f.code) (flows_of bases m ts)
   tested_each p m [] = tt
-  tested_each p m (t ∷ ts) = (tested_flow p m.type t (code_unless (static_test bases) (assignable_test bases) (is_early m.codes) m.type t) (tests_unless (is_early m.codes) m.type t), tested_each p m ts)
+  tested_each p m (t ∷ ts) = (
+    tested_flow p m.type t (code_unless (static_test bases) (assignable_test bases)
+        (is_early m.codes) m.type t) (tests_unless (is_early m.codes) m.type t),
+    tested_each p m ts,
+  )
 
-  tested_flows : (p : Place) (m : Label) (ts : List Tree) → AllByRecursion (IsTested bases) (flows_at p (flows_of bases m ts))
+  tested_flows : (p : Place) (m : Label) (ts : List Tree) → AllByRecursion (IsTested bases)
+      (flows_at p (flows_of bases m ts))
   tested_flows p m ts = behind_holds (IsTested bases) p (flows_of bases m ts) (tested_each p m ts) []
 
   tested_codes : (p : Place) (cs : List Code) → ArePlain cs → AllByRecursion (IsTested bases) (codes_at p cs)
@@ -153,19 +191,23 @@ module _ (bases : Bases) where
 
   -- ---- well-formed types
 
-  formed_note : (p : Place) (s t : Tree) (c : Code) → IsWellFormed bases s → IsWellFormed bases t → IsFormed bases (flow_note p s t c)
+  formed_note : (p : Place) (s t : Tree) (c : Code) → IsWellFormed bases s → IsWellFormed bases t
+      → IsFormed bases (flow_note p s t c)
   formed_note p s t A1 h k = (h, k)
   formed_note p s t _ h k = tt
 
-  formed_flow : (p : Place) (s t : Tree) (o : Option Code) → IsWellFormed bases s → IsWellFormed bases t → HoldsOfFlow (IsFormed bases) p s t o
+  formed_flow : (p : Place) (s t : Tree) (o : Option Code) → IsWellFormed bases s → IsWellFormed bases t
+      → HoldsOfFlow (IsFormed bases) p s t o
   formed_flow p s t None h k = tt
   formed_flow p s t (Some c) h k = formed_note p s t c h k
 
-  formed_each : (p : Place) (flows : FlowLabels) → FlowsWellFormed bases flows → AllByRecursion (λ (f : FlowLabel). HoldsOfFlow (IsFormed bases) p f.from f.into f.code) flows
+  formed_each : (p : Place) (flows : FlowLabels) → FlowsWellFormed bases flows
+      → AllByRecursion (λ (f : FlowLabel). HoldsOfFlow (IsFormed bases) p f.from f.into f.code) flows
   formed_each p [] h = tt
   formed_each p (f ∷ fs) h = (formed_flow p f.from f.into f.code h.0.0 h.0.1, formed_each p fs h.1)
 
-  formed_flows : (p : Place) (flows : FlowLabels) → FlowsWellFormed bases flows → AllByRecursion (IsFormed bases) (flows_at p flows)
+  formed_flows : (p : Place) (flows : FlowLabels) → FlowsWellFormed bases flows
+      → AllByRecursion (IsFormed bases) (flows_at p flows)
   formed_flows p flows h = behind_holds (IsFormed bases) p flows (formed_each p flows h) []
 
   all_formed : (p : Place) (cs : List Code) → AllByRecursion (HoldsOfCode (IsFormed bases) p) cs
@@ -180,14 +222,18 @@ module _ (bases : Bases) where
   formed_code p (Some c) = own_holds (IsFormed bases) p c tt
 
   -- of two lists, one after the other
-  formed_then : (xs ys : List Note) → AllByRecursion (IsFormed bases) xs → AllByRecursion (IsFormed bases) ys → AllByRecursion (IsFormed bases) (xs ++ ys)
+  formed_then : (xs ys : List Note) → AllByRecursion (IsFormed bases) xs → AllByRecursion (IsFormed bases) ys
+      → AllByRecursion (IsFormed bases) (xs ++ ys)
   formed_then xs ys h k = all_append (IsFormed bases) xs ys h k
 
-  formed_whole : (e : Expr) (m : Labels e) (parts : List Note) → AllByRecursion (IsFormed bases) parts → AllByRecursion (IsFormed bases) (whole e m parts)
-  formed_whole e m parts h = formed_then parts (codes_at (place_of e) (whole_label e m).codes) h (formed_codes (place_of e) (whole_label e m).codes)
+  formed_whole : (e : Expr) (m : Labels e) (parts : List Note) → AllByRecursion (IsFormed bases) parts
+      → AllByRecursion (IsFormed bases) (whole e m parts)
+  formed_whole e m parts h = formed_then parts (codes_at (place_of e) (whole_label e m).codes) h
+      (formed_codes (place_of e) (whole_label e m).codes)
 
   mutual
-    formed_parts : (e : Expr) (m : Labels e) → LabelsWellFormed bases e m → AllByRecursion (IsFormed bases) (found_in_parts e m)
+    formed_parts : (e : Expr) (m : Labels e) → LabelsWellFormed bases e m
+        → AllByRecursion (IsFormed bases) (found_in_parts e m)
     formed_parts (name n) m h = tt
     formed_parts (number p digits) m h = tt
     formed_parts (text p characters) m h = tt
@@ -198,29 +244,41 @@ module _ (bases : Bases) where
     formed_parts (dict p es) m h = formed_entries es m.entries h.1
     formed_parts (negative p e) m h = formed_whole e m.operand _ (formed_parts e m.operand h.1)
     formed_parts (negation p e) m h = formed_whole e m.operand _ (formed_parts e m.operand h.1)
-    formed_parts (binary p o l r) m h = formed_then _ _ (formed_whole l m.left _ (formed_parts l m.left h.1)) (formed_whole r m.right _ (formed_parts r m.right h.2))
-    formed_parts (compare p o l r) m h = formed_then _ _ (formed_whole l m.left _ (formed_parts l m.left h.1)) (formed_then _ _ (formed_whole r m.right _ (formed_parts r m.right h.2)) (formed_flows (place_of l) m.flows h.3))
+    formed_parts (binary p o l r) m h = formed_then _ _ (formed_whole l m.left _ (formed_parts l m.left h.1))
+        (formed_whole r m.right _ (formed_parts r m.right h.2))
+    formed_parts (compare p o l r) m h = formed_then _ _ (formed_whole l m.left _ (formed_parts l m.left h.1))
+        (formed_then _ _ (formed_whole r m.right _ (formed_parts r m.right h.2))
+        (formed_flows (place_of l) m.flows h.3))
     formed_parts (is_none p e) m h = formed_whole e m.operand _ (formed_parts e m.operand h.1)
     formed_parts (is_not_none p e) m h = formed_whole e m.operand _ (formed_parts e m.operand h.1)
-    formed_parts (conjunction p l r) m h = formed_then _ _ (formed_whole l m.left _ (formed_parts l m.left h.1)) (formed_whole r m.right _ (formed_parts r m.right h.2))
-    formed_parts (disjunction p l r) m h = formed_then _ _ (formed_whole l m.left _ (formed_parts l m.left h.1)) (formed_whole r m.right _ (formed_parts r m.right h.2))
+    formed_parts (conjunction p l r) m h = formed_then _ _ (formed_whole l m.left _ (formed_parts l m.left h.1))
+        (formed_whole r m.right _ (formed_parts r m.right h.2))
+    formed_parts (disjunction p l r) m h = formed_then _ _ (formed_whole l m.left _ (formed_parts l m.left h.1))
+        (formed_whole r m.right _ (formed_parts r m.right h.2))
     formed_parts (attribute p e field) m h = formed_whole e m.object _ (formed_parts e m.object h.1)
-    formed_parts (index p e i) m h = formed_then _ _ (formed_whole e m.object _ (formed_parts e m.object h.1)) (formed_then _ _ (formed_whole i m.key _ (formed_parts i m.key h.2)) (formed_flows (place_of i) m.flows h.3))
+    formed_parts (index p e i) m h = formed_then _ _ (formed_whole e m.object _ (formed_parts e m.object h.1))
+        (formed_then _ _ (formed_whole i m.key _ (formed_parts i m.key h.2)) (formed_flows (place_of i) m.flows h.3))
     formed_parts (call p c args kws) m h =
         formed_then _ _ (formed_whole c m.callee _ (formed_parts c m.callee h.1))
         (formed_then _ _ (formed_arguments (is_instance_test c args kws) args m.arguments h.2)
         (formed_then _ _ (formed_keywords kws m.keywords h.3) (formed_code (second_place args p) m.second)))
 
-    formed_items : (es : Exprs) (m : ItemsLabels es) → ItemsWellFormed bases es m → AllByRecursion (IsFormed bases) (found_in_items es m)
+    formed_items : (es : Exprs) (m : ItemsLabels es) → ItemsWellFormed bases es m
+        → AllByRecursion (IsFormed bases) (found_in_items es m)
     formed_items no_exprs m h = tt
-    formed_items (more_exprs e rest) m h = formed_then _ _ (formed_whole e m.first _ (formed_parts e m.first h.0)) (formed_then _ _ (formed_flows (place_of e) m.flows h.1) (formed_items rest m.rest h.2))
+    formed_items (more_exprs e rest) m h = formed_then _ _ (formed_whole e m.first _ (formed_parts e m.first h.0))
+        (formed_then _ _ (formed_flows (place_of e) m.flows h.1) (formed_items rest m.rest h.2))
 
-    formed_arguments : (is_test : Test) (es : Exprs) (m : ItemsLabels es) → ItemsWellFormed bases es m → AllByRecursion (IsFormed bases) (found_in_arguments is_test es m)
+    formed_arguments : (is_test : Test) (es : Exprs) (m : ItemsLabels es) → ItemsWellFormed bases es m
+        → AllByRecursion (IsFormed bases) (found_in_arguments is_test es m)
     formed_arguments is_test no_exprs m h = tt
     formed_arguments true (more_exprs e rest) m h = formed_whole e m.first _ (formed_parts e m.first h.0)
-    formed_arguments false (more_exprs e rest) m h = formed_then _ _ (formed_whole e m.first _ (formed_parts e m.first h.0)) (formed_then _ _ (formed_flows (place_of e) m.flows h.1) (formed_arguments false rest m.rest h.2))
+    formed_arguments false (more_exprs e rest) m h = formed_then _ _
+        (formed_whole e m.first _ (formed_parts e m.first h.0)) (formed_then _ _ (formed_flows (place_of e) m.flows h.1)
+        (formed_arguments false rest m.rest h.2))
 
-    formed_entries : (es : Entries) (m : EntriesLabels es) → EntriesWellFormed bases es m → AllByRecursion (IsFormed bases) (found_in_entries es m)
+    formed_entries : (es : Entries) (m : EntriesLabels es) → EntriesWellFormed bases es m
+        → AllByRecursion (IsFormed bases) (found_in_entries es m)
     formed_entries no_entries m h = tt
     formed_entries (more_entries key value rest) m h =
         formed_then _ _ (formed_whole key m.key _ (formed_parts key m.key h.0.0))
@@ -228,9 +286,12 @@ module _ (bases : Bases) where
         (formed_then _ _ (formed_whole value m.value _ (formed_parts value m.value h.1.0))
         (formed_then _ _ (formed_flows (place_of value) m.value_flows h.1.1) (formed_entries rest m.rest h.2))))
 
-    formed_keywords : (es : Keywords) (m : KeywordsLabels es) → KeywordsWellFormed bases es m → AllByRecursion (IsFormed bases) (found_in_keywords es m)
+    formed_keywords : (es : Keywords) (m : KeywordsLabels es) → KeywordsWellFormed bases es m
+        → AllByRecursion (IsFormed bases) (found_in_keywords es m)
     formed_keywords no_keywords m h = tt
-    formed_keywords (more_keywords parameter value rest) m h = formed_then _ _ (formed_whole value m.first _ (formed_parts value m.first h.0)) (formed_then _ _ (formed_flows (place_of value) m.flows h.1) (formed_keywords rest m.rest h.2))
+    formed_keywords (more_keywords parameter value rest) m h = formed_then _ _
+        (formed_whole value m.first _ (formed_parts value m.first h.0))
+        (formed_then _ _ (formed_flows (place_of value) m.flows h.1) (formed_keywords rest m.rest h.2))
 
 -- ---- what is tested in an expression
 
@@ -242,10 +303,12 @@ module _ (ctx : Context) (declared : List Tree) where
   items_here env seat es = items_labels ctx declared (static_test ctx.bases) (assignable_test ctx.bases) env seat es
 
   abbrev entries_here : Env → (key value : Seat) → (es : Entries) → EntriesLabels es
-  entries_here env key value es = entries_labels ctx declared (static_test ctx.bases) (assignable_test ctx.bases) env key value es
+  entries_here env key value es = entries_labels ctx declared (static_test ctx.bases) (assignable_test ctx.bases) env
+      key value es
 
   abbrev keywords_here : Env → (seat : List ℕ → Seat) → (before : List (List ℕ)) → (es : Keywords) → KeywordsLabels es
-  keywords_here env seat before es = keywords_labels ctx declared (static_test ctx.bases) (assignable_test ctx.bases) env seat before es
+  keywords_here env seat before es = keywords_labels ctx declared (static_test ctx.bases) (assignable_test ctx.bases)
+      env seat before es
 
   -- no computed label has the code of a dynamic flow
   label_plain : (env : Env) (want : Option Tree) (e : Expr) → LabelPlain (whole_label e (labels_here env want e))
@@ -254,25 +317,37 @@ module _ (ctx : Context) (declared : List Tree) where
   label_plain env want (text p characters) = tt
   label_plain env want (truth p value) = tt
   label_plain env want (nothing p) = tt
-  label_plain env want (tuple p es) = display_plain (TupleOf (trees (item_types es (items_here env (part_seat (tuple_parts (count_exprs es) (members_of_expected want))) es))))
-  label_plain env want (list p es) = list_plain ctx.bases (list_item (members_of_expected want)) (item_types es (items_here env (λ i. item_seat (list_item (members_of_expected want))) es))
+  label_plain env want (tuple p es) =
+      display_plain
+      (TupleOf
+      (trees (item_types es (items_here env (part_seat (tuple_parts (count_exprs es) (members_of_expected want))) es))))
+  label_plain env want (list p es) = list_plain ctx.bases (list_item (members_of_expected want))
+      (item_types es (items_here env (λ i. item_seat (list_item (members_of_expected want))) es))
   label_plain env want (dict p es) =
-      let m = entries_here env (key_seat (dict_parts (members_of_expected want))) (value_seat (dict_parts (members_of_expected want))) es in
-      dict_plain ctx declared (static_test ctx.bases) (assignable_test ctx.bases) (dict_parts (members_of_expected want)) (key_types es m) (value_types es m)
-  label_plain env want (negative p e) = mapped_plain ctx.bases negative_member negative_plain (members (type_of e (labels_here env None e)))
+      let m = entries_here env (key_seat (dict_parts (members_of_expected want)))
+      (value_seat (dict_parts (members_of_expected want))) es in
+      dict_plain ctx declared (static_test ctx.bases) (assignable_test ctx.bases)
+      (dict_parts (members_of_expected want)) (key_types es m) (value_types es m)
+  label_plain env want (negative p e) = mapped_plain ctx.bases negative_member negative_plain
+      (members (type_of e (labels_here env None e)))
   label_plain env want (negation p e) = tt
-  label_plain env want (binary p o l r) = binary_plain ctx.bases o (type_of l (labels_here env None l)) (type_of r (labels_here env None r))
-  label_plain env want (compare p o l r) = compare_plain ctx.bases o (type_of l (labels_here env None l)) (type_of r (labels_here env None r))
+  label_plain env want (binary p o l r) = binary_plain ctx.bases o (type_of l (labels_here env None l))
+      (type_of r (labels_here env None r))
+  label_plain env want (compare p o l r) = compare_plain ctx.bases o (type_of l (labels_here env None l))
+      (type_of r (labels_here env None r))
   label_plain env want (is_none p e) = tt
   label_plain env want (is_not_none p e) = tt
   label_plain env want (conjunction p l r) = tt
   label_plain env want (disjunction p l r) = tt
-  label_plain env want (attribute p e field) = mapped_plain ctx.bases (attribute_member ctx.classes field.text) (attribute_plain ctx.classes field.text) (members (type_of e (labels_here env None e)))
-  label_plain env want (index p e i) = mapped_plain ctx.bases (index_member ctx.bases (int_literal i)) (index_plain ctx.bases (int_literal i)) (members (type_of e (labels_here env None e)))
+  label_plain env want (attribute p e field) = mapped_plain ctx.bases (attribute_member ctx.classes field.text)
+      (attribute_plain ctx.classes field.text) (members (type_of e (labels_here env None e)))
+  label_plain env want (index p e i) = mapped_plain ctx.bases (index_member ctx.bases (int_literal i))
+      (index_plain ctx.bases (int_literal i)) (members (type_of e (labels_here env None e)))
   label_plain env want (call p c args kws) =
       let v = labels_here env None c in
       let callee = callee_of ctx env (arguments_given args kws) c v in
-      whole_call_plain ctx env (arguments_given args kws) c v (label_plain env None c) args (item_types args (items_here env (positional_seat callee.offers) args))
+      whole_call_plain ctx env (arguments_given args kws) c v (label_plain env None c) args
+      (item_types args (items_here env (positional_seat callee.offers) args))
 
   abbrev AllTested : List Note → Type 0
   AllTested notes = AllByRecursion (IsTested ctx.bases) notes
@@ -280,16 +355,22 @@ module _ (ctx : Context) (declared : List Tree) where
   tested_then : (xs ys : List Note) → AllTested xs → AllTested ys → AllTested (xs ++ ys)
   tested_then xs ys h k = all_append (IsTested ctx.bases) xs ys h k
 
-  tested_callee : (env : Env) (e : Expr) (here : Label) → LabelPlain here → AllTested (found_in_parts e (labels_here env None e)) → AllTested (notes_under e (with_label e (labels_here env None e) here))
+  tested_callee : (env : Env) (e : Expr) (here : Label) → LabelPlain here
+      → AllTested (found_in_parts e (labels_here env None e)) → AllTested
+      (notes_under e (with_label e (labels_here env None e) here))
   tested_callee env e here k h =
       let m = labels_here env None e in
-      tested_then (found_in_parts e (with_label e m here)) (codes_at (place_of e) (whole_label e (with_label e m here)).codes)
+      tested_then (found_in_parts e (with_label e m here)) (codes_at (place_of e)
+      (whole_label e (with_label e m here)).codes)
       (subst AllTested (sym (parts_kept e m here)) h)
-      (tested_codes ctx.bases (place_of e) (whole_label e (with_label e m here)).codes (subst LabelPlain (sym (own_label e m here)) k))
+      (tested_codes ctx.bases (place_of e) (whole_label e (with_label e m here)).codes
+      (subst LabelPlain (sym (own_label e m here)) k))
 
-  tested_whole : (env : Env) (want : Option Tree) (e : Expr) → AllTested (found_in_parts e (labels_here env want e)) → AllTested (notes_under e (labels_here env want e))
+  tested_whole : (env : Env) (want : Option Tree) (e : Expr) → AllTested (found_in_parts e (labels_here env want e))
+      → AllTested (notes_under e (labels_here env want e))
   tested_whole env want e h =
-      tested_then (found_in_parts e (labels_here env want e)) (codes_at (place_of e) (whole_label e (labels_here env want e)).codes) h
+      tested_then (found_in_parts e (labels_here env want e)) (codes_at (place_of e)
+      (whole_label e (labels_here env want e)).codes) h
       (tested_codes ctx.bases (place_of e) (whole_label e (labels_here env want e)).codes (label_plain env want e))
 
   mutual
@@ -299,39 +380,61 @@ module _ (ctx : Context) (declared : List Tree) where
     tested_parts env want (text p characters) = tt
     tested_parts env want (truth p value) = tt
     tested_parts env want (nothing p) = tt
-    tested_parts env want (tuple p es) = tested_items env (part_seat (tuple_parts (count_exprs es) (members_of_expected want))) es
+    tested_parts env want (tuple p es) = tested_items env (part_seat
+        (tuple_parts (count_exprs es) (members_of_expected want))) es
     tested_parts env want (list p es) = tested_items env (λ i. item_seat (list_item (members_of_expected want))) es
-    tested_parts env want (dict p es) = tested_entries env (key_seat (dict_parts (members_of_expected want))) (value_seat (dict_parts (members_of_expected want))) es
+    tested_parts env want (dict p es) = tested_entries env (key_seat (dict_parts (members_of_expected want)))
+        (value_seat (dict_parts (members_of_expected want))) es
     tested_parts env want (negative p e) = tested_whole env None e (tested_parts env None e)
     tested_parts env want (negation p e) = tested_whole env None e (tested_parts env None e)
-    tested_parts env want (binary p o l r) = tested_then _ _ (tested_whole env None l (tested_parts env None l)) (tested_whole env None r (tested_parts env None r))
+    tested_parts env want (binary p o l r) = tested_then _ _ (tested_whole env None l (tested_parts env None l))
+        (tested_whole env None r (tested_parts env None r))
     tested_parts env want (compare p o l r) =
-        tested_then _ _ (tested_whole env None l (tested_parts env None l)) (tested_then _ _ (tested_whole env None r (tested_parts env None r)) (tested_flows ctx.bases (place_of l) (whole_label l (labels_here env None l)) (compare_types o (type_of r (labels_here env None r)))))
+        tested_then _ _ (tested_whole env None l (tested_parts env None l))
+        (tested_then _ _ (tested_whole env None r (tested_parts env None r))
+        (tested_flows ctx.bases (place_of l) (whole_label l (labels_here env None l))
+        (compare_types o (type_of r (labels_here env None r)))))
     tested_parts env want (is_none p e) = tested_whole env None e (tested_parts env None e)
     tested_parts env want (is_not_none p e) = tested_whole env None e (tested_parts env None e)
-    tested_parts env want (conjunction p l r) = tested_then _ _ (tested_whole env None l (tested_parts env None l)) (tested_whole (narrow ctx.bases declared ctx.resolve true l env) None r (tested_parts (narrow ctx.bases declared ctx.resolve true l env) None r))
-    tested_parts env want (disjunction p l r) = tested_then _ _ (tested_whole env None l (tested_parts env None l)) (tested_whole (narrow ctx.bases declared ctx.resolve false l env) None r (tested_parts (narrow ctx.bases declared ctx.resolve false l env) None r))
+    tested_parts env want (conjunction p l r) = tested_then _ _ (tested_whole env None l (tested_parts env None l))
+        (tested_whole (narrow ctx.bases declared ctx.resolve true l env) None r
+        (tested_parts (narrow ctx.bases declared ctx.resolve true l env) None r))
+    tested_parts env want (disjunction p l r) = tested_then _ _ (tested_whole env None l (tested_parts env None l))
+        (tested_whole (narrow ctx.bases declared ctx.resolve false l env) None r
+        (tested_parts (narrow ctx.bases declared ctx.resolve false l env) None r))
     tested_parts env want (attribute p e field) = tested_whole env None e (tested_parts env None e)
     tested_parts env want (index p e i) =
-        tested_then _ _ (tested_whole env None e (tested_parts env None e)) (tested_then _ _ (tested_whole env None i (tested_parts env None i))
-        (tested_flows ctx.bases (place_of i) (whole_label i (labels_here env None i)) (operand_types (map (index_member ctx.bases (int_literal i)) (members (type_of e (labels_here env None e)))))))
+        tested_then _ _ (tested_whole env None e (tested_parts env None e))
+        (tested_then _ _ (tested_whole env None i (tested_parts env None i))
+        (tested_flows ctx.bases (place_of i) (whole_label i (labels_here env None i))
+        (operand_types (map (index_member ctx.bases (int_literal i))
+        (members (type_of e (labels_here env None e)))))))
     tested_parts env want (call p c args kws) =
         let v = labels_here env None c in
         let callee = callee_of ctx env (arguments_given args kws) c v in
-        tested_then _ _ (tested_callee env c callee.label (callee_label_plain ctx env (arguments_given args kws) c v (label_plain env None c)) (tested_parts env None c))
+        tested_then _ _ (tested_callee env c callee.label (callee_label_plain ctx env (arguments_given args kws) c v
+        (label_plain env None c)) (tested_parts env None c))
         (tested_then _ _ (tested_arguments env (is_instance_test c args kws) (positional_seat callee.offers) args)
-        (tested_then _ _ (tested_keywords env (named_seat callee.offers) [] kws) (tested_code ctx.bases (second_place args p) _ (whole_second_plain ctx callee.rule args (items_here env (positional_seat callee.offers) args)))))
+        (tested_then _ _ (tested_keywords env (named_seat callee.offers) [] kws)
+        (tested_code ctx.bases (second_place args p) _ (whole_second_plain ctx callee.rule args
+        (items_here env (positional_seat callee.offers) args)))))
 
     tested_items : (env : Env) (seat : ℕ → Seat) (es : Exprs) → AllTested (found_in_items es (items_here env seat es))
     tested_items env seat no_exprs = tt
     tested_items env seat (more_exprs e rest) =
-        tested_then _ _ (tested_whole env (seat 0).want e (tested_parts env (seat 0).want e)) (tested_then _ _ (tested_flows ctx.bases (place_of e) (whole_label e (labels_here env (seat 0).want e)) (seat 0).into) (tested_items env (λ i. seat (suc i)) rest))
+        tested_then _ _ (tested_whole env (seat 0).want e (tested_parts env (seat 0).want e))
+        (tested_then _ _ (tested_flows ctx.bases (place_of e) (whole_label e (labels_here env (seat 0).want e))
+        (seat 0).into) (tested_items env (λ i. seat (suc i)) rest))
 
-    tested_arguments : (env : Env) (is_test : Test) (seat : ℕ → Seat) (es : Exprs) → AllTested (found_in_arguments is_test es (items_here env seat es))
+    tested_arguments : (env : Env) (is_test : Test) (seat : ℕ → Seat) (es : Exprs)
+        → AllTested (found_in_arguments is_test es (items_here env seat es))
     tested_arguments env is_test seat no_exprs = tt
-    tested_arguments env true seat (more_exprs e rest) = tested_whole env (seat 0).want e (tested_parts env (seat 0).want e)
+    tested_arguments env true seat (more_exprs e rest) = tested_whole env (seat 0).want e
+        (tested_parts env (seat 0).want e)
     tested_arguments env false seat (more_exprs e rest) =
-        tested_then _ _ (tested_whole env (seat 0).want e (tested_parts env (seat 0).want e)) (tested_then _ _ (tested_flows ctx.bases (place_of e) (whole_label e (labels_here env (seat 0).want e)) (seat 0).into) (tested_arguments env false (λ i. seat (suc i)) rest))
+        tested_then _ _ (tested_whole env (seat 0).want e (tested_parts env (seat 0).want e))
+        (tested_then _ _ (tested_flows ctx.bases (place_of e) (whole_label e (labels_here env (seat 0).want e))
+        (seat 0).into) (tested_arguments env false (λ i. seat (suc i)) rest))
 
     tested_entries : (env : Env) (x y : Seat) (es : Entries) → AllTested (found_in_entries es (entries_here env x y es))
     tested_entries env x y no_entries = tt
@@ -339,13 +442,18 @@ module _ (ctx : Context) (declared : List Tree) where
         tested_then _ _ (tested_whole env x.want key (tested_parts env x.want key))
         (tested_then _ _ (tested_flows ctx.bases (place_of key) (whole_label key (labels_here env x.want key)) x.into)
         (tested_then _ _ (tested_whole env y.want value (tested_parts env y.want value))
-        (tested_then _ _ (tested_flows ctx.bases (place_of value) (whole_label value (labels_here env y.want value)) y.into) (tested_entries env x y rest))))
+        (tested_then _ _ (tested_flows ctx.bases (place_of value) (whole_label value (labels_here env y.want value))
+        y.into) (tested_entries env x y rest))))
 
-    tested_keywords : (env : Env) (seat : List ℕ → Seat) (before : List (List ℕ)) (es : Keywords) → AllTested (found_in_keywords es (keywords_here env seat before es))
+    tested_keywords : (env : Env) (seat : List ℕ → Seat) (before : List (List ℕ)) (es : Keywords)
+        → AllTested (found_in_keywords es (keywords_here env seat before es))
     tested_keywords env seat before no_keywords = tt
     tested_keywords env seat before (more_keywords parameter value rest) =
-        tested_then _ _ (tested_whole env (keyword_seat seat before parameter).want value (tested_parts env (keyword_seat seat before parameter).want value))
-        (tested_then _ _ (tested_flows ctx.bases (place_of value) (whole_label value (labels_here env (keyword_seat seat before parameter).want value)) (keyword_seat seat before parameter).into)
+        tested_then _ _ (tested_whole env (keyword_seat seat before parameter).want value
+        (tested_parts env (keyword_seat seat before parameter).want value))
+        (tested_then _ _ (tested_flows ctx.bases (place_of value)
+        (whole_label value (labels_here env (keyword_seat seat before parameter).want value))
+        (keyword_seat seat before parameter).into)
         (tested_keywords env seat (parameter.text ∷ before) rest))
 
   tested_in : (env : Env) (want : Option Tree) (e : Expr) → AllTested (notes_under e (labels_here env want e))
@@ -355,7 +463,8 @@ module _ (ctx : Context) (declared : List Tree) where
 
 module _ (bases : Bases) where
   -- by themselves, of codes other than that of a dynamic flow
-  pub right_plain : (fs : List Finding) → AllByRecursion (λ (f : Finding). IsPlain f.code) fs → AreRight bases (map plain_note fs)
+  pub right_plain : (fs : List Finding) → AllByRecursion (λ (f : Finding). IsPlain f.code) fs
+      → AreRight bases (map plain_note fs)
   right_plain [] h = tt
   right_plain (f ∷ fs) h = (record { tested = h.0; formed = tt }, right_plain fs h.1)
 
@@ -363,10 +472,12 @@ module _ (bases : Bases) where
   right_codes p cs h = right_both bases (codes_at p cs) (tested_codes bases p cs h) (formed_codes bases p cs)
 
   -- of the flows of a well-formed type into well-formed types
-  pub right_flows : AreSmaller bases → (p : Place) (m : Label) (ts : List Tree) → IsWellFormed bases m.type → AreWellFormed bases ts → AreRight bases (flows_at p (flows_of bases m ts))
+  pub right_flows : AreSmaller bases → (p : Place) (m : Label) (ts : List Tree) → IsWellFormed bases m.type
+      → AreWellFormed bases ts → AreRight bases (flows_at p (flows_of bases m ts))
   right_flows o p m ts h k =
       right_both bases (flows_at p (flows_of bases m ts)) (tested_flows bases p m ts)
-      (formed_flows bases p (flows_of bases m ts) (flows_well_formed bases (static_test bases) (assignable_test bases) (are_tests bases o) m ts h k))
+      (formed_flows bases p (flows_of bases m ts) (flows_well_formed bases (static_test bases) (assignable_test bases)
+      (are_tests bases o) m ts h k))
 
 -- ---- in an expression
 
@@ -380,31 +491,44 @@ module _ (k : Standing) (w : StandsWell k) where
   open k use {context as ctx}
 
   -- the type of an expression is well-formed, and the notes in it are right
-  pub label_well_formed : (want : Option Tree) → IsWellFormedIfAny ctx.bases want → (e : Expr) → IsWellFormed ctx.bases (label_in k want e).type
+  pub label_well_formed : (want : Option Tree) → IsWellFormedIfAny ctx.bases want → (e : Expr)
+      → IsWellFormed ctx.bases (label_in k want e).type
   unfolding label_in
   label_well_formed want h e = (labels_are_lawful ctx k.declared k.env want e w.context w.declared w.env h).1
 
-  pub right_in : (want : Option Tree) → IsWellFormedIfAny ctx.bases want → (e : Expr) → AreRight ctx.bases (finds_in k want e)
+  pub right_in : (want : Option Tree) → IsWellFormedIfAny ctx.bases want → (e : Expr)
+      → AreRight ctx.bases (finds_in k want e)
   unfolding finds_in
   right_in want h e =
       let m = labels_here ctx k.declared k.env want e in
       right_both ctx.bases (notes_under e m) (tested_in ctx k.declared k.env want e)
-      (formed_whole ctx.bases e m (found_in_parts e m) (formed_parts ctx.bases e m (labels_are_lawful ctx k.declared k.env want e w.context w.declared w.env h).2))
+      (formed_whole ctx.bases e m (found_in_parts e m) (formed_parts ctx.bases e m
+      (labels_are_lawful ctx k.declared k.env want e w.context w.declared w.env h).2))
 
   -- so are those in a call of `range` as what a `for` goes over
-  pub right_range : (p : Place) (callee : Expr) (args : Exprs) (kws : Keywords) → AreRight ctx.bases (range_finds k p callee args kws)
+  pub right_range : (p : Place) (callee : Expr) (args : Exprs) (kws : Keywords)
+      → AreRight ctx.bases (range_finds k p callee args kws)
   unfolding arguments_find keywords_find
   right_range p callee args kws =
       let offers = range_offers (arguments_given args kws) in
-      let calls : CallsWellFormed ctx.bases offers = (called_well_formed ctx.bases (arguments_given args kws) range_signature (builtin_well_formed ctx.bases (Int ∷ []) Object (int_well_formed ctx.bases, tt) (object_well_formed ctx.bases)), tt) in
+      let calls : CallsWellFormed ctx.bases offers = (
+        called_well_formed ctx.bases (arguments_given args kws)
+            range_signature (builtin_well_formed ctx.bases (Int ∷ []) Object (int_well_formed ctx.bases, tt)
+            (object_well_formed ctx.bases)),
+        tt,
+      ) in
       let tests = are_tests ctx.bases w.context.smaller in
-      let a = items_lawful ctx k.declared w.context w.declared (static_test ctx.bases) (assignable_test ctx.bases) tests k.env w.env (positional_seat offers) (positional_well_formed ctx.bases offers calls) args in
-      let b = keywords_lawful ctx k.declared w.context w.declared (static_test ctx.bases) (assignable_test ctx.bases) tests k.env w.env (named_seat offers) (named_well_formed ctx.bases offers calls) [] kws in
+      let a = items_lawful ctx k.declared w.context w.declared (static_test ctx.bases) (assignable_test ctx.bases) tests
+      k.env w.env (positional_seat offers) (positional_well_formed ctx.bases offers calls) args in
+      let b = keywords_lawful ctx k.declared w.context w.declared (static_test ctx.bases) (assignable_test ctx.bases)
+      tests k.env w.env (named_seat offers) (named_well_formed ctx.bases offers calls) [] kws in
       let is_test = is_instance_test callee args kws in
       let arguments = arguments_find k is_test (positional_seat offers) args in
       let keywords = keywords_find k (named_seat offers) [] kws in
       right_append ctx.bases arguments (keywords ++ codes_at p (call_label ctx.bases offers).codes)
-      (right_both ctx.bases arguments (tested_arguments ctx k.declared k.env is_test (positional_seat offers) args) (formed_arguments ctx.bases is_test args (items_in k (positional_seat offers) args) a.each))
+      (right_both ctx.bases arguments (tested_arguments ctx k.declared k.env is_test (positional_seat offers) args)
+      (formed_arguments ctx.bases is_test args (items_in k (positional_seat offers) args) a.each))
       (right_append ctx.bases keywords (codes_at p (call_label ctx.bases offers).codes)
-      (right_both ctx.bases keywords (tested_keywords ctx k.declared k.env (named_seat offers) [] kws) (formed_keywords ctx.bases kws (keywords_in k (named_seat offers) [] kws) b.each))
+      (right_both ctx.bases keywords (tested_keywords ctx k.declared k.env (named_seat offers) [] kws)
+      (formed_keywords ctx.bases kws (keywords_in k (named_seat offers) [] kws) b.each))
       (right_codes ctx.bases p (call_label ctx.bases offers).codes (range_plain ctx.bases (arguments_given args kws))))

@@ -1,4 +1,5 @@
--- The notes of the signatures of a module and of its constants are right, and the types of its constants are well-formed.
+-- The notes of the signatures of a module and of its constants are right, and the types of its constants are
+-- well-formed.
 use Rattle.std.proofs.Common.{ℕ, Bool as Test, true, false, List, [], ◌∷◌, ◌++◌, Option, Some, None, refl, map}
 use Rattle.std.specs.Prelude.{if◌then◌else◌, nat_le, codes}
 use Rattle.std.specs.List.{AllByRecursion}
@@ -9,14 +10,17 @@ use Rattle.pc_tree.specs.declared.code.Finding.{Finding}
 use Rattle.pc_tree.specs.Code.{finding}
 use Rattle.pc_tree.specs.Depth.{place_of, place_of_ann}
 use Rattle.pc_tree.specs.Stopping.{name_of_member}
-use Rattle.pc_tree.specs.Tree.{Ann, Anns, named, none_type, applied, applied_empty, no_anns, more_anns, Expr, Literal, Param, FuncDef, Field, Member, field_member, method_member, Constant, Item, constant_item, class_item, def_item, Module}
+use Rattle.pc_tree.specs.Tree.{Ann, Anns, named, none_type, applied, applied_empty, no_anns, more_anns, Expr, Literal}
+use Rattle.pc_tree.specs.Tree.{Param, FuncDef, Field, Member, field_member, method_member, Constant, Item}
+use Rattle.pc_tree.specs.Tree.{constant_item, class_item, def_item, Module}
 use Rattle.pc_tree.specs.Tree as tree
 use Rattle.pc_scope.specs.Resolution.{resolve_in_module}
 use Rattle.pc_types.specs.Tree.{Tree}
 use Rattle.pc_types.specs.Below.{Bases}
 use Rattle.pc_types.specs.Shape.{nodes, node_limit}
 use Rattle.pc_types.specs.WellFormed.{IsWellFormed}
-use Rattle.pc_ann.specs.Annotations.{named_type, applied_type, empty_type, union_type, reading, readings, read_ann, read_option}
+use Rattle.pc_ann.specs.Annotations.{named_type, applied_type, empty_type, union_type, reading, readings, read_ann}
+use Rattle.pc_ann.specs.Annotations.{read_option}
 use Rattle.pc_ann.proofs.Earlier.{smaller}
 use Rattle.pc_ann.proofs.Readings.{read_ann_well_formed, read_option_well_formed}
 use Rattle.pc_ann.specs.Listed.{without_type, inside_type, part_findings, parts_findings, ann_findings, option_findings}
@@ -28,13 +32,20 @@ use Rattle.pc_rules.specs.Operations.{clean}
 use Rattle.pc_rules.specs.Computed.Expressions.{flows_of}
 use Rattle.pc_rules.specs.Computed.Findings.{flows_at}
 use Rattle.pc_rules.specs.Signatures.{literal_type, literal_place, constant_type, annotated_types, first_of_types}
-use Rattle.pc_rules.specs.Computed.Signatures.{no_name, with_name, binds_text, binds_as_field, default_findings, ItemsReached, nothing_reached, param_findings, params_findings, def_findings, function_findings, functions_findings, field_findings, member_findings, members_findings, base_at, initial, initializer_types, initializer_label, type_of_constant, value_findings, constant_findings, behind, behind_all, item_findings, items_findings, constants_of, signatures_find}
+use Rattle.pc_rules.specs.Computed.Signatures.{no_name, with_name, binds_text, binds_as_field, default_findings}
+use Rattle.pc_rules.specs.Computed.Signatures.{ItemsReached, nothing_reached, param_findings, params_findings}
+use Rattle.pc_rules.specs.Computed.Signatures.{def_findings, function_findings, functions_findings, field_findings}
+use Rattle.pc_rules.specs.Computed.Signatures.{member_findings, members_findings, base_at, initial, initializer_types}
+use Rattle.pc_rules.specs.Computed.Signatures.{initializer_label, type_of_constant, value_findings, constant_findings}
+use Rattle.pc_rules.specs.Computed.Signatures.{behind, behind_all, item_findings, items_findings, constants_of}
+use Rattle.pc_rules.specs.Computed.Signatures.{signatures_find}
 use Rattle.pc_rules.specs.Computed.Standing.{label_in, finds_in}
 use Rattle.pc_rules.proofs.Contexts.{initializers_well_formed}
 use Rattle.pc_rules.proofs.SignaturesListed.{literal_well_formed}
 use Rattle.pc_rules.proofs.InitializersListed.{first_well_formed}
 use Rattle.pc_module_rules.proofs.PlainCodes.{all_append, in_both, IsPlain}
-use Rattle.pc_module_rules.proofs.RightNotes.{AreRight, right_append, right_plain, right_flows, StandsWell, label_well_formed, right_in}
+use Rattle.pc_module_rules.proofs.RightNotes.{AreRight, right_append, right_plain, right_flows, StandsWell}
+use Rattle.pc_module_rules.proofs.RightNotes.{label_well_formed, right_in}
 
 -- ---- annotations
 
@@ -58,13 +69,17 @@ module _ (m : Module) (bases : Bases) where
     part_plain : (a : Ann) → PlainFindings (part_findings m bases a)
     part_plain (named n) = without_plain (named_type m.imports_any (resolve_in_module m n.text)) n.place E09 refl
     part_plain (none_type p) = tt
-    part_plain (applied p head arguments) = inside_plain (applied_type (resolve_in_module m head.text) (readings m bases arguments)) p (parts_findings m bases arguments) (parts_plain arguments)
+    part_plain (applied p head arguments) = inside_plain (applied_type (resolve_in_module m head.text)
+        (readings m bases arguments)) p (parts_findings m bases arguments) (parts_plain arguments)
     part_plain (applied_empty p head) = without_plain (empty_type (resolve_in_module m head.text)) p E09 refl
-    part_plain (tree.union p parts) = plain_then (parts_findings m bases parts) (without_type (union_type bases (readings m bases parts)) p E10) (parts_plain parts) (without_plain (union_type bases (readings m bases parts)) p E10 refl)
+    part_plain (tree.union p parts) = plain_then (parts_findings m bases parts)
+        (without_type (union_type bases (readings m bases parts)) p E10) (parts_plain parts)
+        (without_plain (union_type bases (readings m bases parts)) p E10 refl)
 
     parts_plain : (a : Anns) → PlainFindings (parts_findings m bases a)
     parts_plain no_anns = tt
-    parts_plain (more_anns a rest) = plain_then (part_findings m bases a) (parts_findings m bases rest) (part_plain a) (parts_plain rest)
+    parts_plain (more_anns a rest) = plain_then (part_findings m bases a) (parts_findings m bases rest) (part_plain a)
+        (parts_plain rest)
 
   ann_plain : (a : Ann) → PlainFindings (ann_findings m bases a)
   ann_plain a =
@@ -95,24 +110,32 @@ module _ (m : Module) where
 
   -- ---- defaults
 
-  right_default : (binds : Test) (l : Option Literal) (t : Tree) → IsWellFormed bases t → Right (default_findings bases binds l t)
+  right_default : (binds : Test) (l : Option Literal) (t : Tree) → IsWellFormed bases t
+      → Right (default_findings bases binds l t)
   right_default binds None t h = tt
   right_default false (Some l) t h = tt
-  right_default true (Some l) t h = right_flows bases (smaller m) (literal_place l) (clean (literal_type l)) (t ∷ []) (literal_well_formed bases l) (h, tt)
+  right_default true (Some l) t h = right_flows bases (smaller m) (literal_place l) (clean (literal_type l)) (t ∷ [])
+      (literal_well_formed bases l) (h, tt)
 
   -- ---- functions
 
   right_param : (bound : List ℕ → Test) (p : Param) → Right (param_findings m bound p)
   right_param bound p =
-      right_then (map plain_note (option_findings m bases p.annotation)) (default_findings bases (binds_text bound p.name.text) p.default (read_option m bases p.annotation)) (right_option m bases p.annotation)
-      (right_default (binds_text bound p.name.text) p.default (read_option m bases p.annotation) (read_option_well_formed m bases (smaller m) p.annotation))
+      right_then (map plain_note (option_findings m bases p.annotation))
+      (default_findings bases (binds_text bound p.name.text) p.default (read_option m bases p.annotation))
+      (right_option m bases p.annotation)
+      (right_default (binds_text bound p.name.text) p.default (read_option m bases p.annotation)
+      (read_option_well_formed m bases (smaller m) p.annotation))
 
   right_params : (bound : List ℕ → Test) (ps : List Param) → Right (params_findings m bound ps)
   right_params bound [] = tt
-  right_params bound (p ∷ ps) = right_then (param_findings m bound p) (params_findings m (with_name bound p.name.text) ps) (right_param bound p) (right_params (with_name bound p.name.text) ps)
+  right_params bound (p ∷ ps) = right_then (param_findings m bound p)
+      (params_findings m (with_name bound p.name.text) ps) (right_param bound p)
+      (right_params (with_name bound p.name.text) ps)
 
   right_def : (bound : List ℕ → Test) (f : FuncDef) → Right (def_findings m bound f)
-  right_def bound f = right_then (params_findings m bound f.params) (map plain_note (option_findings m bases f.returns)) (right_params bound f.params) (right_option m bases f.returns)
+  right_def bound f = right_then (params_findings m bound f.params) (map plain_note (option_findings m bases f.returns))
+      (right_params bound f.params) (right_option m bases f.returns)
 
   right_function : (i : Item) → Right (function_findings m i)
   right_function (constant_item p c) = tt
@@ -121,23 +144,29 @@ module _ (m : Module) where
 
   right_functions : (is : List Item) → Right (functions_findings m is)
   right_functions [] = tt
-  right_functions (i ∷ is) = right_then (function_findings m i) (functions_findings m is) (right_function i) (right_functions is)
+  right_functions (i ∷ is) = right_then (function_findings m i) (functions_findings m is) (right_function i)
+      (right_functions is)
 
   -- ---- classes
 
   right_field : (base : ClassFacts) (bound : List ℕ → Test) (d : Field) → Right (field_findings m base bound d)
   right_field base bound d =
-      right_then (map plain_note (ann_findings m bases d.annotation)) (default_findings bases (binds_as_field base bound d.name.text) d.default (read_ann m bases d.annotation)) (right_annotation m bases d.annotation)
-      (right_default (binds_as_field base bound d.name.text) d.default (read_ann m bases d.annotation) (read_ann_well_formed m bases (smaller m) d.annotation))
+      right_then (map plain_note (ann_findings m bases d.annotation))
+      (default_findings bases (binds_as_field base bound d.name.text) d.default (read_ann m bases d.annotation))
+      (right_annotation m bases d.annotation)
+      (right_default (binds_as_field base bound d.name.text) d.default (read_ann m bases d.annotation)
+      (read_ann_well_formed m bases (smaller m) d.annotation))
 
   right_member : (base : ClassFacts) (bound : List ℕ → Test) (x : Member) → Right (member_findings m base bound x)
   right_member base bound (field_member d) = right_field base bound d
   right_member base bound (method_member d) = right_def (with_name no_name (codes "self")) d
 
-  right_members : (base : ClassFacts) (bound : List ℕ → Test) (xs : List Member) → Right (members_findings m base bound xs)
+  right_members : (base : ClassFacts) (bound : List ℕ → Test) (xs : List Member)
+      → Right (members_findings m base bound xs)
   right_members base bound [] = tt
   right_members base bound (x ∷ xs) =
-      right_then (member_findings m base bound x) (members_findings m base (with_name bound (name_of_member x).text) xs) (right_member base bound x) (right_members base (with_name bound (name_of_member x).text) xs)
+      right_then (member_findings m base bound x) (members_findings m base (with_name bound (name_of_member x).text) xs)
+      (right_member base bound x) (right_members base (with_name bound (name_of_member x).text) xs)
 
   -- ---- constants
 
@@ -150,7 +179,8 @@ module _ (m : Module) where
   constant_well_formed None t k = k
   constant_well_formed (Some a) t k = read_ann_well_formed m bases (smaller m) a
 
-  one_more : (ts : List Tree) (t : Tree) → AreWellFormed bases ts → IsWellFormed bases t → AreWellFormed bases (ts ++ t ∷ [])
+  one_more : (ts : List Tree) (t : Tree) → AreWellFormed bases ts → IsWellFormed bases t
+      → AreWellFormed bases (ts ++ t ∷ [])
   one_more [] t k h = (h, tt)
   one_more (u ∷ ts) t k h = (k.0, one_more ts t k.1 h)
 
@@ -164,21 +194,26 @@ module _ (m : Module) where
         let here = initial m r.constants r.classes in
         let want = first_of_types into in
         let w = first_well_formed bases into h in
-        right_then (finds_in here want e) (flows_at (place_of e) (flows_of bases (label_in here want e) into)) (right_in here stands_well want w e)
-        (right_flows bases (smaller m) (place_of e) (label_in here want e) into (label_well_formed here stands_well want w e) h)
+        right_then (finds_in here want e) (flows_at (place_of e) (flows_of bases (label_in here want e) into))
+        (right_in here stands_well want w e)
+        (right_flows bases (smaller m) (place_of e) (label_in here want e) into
+        (label_well_formed here stands_well want w e) h)
 
     into_well_formed : (c : Constant) → AreWellFormed bases (initializer_types m r c)
     into_well_formed c = wants_well_formed (binds_text r.bound c.name.text) c.annotation
 
     right_constant : (c : Constant) → Right (constant_findings m r c)
     right_constant c =
-        right_then (map plain_note (option_findings m bases c.annotation)) (value_findings m r (initializer_types m r c) c.value) (right_option m bases c.annotation)
+        right_then (map plain_note (option_findings m bases c.annotation))
+        (value_findings m r (initializer_types m r c) c.value) (right_option m bases c.annotation)
         (right_value (initializer_types m r c) (into_well_formed c) c.value)
 
     type_well_formed : (c : Constant) → IsWellFormed bases (type_of_constant m r c)
     type_well_formed c =
         let types = initializer_types m r c in
-        constant_well_formed c.annotation (initializer_label m r c).type (label_well_formed (initial m r.constants r.classes) stands_well (first_of_types types) (first_well_formed bases types (into_well_formed c)) c.value)
+        constant_well_formed c.annotation (initializer_label m r c).type
+        (label_well_formed (initial m r.constants r.classes) stands_well (first_of_types types)
+        (first_well_formed bases types (into_well_formed c)) c.value)
 
     -- ---- items
 
@@ -194,9 +229,11 @@ module _ (m : Module) where
 
   right_items : (r : ItemsReached) → AreWellFormed bases r.constants → (is : List Item) → Right (items_findings m r is)
   right_items r k [] = tt
-  right_items r k (i ∷ is) = right_then (item_findings m r i) (items_findings m (behind m r i) is) (right_item r k i) (right_items (behind m r i) (behind_well_formed r k i) is)
+  right_items r k (i ∷ is) = right_then (item_findings m r i) (items_findings m (behind m r i) is) (right_item r k i)
+      (right_items (behind m r i) (behind_well_formed r k i) is)
 
-  all_well_formed : (r : ItemsReached) → AreWellFormed bases r.constants → (is : List Item) → AreWellFormed bases (behind_all m r is).constants
+  all_well_formed : (r : ItemsReached) → AreWellFormed bases r.constants → (is : List Item)
+      → AreWellFormed bases (behind_all m r is).constants
   all_well_formed r k [] = k
   all_well_formed r k (i ∷ is) = all_well_formed (behind m r i) (behind_well_formed r k i) is
 
@@ -208,4 +245,5 @@ module _ (m : Module) where
 
   pub right_signatures : Right (signatures_find m)
   unfolding signatures_find
-  right_signatures = right_then (functions_findings m m.items) (items_findings m nothing_reached m.items) (right_functions m.items) (right_items nothing_reached tt m.items)
+  right_signatures = right_then (functions_findings m m.items) (items_findings m nothing_reached m.items)
+      (right_functions m.items) (right_items nothing_reached tt m.items)

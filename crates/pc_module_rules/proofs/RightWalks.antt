@@ -6,7 +6,10 @@ use Rattle.pc_tree.specs.declared.code.Code.TheVariants.{E21}
 use Rattle.pc_tree.specs.Code.{finding}
 use Rattle.pc_tree.specs.Depth.{place_of}
 use Rattle.pc_tree.specs.Stopping.{bound_by, bound_by_stmt}
-use Rattle.pc_tree.specs.Tree.{Name, Expr, Exprs, Keywords, name, call, Ann, Target, to_name, to_attribute, to_index, Stmt, Stmts, Branches, pass, breaks, continues, returns, asserts, annotated, assigns, evaluates, while_loop, for_loop, conditional, no_stmts, more_stmts, no_branches, more_branches, FuncDef, Module}
+use Rattle.pc_tree.specs.Tree.{Name, Expr, Exprs, Keywords, name, call, Ann, Target, to_name, to_attribute, to_index}
+use Rattle.pc_tree.specs.Tree.{Stmt, Stmts, Branches, pass, breaks, continues, returns, asserts, annotated, assigns}
+use Rattle.pc_tree.specs.Tree.{evaluates, while_loop, for_loop, conditional, no_stmts, more_stmts, no_branches}
+use Rattle.pc_tree.specs.Tree.{more_branches, FuncDef, Module}
 use Rattle.pc_scope.specs.declared.resolution.Owner.{Owner}
 use Rattle.pc_scope.specs.declared.resolution.Res.{Res}
 use Rattle.pc_scope.specs.declared.resolution.Res.TheVariants as res
@@ -24,9 +27,11 @@ use Rattle.pc_class.specs.WellFormed.{ParametersWellFormed}
 use Rattle.pc_class.proofs.WellFormed.{returned_well_formed}
 use Rattle.pc_flow.specs.Environment.{Env, join_env, none_assigned}
 use Rattle.pc_flow.specs.WellFormed.{AreWellFormed, IsWellFormedEnv, IsWellFormedIfAny}
-use Rattle.pc_flow.proofs.Conditions.{assign_well_formed, current_well_formed, assignments_well_formed, conditions_well_formed, heads_well_formed, joins_well_formed}
+use Rattle.pc_flow.proofs.Conditions.{assign_well_formed, current_well_formed, assignments_well_formed}
+use Rattle.pc_flow.proofs.Conditions.{conditions_well_formed, heads_well_formed, joins_well_formed}
 use Rattle.pc_notes.specs.Notes.{Note, plain_note}
-use Rattle.pc_rules.specs.Operations.{Label, clean, iterate_member, StoreOffer, store_codes, store_index_types, stored_types, only_type}
+use Rattle.pc_rules.specs.Operations.{Label, clean, iterate_member, StoreOffer, store_codes, store_index_types}
+use Rattle.pc_rules.specs.Operations.{stored_types, only_type}
 use Rattle.pc_rules.specs.Calls.{arguments_given, is_suited, is_range, range_item, range_signature}
 use Rattle.pc_rules.specs.Computed.Expressions.{flows_of}
 use Rattle.pc_rules.specs.Computed.Findings.{codes_at, flows_at}
@@ -35,14 +40,26 @@ use Rattle.pc_rules.specs.Laws.WellFormed.{ContextWellFormed}
 use Rattle.pc_rules.specs.Computed.Ranges.{range_finds}
 use Rattle.pc_rules.proofs.Contexts.{bodies_well_formed}
 use Rattle.pc_rules.proofs.WellFormed.{any_well_formed, int_well_formed, none_well_formed, unwrap_well_formed}
-use Rattle.pc_module_rules.proofs.PlainCodes.{in_both, ArePlain, LabelPlain, mapped_plain, iterate_plain, range_item_plain, attribute_stores_plain, index_stores_plain}
-use Rattle.pc_module_rules.proofs.RightNotes.{AreRight, right_append, right_codes, right_flows, StandsWell, label_well_formed, right_in, right_range}
+use Rattle.pc_module_rules.proofs.PlainCodes.{in_both, ArePlain, LabelPlain, mapped_plain, iterate_plain}
+use Rattle.pc_module_rules.proofs.PlainCodes.{range_item_plain, attribute_stores_plain, index_stores_plain}
+use Rattle.pc_module_rules.proofs.RightNotes.{AreRight, right_append, right_codes, right_flows, StandsWell}
+use Rattle.pc_module_rules.proofs.RightNotes.{label_well_formed, right_in, right_range}
 use Rattle.pc_module_rules.proofs.RightSignatures.{right_annotation}
 use Rattle.pc_module_rules.specs.Modules.{entry_parameters}
 use Rattle.pc_module_rules.specs.Statements.{only_code, binds_number}
-use Rattle.pc_module_rules.specs.Computed.Statements.{Table, type_table, bound_type, with_declared, known_declared, BodyContext, Walk, BindingResult, BranchesResult, join_onto_way, with_way, at, narrowed_at, unreached_name, unreached_names, bind_label, bind_value, declared_alone, annotation_finds, bound_name, bind_annotated, attribute_stores, index_stores, stored_finds, store_finds, assign_target, values_item, item_label_of, iterable_finds, bind_item, head_at, option_finds, return_finds, inside_for, step, walk_suite, walk_branches, enter_local, enter_name, enter_parameters, end_finds, body_context_of, function_finds}
+use Rattle.pc_module_rules.specs.Computed.Statements.{Table, type_table, bound_type, with_declared, known_declared}
+use Rattle.pc_module_rules.specs.Computed.Statements.{BodyContext, Walk, BindingResult, BranchesResult, join_onto_way}
+use Rattle.pc_module_rules.specs.Computed.Statements.{with_way, at, narrowed_at, unreached_name, unreached_names}
+use Rattle.pc_module_rules.specs.Computed.Statements.{bind_label, bind_value, declared_alone, annotation_finds}
+use Rattle.pc_module_rules.specs.Computed.Statements.{bound_name, bind_annotated, attribute_stores, index_stores}
+use Rattle.pc_module_rules.specs.Computed.Statements.{stored_finds, store_finds, assign_target, values_item}
+use Rattle.pc_module_rules.specs.Computed.Statements.{item_label_of, iterable_finds, bind_item, head_at, option_finds}
+use Rattle.pc_module_rules.specs.Computed.Statements.{return_finds, inside_for, step, walk_suite, walk_branches}
+use Rattle.pc_module_rules.specs.Computed.Statements.{enter_local, enter_name, enter_parameters, end_finds}
+use Rattle.pc_module_rules.specs.Computed.Statements.{body_context_of, function_finds}
 use Rattle.pc_module_rules.proofs.LabelledFunctions.{entries_well_formed, none_well_formed as unassigned_well_formed}
-use Rattle.pc_module_rules.proofs.StoredTypes.{fields_stored, items_stored, keys_stored, only_well_formed, turns_well_formed}
+use Rattle.pc_module_rules.proofs.StoredTypes.{fields_stored, items_stored, keys_stored, only_well_formed}
+use Rattle.pc_module_rules.proofs.StoredTypes.{turns_well_formed}
 use Rattle.pc_module_rules.proofs.WalkedTables.{types_well_formed}
 
 -- ---- what stays so over a walk
@@ -73,15 +90,18 @@ record ForkRight (bases : Bases) (w : BranchesResult) : Type 0 where
   broken : OutWellFormed bases w.broken
   found : AreRight bases w.found
 
-settled_well_formed : (bases : Bases) (bound : Option Tree) (table : Table) (x : ℕ) (t : Tree) → IsWellFormed bases t → IsWellFormedEnv bases table → IsWellFormedEnv bases (with_declared bound table x t)
+settled_well_formed : (bases : Bases) (bound : Option Tree) (table : Table) (x : ℕ) (t : Tree) → IsWellFormed bases t
+    → IsWellFormedEnv bases table → IsWellFormedEnv bases (with_declared bound table x t)
 settled_well_formed bases (Some d) table x t h k = k
 settled_well_formed bases None table x t h k = assign_well_formed bases table x t h k
 
-known_well_formed : (bases : Bases) (bound annotation : Option Tree) → IsWellFormedIfAny bases bound → IsWellFormedIfAny bases annotation → IsWellFormedIfAny bases (known_declared bound annotation)
+known_well_formed : (bases : Bases) (bound annotation : Option Tree) → IsWellFormedIfAny bases bound
+    → IsWellFormedIfAny bases annotation → IsWellFormedIfAny bases (known_declared bound annotation)
 known_well_formed bases (Some d) annotation h k = h
 known_well_formed bases None annotation h k = k
 
-module _ (context : BodyContext) (ck : ContextWellFormed context.context) (rk : IsWellFormed context.context.bases context.returned) where
+module _ (context : BodyContext) (ck : ContextWellFormed context.context)
+    (rk : IsWellFormed context.context.bases context.returned) where
   open context use {context as ctx}
 
   -- the notes are right
@@ -98,20 +118,28 @@ module _ (context : BodyContext) (ck : ContextWellFormed context.context) (rk : 
   stands : (table : Table) (env : Env) → Formed table → Formed env → StandsWell (at context table env)
   stands table env kt ke = record { context = ck; declared = types_well_formed ctx.bases table kt; env = ke }
 
-  narrowed_well_formed : (table : Table) (holds : Test) (c : Expr) (env : Env) → Formed table → Formed env → Formed (narrowed_at context table holds c env)
-  narrowed_well_formed table holds c env kt ke = conditions_well_formed ctx.bases (type_table table) ctx.resolve holds c env ck.smaller (types_well_formed ctx.bases table kt) ke
+  narrowed_well_formed : (table : Table) (holds : Test) (c : Expr) (env : Env) → Formed table → Formed env
+      → Formed (narrowed_at context table holds c env)
+  narrowed_well_formed table holds c env kt ke = conditions_well_formed ctx.bases (type_table table) ctx.resolve holds c
+      env ck.smaller (types_well_formed ctx.bases table kt) ke
 
-  head_well_formed : (table : Table) (names : List Name) (env : Env) → Formed table → Formed env → Formed (head_at context table names env)
-  head_well_formed table names env kt ke = heads_well_formed ctx.bases (binds_number ctx.resolve names) (type_table table) env (types_well_formed ctx.bases table kt) ke
+  head_well_formed : (table : Table) (names : List Name) (env : Env) → Formed table → Formed env
+      → Formed (head_at context table names env)
+  head_well_formed table names env kt ke = heads_well_formed ctx.bases (binds_number ctx.resolve names)
+      (type_table table) env (types_well_formed ctx.bases table kt) ke
 
-  joined_well_formed : (table : Table) (a b : Env) → Formed table → Formed a → Formed b → Formed (join_env ctx.bases (type_table table) a b)
-  joined_well_formed table a b kt ka kb = joins_well_formed ctx.bases (type_table table) a b ck.smaller (types_well_formed ctx.bases table kt) ka kb
+  joined_well_formed : (table : Table) (a b : Env) → Formed table → Formed a → Formed b
+      → Formed (join_env ctx.bases (type_table table) a b)
+  joined_well_formed table a b kt ka kb = joins_well_formed ctx.bases (type_table table) a b ck.smaller
+      (types_well_formed ctx.bases table kt) ka kb
 
-  way_onto : (table : Table) (way : Option Env) (env : Env) → Formed table → OutWellFormed ctx.bases way → Formed env → OutWellFormed ctx.bases (join_onto_way ctx.bases table way env)
+  way_onto : (table : Table) (way : Option Env) (env : Env) → Formed table → OutWellFormed ctx.bases way → Formed env
+      → OutWellFormed ctx.bases (join_onto_way ctx.bases table way env)
   way_onto table None env kt kw ke = tt
   way_onto table (Some way) env kt kw ke = joined_well_formed table way env kt kw ke
 
-  one_way : (table : Table) (ways out : Option Env) → Formed table → OutWellFormed ctx.bases ways → OutWellFormed ctx.bases out → OutWellFormed ctx.bases (with_way ctx.bases table ways out)
+  one_way : (table : Table) (ways out : Option Env) → Formed table → OutWellFormed ctx.bases ways
+      → OutWellFormed ctx.bases out → OutWellFormed ctx.bases (with_way ctx.bases table ways out)
   one_way table ways None kt kw ko = kw
   one_way table None (Some env) kt kw ko = ko
   one_way table (Some way) (Some env) kt kw ko = joined_well_formed table way env kt kw ko
@@ -119,7 +147,8 @@ module _ (context : BodyContext) (ck : ContextWellFormed context.context) (rk : 
   -- ---- names that no run binds
 
   unreached_one : (table : Table) (r : Res) → Formed table → Formed (unreached_name context table r)
-  unreached_one table (res.Local x) kt = settled_well_formed ctx.bases (bound_type table x) table x Any (any_well_formed ctx.bases) kt
+  unreached_one table (res.Local x) kt = settled_well_formed ctx.bases (bound_type table x) table x Any
+      (any_well_formed ctx.bases) kt
   unreached_one table (res.Const i) kt = kt
   unreached_one table (res.Func i) kt = kt
   unreached_one table (res.Class i) kt = kt
@@ -128,14 +157,17 @@ module _ (context : BodyContext) (ck : ContextWellFormed context.context) (rk : 
 
   unreached_all : (table : Table) (ns : List Name) → Formed table → Formed (unreached_names context table ns)
   unreached_all table [] kt = kt
-  unreached_all table (n ∷ ns) kt = unreached_all (unreached_name context table (ctx.resolve n.text)) ns (unreached_one table (ctx.resolve n.text) kt)
+  unreached_all table (n ∷ ns) kt = unreached_all (unreached_name context table (ctx.resolve n.text)) ns
+      (unreached_one table (ctx.resolve n.text) kt)
 
   -- ---- binding a name
 
   bound_well_formed : (table : Table) (x : ℕ) → Formed table → IsWellFormedIfAny ctx.bases (bound_type table x)
   bound_well_formed table x kt = current_well_formed ctx.bases table x kt
 
-  label_right : (table : Table) (env : Env) (x : ℕ) (want : Option Tree) (p : Place) (label : Label) (found : List Note) → Formed table → Formed env → IsWellFormedIfAny ctx.bases want → IsWellFormed ctx.bases label.type → Right found → BoundRight ctx.bases (bind_label context table env x want p label found)
+  label_right : (table : Table) (env : Env) (x : ℕ) (want : Option Tree) (p : Place) (label : Label) (found : List Note)
+      → Formed table → Formed env → IsWellFormedIfAny ctx.bases want → IsWellFormed ctx.bases label.type → Right found
+      → BoundRight ctx.bases (bind_label context table env x want p label found)
   label_right table env x want p label found kt ke kw km kf =
       let d = unwrap_or want label.type in
       let flows = flows_of ctx.bases label (d ∷ []) in
@@ -147,23 +179,39 @@ module _ (context : BodyContext) (ck : ContextWellFormed context.context) (rk : 
       }
 
   -- a value whose name binds no local
-  value_alone : (table : Table) (env : Env) (e : Expr) (found : List Note) → Formed table → Formed env → Right found → BoundRight ctx.bases (record { table = table; env = env; found = found ++ finds_in (at context table env) None e })
-  value_alone table env e found kt ke kf = record { table = kt; env = ke; found = right_then found (finds_in (at context table env) None e) kf (right_in (at context table env) (stands table env kt ke) None tt e) }
+  value_alone : (table : Table) (env : Env) (e : Expr) (found : List Note) → Formed table → Formed env → Right found
+      → BoundRight ctx.bases (record {
+        table = table;
+        env = env;
+        found = found ++ finds_in (at context table env) None e;
+      })
+  value_alone table env e found kt ke kf = record {
+    table = kt;
+    env = ke;
+    found =
+        right_then found (finds_in (at context table env) None e) kf
+        (right_in (at context table env) (stands table env kt ke) None tt e);
+  }
 
-  value_right : (table : Table) (env : Env) (r : Res) (annotation : Option Tree) (e : Expr) (found : List Note) → Formed table → Formed env → IsWellFormedIfAny ctx.bases annotation → Right found → BoundRight ctx.bases (bind_value context table env r annotation e found)
+  value_right : (table : Table) (env : Env) (r : Res) (annotation : Option Tree) (e : Expr) (found : List Note)
+      → Formed table → Formed env → IsWellFormedIfAny ctx.bases annotation → Right found
+      → BoundRight ctx.bases (bind_value context table env r annotation e found)
   value_right table env (res.Local x) annotation e found kt ke ka kf =
       let want = known_declared (bound_type table x) annotation in
       let kw = known_well_formed ctx.bases (bound_type table x) annotation (bound_well_formed table x kt) ka in
       let here = at context table env in
       let ks = stands table env kt ke in
-      label_right table env x want (place_of e) (label_in here want e) (found ++ finds_in here want e) kt ke kw (label_well_formed here ks want kw e) (right_then found (finds_in here want e) kf (right_in here ks want kw e))
+      label_right table env x want (place_of e) (label_in here want e) (found ++ finds_in here want e) kt ke kw
+      (label_well_formed here ks want kw e) (right_then found (finds_in here want e) kf
+      (right_in here ks want kw e))
   value_right table env (res.Const i) annotation e found kt ke ka kf = value_alone table env e found kt ke kf
   value_right table env (res.Func i) annotation e found kt ke ka kf = value_alone table env e found kt ke kf
   value_right table env (res.Class i) annotation e found kt ke ka kf = value_alone table env e found kt ke kf
   value_right table env (res.Builtin b) annotation e found kt ke ka kf = value_alone table env e found kt ke kf
   value_right table env res.None annotation e found kt ke ka kf = value_alone table env e found kt ke kf
 
-  alone_well_formed : (table : Table) (r : Res) (t : Tree) → Formed table → IsWellFormed ctx.bases t → Formed (declared_alone context table r t)
+  alone_well_formed : (table : Table) (r : Res) (t : Tree) → Formed table → IsWellFormed ctx.bases t
+      → Formed (declared_alone context table r t)
   alone_well_formed table (res.Local x) t kt h = settled_well_formed ctx.bases (bound_type table x) table x t h kt
   alone_well_formed table (res.Const i) t kt h = kt
   alone_well_formed table (res.Func i) t kt h = kt
@@ -175,29 +223,40 @@ module _ (context : BodyContext) (ck : ContextWellFormed context.context) (rk : 
   annotation_right (Some d) n a = (record { tested = refl; formed = tt }, tt)
   annotation_right None n a = right_annotation context.whole ctx.bases a
 
-  annotated_right : (table : Table) (env : Env) (n : Name) (a : Ann) (e : Option Expr) (found : List Note) → Formed table → Formed env → Right found → BoundRight ctx.bases (bind_annotated context table env n a e found)
+  annotated_right : (table : Table) (env : Env) (n : Name) (a : Ann) (e : Option Expr) (found : List Note)
+      → Formed table → Formed env → Right found → BoundRight ctx.bases (bind_annotated context table env n a e found)
   annotated_right table env n a None found kt ke kf = record {
-    table = alone_well_formed table (ctx.resolve n.text) (read_ann context.whole ctx.bases a) kt (read_ann_well_formed context.whole ctx.bases ck.smaller a);
+    table = alone_well_formed table (ctx.resolve n.text) (read_ann context.whole ctx.bases a) kt
+        (read_ann_well_formed context.whole ctx.bases ck.smaller a);
     env = ke;
-    found = right_then found (annotation_finds context (bound_name context table (ctx.resolve n.text)) n a) kf (annotation_right (bound_name context table (ctx.resolve n.text)) n a);
+    found = right_then found (annotation_finds context (bound_name context table (ctx.resolve n.text)) n a) kf
+        (annotation_right (bound_name context table (ctx.resolve n.text)) n a);
   }
   annotated_right table env n a (Some e) found kt ke kf =
       let xs = annotation_finds context (bound_name context table (ctx.resolve n.text)) n a in
-      value_right table env (ctx.resolve n.text) (Some (read_ann context.whole ctx.bases a)) e (found ++ xs) kt ke (read_ann_well_formed context.whole ctx.bases ck.smaller a) (right_then found xs kf (annotation_right (bound_name context table (ctx.resolve n.text)) n a))
+      value_right table env (ctx.resolve n.text) (Some (read_ann context.whole ctx.bases a)) e (found ++ xs) kt ke
+      (read_ann_well_formed context.whole ctx.bases ck.smaller a)
+      (right_then found xs kf (annotation_right (bound_name context table (ctx.resolve n.text)) n a))
 
   -- ---- stores
 
-  stored_right : (table : Table) (env : Env) → Formed table → Formed env → (offers : List StoreOffer) → ArePlain (store_codes offers) → AreWellFormed ctx.bases (stored_types offers) → (p : Place) (e : Expr) → Right (stored_finds context (at context table env) offers p e)
+  stored_right : (table : Table) (env : Env) → Formed table → Formed env → (offers : List StoreOffer)
+      → ArePlain (store_codes offers) → AreWellFormed ctx.bases (stored_types offers) → (p : Place) (e : Expr)
+      → Right (stored_finds context (at context table env) offers p e)
   stored_right table env kt ke offers h k p e =
       let here = at context table env in
       let ks = stands table env kt ke in
       let want = only_type offers (stored_types offers) in
       let kw = only_well_formed ctx.bases offers (stored_types offers) k in
       let flows = flows_at (place_of e) (flows_of ctx.bases (label_in here want e) (stored_types offers)) in
-      right_then (codes_at p (store_codes offers)) (finds_in here want e ++ flows) (right_codes ctx.bases p (store_codes offers) h)
-      (right_then (finds_in here want e) flows (right_in here ks want kw e) (right_flows ctx.bases ck.smaller (place_of e) (label_in here want e) (stored_types offers) (label_well_formed here ks want kw e) k))
+      right_then (codes_at p (store_codes offers)) (finds_in here want e ++ flows)
+      (right_codes ctx.bases p (store_codes offers) h)
+      (right_then (finds_in here want e) flows (right_in here ks want kw e)
+      (right_flows ctx.bases ck.smaller (place_of e) (label_in here want e) (stored_types offers)
+      (label_well_formed here ks want kw e) k))
 
-  store_right : (table : Table) (env : Env) → Formed table → Formed env → (t : Target) (e : Expr) → Right (store_finds context (at context table env) t e)
+  store_right : (table : Table) (env : Env) → Formed table → Formed env → (t : Target) (e : Expr)
+      → Right (store_finds context (at context table env) t e)
   store_right table env kt ke (to_name n) e = tt
   store_right table env kt ke (to_attribute p o field) e =
       let here = at context table env in
@@ -205,7 +264,8 @@ module _ (context : BodyContext) (ck : ContextWellFormed context.context) (rk : 
       let t = (label_in here None o).type in
       let offers = attribute_stores context field.text t in
       right_then (finds_in here None o) (stored_finds context here offers p e) (right_in here ks None tt o)
-      (stored_right table env kt ke offers (attribute_stores_plain ctx.classes field.text (members t)) (fields_stored ctx.bases ctx.classes ck.classes field.text t (label_well_formed here ks None tt o)) p e)
+      (stored_right table env kt ke offers (attribute_stores_plain ctx.classes field.text (members t))
+      (fields_stored ctx.bases ctx.classes ck.classes field.text t (label_well_formed here ks None tt o)) p e)
   store_right table env kt ke (to_index p o i) e =
       let here = at context table env in
       let ks = stands table env kt ke in
@@ -213,17 +273,34 @@ module _ (context : BodyContext) (ck : ContextWellFormed context.context) (rk : 
       let kt' = label_well_formed here ks None tt o in
       let offers = index_stores context t in
       let flows = flows_at (place_of i) (flows_of ctx.bases (label_in here None i) (store_index_types offers)) in
-      right_then (finds_in here None o) (finds_in here None i ++ (flows ++ stored_finds context here offers p e)) (right_in here ks None tt o)
+      right_then (finds_in here None o) (finds_in here None i ++ (flows ++ stored_finds context here offers p e))
+      (right_in here ks None tt o)
       (right_then (finds_in here None i) (flows ++ stored_finds context here offers p e) (right_in here ks None tt i)
-      (right_then flows (stored_finds context here offers p e) (right_flows ctx.bases ck.smaller (place_of i) (label_in here None i) (store_index_types offers) (label_well_formed here ks None tt i) (keys_stored ctx.bases t kt'))
+      (right_then flows (stored_finds context here offers p e) (right_flows ctx.bases ck.smaller (place_of i)
+      (label_in here None i) (store_index_types offers) (label_well_formed here ks None tt i)
+      (keys_stored ctx.bases t kt'))
       (stored_right table env kt ke offers (index_stores_plain (members t)) (items_stored ctx.bases t kt') p e)))
 
-  target_stored : (table : Table) (env : Env) (t : Target) (e : Expr) (found : List Note) → Formed table → Formed env → Right found → BoundRight ctx.bases (record { table = table; env = env; found = found ++ store_finds context (at context table env) t e })
-  target_stored table env t e found kt ke kf = record { table = kt; env = ke; found = right_then found (store_finds context (at context table env) t e) kf (store_right table env kt ke t e) }
+  target_stored : (table : Table) (env : Env) (t : Target) (e : Expr) (found : List Note) → Formed table → Formed env
+      → Right found → BoundRight ctx.bases (record {
+        table = table;
+        env = env;
+        found = found ++ store_finds context
+            (at context table env) t e;
+      })
+  target_stored table env t e found kt ke kf = record {
+    table = kt;
+    env = ke;
+    found =
+        right_then found (store_finds context (at context table env) t e) kf (store_right table env kt ke t e);
+  }
 
-  assigned_right : (table : Table) (env : Env) (t : Target) (e : Expr) (found : List Note) → Formed table → Formed env → Right found → BoundRight ctx.bases (assign_target context table env t e found)
-  assigned_right table env (to_name n) e found kt ke kf = value_right table env (ctx.resolve n.text) None e found kt ke tt kf
-  assigned_right table env (to_attribute p o field) e found kt ke kf = target_stored table env (to_attribute p o field) e found kt ke kf
+  assigned_right : (table : Table) (env : Env) (t : Target) (e : Expr) (found : List Note) → Formed table → Formed env
+      → Right found → BoundRight ctx.bases (assign_target context table env t e found)
+  assigned_right table env (to_name n) e found kt ke kf = value_right table env (ctx.resolve n.text) None e found kt ke
+      tt kf
+  assigned_right table env (to_attribute p o field) e found kt ke kf = target_stored table env (to_attribute p o field)
+      e found kt ke kf
   assigned_right table env (to_index p o i) e found kt ke kf = target_stored table env (to_index p o i) e found kt ke kf
 
   -- ---- what a `for` goes over
@@ -235,7 +312,9 @@ module _ (context : BodyContext) (ck : ContextWellFormed context.context) (rk : 
 
   range_turn : (args : Exprs) (kws : Keywords) → ItemRight (range_item (arguments_given args kws))
   range_turn args kws = record {
-    formed = in_both (λ (m : Label). IsWellFormed ctx.bases m.type) (is_suited (arguments_given args kws) range_signature) (clean Int) _ (int_well_formed ctx.bases) (any_well_formed ctx.bases);
+    formed = in_both (λ (m : Label). IsWellFormed ctx.bases m.type)
+        (is_suited (arguments_given args kws) range_signature) (clean Int) _ (int_well_formed ctx.bases)
+        (any_well_formed ctx.bases);
     codes = range_item_plain (arguments_given args kws);
   }
 
@@ -245,17 +324,23 @@ module _ (context : BodyContext) (ck : ContextWellFormed context.context) (rk : 
 
     turn_right : (e : Expr) → ItemRight (values_item context here e)
     turn_right e = record {
-      formed = turns_well_formed ctx.bases ck.smaller (label_in here None e).type (label_well_formed here (stands table env kt ke) None tt e);
-      codes = mapped_plain ctx.bases (iterate_member ctx.bases) (iterate_plain ctx.bases) (members (label_in here None e).type);
+      formed = turns_well_formed ctx.bases ck.smaller (label_in here None e).type
+          (label_well_formed here (stands table env kt ke) None tt e);
+      codes = mapped_plain ctx.bases (iterate_member ctx.bases) (iterate_plain ctx.bases)
+          (members (label_in here None e).type);
     }
 
     item_right : (e : Expr) → ItemRight (item_label_of context here e)
-    item_right (call p (name n) args kws) = in_both ItemRight (is_range (ctx.resolve n.text)) (range_item (arguments_given args kws)) (values_item context here (call p (name n) args kws)) (range_turn args kws) (turn_right (call p (name n) args kws))
+    item_right (call p (name n) args kws) = in_both ItemRight (is_range (ctx.resolve n.text))
+        (range_item (arguments_given args kws)) (values_item context here (call p (name n) args kws))
+        (range_turn args kws) (turn_right (call p (name n) args kws))
     item_right e = turn_right e
 
     iterable_right : (e : Expr) → Right (iterable_finds context here e)
     iterable_right (call p (name n) args kws) =
-        in_both Right (is_range (ctx.resolve n.text)) (range_finds here p (name n) args kws) (finds_in here None (call p (name n) args kws)) (right_range here (stands table env kt ke) p (name n) args kws) (right_in here (stands table env kt ke) None tt (call p (name n) args kws))
+        in_both Right (is_range (ctx.resolve n.text)) (range_finds here p (name n) args kws)
+        (finds_in here None (call p (name n) args kws)) (right_range here (stands table env kt ke) p (name n) args
+        kws) (right_in here (stands table env kt ke) None tt (call p (name n) args kws))
     iterable_right e = right_in here (stands table env kt ke) None tt e
 
     -- ---- expressions of statements
@@ -265,18 +350,24 @@ module _ (context : BodyContext) (ck : ContextWellFormed context.context) (rk : 
     option_right (Some e) = right_in here (stands table env kt ke) None tt e
 
     return_right : (p : Place) (e : Option Expr) → Right (return_finds context here p e)
-    return_right p None = right_flows ctx.bases ck.smaller p (clean NoneType) (context.returned ∷ []) (none_well_formed ctx.bases) (rk, tt)
+    return_right p None = right_flows ctx.bases ck.smaller p (clean NoneType) (context.returned ∷ [])
+        (none_well_formed ctx.bases) (rk, tt)
     return_right p (Some e) =
         let want : Option Tree = Some context.returned in
         let flows = flows_at (place_of e) (flows_of ctx.bases (label_in here want e) (context.returned ∷ [])) in
         right_then (finds_in here want e) flows (right_in here (stands table env kt ke) want rk e)
-        (right_flows ctx.bases ck.smaller (place_of e) (label_in here want e) (context.returned ∷ []) (label_well_formed here (stands table env kt ke) want rk e) (rk, tt))
+        (right_flows ctx.bases ck.smaller (place_of e) (label_in here want e) (context.returned ∷ [])
+        (label_well_formed here (stands table env kt ke) want rk e) (rk, tt))
 
-  item_alone : (table : Table) (head : Env) (found : List Note) → Formed table → Formed head → Right found → BoundRight ctx.bases (record { table = table; env = head; found = found })
+  item_alone : (table : Table) (head : Env) (found : List Note) → Formed table → Formed head → Right found
+      → BoundRight ctx.bases (record { table = table; env = head; found = found })
   item_alone table head found kt kh kf = record { table = kt; env = kh; found = kf }
 
-  target_right : (table : Table) (head : Env) (r : Res) (p : Place) (t : Tree) (found : List Note) → Formed table → Formed head → IsWellFormed ctx.bases t → Right found → BoundRight ctx.bases (bind_item context table head r p t found)
-  target_right table head (res.Local x) p t found kt kh k kf = label_right table head x (bound_type table x) p (clean t) found kt kh (bound_well_formed table x kt) k kf
+  target_right : (table : Table) (head : Env) (r : Res) (p : Place) (t : Tree) (found : List Note) → Formed table
+      → Formed head → IsWellFormed ctx.bases t → Right found → BoundRight ctx.bases
+      (bind_item context table head r p t found)
+  target_right table head (res.Local x) p t found kt kh k kf = label_right table head x (bound_type table x) p (clean t)
+      found kt kh (bound_well_formed table x kt) k kf
   target_right table head (res.Const i) p t found kt kh k kf = item_alone table head found kt kh kf
   target_right table head (res.Func i) p t found kt kh k kf = item_alone table head found kt kh kf
   target_right table head (res.Class i) p t found kt kh k kf = item_alone table head found kt kh kf
@@ -285,16 +376,35 @@ module _ (context : BodyContext) (ck : ContextWellFormed context.context) (rk : 
 
   -- ---- statements
 
-  behind_right : (broken : Option Env) (b : BindingResult) → OutWellFormed ctx.bases broken → BoundRight ctx.bases b → WalkRight ctx.bases (record { table = b.table; env = Some b.env; broken = broken; found = b.found })
+  behind_right : (broken : Option Env) (b : BindingResult) → OutWellFormed ctx.bases broken → BoundRight ctx.bases b
+      → WalkRight ctx.bases (record { table = b.table; env = Some b.env; broken = broken; found = b.found })
   behind_right broken b kb h = record { table = h.table; env = h.env; broken = kb; found = h.found }
 
   mutual
-    step_right : (table : Table) (env broken : Option Env) (found : List Note) → Formed table → OutWellFormed ctx.bases env → OutWellFormed ctx.bases broken → Right found → (s : Stmt) → WalkRight ctx.bases (step context table env broken found s)
-    step_right table None broken found kt ke kb kf s = record { table = unreached_all table (bound_by_stmt s) kt; env = tt; broken = kb; found = kf }
-    step_right table (Some env) broken found kt ke kb kf (pass p) = record { table = kt; env = ke; broken = kb; found = kf }
-    step_right table (Some env) broken found kt ke kb kf (breaks p) = record { table = kt; env = tt; broken = way_onto table broken env kt kb ke; found = kf }
-    step_right table (Some env) broken found kt ke kb kf (continues p) = record { table = kt; env = tt; broken = kb; found = kf }
-    step_right table (Some env) broken found kt ke kb kf (returns p e) = record { table = kt; env = tt; broken = kb; found = right_then found (return_finds context (at context table env) p e) kf (return_right table env kt ke p e) }
+    step_right : (table : Table) (env broken : Option Env) (found : List Note) → Formed table
+        → OutWellFormed ctx.bases env → OutWellFormed ctx.bases broken → Right found → (s : Stmt)
+        → WalkRight ctx.bases (step context table env broken found s)
+    step_right table None broken found kt ke kb kf s = record {
+      table = unreached_all table (bound_by_stmt s) kt;
+      env =
+          tt;
+      broken = kb;
+      found = kf;
+    }
+    step_right table (Some env) broken found kt ke kb kf (pass p) =
+        record { table = kt; env = ke; broken = kb; found = kf }
+    step_right table (Some env) broken found kt ke kb kf (breaks p) =
+        record { table = kt; env = tt; broken = way_onto table broken env kt kb ke; found = kf }
+    step_right table (Some env) broken found kt ke kb kf (continues p) =
+        record { table = kt; env = tt; broken = kb; found = kf }
+    step_right table (Some env) broken found kt ke kb kf (returns p e) =
+        record {
+          table = kt;
+          env = tt;
+          broken = kb;
+          found = right_then found
+              (return_finds context (at context table env) p e) kf (return_right table env kt ke p e);
+        }
     step_right table (Some env) broken found kt ke kb kf (asserts p c e) =
         let here = at context table env in
         let out = narrowed_at context table false c env in
@@ -302,17 +412,34 @@ module _ (context : BodyContext) (ck : ContextWellFormed context.context) (rk : 
           table = kt;
           env = narrowed_well_formed table true c env kt ke;
           broken = kb;
-          found = right_then (found ++ finds_in here None c) (option_finds context (at context table out) None e) (right_then found (finds_in here None c) kf (right_in here (stands table env kt ke) None tt c)) (option_right table out kt (narrowed_well_formed table false c env kt ke) e);
+          found = right_then (found ++ finds_in here None c) (option_finds context (at context table out) None e)
+              (right_then found (finds_in here None c) kf (right_in here (stands table env kt ke) None tt c))
+              (option_right table out kt (narrowed_well_formed table false c env kt ke) e);
         }
-    step_right table (Some env) broken found kt ke kb kf (annotated p n a e) = behind_right broken (bind_annotated context table env n a e found) kb (annotated_right table env n a e found kt ke kf)
-    step_right table (Some env) broken found kt ke kb kf (assigns p t e) = behind_right broken (assign_target context table env t e found) kb (assigned_right table env t e found kt ke kf)
+    step_right table (Some env) broken found kt ke kb kf (annotated p n a e) =
+        behind_right broken (bind_annotated context table env n a e found) kb
+        (annotated_right table env n a e found kt ke kf)
+    step_right table (Some env) broken found kt ke kb kf (assigns p t e) =
+        behind_right broken (assign_target context table env t e found) kb (assigned_right table env t e found kt ke kf)
     step_right table (Some env) broken found kt ke kb kf (evaluates p e) =
-        record { table = kt; env = ke; broken = kb; found = right_then found (finds_in (at context table env) None e) kf (right_in (at context table env) (stands table env kt ke) None tt e) }
+        record {
+          table = kt;
+          env = ke;
+          broken = kb;
+          found = right_then found (finds_in (at context table env) None e) kf
+              (right_in (at context table env) (stands table env kt ke) None tt e);
+        }
     step_right table (Some env) broken found kt ke kb kf (while_loop p c b) =
         let head = head_at context table (bound_by b) env in
         let kh = head_well_formed table (bound_by b) env kt ke in
         let xs = finds_in (at context table head) None c in
-        let start : Walk = record { table = table; env = Some (narrowed_at context table true c head); broken = Some (narrowed_at context table false c head); found = found ++ xs } in
+        let start : Walk = record {
+          table = table;
+          env = Some (narrowed_at context table true c head);
+          broken =
+              Some (narrowed_at context table false c head);
+          found = found ++ xs;
+        } in
         let body = suite_right start (record {
           table = kt;
           env = narrowed_well_formed table true c head kt kh;
@@ -329,35 +456,77 @@ module _ (context : BodyContext) (ck : ContextWellFormed context.context) (rk : 
         let xs = iterable_finds context here e in
         let ys = codes_at (place_of e) item.codes in
         let start = bind_item context table head (ctx.resolve n.text) (place_of e) item.type ((found ++ xs) ++ ys) in
-        let tg = target_right table head (ctx.resolve n.text) (place_of e) item.type ((found ++ xs) ++ ys) kt kh it.formed (right_then (found ++ xs) ys (right_then found xs kf (iterable_right table env kt ke e)) (right_codes ctx.bases (place_of e) item.codes it.codes)) in
-        let body = suite_right (inside_for context head start) (record { table = tg.table; env = tg.env; broken = kh; found = tg.found }) b in
+        let tg = target_right table head (ctx.resolve n.text) (place_of e) item.type ((found ++ xs) ++ ys) kt kh
+        it.formed (right_then (found ++ xs) ys (right_then found xs kf (iterable_right table env kt ke e))
+        (right_codes ctx.bases (place_of e) item.codes it.codes)) in
+        let body = suite_right (inside_for context head start) (record {
+          table = tg.table;
+          env = tg.env;
+          broken = kh;
+          found = tg.found;
+        }) b in
         record { table = body.table; env = body.broken; broken = kb; found = body.found }
     step_right table (Some env) broken found kt ke kb kf (conditional p bs o) =
-        let start : BranchesResult = record { table = table; last = env; ways = None; broken = broken; found = found } in
+        let start : BranchesResult = record {
+          table = table;
+          last = env;
+          ways = None;
+          broken = broken;
+          found =
+              found;
+        } in
         let fork = walk_branches context start bs in
         let br = branches_right start (record { table = kt; last = ke; ways = tt; broken = kb; found = kf }) bs in
-        let mid : Walk = record { table = fork.table; env = Some fork.last; broken = fork.broken; found = fork.found } in
+        let mid : Walk = record {
+          table = fork.table;
+          env = Some fork.last;
+          broken = fork.broken;
+          found =
+              fork.found;
+        } in
         let last = walk_suite context mid o in
         let el = suite_right mid (record { table = br.table; env = br.last; broken = br.broken; found = br.found }) o in
-        record { table = el.table; env = one_way last.table fork.ways last.env el.table br.ways el.env; broken = el.broken; found = el.found }
+        record {
+          table = el.table;
+          env = one_way last.table fork.ways last.env el.table br.ways el.env;
+          broken =
+              el.broken;
+          found = el.found;
+        }
 
     suite_right : (w : Walk) → WalkRight ctx.bases w → (b : Stmts) → WalkRight ctx.bases (walk_suite context w b)
     suite_right w h no_stmts = h
-    suite_right w h (more_stmts s rest) = suite_right (step context w.table w.env w.broken w.found s) (step_right w.table w.env w.broken w.found h.table h.env h.broken h.found s) rest
+    suite_right w h (more_stmts s rest) = suite_right (step context w.table w.env w.broken w.found s)
+        (step_right w.table w.env w.broken w.found h.table h.env h.broken h.found s) rest
 
-    branches_right : (w : BranchesResult) → ForkRight ctx.bases w → (bs : Branches) → ForkRight ctx.bases (walk_branches context w bs)
+    branches_right : (w : BranchesResult) → ForkRight ctx.bases w → (bs : Branches)
+        → ForkRight ctx.bases (walk_branches context w bs)
     branches_right w h no_branches = h
     branches_right w h (more_branches c b rest) =
         let xs = finds_in (at context w.table w.last) None c in
-        let start : Walk = record { table = w.table; env = Some (narrowed_at context w.table true c w.last); broken = w.broken; found = w.found ++ xs } in
+        let start : Walk = record {
+          table = w.table;
+          env = Some (narrowed_at context w.table true c w.last);
+          broken =
+              w.broken;
+          found = w.found ++ xs;
+        } in
         let u = walk_suite context start b in
         let body = suite_right start (record {
           table = h.table;
           env = narrowed_well_formed w.table true c w.last h.table h.last;
           broken = h.broken;
-          found = right_then w.found xs h.found (right_in (at context w.table w.last) (stands w.table w.last h.table h.last) None tt c);
+          found = right_then w.found xs h.found (right_in (at context w.table w.last)
+              (stands w.table w.last h.table h.last) None tt c);
         }) b in
-        let next : BranchesResult = record { table = u.table; last = narrowed_at context w.table false c w.last; ways = with_way ctx.bases u.table w.ways u.env; broken = u.broken; found = u.found } in
+        let next : BranchesResult = record {
+          table = u.table;
+          last = narrowed_at context w.table false c w.last;
+          ways =
+              with_way ctx.bases u.table w.ways u.env;
+          broken = u.broken;
+          found = u.found;
+        } in
         branches_right next (record {
           table = body.table;
           last = narrowed_well_formed w.table false c w.last h.table h.last;
@@ -372,11 +541,18 @@ module _ (context : BodyContext) (ck : ContextWellFormed context.context) (rk : 
 abbrev EntryFormed : Bases → (Table × Env) → Type 0
 EntryFormed bases r = IsWellFormedEnv bases r.0 × IsWellFormedEnv bases r.1
 
-local_entered : (bases : Bases) (bound : Option Tree) (table : Table) (env : Env) (x : ℕ) (t : Tree) → IsWellFormed bases t → IsWellFormedEnv bases table → IsWellFormedEnv bases env → EntryFormed bases (enter_local bound table env x t)
+local_entered : (bases : Bases) (bound : Option Tree) (table : Table) (env : Env) (x : ℕ) (t : Tree)
+    → IsWellFormed bases t → IsWellFormedEnv bases table → IsWellFormedEnv bases env
+    → EntryFormed bases (enter_local bound table env x t)
 local_entered bases (Some d) table env x t h kt ke = (kt, ke)
-local_entered bases None table env x t h kt ke = (assign_well_formed bases table x t h kt, assign_well_formed bases env x t h ke)
+local_entered bases None table env x t h kt ke = (
+  assign_well_formed bases table x t h kt,
+  assign_well_formed bases env
+      x t h ke,
+)
 
-name_entered : (bases : Bases) (table : Table) (env : Env) (r : Res) (t : Tree) → IsWellFormed bases t → IsWellFormedEnv bases table → IsWellFormedEnv bases env → EntryFormed bases (enter_name table env r t)
+name_entered : (bases : Bases) (table : Table) (env : Env) (r : Res) (t : Tree) → IsWellFormed bases t
+    → IsWellFormedEnv bases table → IsWellFormedEnv bases env → EntryFormed bases (enter_name table env r t)
 name_entered bases table env (res.Local x) t h kt ke = local_entered bases (bound_type table x) table env x t h kt ke
 name_entered bases table env (res.Const i) t h kt ke = (kt, ke)
 name_entered bases table env (res.Func i) t h kt ke = (kt, ke)
@@ -384,7 +560,9 @@ name_entered bases table env (res.Class i) t h kt ke = (kt, ke)
 name_entered bases table env (res.Builtin b) t h kt ke = (kt, ke)
 name_entered bases table env res.None t h kt ke = (kt, ke)
 
-all_entered : (bases : Bases) (resolve : List ℕ → Res) (table : Table) (env : Env) (ps : List TypedParameter) → ParametersWellFormed bases ps → IsWellFormedEnv bases table → IsWellFormedEnv bases env → EntryFormed bases (enter_parameters resolve table env ps)
+all_entered : (bases : Bases) (resolve : List ℕ → Res) (table : Table) (env : Env) (ps : List TypedParameter)
+    → ParametersWellFormed bases ps → IsWellFormedEnv bases table → IsWellFormedEnv bases env
+    → EntryFormed bases (enter_parameters resolve table env ps)
 all_entered bases resolve table env [] h kt ke = (kt, ke)
 all_entered bases resolve table env (p ∷ ps) h kt ke =
     let r = enter_name table env (resolve p.name) p.type in
@@ -393,17 +571,24 @@ all_entered bases resolve table env (p ∷ ps) h kt ke =
 
 end_right : (bases : Bases) (t : Tree) (p : Place) (out : Option Env) → AreRight bases (end_finds bases t p out)
 end_right bases t p None = tt
-end_right bases t p (Some env) = in_both (AreRight bases) (static_test bases NoneType t) [] (plain_note (finding p E21) ∷ []) tt (record { tested = refl; formed = tt }, tt)
+end_right bases t p (Some env) = in_both (AreRight bases) (static_test bases NoneType t) []
+    (plain_note (finding p E21) ∷ []) tt (record { tested = refl; formed = tt }, tt)
 
 -- the notes in the body of a function are right, where those before it are
-pub right_function : (m : Module) (constants : List Tree) → AreWellFormed (bases_of m) constants → (owner : Owner) (f : FuncDef) (found : List Note) → AreRight (bases_of m) found → AreRight (bases_of m) (function_finds m constants owner f found)
+pub right_function : (m : Module) (constants : List Tree) → AreWellFormed (bases_of m) constants
+    → (owner : Owner) (f : FuncDef) (found : List Note) → AreRight (bases_of m) found
+    → AreRight (bases_of m) (function_finds m constants owner f found)
 right_function m constants kc owner f found kf =
     let context = body_context_of m constants owner f in
     let names = locals owner f in
     let none = unassigned_well_formed (bases_of m) (length names) in
-    let start = enter_parameters context.context.resolve (none_assigned (length names)) (none_assigned (length names)) (entry_parameters m owner f) in
-    let ks = all_entered (bases_of m) context.context.resolve (none_assigned (length names)) (none_assigned (length names)) (entry_parameters m owner f) (entries_well_formed m owner f) none none in
+    let start = enter_parameters context.context.resolve (none_assigned (length names)) (none_assigned (length names))
+    (entry_parameters m owner f) in
+    let ks = all_entered (bases_of m) context.context.resolve (none_assigned (length names))
+    (none_assigned (length names)) (entry_parameters m owner f) (entries_well_formed m owner f) none none in
     let first : Walk = record { table = start.0; env = Some start.1; broken = None; found = found } in
     let body = walk_suite context first f.body in
-    let kb = suite_right context (bodies_well_formed m constants names kc) (returned_well_formed m f) first (record { table = ks.0; env = ks.1; broken = tt; found = kf }) f.body in
-    right_append (bases_of m) body.found (end_finds (bases_of m) (return_type m f) f.name.place body.env) kb.found (end_right (bases_of m) (return_type m f) f.name.place body.env)
+    let kb = suite_right context (bodies_well_formed m constants names kc) (returned_well_formed m f) first
+    (record { table = ks.0; env = ks.1; broken = tt; found = kf }) f.body in
+    right_append (bases_of m) body.found (end_finds (bases_of m) (return_type m f) f.name.place body.env) kb.found
+    (end_right (bases_of m) (return_type m f) f.name.place body.env)

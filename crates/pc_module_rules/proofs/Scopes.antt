@@ -10,10 +10,12 @@ use Rattle.pc_module_rules.proofs.Agreement.{agrees}
 use Rattle.pc_module_rules.proofs.LabelledModule.{every_module_has_a_labelling}
 
 pub of_scopes : (m : Module) (f : Finding) → ScopeFinds m f → IsFinding m f
-of_scopes m f found = let h = every_module_has_a_labelling m in record { labels = h.labels; lawful = h.lawful; found = inl found }
+of_scopes m f found = let h = every_module_has_a_labelling m in
+    record { labels = h.labels; lawful = h.lawful; found = inl found }
 
 -- what labels say of scopes is found of these, and the rest is found under labels
-pub said_is_found : (m : Module) (labels : Labelling m) → IsLawful m labels → (f : Finding) → LabelsSay m labels f → IsFinding m f
+pub said_is_found : (m : Module) (labels : Labelling m) → IsLawful m labels → (f : Finding) → LabelsSay m labels f
+    → IsFinding m f
 said_is_found m labels lawful f said = go (is_of_scopes f.code) refl
   where
     go : (b : Test) → is_of_scopes f.code ≡ b → IsFinding m f

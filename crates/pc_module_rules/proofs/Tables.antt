@@ -21,12 +21,14 @@ use Rattle.pc_module_rules.proofs.BoundNames.{Within, within_one}
 
 -- ---- a table with one type set
 
-set_well_formed : (bases : Bases) (ds : List Tree) (x : ℕ) (t : Tree) → IsWellFormed bases t → AreWellFormed bases ds → AreWellFormed bases (slice_set ds x t)
+set_well_formed : (bases : Bases) (ds : List Tree) (x : ℕ) (t : Tree) → IsWellFormed bases t → AreWellFormed bases ds
+    → AreWellFormed bases (slice_set ds x t)
 set_well_formed bases [] x t h k = tt
 set_well_formed bases (d ∷ ds) zero t h k = (h, k.1)
 set_well_formed bases (d ∷ ds) (suc x) t h k = (k.0, set_well_formed bases ds x t h k.1)
 
-pub declared_well_formed : (bases : Bases) (ds : List Tree) (x : ℕ) → AreWellFormed bases ds → IsWellFormed bases (declared_type ds x)
+pub declared_well_formed : (bases : Bases) (ds : List Tree) (x : ℕ) → AreWellFormed bases ds
+    → IsWellFormed bases (declared_type ds x)
 declared_well_formed bases [] x k = (tt, tt, omega arith)
 declared_well_formed bases (d ∷ ds) zero k = k.0
 declared_well_formed bases (d ∷ ds) (suc x) k = declared_well_formed bases ds x k.1
@@ -48,77 +50,109 @@ module _ (setting : Setting) where
   pub same_self : (ds : List Tree) (seen : NamesBound) → Agree ctx ds ds seen
   same_self ds seen word x a r = refl
 
-  pub same_on : (ds ds' F : List Tree) (seen after : NamesBound) → Within seen after → Agree ctx ds ds' seen → Agree ctx ds' F after → Agree ctx ds F seen
+  pub same_on : (ds ds' F : List Tree) (seen after : NamesBound) → Within seen after → Agree ctx ds ds' seen
+      → Agree ctx ds' F after → Agree ctx ds F seen
   same_on ds ds' F seen after w s t word x a r = s word x a r ∙ t word x (w word a) r
 
-  pub settled_on : (ds ds' : List Tree) (seen after : NamesBound) (env : Env) → Within seen after → IsDeclaredTable setting ds' → Agree ctx ds ds' seen → GoesByNames setting ds seen env → GoesByNames setting ds' after env
+  pub settled_on : (ds ds' : List Tree) (seen after : NamesBound) (env : Env) → Within seen after
+      → IsDeclaredTable setting ds' → Agree ctx ds ds' seen → GoesByNames setting ds seen env
+      → GoesByNames setting ds' after env
   settled_on ds ds' seen after env w g s h = record {
     well_formed = h.well_formed;
     same = λ F gF t. where_turn ds ds' F env (h.same ds' g s) (h.same F gF (same_on ds ds' F seen after w s t));
   }
 
-  pub all_on : (ds ds' : List Tree) (seen after : NamesBound) (es : List Env) → Within seen after → IsDeclaredTable setting ds' → Agree ctx ds ds' seen → SettledAll setting ds seen es → SettledAll setting ds' after es
+  pub all_on : (ds ds' : List Tree) (seen after : NamesBound) (es : List Env) → Within seen after
+      → IsDeclaredTable setting ds' → Agree ctx ds ds' seen → SettledAll setting ds seen es
+      → SettledAll setting ds' after es
   all_on ds ds' seen after [] w g s h = tt
-  all_on ds ds' seen after (e ∷ es) w g s h = (settled_on ds ds' seen after e w g s h.0, all_on ds ds' seen after es w g s h.1)
+  all_on ds ds' seen after (e ∷ es) w g s h = (
+    settled_on ds ds' seen after e w g s h.0,
+    all_on ds ds' seen after es w g
+        s h.1,
+  )
 
-  pub all_both : (ds : List Tree) (seen : NamesBound) (a b : List Env) → SettledAll setting ds seen a → SettledAll setting ds seen b → SettledAll setting ds seen (a ++ b)
+  pub all_both : (ds : List Tree) (seen : NamesBound) (a b : List Env) → SettledAll setting ds seen a
+      → SettledAll setting ds seen b → SettledAll setting ds seen (a ++ b)
   all_both ds seen [] b h k = k
   all_both ds seen (e ∷ a) b h k = (h.0, all_both ds seen a b h.1 k)
 
-  pub all_same : (ds F : List Tree) (seen : NamesBound) (es : List Env) → IsDeclaredTable setting F → Agree ctx ds F seen → SettledAll setting ds seen es → SameWhereAll ctx.bases ds F es
+  pub all_same : (ds F : List Tree) (seen : NamesBound) (es : List Env) → IsDeclaredTable setting F
+      → Agree ctx ds F seen → SettledAll setting ds seen es → SameWhereAll ctx.bases ds F es
   all_same ds F seen [] g s h = tt
   all_same ds F seen (e ∷ es) g s h = (h.0.same F g s, all_same ds F seen es g s h.1)
 
-  pub out_on : (ds ds' : List Tree) (seen after : NamesBound) (out : Option Env) → Within seen after → IsDeclaredTable setting ds' → Agree ctx ds ds' seen → OutSettled setting ds seen out → OutSettled setting ds' after out
+  pub out_on : (ds ds' : List Tree) (seen after : NamesBound) (out : Option Env) → Within seen after
+      → IsDeclaredTable setting ds' → Agree ctx ds ds' seen → OutSettled setting ds seen out
+      → OutSettled setting ds' after out
   out_on ds ds' seen after None w g s h = tt
   out_on ds ds' seen after (Some env) w g s h = settled_on ds ds' seen after env w g s h
 
-  pub out_all : (ds : List Tree) (seen : NamesBound) (out : Option Env) → OutSettled setting ds seen out → SettledAll setting ds seen (option_to_list out)
+  pub out_all : (ds : List Tree) (seen : NamesBound) (out : Option Env) → OutSettled setting ds seen out
+      → SettledAll setting ds seen (option_to_list out)
   out_all ds seen None h = tt
   out_all ds seen (Some env) h = (h, tt)
 
   -- ---- conditions, heads of loops, joins, assignments
 
-  pub truth_settled : (ds : List Tree) (seen : NamesBound) (env : Env) (b : Test) (c : Expr) → IsDeclaredTable setting ds → GoesByNames setting ds seen env → GoesByNames setting ds seen (narrow ctx.bases ds ctx.resolve b c env)
+  pub truth_settled : (ds : List Tree) (seen : NamesBound) (env : Env) (b : Test) (c : Expr)
+      → IsDeclaredTable setting ds → GoesByNames setting ds seen env
+      → GoesByNames setting ds seen (narrow ctx.bases ds ctx.resolve b c env)
   truth_settled ds seen env b c g h = record {
     well_formed = conditions_well_formed ctx.bases ds ctx.resolve b c env ck.smaller g.well_formed h.well_formed;
     same = λ F gF s. (narrow_alike ctx.bases ds F ctx.resolve c b env (h.same F gF s)).kept;
   }
 
-  pub truth_same : (ds F : List Tree) (seen : NamesBound) (env : Env) (b : Test) (c : Expr) → IsDeclaredTable setting F → Agree ctx ds F seen → GoesByNames setting ds seen env → narrow ctx.bases ds ctx.resolve b c env ≡ narrow ctx.bases F ctx.resolve b c env
+  pub truth_same : (ds F : List Tree) (seen : NamesBound) (env : Env) (b : Test) (c : Expr) → IsDeclaredTable setting F
+      → Agree ctx ds F seen → GoesByNames setting ds seen env → narrow ctx.bases ds ctx.resolve b c env
+      ≡ narrow ctx.bases F ctx.resolve b c env
   truth_same ds F seen env b c gF s h = (narrow_alike ctx.bases ds F ctx.resolve c b env (h.same F gF s)).same
 
-  pub head_settled : (ds : List Tree) (seen : NamesBound) (env : Env) (bound : ℕ → Test) → IsDeclaredTable setting ds → GoesByNames setting ds seen env → GoesByNames setting ds seen (loop_head bound ds env)
+  pub head_settled : (ds : List Tree) (seen : NamesBound) (env : Env) (bound : ℕ → Test) → IsDeclaredTable setting ds
+      → GoesByNames setting ds seen env → GoesByNames setting ds seen (loop_head bound ds env)
   head_settled ds seen env bound g h = record {
     well_formed = heads_well_formed ctx.bases bound ds env g.well_formed h.well_formed;
     same = λ F gF s. (heads_alike ctx.bases bound ds F env (h.same F gF s)).kept;
   }
 
-  pub head_same : (ds F : List Tree) (seen : NamesBound) (env : Env) (bound : ℕ → Test) → IsDeclaredTable setting F → Agree ctx ds F seen → GoesByNames setting ds seen env → loop_head bound ds env ≡ loop_head bound F env
+  pub head_same : (ds F : List Tree) (seen : NamesBound) (env : Env) (bound : ℕ → Test) → IsDeclaredTable setting F
+      → Agree ctx ds F seen → GoesByNames setting ds seen env → loop_head bound ds env ≡ loop_head bound F env
   head_same ds F seen env bound gF s h = (heads_alike ctx.bases bound ds F env (h.same F gF s)).same
 
-  ways_well_formed : (ds : List Tree) (seen : NamesBound) (env : Env) (es : List Env) → IsDeclaredTable setting ds → IsWellFormedEnv ctx.bases env → SettledAll setting ds seen es → IsWellFormedEnv ctx.bases (join_envs_onto ctx.bases ds env es)
+  ways_well_formed : (ds : List Tree) (seen : NamesBound) (env : Env) (es : List Env) → IsDeclaredTable setting ds
+      → IsWellFormedEnv ctx.bases env → SettledAll setting ds seen es
+      → IsWellFormedEnv ctx.bases (join_envs_onto ctx.bases ds env es)
   ways_well_formed ds seen env [] g h k = h
-  ways_well_formed ds seen env (e ∷ es) g h k = ways_well_formed ds seen (join_env ctx.bases ds env e) es g (joins_well_formed ctx.bases ds env e ck.smaller g.well_formed h k.0.well_formed) k.1
+  ways_well_formed ds seen env (e ∷ es) g h k = ways_well_formed ds seen (join_env ctx.bases ds env e) es g
+      (joins_well_formed ctx.bases ds env e ck.smaller g.well_formed h k.0.well_formed) k.1
 
-  pub joined_settled : (ds : List Tree) (seen : NamesBound) (env : Env) (es : List Env) → IsDeclaredTable setting ds → GoesByNames setting ds seen env → SettledAll setting ds seen es → GoesByNames setting ds seen (join_envs_onto ctx.bases ds env es)
+  pub joined_settled : (ds : List Tree) (seen : NamesBound) (env : Env) (es : List Env) → IsDeclaredTable setting ds
+      → GoesByNames setting ds seen env → SettledAll setting ds seen es
+      → GoesByNames setting ds seen (join_envs_onto ctx.bases ds env es)
   joined_settled ds seen env es g h k = record {
     well_formed = ways_well_formed ds seen env es g h.well_formed k;
     same = λ F gF s. (all_joins_alike ctx.bases ds F env es (h.same F gF s) (all_same ds F seen es gF s k)).kept;
   }
 
-  pub joined_same : (ds F : List Tree) (seen : NamesBound) (env : Env) (es : List Env) → IsDeclaredTable setting F → Agree ctx ds F seen → GoesByNames setting ds seen env → SettledAll setting ds seen es → join_envs_onto ctx.bases ds env es ≡ join_envs_onto ctx.bases F env es
-  joined_same ds F seen env es gF s h k = (all_joins_alike ctx.bases ds F env es (h.same F gF s) (all_same ds F seen es gF s k)).same
+  pub joined_same : (ds F : List Tree) (seen : NamesBound) (env : Env) (es : List Env) → IsDeclaredTable setting F
+      → Agree ctx ds F seen → GoesByNames setting ds seen env → SettledAll setting ds seen es
+      → join_envs_onto ctx.bases ds env es ≡ join_envs_onto ctx.bases F env es
+  joined_same ds F seen env es gF s h k = (all_joins_alike ctx.bases ds F env es (h.same F gF s)
+      (all_same ds F seen es gF s k)).same
 
-  pub ways_settled : (ds : List Tree) (seen : NamesBound) (es : List Env) → IsDeclaredTable setting ds → SettledAll setting ds seen es → OutSettled setting ds seen (join_ways ctx.bases ds es)
+  pub ways_settled : (ds : List Tree) (seen : NamesBound) (es : List Env) → IsDeclaredTable setting ds
+      → SettledAll setting ds seen es → OutSettled setting ds seen (join_ways ctx.bases ds es)
   ways_settled ds seen [] g h = tt
   ways_settled ds seen (e ∷ es) g h = joined_settled ds seen e es g h.0 h.1
 
-  pub ways_same : (ds F : List Tree) (seen : NamesBound) (es : List Env) → IsDeclaredTable setting F → Agree ctx ds F seen → SettledAll setting ds seen es → join_ways ctx.bases ds es ≡ join_ways ctx.bases F es
+  pub ways_same : (ds F : List Tree) (seen : NamesBound) (es : List Env) → IsDeclaredTable setting F
+      → Agree ctx ds F seen → SettledAll setting ds seen es → join_ways ctx.bases ds es ≡ join_ways ctx.bases F es
   ways_same ds F seen [] gF s h = refl
   ways_same ds F seen (e ∷ es) gF s h = ap Some (joined_same ds F seen e es gF s h.0 h.1)
 
-  pub assign_settled : (ds : List Tree) (seen : NamesBound) (env : Env) (word : List ℕ) (x : ℕ) (t : Tree) → IsAmong word seen → ctx.resolve word ≡ res.Local x → IsWellFormed ctx.bases t → GoesByNames setting ds seen env → GoesByNames setting ds seen (assign env x t)
+  pub assign_settled : (ds : List Tree) (seen : NamesBound) (env : Env) (word : List ℕ) (x : ℕ) (t : Tree)
+      → IsAmong word seen → ctx.resolve word ≡ res.Local x → IsWellFormed ctx.bases t → GoesByNames setting ds seen env
+      → GoesByNames setting ds seen (assign env x t)
   assign_settled ds seen env word x t a r k h = record {
     well_formed = flow.assign_well_formed ctx.bases env x t k h.well_formed;
     same = λ F gF s. assign_kept ds F env x t (h.same F gF s) (s word x a r);
@@ -126,10 +160,16 @@ module _ (setting : Setting) where
 
   -- ---- a type set at the first binding of a name
 
-  pub set_table : (ds : List Tree) (x : ℕ) (t : Tree) → IsDeclaredTable setting ds → IsWellFormed ctx.bases t → IsDeclaredTable setting (slice_set ds x t)
-  set_table ds x t g k = record { long = length-set ds x t ∙ g.long; well_formed = set_well_formed ctx.bases ds x t k g.well_formed }
+  pub set_table : (ds : List Tree) (x : ℕ) (t : Tree) → IsDeclaredTable setting ds → IsWellFormed ctx.bases t
+      → IsDeclaredTable setting (slice_set ds x t)
+  set_table ds x t g k = record {
+    long = length-set ds x t ∙ g.long;
+    well_formed = set_well_formed ctx.bases ds x t k
+        g.well_formed;
+  }
 
-  pub set_same : (ds : List Tree) (seen : NamesBound) (word : List ℕ) (x : ℕ) (t : Tree) → is_one_of word seen ≡ false → ctx.resolve word ≡ res.Local x → Agree ctx ds (slice_set ds x t) seen
+  pub set_same : (ds : List Tree) (seen : NamesBound) (word : List ℕ) (x : ℕ) (t : Tree) → is_one_of word seen ≡ false
+      → ctx.resolve word ≡ res.Local x → Agree ctx ds (slice_set ds x t) seen
   set_same ds seen word x t f r w y a i = sym (get_or-set_other ds x y t Any (λ q.
       let e : x ≡ y = sym q in
       let j : ctx.resolve w ≡ res.Local x = i ∙ ap res.Local (sym e) in
@@ -140,17 +180,23 @@ module _ (setting : Setting) where
       true_false : {b : Test} → b ≡ true → b ≡ false → ⊥
       true_false e e' = absurd (grind (arith, e, e'))
 
-  pub set_is : (ds : List Tree) (word : List ℕ) (x : ℕ) (t : Tree) → IsDeclaredTable setting ds → ctx.resolve word ≡ res.Local x → declared_type (slice_set ds x t) x ≡ t
-  set_is ds word x t g r = let b = names.below word x r in get_or-set_same ds x t Any (subst (λ n. x < n) (sym g.long) b)
+  pub set_is : (ds : List Tree) (word : List ℕ) (x : ℕ) (t : Tree) → IsDeclaredTable setting ds
+      → ctx.resolve word ≡ res.Local x → declared_type (slice_set ds x t) x ≡ t
+  set_is ds word x t g r = let b = names.below word x r in get_or-set_same ds x t Any
+      (subst (λ n. x < n) (sym g.long) b)
 
-  pub same_less : (ds F : List Tree) (word : List ℕ) (seen : NamesBound) → Agree ctx ds F (word ∷ seen) → Agree ctx ds F seen
+  pub same_less : (ds F : List Tree) (word : List ℕ) (seen : NamesBound) → Agree ctx ds F (word ∷ seen)
+      → Agree ctx ds F seen
   same_less ds F word seen s w x a r = s w x (within_one word seen w a) r
 
-  pub still_same : (ds : List Tree) (seen after : NamesBound) (env : Env) → Within seen after → IsDeclaredTable setting ds → GoesByNames setting ds seen env → GoesByNames setting ds after env
+  pub still_same : (ds : List Tree) (seen after : NamesBound) (env : Env) → Within seen after
+      → IsDeclaredTable setting ds → GoesByNames setting ds seen env → GoesByNames setting ds after env
   still_same ds seen after env w g h = settled_on ds ds seen after env w g (same_self ds seen) h
 
-  pub all_wider : (ds : List Tree) (seen after : NamesBound) (es : List Env) → Within seen after → IsDeclaredTable setting ds → SettledAll setting ds seen es → SettledAll setting ds after es
+  pub all_wider : (ds : List Tree) (seen after : NamesBound) (es : List Env) → Within seen after
+      → IsDeclaredTable setting ds → SettledAll setting ds seen es → SettledAll setting ds after es
   all_wider ds seen after es w g h = all_on ds ds seen after es w g (same_self ds seen) h
 
-  pub out_wider : (ds : List Tree) (seen after : NamesBound) (out : Option Env) → Within seen after → IsDeclaredTable setting ds → OutSettled setting ds seen out → OutSettled setting ds after out
+  pub out_wider : (ds : List Tree) (seen after : NamesBound) (out : Option Env) → Within seen after
+      → IsDeclaredTable setting ds → OutSettled setting ds seen out → OutSettled setting ds after out
   out_wider ds seen after out w g h = out_on ds ds seen after out w g (same_self ds seen) h

@@ -1,5 +1,7 @@
--- What a walk finds in an expression, of its flows and in what a `for` goes over tells of just the dynamic flows under lawful labels.
-use Rattle.std.proofs.Common.{◌≡◌, List, [], ◌∷◌, ◌++◌, Option, Some, None, refl, sym, ap, ◌∙◌, subst, append-nil, append_assoc}
+-- What a walk finds in an expression, of its flows and in what a `for` goes over tells of just the dynamic flows under
+-- lawful labels.
+use Rattle.std.proofs.Common.{◌≡◌, List, [], ◌∷◌, ◌++◌, Option, Some, None, refl, sym, ap, ◌∙◌, subst, append-nil}
+use Rattle.std.proofs.Common.{append_assoc}
 use Rattle.std.specs.Prelude.{Bool as Test, true, false, if◌then◌else◌}
 use Rattle.pc_source.specs.declared.place.Place.{Place}
 use Rattle.pc_tree.specs.Depth.{place_of}
@@ -12,23 +14,29 @@ use Rattle.pc_flow.specs.Environment.{Env}
 use Rattle.pc_flow.specs.WellFormed.{AreWellFormed, IsWellFormedEnv, IsWellFormedIfAny}
 use Rattle.pc_notes.specs.Notes.{Note}
 use Rattle.pc_rules.specs.Operations.{Label, clean, StoreOffer, store_codes, store_index_types, stored_types, only_type}
-use Rattle.pc_rules.specs.Calls.{CallOffer, arguments_given, call_label, positional_seat, named_seat, is_range, range_item, range_offers, range_signature}
+use Rattle.pc_rules.specs.Calls.{CallOffer, arguments_given, call_label, positional_seat, named_seat, is_range}
+use Rattle.pc_rules.specs.Calls.{range_item, range_offers, range_signature}
 use Rattle.pc_rules.specs.Context.{FlowsInto}
 use Rattle.pc_rules.specs.Labels.{FlowLabels, Labels, whole_label, type_of}
 use Rattle.pc_rules.specs.Lawful.{Lawful}
 use Rattle.pc_rules.specs.Computed.Expressions.{labels_of, flows_of}
 use Rattle.pc_rules.specs.Computed.Findings.{codes_at, flows_at, notes_under}
-use Rattle.pc_rules.specs.Computed.Standing.{Standing, label_in, finds_in, items_in, keywords_in, arguments_find, keywords_find}
+use Rattle.pc_rules.specs.Computed.Standing.{Standing, label_in, finds_in, items_in, keywords_in, arguments_find}
+use Rattle.pc_rules.specs.Computed.Standing.{keywords_find}
 use Rattle.pc_rules.specs.Computed.Ranges.{range_finds}
 use Rattle.pc_rules.proofs.One.{one, items_one, keywords_one}
 use Rattle.pc_rules.proofs.WellFormed.{int_well_formed, object_well_formed, none_well_formed}
-use Rattle.pc_rules.proofs.Called.{CallsWellFormed, builtin_well_formed, called_well_formed, named_well_formed, positional_well_formed}
+use Rattle.pc_rules.proofs.Called.{CallsWellFormed, builtin_well_formed, called_well_formed, named_well_formed}
+use Rattle.pc_rules.proofs.Called.{positional_well_formed}
 use Rattle.pc_rules.proofs.ComputedFlows.{are_tests}
 use Rattle.pc_rules.proofs.ComputedLawful.{labels_are_lawful, items_lawful, keywords_lawful}
 use Rattle.pc_module_rules.specs.StatementLabels.{OptionLabels, TargetLabels}
-use Rattle.pc_module_rules.specs.Statements.{RangeOrValues, LawfulRange, LawfulValues, LawfulIterable, attribute_offers, index_offers, LawfulStore, LawfulReturn, LawfulOption}
+use Rattle.pc_module_rules.specs.Statements.{RangeOrValues, LawfulRange, LawfulValues, LawfulIterable, attribute_offers}
+use Rattle.pc_module_rules.specs.Statements.{index_offers, LawfulStore, LawfulReturn, LawfulOption}
 use Rattle.pc_module_rules.specs.Laws.Labellings.{Setting}
-use Rattle.pc_module_rules.specs.Computed.Statements.{Table, type_table, BodyContext, attribute_stores, index_stores, stored_finds, store_finds, iterable_finds, option_finds, return_finds}
+use Rattle.pc_module_rules.specs.Computed.Statements.{Table, type_table, BodyContext, attribute_stores, index_stores}
+use Rattle.pc_module_rules.specs.Computed.Statements.{stored_finds, store_finds, iterable_finds, option_finds}
+use Rattle.pc_module_rules.specs.Computed.Statements.{return_finds}
 use Rattle.pc_module_rules.specs.Laws.Walks.{EnvFits, body_context_in}
 use Rattle.pc_module_rules.proofs.StoredTypes.{fields_stored, items_stored, keys_stored, only_well_formed}
 use Rattle.pc_module_rules.proofs.WalkedTables.{types_well_formed}
@@ -38,7 +46,9 @@ use Rattle.pc_module_rules.specs.FlowsOfStatements.{dynamic_in_option, dynamic_i
 use Rattle.pc_module_rules.proofs.FirstFlows.{Tells, tell_then, tell_grouped}
 use Rattle.pc_module_rules.proofs.ToldFlows.{tell_codes, tell_flows, tell_expression}
 
-module _ (setting : Setting) (returned : Tree) (kr : IsWellFormed setting.context.bases returned) (declared : List Tree) (table : Table) (kt : IsWellFormedEnv setting.context.bases table) (env : Env) (h : EnvFits setting declared table env) where
+module _ (setting : Setting) (returned : Tree) (kr : IsWellFormed setting.context.bases returned) (declared : List Tree)
+    (table : Table) (kt : IsWellFormedEnv setting.context.bases table) (env : Env)
+    (h : EnvFits setting declared table env) where
   open setting use {whole as m, context as ctx, context_well_formed as ck}
 
   abbrev context : BodyContext
@@ -55,33 +65,46 @@ module _ (setting : Setting) (returned : Tree) (kr : IsWellFormed setting.contex
   abbrev Reads : (want : Option Tree) (e : Expr) → Labels e → Type 0
   Reads want e labels = ExpressionTold setting declared table kt env h want e labels
 
-  read : (want : Option Tree) → IsWellFormedIfAny ctx.bases want → (e : Expr) (labels : Labels e) → Lawful ctx declared env want e labels → Reads want e labels
+  read : (want : Option Tree) → IsWellFormedIfAny ctx.bases want → (e : Expr) (labels : Labels e)
+      → Lawful ctx declared env want e labels → Reads want e labels
   read want kw e labels l = told setting declared table kt env h want kw e labels l
 
   -- what is found in an expression is what stands under its lawful labels
-  found_is : (want : Option Tree) → IsWellFormedIfAny ctx.bases want → (e : Expr) (labels : Labels e) → Lawful ctx declared env want e labels → finds_in at_env want e ≡ notes_under e labels
+  found_is : (want : Option Tree) → IsWellFormedIfAny ctx.bases want → (e : Expr) (labels : Labels e)
+      → Lawful ctx declared env want e labels → finds_in at_env want e ≡ notes_under e labels
   unfolding finds_in
   found_is want kw e labels l =
       let computed = labels_of ctx (type_table table) env want e in
       let k = labels_are_lawful ctx (type_table table) env want e ck ds h.well_formed kw in
       ap (notes_under e) (sym (one ctx declared (type_table table) env h.same want e labels computed l k.0))
 
-  pub tell_in : (want : Option Tree) → IsWellFormedIfAny ctx.bases want → (e : Expr) (labels : Labels e) → Lawful ctx declared env want e labels → Tells (finds_in at_env want e) (dynamic_in e labels)
-  tell_in want kw e labels l = subst (λ xs. Tells xs (dynamic_in e labels)) (sym (found_is want kw e labels l)) (tell_expression e labels)
+  pub tell_in : (want : Option Tree) → IsWellFormedIfAny ctx.bases want → (e : Expr) (labels : Labels e)
+      → Lawful ctx declared env want e labels → Tells (finds_in at_env want e) (dynamic_in e labels)
+  tell_in want kw e labels l = subst (λ xs. Tells xs (dynamic_in e labels)) (sym (found_is want kw e labels l))
+      (tell_expression e labels)
 
   -- its flows into several types
-  pub tell_flowing : (want : Option Tree) (e : Expr) (labels : Labels e) (ts : List Tree) (flows : FlowLabels) → IsWellFormedIfAny ctx.bases want → Lawful ctx declared env want e labels → AreWellFormed ctx.bases ts → FlowsInto ctx.bases (whole_label e labels) ts flows
+  pub tell_flowing : (want : Option Tree) (e : Expr) (labels : Labels e) (ts : List Tree) (flows : FlowLabels)
+      → IsWellFormedIfAny ctx.bases want → Lawful ctx declared env want e labels → AreWellFormed ctx.bases ts
+      → FlowsInto ctx.bases (whole_label e labels) ts flows
       → Tells (flows_at (place_of e) (flows_of ctx.bases (label_in at_env want e) ts)) (dynamic_at (place_of e) flows)
   tell_flowing want e labels ts flows kw l ks fl =
       let v = read want kw e labels l in
-      let is : flows_of ctx.bases (label_in at_env want e) ts ≡ flows = ap (λ x. flows_of ctx.bases x ts) v.label ∙ flows_told setting (whole_label e labels) ts flows v.well_formed ks fl in
-      subst (λ fs. Tells (flows_at (place_of e) fs) (dynamic_at (place_of e) flows)) (sym is) (tell_flows (place_of e) flows)
+      let is : flows_of ctx.bases (label_in at_env want e) ts ≡ flows = ap (λ x. flows_of ctx.bases x ts) v.label
+      ∙ flows_told setting (whole_label e labels) ts flows v.well_formed ks fl in
+      subst (λ fs. Tells (flows_at (place_of e) fs) (dynamic_at (place_of e) flows)) (sym is)
+      (tell_flows (place_of e) flows)
 
   -- an expression, and then its flows
-  tell_both : (want : Option Tree) (e : Expr) (labels : Labels e) (ts : List Tree) (flows : FlowLabels) → IsWellFormedIfAny ctx.bases want → Lawful ctx declared env want e labels → AreWellFormed ctx.bases ts → FlowsInto ctx.bases (whole_label e labels) ts flows
-      → Tells (finds_in at_env want e ++ flows_at (place_of e) (flows_of ctx.bases (label_in at_env want e) ts)) (dynamic_in e labels ++ dynamic_at (place_of e) flows)
+  tell_both : (want : Option Tree) (e : Expr) (labels : Labels e) (ts : List Tree) (flows : FlowLabels)
+      → IsWellFormedIfAny ctx.bases want → Lawful ctx declared env want e labels → AreWellFormed ctx.bases ts
+      → FlowsInto ctx.bases (whole_label e labels) ts flows
+      → Tells (finds_in at_env want e ++ flows_at (place_of e) (flows_of ctx.bases (label_in at_env want e) ts))
+      (dynamic_in e labels ++ dynamic_at (place_of e) flows)
   tell_both want e labels ts flows kw l ks fl =
-      tell_then (finds_in at_env want e) (flows_at (place_of e) (flows_of ctx.bases (label_in at_env want e) ts)) (dynamic_in e labels) (dynamic_at (place_of e) flows) (tell_in want kw e labels l) (tell_flowing want e labels ts flows kw l ks fl)
+      tell_then (finds_in at_env want e) (flows_at (place_of e) (flows_of ctx.bases (label_in at_env want e) ts))
+      (dynamic_in e labels) (dynamic_at (place_of e) flows) (tell_in want kw e labels l)
+      (tell_flowing want e labels ts flows kw l ks fl)
 
   -- ---- what a `for` goes over
 
@@ -105,57 +128,94 @@ module _ (setting : Setting) (returned : Tree) (kr : IsWellFormed setting.contex
 
     range_listed : notes_under (call p (name n) args kws) range_labels ≡ range_finds at_env p (name n) args kws
     unfolding arguments_find keywords_find
-    range_listed = moved (arguments_find at_env (is_instance_test (name n) args kws) (positional_seat offers) args) (keywords_find at_env (named_seat offers) [] kws) (codes_at p (call_label ctx.bases offers).codes)
+    range_listed = moved (arguments_find at_env (is_instance_test (name n) args kws) (positional_seat offers) args)
+        (keywords_find at_env (named_seat offers) [] kws) (codes_at p (call_label ctx.bases offers).codes)
 
-    range_lawful : (labels : Labels (call p (name n) args kws)) → LawfulRange m ctx declared env (name n) args kws p labels → range_labels ≡ labels
+    range_lawful : (labels : Labels (call p (name n) args kws)) → LawfulRange m ctx declared env (name n) args kws p
+        labels → range_labels ≡ labels
     range_lawful labels l =
-        let calls : CallsWellFormed ctx.bases offers = (called_well_formed ctx.bases (arguments_given args kws) range_signature (builtin_well_formed ctx.bases (Int ∷ []) Object (int_well_formed ctx.bases, tt) (object_well_formed ctx.bases)), tt) in
+        let calls : CallsWellFormed ctx.bases offers = (
+          called_well_formed ctx.bases (arguments_given args kws)
+              range_signature (builtin_well_formed ctx.bases (Int ∷ []) Object (int_well_formed ctx.bases, tt)
+              (object_well_formed ctx.bases)),
+          tt,
+        ) in
         let tests = are_tests ctx.bases ck.smaller in
-        let a = items_lawful ctx (type_table table) ck ds (static_test ctx.bases) (assignable_test ctx.bases) tests env h.well_formed (positional_seat offers) (positional_well_formed ctx.bases offers calls) args in
-        let k = keywords_lawful ctx (type_table table) ck ds (static_test ctx.bases) (assignable_test ctx.bases) tests env h.well_formed (named_seat offers) (named_well_formed ctx.bases offers calls) [] kws in
-        let q = items_one ctx declared (type_table table) env h.same (positional_seat offers) args labels.arguments (items_in at_env (positional_seat offers) args) l.arguments a.lawful in
-        let r = keywords_one ctx declared (type_table table) env h.same (named_seat offers) [] kws labels.keywords (keywords_in at_env (named_seat offers) [] kws) l.keywords k.lawful in
-        λ i. record { here = sym l.here i; callee = sym l.callee i; second = sym l.second i; arguments = sym q i; keywords = sym r i }
+        let a = items_lawful ctx (type_table table) ck ds (static_test ctx.bases) (assignable_test ctx.bases) tests env
+        h.well_formed (positional_seat offers) (positional_well_formed ctx.bases offers calls) args in
+        let k = keywords_lawful ctx (type_table table) ck ds (static_test ctx.bases) (assignable_test ctx.bases) tests
+        env h.well_formed (named_seat offers) (named_well_formed ctx.bases offers calls) [] kws in
+        let q = items_one ctx declared (type_table table) env h.same (positional_seat offers) args labels.arguments
+        (items_in at_env (positional_seat offers) args) l.arguments a.lawful in
+        let r = keywords_one ctx declared (type_table table) env h.same (named_seat offers) [] kws labels.keywords
+        (keywords_in at_env (named_seat offers) [] kws) l.keywords k.lawful in
+        λ i. record {
+          here = sym l.here i;
+          callee = sym l.callee i;
+          second = sym l.second i;
+          arguments = sym q i;
+          keywords = sym r i;
+        }
 
     tell_call : (b : Test) (labels : Labels (call p (name n) args kws)) (item : Label)
-        → RangeOrValues m ctx declared b (LawfulRange m ctx declared env (name n) args kws p labels × (item ≡ range_item (arguments_given args kws))) (LawfulValues m ctx declared env (call p (name n) args kws) labels item)
-        → Tells (if b then range_finds at_env p (name n) args kws else finds_in at_env None (call p (name n) args kws)) (dynamic_in (call p (name n) args kws) labels)
+        → RangeOrValues m ctx declared b (LawfulRange m ctx declared env (name n) args kws p labels
+        × (item ≡ range_item (arguments_given args kws))) (LawfulValues m ctx declared env
+        (call p (name n) args kws) labels item)
+        → Tells (if b then range_finds at_env p (name n) args kws else finds_in at_env None (call p (name n) args kws))
+        (dynamic_in (call p (name n) args kws) labels)
     tell_call true labels item l =
-        subst (λ xs. Tells xs (dynamic_in (call p (name n) args kws) labels)) (sym (ap (notes_under (call p (name n) args kws)) (range_lawful labels l.0)) ∙ range_listed) (tell_expression (call p (name n) args kws) labels)
+        subst (λ xs. Tells xs (dynamic_in (call p (name n) args kws) labels))
+        (sym (ap (notes_under (call p (name n) args kws)) (range_lawful labels l.0)) ∙ range_listed)
+        (tell_expression (call p (name n) args kws) labels)
     tell_call false labels item l = tell_in None tt (call p (name n) args kws) labels l.0
 
-  pub tell_iterable : (e : Expr) (labels : Labels e) (item : Label) → LawfulIterable m ctx declared env e labels item → Tells (iterable_finds context at_env e) (dynamic_in e labels)
-  tell_iterable (call p (name n) args kws) labels item l = tell_call p n args kws (is_range (ctx.resolve n.text)) labels item l
+  pub tell_iterable : (e : Expr) (labels : Labels e) (item : Label) → LawfulIterable m ctx declared env e labels item
+      → Tells (iterable_finds context at_env e) (dynamic_in e labels)
+  tell_iterable (call p (name n) args kws) labels item l = tell_call p n args kws (is_range (ctx.resolve n.text)) labels
+      item l
   tell_iterable e labels item l = tell_in None tt e labels l.0
 
   -- ---- stores
 
   -- at the store, and of the value
-  tell_stored : (os : List StoreOffer) → AreWellFormed ctx.bases (stored_types os) → (p : Place) (e : Expr) (labels : Labels e) (flows : FlowLabels) → Lawful ctx declared env (only_type os (stored_types os)) e labels → FlowsInto ctx.bases (whole_label e labels) (stored_types os) flows
+  tell_stored : (os : List StoreOffer) → AreWellFormed ctx.bases (stored_types os)
+      → (p : Place) (e : Expr) (labels : Labels e) (flows : FlowLabels)
+      → Lawful ctx declared env (only_type os (stored_types os)) e labels → FlowsInto ctx.bases (whole_label e labels)
+      (stored_types os) flows
       → Tells (stored_finds context at_env os p e) (dynamic_in e labels ++ dynamic_at (place_of e) flows)
   tell_stored os ks p e labels flows l fl =
       let want = only_type os (stored_types os) in
-      tell_then (codes_at p (store_codes os)) (finds_in at_env want e ++ flows_at (place_of e) (flows_of ctx.bases (label_in at_env want e) (stored_types os))) [] (dynamic_in e labels ++ dynamic_at (place_of e) flows)
+      tell_then (codes_at p (store_codes os)) (finds_in at_env want e ++ flows_at (place_of e)
+      (flows_of ctx.bases (label_in at_env want e) (stored_types os))) []
+      (dynamic_in e labels ++ dynamic_at (place_of e) flows)
       (tell_codes p (store_codes os))
       (tell_both want e labels (stored_types os) flows (only_well_formed ctx.bases os (stored_types os) ks) l ks fl)
 
-  pub tell_store : (t : Target) (target : TargetLabels t) (e : Expr) (labels : Labels e) (flows : FlowLabels) → LawfulStore m ctx declared env t target e labels flows
-      → Tells (store_finds context at_env t e) (dynamic_in_target t target ++ (dynamic_in e labels ++ dynamic_at (place_of e) flows))
+  pub tell_store : (t : Target) (target : TargetLabels t) (e : Expr) (labels : Labels e) (flows : FlowLabels)
+      → LawfulStore m ctx declared env t target e labels flows
+      → Tells (store_finds context at_env t e) (dynamic_in_target t target
+      ++ (dynamic_in e labels ++ dynamic_at (place_of e) flows))
   tell_store (to_name n) target e labels flows l = absurd l
   tell_store (to_attribute p o field) target e labels flows l =
       let v = read None tt o target.object l.object in
       let os = attribute_offers m ctx declared field.text (type_of o target.object) in
-      let ks : AreWellFormed ctx.bases (stored_types os) = fields_stored ctx.bases ctx.classes ck.classes field.text (type_of o target.object) v.well_formed in
-      let offers : os ≡ attribute_stores context field.text (label_in at_env None o).type = ap (λ x. attribute_stores context field.text x.type) (sym v.label) in
+      let ks : AreWellFormed ctx.bases (stored_types os) = fields_stored ctx.bases ctx.classes ck.classes field.text
+      (type_of o target.object) v.well_formed in
+      let offers : os ≡ attribute_stores context field.text (label_in at_env None o).type =
+      ap (λ x. attribute_stores context field.text x.type) (sym v.label) in
       let ds = dynamic_in e labels ++ dynamic_at (place_of e) flows in
-      subst (λ q. Tells (finds_in at_env None o ++ stored_finds context at_env q p e) (dynamic_in o target.object ++ ds)) offers
-      (tell_then (finds_in at_env None o) (stored_finds context at_env os p e) (dynamic_in o target.object) ds (tell_in None tt o target.object l.object) (tell_stored os ks p e labels flows l.value l.flow))
+      subst (λ q. Tells (finds_in at_env None o ++ stored_finds context at_env q p e)
+      (dynamic_in o target.object ++ ds)) offers
+      (tell_then (finds_in at_env None o) (stored_finds context at_env os p e) (dynamic_in o target.object) ds
+      (tell_in None tt o target.object l.object) (tell_stored os ks p e labels flows l.value l.flow))
   tell_store (to_index p o i) target e labels flows l =
       let v = read None tt o target.object l.object in
       let os = index_offers m ctx declared (type_of o target.object) in
-      let ks : AreWellFormed ctx.bases (stored_types os) = items_stored ctx.bases (type_of o target.object) v.well_formed in
+      let ks : AreWellFormed ctx.bases (stored_types os) = items_stored ctx.bases (type_of o target.object)
+      v.well_formed in
       let kk = keys_stored ctx.bases (type_of o target.object) v.well_formed in
-      let offers : os ≡ index_stores context (label_in at_env None o).type = ap (λ x. index_stores context x.type) (sym v.label) in
+      let offers : os ≡ index_stores context (label_in at_env None o).type = ap (λ x. index_stores context x.type)
+      (sym v.label) in
       let xs = finds_in at_env None o in
       let ys = finds_in at_env None i in
       let zs = flows_at (place_of i) (flows_of ctx.bases (label_in at_env None i) (store_index_types os)) in
@@ -164,18 +224,27 @@ module _ (setting : Setting) (returned : Tree) (kr : IsWellFormed setting.contex
       let c = dynamic_at (place_of i) target.key_flows in
       let ds = dynamic_in e labels ++ dynamic_at (place_of e) flows in
       let rest = ys ++ (zs ++ stored_finds context at_env os p e) in
-      let told_rest : Tells rest (b ++ (c ++ ds)) = tell_then ys (zs ++ stored_finds context at_env os p e) b (c ++ ds) (tell_in None tt i target.key l.key)
-      (tell_then zs (stored_finds context at_env os p e) c ds (tell_flowing None i target.key (store_index_types os) target.key_flows tt l.key kk l.key_flow) (tell_stored os ks p e labels flows l.value l.flow)) in
-      subst (λ q. Tells (xs ++ (ys ++ (flows_at (place_of i) (flows_of ctx.bases (label_in at_env None i) (store_index_types q)) ++ stored_finds context at_env q p e))) ((a ++ (b ++ c)) ++ ds)) offers
-      (tell_grouped (xs ++ rest) a (b ++ c) ds (tell_then xs rest a ((b ++ c) ++ ds) (tell_in None tt o target.object l.object) (tell_grouped rest b c ds told_rest)))
+      let told_rest : Tells rest (b ++ (c ++ ds)) = tell_then ys (zs ++ stored_finds context at_env os p e) b (c ++ ds)
+      (tell_in None tt i target.key l.key)
+      (tell_then zs (stored_finds context at_env os p e) c ds (tell_flowing None i target.key (store_index_types os)
+      target.key_flows tt l.key kk l.key_flow) (tell_stored os ks p e labels flows l.value l.flow)) in
+      subst
+      (λ q.
+      Tells (xs ++ (ys ++ (flows_at (place_of i) (flows_of ctx.bases (label_in at_env None i) (store_index_types q))
+      ++ stored_finds context at_env q p e))) ((a ++ (b ++ c)) ++ ds)) offers
+      (tell_grouped (xs ++ rest) a (b ++ c) ds (tell_then xs rest a ((b ++ c) ++ ds)
+      (tell_in None tt o target.object l.object) (tell_grouped rest b c ds told_rest)))
 
   -- ---- what may be missing
 
-  pub tell_option : (e : Option Expr) (labels : OptionLabels e) → LawfulOption m ctx declared returned env e labels → Tells (option_finds context at_env None e) (dynamic_in_option e labels)
+  pub tell_option : (e : Option Expr) (labels : OptionLabels e) → LawfulOption m ctx declared returned env e labels
+      → Tells (option_finds context at_env None e) (dynamic_in_option e labels)
   tell_option None labels l = λ q. refl
   tell_option (Some e) labels l = tell_in None tt e labels l
 
-  pub tell_return : (p : Place) (e : Option Expr) (labels : OptionLabels e) (flows : FlowLabels) → LawfulReturn m ctx declared returned env e labels flows → Tells (return_finds context at_env p e) (dynamic_in_value p e labels flows)
+  pub tell_return : (p : Place) (e : Option Expr) (labels : OptionLabels e) (flows : FlowLabels)
+      → LawfulReturn m ctx declared returned env e labels flows → Tells (return_finds context at_env p e)
+      (dynamic_in_value p e labels flows)
   tell_return p None labels flows l =
       let is = flows_told setting (clean NoneType) (returned ∷ []) flows (none_well_formed ctx.bases) (kr, tt) l in
       subst (λ fs. Tells (flows_at p fs) (dynamic_at p flows)) (sym is) (tell_flows p flows)

@@ -1,11 +1,14 @@
--- What is found of a module tells of just the dynamic flows under its lawful labelling: of its signatures, its constants and its bodies.
+-- What is found of a module tells of just the dynamic flows under its lawful labelling: of its signatures, its
+-- constants and its bodies.
 use Rattle.std.proofs.Common.{◌≡◌, ℕ, suc, List, [], ◌∷◌, ◌++◌, length, refl, sym, ap, ◌∙◌, subst, arith, append-nil}
 use Rattle.std.specs.Prelude.{Bool as Test, true, false, Option, Some, None, map, slice_get, codes}
 use Rattle.pc_source.specs.declared.place.Place.{Place}
 use Rattle.pc_tree.specs.declared.code.Code.TheVariants.{E21}
 use Rattle.pc_tree.specs.Code.{finding}
 use Rattle.pc_tree.specs.Depth.{place_of}
-use Rattle.pc_tree.specs.Tree.{Literal, number_literal, negative_literal, text_literal, truth_literal, none_literal, Param, FuncDef, Member, field_member, method_member, ClassDef, Constant, Item, constant_item, class_item, def_item, Module}
+use Rattle.pc_tree.specs.Tree.{Literal, number_literal, negative_literal, text_literal, truth_literal, none_literal}
+use Rattle.pc_tree.specs.Tree.{Param, FuncDef, Member, field_member, method_member, ClassDef, Constant, Item}
+use Rattle.pc_tree.specs.Tree.{constant_item, class_item, def_item, Module}
 use Rattle.pc_scope.specs.Bindings.{classes_in}
 use Rattle.pc_scope.specs.Resolution.{is_one_of, locals}
 use Rattle.pc_scope.specs.declared.resolution.Owner.{Owner}
@@ -30,14 +33,22 @@ use Rattle.pc_rules.specs.Operations.{Label, clean}
 use Rattle.pc_rules.specs.Labels.{FlowLabels, Labels, whole_label, type_of}
 use Rattle.pc_rules.specs.Computed.Expressions.{labels_of, flows_of}
 use Rattle.pc_rules.specs.Computed.Findings.{notes_under, flows_at}
-use Rattle.pc_rules.specs.Signatures.{body_context, initializer_context, literal_type, literal_place, LawfulDefault, binds_name, ParamsLabels, LawfulParams, constant_type, annotated_types, first_of_types}
-use Rattle.pc_rules.specs.Computed.Signatures.{constants_of, signatures_find, no_name, ItemsReached, nothing_reached, default_findings, params_findings, def_findings, function_findings, functions_findings, members_findings, base_at, initial, type_of_constant, value_findings, constant_findings, class_notes, behind, items_findings}
+use Rattle.pc_rules.specs.Signatures.{body_context, initializer_context, literal_type, literal_place, LawfulDefault}
+use Rattle.pc_rules.specs.Signatures.{binds_name, ParamsLabels, LawfulParams, constant_type, annotated_types}
+use Rattle.pc_rules.specs.Signatures.{first_of_types}
+use Rattle.pc_rules.specs.Computed.Signatures.{constants_of, signatures_find, no_name, ItemsReached, nothing_reached}
+use Rattle.pc_rules.specs.Computed.Signatures.{default_findings, params_findings, def_findings, function_findings}
+use Rattle.pc_rules.specs.Computed.Signatures.{functions_findings, members_findings, base_at, initial, type_of_constant}
+use Rattle.pc_rules.specs.Computed.Signatures.{value_findings, constant_findings, class_notes, behind, items_findings}
 use Rattle.pc_rules.specs.Computed.Standing.{label_in, finds_in}
 use Rattle.pc_rules.proofs.ComputedFlows.{flows_are_lawful}
 use Rattle.pc_rules.proofs.ComputedLawful.{labels_are_lawful}
 use Rattle.pc_rules.proofs.Contexts.{bodies_well_formed, initializers_well_formed}
 use Rattle.pc_rules.proofs.One.{into_one, one_labelling}
-use Rattle.pc_module_rules.specs.Modules.{entry_parameters, names_entered, entry_env, FunctionLabels, LawfulFunction, MembersLabels, LawfulMembers, ItemLabels, ItemsLabels, constant_types, BeforeItem, nothing_before, before_next, LawfulItem, LawfulModuleItems, Labelling, IsLawful}
+use Rattle.pc_module_rules.specs.Modules.{entry_parameters, names_entered, entry_env, FunctionLabels, LawfulFunction}
+use Rattle.pc_module_rules.specs.Modules.{MembersLabels, LawfulMembers, ItemLabels, ItemsLabels, constant_types}
+use Rattle.pc_module_rules.specs.Modules.{BeforeItem, nothing_before, before_next, LawfulItem, LawfulModuleItems}
+use Rattle.pc_module_rules.specs.Modules.{Labelling, IsLawful}
 use Rattle.pc_module_rules.specs.Laws.Labellings.{Setting}
 use Rattle.pc_module_rules.specs.Computed.Statements.{Walk, walk_suite, enter_parameters, end_finds, function_finds}
 use Rattle.pc_module_rules.specs.Computed.Modules.{methods_find, bodies_find, module_finds}
@@ -48,10 +59,13 @@ use Rattle.pc_module_rules.proofs.LocalNames.{names_are}
 use Rattle.pc_module_rules.proofs.WalkedItems.{reached_at, ClassesFrom}
 use Rattle.pc_module_rules.proofs.WalkedModule.{constants_have_types, constants_well_formed}
 use Rattle.pc_module_rules.specs.FlowsOfExpressions.{dynamic_at, dynamic_in}
-use Rattle.pc_module_rules.specs.FlowsOfModules.{dynamic_at_default, dynamic_in_params, dynamic_in_members, dynamic_in_methods, dynamic_in_function, dynamic_in_item, dynamic_in_body, dynamic_in_each, dynamic_flows}
+use Rattle.pc_module_rules.specs.FlowsOfModules.{dynamic_at_default, dynamic_in_params, dynamic_in_members}
+use Rattle.pc_module_rules.specs.FlowsOfModules.{dynamic_in_methods, dynamic_in_function, dynamic_in_item}
+use Rattle.pc_module_rules.specs.FlowsOfModules.{dynamic_in_body, dynamic_in_each, dynamic_flows}
 use Rattle.pc_module_rules.specs.FlowsOfStatements.{dynamic_in_suite}
 use Rattle.pc_module_rules.proofs.EnteredTables.{all_entered, none_fits, none_assigned_fits}
-use Rattle.pc_module_rules.proofs.FirstFlows.{Tells, tell_then, tell_behind, tell_plain, Grows, grow_none, grow, grow_then, tell_grown}
+use Rattle.pc_module_rules.proofs.FirstFlows.{Tells, tell_then, tell_behind, tell_plain, Grows, grow_none, grow}
+use Rattle.pc_module_rules.proofs.FirstFlows.{grow_then, tell_grown}
 use Rattle.pc_module_rules.proofs.PlainCodes.{in_both}
 use Rattle.pc_module_rules.proofs.ToldFlows.{tell_flows, tell_expression}
 use Rattle.pc_module_rules.proofs.ToldStatements.{suite_tells}
@@ -69,48 +83,68 @@ module _ (m : Module) where
 
   -- ---- signatures
 
-  default_tells : (binds : Test) (l : Option Literal) (t : Tree) (flows : FlowLabels) → IsWellFormed bases t → LawfulDefault bases binds l t flows → Tells (default_findings bases binds l t) (dynamic_at_default l flows)
+  default_tells : (binds : Test) (l : Option Literal) (t : Tree) (flows : FlowLabels) → IsWellFormed bases t
+      → LawfulDefault bases binds l t flows → Tells (default_findings bases binds l t) (dynamic_at_default l flows)
   default_tells binds None t flows kw h = λ q. refl
-  default_tells false (Some l) t flows kw h = subst (λ (fs : FlowLabels). Tells [] (dynamic_at (literal_place l) fs)) (sym h) (λ q. refl)
+  default_tells false (Some l) t flows kw h = subst (λ (fs : FlowLabels). Tells [] (dynamic_at (literal_place l) fs))
+      (sym h) (λ q. refl)
   default_tells true (Some l) t flows kw h =
       let from = clean (literal_type l) in
-      let e : flows_of bases from (t ∷ []) ≡ flows = into_one bases from (t ∷ []) (flows_of bases from (t ∷ [])) flows (flows_are_lawful bases from (t ∷ []) (smaller m) (literal_well_formed bases l) (kw, tt)) h in
-      subst (λ fs. Tells (flows_at (literal_place l) fs) (dynamic_at (literal_place l) flows)) (sym e) (tell_flows (literal_place l) flows)
+      let e : flows_of bases from (t ∷ []) ≡ flows = into_one bases from (t ∷ []) (flows_of bases from (t ∷ [])) flows
+      (flows_are_lawful bases from (t ∷ []) (smaller m) (literal_well_formed bases l) (kw, tt)) h in
+      subst (λ fs. Tells (flows_at (literal_place l) fs) (dynamic_at (literal_place l) flows)) (sym e)
+      (tell_flows (literal_place l) flows)
 
-  params_tell : (before : List (List ℕ)) (ps : List Param) (labels : ParamsLabels ps) → LawfulParams m before ps labels → Tells (params_findings m (λ t. is_one_of t before) ps) (dynamic_in_params ps labels)
+  params_tell : (before : List (List ℕ)) (ps : List Param) (labels : ParamsLabels ps) → LawfulParams m before ps labels
+      → Tells (params_findings m (λ t. is_one_of t before) ps) (dynamic_in_params ps labels)
   params_tell before [] labels h = λ q. refl
   params_tell before (p ∷ ps) labels h =
       let notes = map plain_note (option_findings m bases p.annotation) in
       let default = default_findings bases (binds_name before p.name) p.default (read_option m bases p.annotation) in
       let ds = dynamic_at_default p.default labels.default in
-      tell_then (notes ++ default) (params_findings m (λ t. is_one_of t (p.name.text ∷ before)) ps) ds (dynamic_in_params ps labels.rest)
+      tell_then (notes ++ default) (params_findings m (λ t. is_one_of t (p.name.text ∷ before)) ps) ds
+      (dynamic_in_params ps labels.rest)
       (tell_then notes default [] ds (tell_plain (option_findings m bases p.annotation))
-      (default_tells (binds_name before p.name) p.default (read_option m bases p.annotation) labels.default (read_option_well_formed m bases (smaller m) p.annotation) h.default))
+      (default_tells (binds_name before p.name) p.default (read_option m bases p.annotation) labels.default
+      (read_option_well_formed m bases (smaller m) p.annotation) h.default))
       (params_tell (p.name.text ∷ before) ps labels.rest h.rest)
 
-  def_tells : (before : List (List ℕ)) (f : FuncDef) (labels : ParamsLabels f.params) → LawfulParams m before f.params labels → Tells (def_findings m (λ t. is_one_of t before) f) (dynamic_in_params f.params labels)
+  def_tells : (before : List (List ℕ)) (f : FuncDef) (labels : ParamsLabels f.params)
+      → LawfulParams m before f.params labels → Tells (def_findings m (λ t. is_one_of t before) f)
+      (dynamic_in_params f.params labels)
   def_tells before f labels h =
-      tell_behind (params_findings m (λ t. is_one_of t before) f.params) (map plain_note (option_findings m bases f.returns)) (dynamic_in_params f.params labels) (params_tell before f.params labels h) (tell_plain (option_findings m bases f.returns))
+      tell_behind (params_findings m (λ t. is_one_of t before) f.params)
+      (map plain_note (option_findings m bases f.returns)) (dynamic_in_params f.params labels)
+      (params_tell before f.params labels h) (tell_plain (option_findings m bases f.returns))
 
   -- members, after these names
-  members_tell : (all : List Tree) (base : ClassFacts) (c number : ℕ) (before : List (List ℕ)) (ms : List Member) (labels : MembersLabels ms) → LawfulMembers m all base c number before ms labels → Tells (members_findings m base (λ t. is_one_of t before) ms) (dynamic_in_members ms labels)
+  members_tell : (all : List Tree) (base : ClassFacts) (c number : ℕ) (before : List (List ℕ)) (ms : List Member)
+      (labels : MembersLabels ms) → LawfulMembers m all base c number before ms labels
+      → Tells (members_findings m base (λ t. is_one_of t before) ms) (dynamic_in_members ms labels)
   members_tell all base c number before [] labels l = λ q. refl
   members_tell all base c number before (field_member d ∷ rest) labels l =
       let notes = map plain_note (ann_findings m bases d.annotation) in
-      let default = default_findings bases (binds_field base before d.name.text) d.default (read_ann m bases d.annotation) in
+      let default = default_findings bases (binds_field base before d.name.text) d.default
+      (read_ann m bases d.annotation) in
       let ds = dynamic_at_default d.default labels.default in
-      tell_then (notes ++ default) (members_findings m base (λ t. is_one_of t (d.name.text ∷ before)) rest) ds (dynamic_in_members rest labels.rest)
+      tell_then (notes ++ default) (members_findings m base (λ t. is_one_of t (d.name.text ∷ before)) rest) ds
+      (dynamic_in_members rest labels.rest)
       (tell_then notes default [] ds (tell_plain (ann_findings m bases d.annotation))
-      (default_tells (binds_field base before d.name.text) d.default (read_ann m bases d.annotation) labels.default (read_ann_well_formed m bases (smaller m) d.annotation) l.default))
+      (default_tells (binds_field base before d.name.text) d.default (read_ann m bases d.annotation) labels.default
+      (read_ann_well_formed m bases (smaller m) d.annotation) l.default))
       (members_tell all base c number (d.name.text ∷ before) rest labels.rest l.others)
   members_tell all base c number before (method_member d ∷ rest) labels l =
-      tell_then (def_findings m (λ t. is_one_of t (codes "self" ∷ [])) d) (members_findings m base (λ t. is_one_of t (d.name.text ∷ before)) rest) (dynamic_in_params d.params labels.method.params) (dynamic_in_members rest labels.rest)
+      tell_then (def_findings m (λ t. is_one_of t (codes "self" ∷ [])) d)
+      (members_findings m base (λ t. is_one_of t (d.name.text ∷ before)) rest)
+      (dynamic_in_params d.params labels.method.params) (dynamic_in_members rest labels.rest)
       (def_tells (codes "self" ∷ []) d labels.method.params l.method.params)
       (members_tell all base c (suc number) (d.name.text ∷ before) rest labels.rest l.others)
 
   -- ---- constants
 
-  module _ (b : BeforeItem) (kb : AreWellFormed bases b.constants) (p : _) (c : Constant) (labels : ItemLabels (constant_item p c)) (all : List Tree) (l : LawfulItem m all b (constant_item p c) labels) where
+  module _ (b : BeforeItem) (kb : AreWellFormed bases b.constants) (p : _) (c : Constant)
+      (labels : ItemLabels (constant_item p c)) (all : List Tree)
+      (l : LawfulItem m all b (constant_item p c) labels) where
     abbrev into : List Tree
     into = annotated_types m (binds_name b.names c.name) c.annotation
 
@@ -121,33 +155,42 @@ module _ (m : Module) where
     computed = labels_of (initializer_context m b.constants b.classes) [] [] (first_of_types into) c.value
 
     is_well_formed : IsWellFormed bases (type_of c.value computed)
-    is_well_formed = (labels_are_lawful (initializer_context m b.constants b.classes) [] [] (first_of_types into) c.value (initializers_well_formed m b.constants b.classes kb) tt tt (first_well_formed m into into_well_formed)).1
+    is_well_formed = (labels_are_lawful (initializer_context m b.constants b.classes) [] [] (first_of_types into)
+        c.value (initializers_well_formed m b.constants b.classes kb) tt tt
+        (first_well_formed m into into_well_formed)).1
 
     is_computed : computed ≡ labels.value
     is_computed =
         let context = initializer_context m b.constants b.classes in
-        let h = labels_are_lawful context [] [] (first_of_types into) c.value (initializers_well_formed m b.constants b.classes kb) tt tt (first_well_formed m into into_well_formed) in
+        let h = labels_are_lawful context [] [] (first_of_types into) c.value
+        (initializers_well_formed m b.constants b.classes kb) tt tt (first_well_formed m into into_well_formed) in
         one_labelling context [] [] refl (first_of_types into) c.value computed labels.value h.0 l.value
 
-    found_is : finds_in (initial m b.constants b.classes) (first_of_types into) c.value ≡ notes_under c.value labels.value
+    found_is : finds_in (initial m b.constants b.classes) (first_of_types into) c.value ≡ notes_under c.value
+        labels.value
     unfolding finds_in
     found_is = ap (notes_under c.value) is_computed
 
-    label_is : label_in (initial m b.constants b.classes) (first_of_types into) c.value ≡ whole_label c.value labels.value
+    label_is : label_in (initial m b.constants b.classes) (first_of_types into) c.value ≡ whole_label c.value
+        labels.value
     unfolding label_in
     label_is = ap (whole_label c.value) is_computed
 
     type_well_formed : IsWellFormed bases (constant_type m c.annotation (type_of c.value labels.value))
-    type_well_formed = constant_well_formed m c.annotation (type_of c.value labels.value) (subst (λ (x : Labels c.value). IsWellFormed bases (type_of c.value x)) is_computed is_well_formed)
+    type_well_formed = constant_well_formed m c.annotation (type_of c.value labels.value)
+        (subst (λ (x : Labels c.value). IsWellFormed bases (type_of c.value x)) is_computed is_well_formed)
 
     constant_is : type_of_constant m (reached_at b) c ≡ constant_type m c.annotation (type_of c.value labels.value)
     constant_is = ap (λ (x : Label). constant_type m c.annotation x.type) label_is
 
-    flows_are : flows_of bases (label_in (initial m b.constants b.classes) (first_of_types into) c.value) into ≡ labels.flows
+    flows_are : flows_of bases (label_in (initial m b.constants b.classes) (first_of_types into) c.value) into
+        ≡ labels.flows
     flows_are =
         let k = subst (λ (x : Labels c.value). IsWellFormed bases (type_of c.value x)) is_computed is_well_formed in
         ap (λ (x : Label). flows_of bases x into) label_is
-        ∙ into_one bases (whole_label c.value labels.value) into (flows_of bases (whole_label c.value labels.value) into) labels.flows (flows_are_lawful bases (whole_label c.value labels.value) into (smaller m) k into_well_formed) l.flow
+        ∙ into_one bases (whole_label c.value labels.value) into (flows_of bases (whole_label c.value labels.value)
+        into) labels.flows (flows_are_lawful bases (whole_label c.value labels.value) into (smaller m) k
+        into_well_formed) l.flow
 
     constant_tells : Tells (constant_findings m (reached_at b) c) (dynamic_in_item (constant_item p c) labels)
     constant_tells =
@@ -155,92 +198,144 @@ module _ (m : Module) where
         let q = place_of c.value in
         let ds = dynamic_in c.value labels.value in
         let es = dynamic_at q labels.flows in
-        let is : value_findings m (reached_at b) into c.value ≡ notes_under c.value labels.value ++ flows_at q labels.flows = λ i. found_is i ++ flows_at q (flows_are i) in
-        tell_then notes (value_findings m (reached_at b) into c.value) [] (ds ++ es) (tell_plain (option_findings m bases c.annotation))
-        (subst (λ xs. Tells xs (ds ++ es)) (sym is) (tell_then (notes_under c.value labels.value) (flows_at q labels.flows) ds es (tell_expression c.value labels.value) (tell_flows q labels.flows)))
+        let is : value_findings m (reached_at b) into c.value ≡ notes_under c.value labels.value ++ flows_at q
+        labels.flows = λ i. found_is i ++ flows_at q (flows_are i) in
+        tell_then notes (value_findings m (reached_at b) into c.value) [] (ds ++ es)
+        (tell_plain (option_findings m bases c.annotation))
+        (subst (λ xs. Tells xs (ds ++ es)) (sym is) (tell_then (notes_under c.value labels.value)
+        (flows_at q labels.flows) ds es (tell_expression c.value labels.value) (tell_flows q labels.flows)))
 
   -- ---- items
 
   -- the signatures of functions
-  functions_tell : (all : List Tree) (b : BeforeItem) (items : List Item) (labels : ItemsLabels items) → LawfulModuleItems m all b items labels → Tells (functions_findings m items) (dynamic_in_each dynamic_in_function items labels)
+  functions_tell : (all : List Tree) (b : BeforeItem) (items : List Item) (labels : ItemsLabels items)
+      → LawfulModuleItems m all b items labels → Tells (functions_findings m items)
+      (dynamic_in_each dynamic_in_function items labels)
   functions_tell all b [] labels l = λ q. refl
   functions_tell all b (i ∷ rest) labels l =
-      tell_then (function_findings m i) (functions_findings m rest) (dynamic_in_function i labels.first) (dynamic_in_each dynamic_in_function rest labels.rest) (one i labels.first l.0) (functions_tell all (before_next m b i labels.first) rest labels.rest l.1)
+      tell_then (function_findings m i) (functions_findings m rest) (dynamic_in_function i labels.first)
+      (dynamic_in_each dynamic_in_function rest labels.rest) (one i labels.first l.0)
+      (functions_tell all (before_next m b i labels.first) rest labels.rest l.1)
     where
-      one : (i : Item) (mk : ItemLabels i) → LawfulItem m all b i mk → Tells (function_findings m i) (dynamic_in_function i mk)
+      one : (i : Item) (mk : ItemLabels i) → LawfulItem m all b i mk
+          → Tells (function_findings m i) (dynamic_in_function i mk)
       one (constant_item p c) mk h = λ q. refl
       one (class_item p c) mk h = λ q. refl
       one (def_item p f) mk h = def_tells [] f mk.params h.params
 
   -- constants and classes
-  class_tells : (all : List Tree) (b : BeforeItem) (p : _) (c : ClassDef) (labels : ItemLabels (class_item p c)) → slice_get (classes_in m.items) b.classes ≡ Some c → LawfulItem m all b (class_item p c) labels → Tells (class_notes m b.classes c) (dynamic_in_members c.members labels)
+  class_tells : (all : List Tree) (b : BeforeItem) (p : _) (c : ClassDef) (labels : ItemLabels (class_item p c))
+      → slice_get (classes_in m.items) b.classes ≡ Some c → LawfulItem m all b (class_item p c) labels
+      → Tells (class_notes m b.classes c) (dynamic_in_members c.members labels)
   class_tells all b p c labels is l =
-      let same : base_at m b.classes ≡ base_class m b.classes c = ap (base_facts (classes_of m)) (base_here m b.classes c is) in
-      subst (λ (x : ClassFacts). Tells (members_findings m x no_name c.members) (dynamic_in_members c.members labels)) (sym same) (members_tell all (base_class m b.classes c) b.classes 0 [] c.members labels l)
+      let same : base_at m b.classes ≡ base_class m b.classes c = ap (base_facts (classes_of m))
+      (base_here m b.classes c is) in
+      subst (λ (x : ClassFacts). Tells (members_findings m x no_name c.members) (dynamic_in_members c.members labels))
+      (sym same) (members_tell all (base_class m b.classes c) b.classes 0 [] c.members labels l)
 
-  items_tell : (all : List Tree) (b : BeforeItem) → AreWellFormed bases b.constants → (items : List Item) → ClassesFrom m b.classes (classes_in items) → (labels : ItemsLabels items) → LawfulModuleItems m all b items labels → Tells (items_findings m (reached_at b) items) (dynamic_in_each dynamic_in_item items labels)
+  items_tell : (all : List Tree) (b : BeforeItem) → AreWellFormed bases b.constants → (items : List Item)
+      → ClassesFrom m b.classes (classes_in items) → (labels : ItemsLabels items)
+      → LawfulModuleItems m all b items labels → Tells (items_findings m (reached_at b) items)
+      (dynamic_in_each dynamic_in_item items labels)
   items_tell all b kb [] from labels l = λ q. refl
   items_tell all b kb (constant_item p c ∷ rest) from labels l =
       let mk = labels.first in
       let t = constant_type m c.annotation (type_of c.value mk.value) in
       let next = before_next m b (constant_item p c) mk in
       let others = dynamic_in_each dynamic_in_item rest labels.rest in
-      let here : behind m (reached_at b) (constant_item p c) ≡ reached_at next = ap (λ x. record { constants = b.constants ++ x ∷ []; classes = b.classes; bound = λ w. is_one_of w next.names }) (constant_is b kb p c mk all l.0) in
-      tell_then (constant_findings m (reached_at b) c) (items_findings m (behind m (reached_at b) (constant_item p c)) rest) (dynamic_in_item (constant_item p c) mk) others (constant_tells b kb p c mk all l.0)
-      (subst (λ (x : ItemsReached). Tells (items_findings m x rest) others) (sym here) (items_tell all next (one_more m b.constants t kb (type_well_formed b kb p c mk all l.0)) rest from labels.rest l.1))
+      let here : behind m (reached_at b) (constant_item p c) ≡ reached_at next =
+      ap (λ x. record {
+        constants = b.constants ++ x ∷ [];
+        classes = b.classes;
+        bound = λ w. is_one_of w next.names;
+      }) (constant_is b kb p c mk all l.0) in
+      tell_then (constant_findings m (reached_at b) c) (items_findings m (behind m (reached_at b) (constant_item p c))
+      rest) (dynamic_in_item (constant_item p c) mk) others (constant_tells b kb p c mk all l.0)
+      (subst (λ (x : ItemsReached). Tells (items_findings m x rest) others) (sym here)
+      (items_tell all next (one_more m b.constants t kb (type_well_formed b kb p c mk all l.0)) rest from
+      labels.rest l.1))
   items_tell all b kb (class_item p c ∷ rest) from labels l =
       let next = before_next m b (class_item p c) labels.first in
-      tell_then (class_notes m b.classes c) (items_findings m (reached_at next) rest) (dynamic_in_members c.members labels.first) (dynamic_in_each dynamic_in_item rest labels.rest)
+      tell_then (class_notes m b.classes c) (items_findings m (reached_at next) rest)
+      (dynamic_in_members c.members labels.first) (dynamic_in_each dynamic_in_item rest labels.rest)
       (class_tells all b p c labels.first (ap (slice_get (classes_in m.items)) (omega arith) ∙ from 0) l.0)
-      (items_tell all next kb rest (λ i. ap (slice_get (classes_in m.items)) (omega arith) ∙ from (suc i)) labels.rest l.1)
-  items_tell all b kb (def_item p f ∷ rest) from labels l = items_tell all (before_next m b (def_item p f) labels.first) kb rest from labels.rest l.1
+      (items_tell all next kb rest (λ i. ap (slice_get (classes_in m.items)) (omega arith) ∙ from (suc i)) labels.rest
+      l.1)
+  items_tell all b kb (def_item p f ∷ rest) from labels l = items_tell all (before_next m b (def_item p f) labels.first)
+      kb rest from labels.rest l.1
 
   -- ---- bodies
 
   end_tells : (t : Tree) (p : Place) (out : Option Env) → Tells (end_finds bases t p out) []
   end_tells t p None = λ q. refl
-  end_tells t p (Some env) = in_both (λ (xs : List Note). Tells xs []) (static_test bases NoneType t) [] (plain_note (finding p E21) ∷ []) (λ q. refl) (tell_plain (finding p E21 ∷ []))
+  end_tells t p (Some env) = in_both (λ (xs : List Note). Tells xs []) (static_test bases NoneType t) []
+      (plain_note (finding p E21) ∷ []) (λ q. refl) (tell_plain (finding p E21 ∷ []))
 
   module _ (all : List Tree) (ka : AreWellFormed bases all) where
-    function_tells : (owner : Owner) (f : FuncDef) (labels : FunctionLabels f) → LawfulFunction m all owner f labels → (found : List Note) → Grows found (function_finds m all owner f found) (dynamic_in_suite f.body labels.body)
+    function_tells : (owner : Owner) (f : FuncDef) (labels : FunctionLabels f) → LawfulFunction m all owner f labels
+        → (found : List Note) → Grows found (function_finds m all owner f found) (dynamic_in_suite f.body labels.body)
     function_tells owner f labels l found =
         let names = locals owner f in
-        let setting : Setting = record { whole = m; context = body_context m all names; context_well_formed = bodies_well_formed m all names ka; count = length names; locals = names_are m all names } in
+        let setting : Setting = record {
+          whole = m;
+          context = body_context m all names;
+          context_well_formed =
+              bodies_well_formed m all names ka;
+          count = length names;
+          locals = names_are m all names;
+        } in
         let ds = labels.declared in
         let none = none_assigned (length names) in
         let entries = entry_parameters m owner f in
         let start = enter_parameters setting.context.resolve none none entries in
         let env = entry_env setting.context.resolve [] entries none in
-        let e = all_entered setting ds [] none none (none_fits setting ds) (none_assigned_fits setting ds l.each_local) entries (entries_well_formed m owner f) l.entry in
+        let e = all_entered setting ds [] none none (none_fits setting ds) (none_assigned_fits setting ds l.each_local)
+        entries (entries_well_formed m owner f) l.entry in
         let w : Walk = record { table = start.0; env = Some start.1; broken = None; found = found } in
         let body = walk_suite (body_context_in setting (return_type m f)) w f.body in
         let at_end = end_finds bases (return_type m f) f.name.place body.env in
-        let told = suite_tells setting (return_type m f) (returned_well_formed m f) ds (names_entered [] entries) f.body w env (ap Some e.env_is) e.fits e.env_fits tt labels.body labels.out l.body in
+        let told = suite_tells setting (return_type m f) (returned_well_formed m f) ds (names_entered [] entries) f.body
+        w env (ap Some e.env_is) e.fits e.env_fits tt labels.body labels.out l.body in
         subst (λ flows. Grows found (body.found ++ at_end) flows) (append-nil (dynamic_in_suite f.body labels.body))
-        (grow_then found body.found (body.found ++ at_end) (dynamic_in_suite f.body labels.body) [] told (grow body.found at_end [] (end_tells (return_type m f) f.name.place body.env)))
+        (grow_then found body.found (body.found ++ at_end) (dynamic_in_suite f.body labels.body) [] told
+        (grow body.found at_end [] (end_tells (return_type m f) f.name.place body.env)))
 
-    methods_tell : (base : ClassFacts) (c number : ℕ) (before : List (List ℕ)) (ms : List Member) (labels : MembersLabels ms) → LawfulMembers m all base c number before ms labels → (found : List Note) → Grows found (methods_find m all c number ms found) (dynamic_in_methods ms labels)
+    methods_tell : (base : ClassFacts) (c number : ℕ) (before : List (List ℕ)) (ms : List Member)
+        (labels : MembersLabels ms) → LawfulMembers m all base c number before ms labels → (found : List Note)
+        → Grows found (methods_find m all c number ms found) (dynamic_in_methods ms labels)
     methods_tell base c number before [] labels l found = grow_none found
-    methods_tell base c number before (field_member d ∷ rest) labels l found = methods_tell base c number (d.name.text ∷ before) rest labels.rest l.others found
+    methods_tell base c number before (field_member d ∷ rest) labels l found =
+        methods_tell base c number (d.name.text ∷ before) rest labels.rest l.others found
     methods_tell base c number before (method_member f ∷ rest) labels l found =
         let one = function_finds m all (owners.Method c number) f found in
-        grow_then found one (methods_find m all c (suc number) rest one) (dynamic_in_suite f.body labels.method.body) (dynamic_in_methods rest labels.rest)
-        (function_tells (owners.Method c number) f labels.method l.method found) (methods_tell base c (suc number) (f.name.text ∷ before) rest labels.rest l.others one)
+        grow_then found one (methods_find m all c (suc number) rest one) (dynamic_in_suite f.body labels.method.body)
+        (dynamic_in_methods rest labels.rest)
+        (function_tells (owners.Method c number) f labels.method l.method found)
+        (methods_tell base c (suc number) (f.name.text ∷ before) rest labels.rest l.others one)
 
-    bodies_tell : (b : BeforeItem) (items : List Item) (labels : ItemsLabels items) → LawfulModuleItems m all b items labels → (found : List Note) → Grows found (bodies_find m all b.classes b.functions items found) (dynamic_in_each dynamic_in_body items labels)
+    bodies_tell : (b : BeforeItem) (items : List Item) (labels : ItemsLabels items)
+        → LawfulModuleItems m all b items labels → (found : List Note)
+        → Grows found (bodies_find m all b.classes b.functions items found)
+        (dynamic_in_each dynamic_in_body items labels)
     bodies_tell b [] labels l found = grow_none found
-    bodies_tell b (constant_item p c ∷ rest) labels l found = bodies_tell (before_next m b (constant_item p c) labels.first) rest labels.rest l.1 found
+    bodies_tell b (constant_item p c ∷ rest) labels l found = bodies_tell
+        (before_next m b (constant_item p c) labels.first) rest labels.rest l.1 found
     bodies_tell b (class_item p c ∷ rest) labels l found =
         let one = methods_find m all b.classes 0 c.members found in
-        grow_then found one (bodies_find m all (suc b.classes) b.functions rest one) (dynamic_in_methods c.members labels.first) (dynamic_in_each dynamic_in_body rest labels.rest)
-        (methods_tell (base_class m b.classes c) b.classes 0 [] c.members labels.first l.0 found) (bodies_tell (before_next m b (class_item p c) labels.first) rest labels.rest l.1 one)
+        grow_then found one (bodies_find m all (suc b.classes) b.functions rest one)
+        (dynamic_in_methods c.members labels.first) (dynamic_in_each dynamic_in_body rest labels.rest)
+        (methods_tell (base_class m b.classes c) b.classes 0 [] c.members labels.first l.0 found)
+        (bodies_tell (before_next m b (class_item p c) labels.first) rest labels.rest l.1 one)
     bodies_tell b (def_item p f ∷ rest) labels l found =
         let one = function_finds m all (owners.Func b.functions) f found in
-        grow_then found one (bodies_find m all b.classes (suc b.functions) rest one) (dynamic_in_suite f.body labels.first.body) (dynamic_in_each dynamic_in_body rest labels.rest)
-        (function_tells (owners.Func b.functions) f labels.first l.0 found) (bodies_tell (before_next m b (def_item p f) labels.first) rest labels.rest l.1 one)
+        grow_then found one (bodies_find m all b.classes (suc b.functions) rest one)
+        (dynamic_in_suite f.body labels.first.body) (dynamic_in_each dynamic_in_body rest labels.rest)
+        (function_tells (owners.Func b.functions) f labels.first l.0 found)
+        (bodies_tell (before_next m b (def_item p f) labels.first) rest labels.rest l.1 one)
 
 -- what is found of a module tells of just the dynamic flows under its lawful labelling
-pub module_tells : (m : Module) (labels : Labelling m) → IsLawful m labels → Tells (module_finds m []) (dynamic_flows m labels)
+pub module_tells : (m : Module) (labels : Labelling m) → IsLawful m labels
+    → Tells (module_finds m []) (dynamic_flows m labels)
 unfolding module_finds signatures_find
 module_tells m labels l =
     let all = constant_types m m.items labels in
@@ -249,8 +344,10 @@ module_tells m labels l =
     let first = functions_findings m m.items ++ items_findings m nothing_reached m.items in
     let ds = dynamic_in_each dynamic_in_function m.items labels ++ dynamic_in_each dynamic_in_item m.items labels in
     let es = dynamic_in_each dynamic_in_body m.items labels in
-    let signed : Tells first ds = tell_then (functions_findings m m.items) (items_findings m nothing_reached m.items) (dynamic_in_each dynamic_in_function m.items labels) (dynamic_in_each dynamic_in_item m.items labels)
+    let signed : Tells first ds = tell_then (functions_findings m m.items) (items_findings m nothing_reached m.items)
+    (dynamic_in_each dynamic_in_function m.items labels) (dynamic_in_each dynamic_in_item m.items labels)
     (functions_tell m all nothing_before m.items labels l)
     (items_tell m all nothing_before tt m.items (λ i. ap (slice_get (classes_in m.items)) (omega arith)) labels l) in
     subst (λ ts. Tells (bodies_find m ts 0 0 m.items first) (ds ++ es)) (sym same)
-    (tell_grown first (bodies_find m all 0 0 m.items first) ds es signed (bodies_tell m all ka nothing_before m.items labels l first))
+    (tell_grown first (bodies_find m all 0 0 m.items first) ds es signed
+    (bodies_tell m all ka nothing_before m.items labels l first))

@@ -1,11 +1,14 @@
--- What a walk over statements finds tells of just the dynamic flows under lawful labels, besides those of what was found before.
+-- What a walk over statements finds tells of just the dynamic flows under lawful labels, besides those of what was
+-- found before.
 use Rattle.std.proofs.Common.{◌≡◌, ℕ, List, [], ◌∷◌, ◌++◌, refl, sym, ap, ◌∙◌, subst, append-nil}
 use Rattle.std.specs.Prelude.{Bool as Test, true, false, not, unwrap_or, Option, Some, None}
 use Rattle.pc_source.specs.declared.place.Place.{Place}
 use Rattle.pc_tree.specs.declared.code.Code.TheVariants.{E24}
 use Rattle.pc_tree.specs.Code.{finding}
 use Rattle.pc_tree.specs.Depth.{place_of}
-use Rattle.pc_tree.specs.Tree.{Name, Expr, Ann, Target, to_name, to_attribute, to_index, Stmt, Stmts, Branches, pass, breaks, continues, returns, asserts, annotated, assigns, evaluates, while_loop, for_loop, conditional, no_stmts, more_stmts, no_branches, more_branches}
+use Rattle.pc_tree.specs.Tree.{Name, Expr, Ann, Target, to_name, to_attribute, to_index, Stmt, Stmts, Branches, pass}
+use Rattle.pc_tree.specs.Tree.{breaks, continues, returns, asserts, annotated, assigns, evaluates, while_loop, for_loop}
+use Rattle.pc_tree.specs.Tree.{conditional, no_stmts, more_stmts, no_branches, more_branches}
 use Rattle.pc_tree.specs.Stopping.{bound_by, bound_by_stmt, bound_by_branches}
 use Rattle.pc_scope.specs.declared.resolution.Res.{Res}
 use Rattle.pc_scope.specs.declared.resolution.Res.TheVariants as res
@@ -31,10 +34,18 @@ use Rattle.pc_rules.specs.Computed.Expressions.{flows_of}
 use Rattle.pc_rules.specs.Computed.Findings.{codes_at, flows_at}
 use Rattle.pc_rules.specs.Computed.Standing.{finds_in}
 use Rattle.pc_rules.proofs.WellFormed.{unwrap_well_formed}
-use Rattle.pc_module_rules.specs.StatementLabels.{OptionLabels, StmtLabels, SuiteLabels, BranchesLabels, Behind, Following, BehindRule, behind_list}
-use Rattle.pc_module_rules.specs.Statements.{NamesBound, is_first, binds_number, AreUndeclared, DeclaredAt, known_type, LawfulBinding, LawfulTarget, annotation_at, LawfulAnnotated, LawfulStmt, LawfulSuite, LawfulBranches}
+use Rattle.pc_module_rules.specs.StatementLabels.{OptionLabels, StmtLabels, SuiteLabels, BranchesLabels, Behind}
+use Rattle.pc_module_rules.specs.StatementLabels.{Following, BehindRule, behind_list}
+use Rattle.pc_module_rules.specs.Statements.{NamesBound, is_first, binds_number, AreUndeclared, DeclaredAt, known_type}
+use Rattle.pc_module_rules.specs.Statements.{LawfulBinding, LawfulTarget, annotation_at, LawfulAnnotated, LawfulStmt}
+use Rattle.pc_module_rules.specs.Statements.{LawfulSuite, LawfulBranches}
 use Rattle.pc_module_rules.specs.Laws.Labellings.{Setting}
-use Rattle.pc_module_rules.specs.Computed.Statements.{Table, bound_type, known_declared, BodyContext, Walk, BranchesResult, at, with_way, narrowed_at, head_at, iterable_finds, bind_label, bind_value, bind_annotated, annotation_finds, bound_name, bind_item, store_finds, assign_target, option_finds, return_finds, behind_loop, inside_for, step, walk_suite, walk_branches}
+use Rattle.pc_module_rules.specs.Computed.Statements.{Table, bound_type, known_declared, BodyContext, Walk}
+use Rattle.pc_module_rules.specs.Computed.Statements.{BranchesResult, at, with_way, narrowed_at, head_at}
+use Rattle.pc_module_rules.specs.Computed.Statements.{iterable_finds, bind_label, bind_value, bind_annotated}
+use Rattle.pc_module_rules.specs.Computed.Statements.{annotation_finds, bound_name, bind_item, store_finds}
+use Rattle.pc_module_rules.specs.Computed.Statements.{assign_target, option_finds, return_finds, behind_loop}
+use Rattle.pc_module_rules.specs.Computed.Statements.{inside_for, step, walk_suite, walk_branches}
 use Rattle.pc_module_rules.specs.Laws.Walks.{TableFits, EnvFits, OutFits, body_context_in}
 use Rattle.pc_module_rules.proofs.WalkedTables.{fits_both, unreached_suite}
 use Rattle.pc_module_rules.proofs.WalkedEnvironments.{truth_same, truth_fits, head_same, head_fits}
@@ -42,16 +53,19 @@ use Rattle.pc_module_rules.proofs.WalkedExpressions.{told, iterable_told, flows_
 use Rattle.pc_module_rules.proofs.WalkedBindings.{target_says}
 use Rattle.pc_module_rules.proofs.WalkedStatements.{stmt_says, suite_says}
 use Rattle.pc_module_rules.specs.FlowsOfExpressions.{DynamicFlow, dynamic_at, dynamic_in}
-use Rattle.pc_module_rules.specs.FlowsOfStatements.{dynamic_in_option, dynamic_in_value, dynamic_in_stmt, dynamic_in_suite, dynamic_in_branches}
+use Rattle.pc_module_rules.specs.FlowsOfStatements.{dynamic_in_option, dynamic_in_value, dynamic_in_stmt}
+use Rattle.pc_module_rules.specs.FlowsOfStatements.{dynamic_in_suite, dynamic_in_branches}
 use Rattle.pc_module_rules.proofs.FirstFlows.{Tells, tell_plain, Grows, grow_none, grow, grow_then, grow_behind}
 use Rattle.pc_module_rules.proofs.ToldFlows.{tell_codes, tell_flows}
 use Rattle.pc_module_rules.proofs.ToldExpressions.{tell_in, tell_iterable, tell_store, tell_option, tell_return}
 
-known_well_formed : (bases : Bases) (o a : Option Tree) → IsWellFormedIfAny bases o → IsWellFormedIfAny bases a → IsWellFormedIfAny bases (known_declared o a)
+known_well_formed : (bases : Bases) (o a : Option Tree) → IsWellFormedIfAny bases o → IsWellFormedIfAny bases a
+    → IsWellFormedIfAny bases (known_declared o a)
 known_well_formed bases None a h k = k
 known_well_formed bases (Some d) a h k = h
 
-module _ (setting : Setting) (returned : Tree) (kr : IsWellFormed setting.context.bases returned) (declared : List Tree) where
+module _ (setting : Setting) (returned : Tree) (kr : IsWellFormed setting.context.bases returned)
+    (declared : List Tree) where
   open setting use {whole as m, context as ctx, context_well_formed as ck}
 
   abbrev context : BodyContext
@@ -63,82 +77,117 @@ module _ (setting : Setting) (returned : Tree) (kr : IsWellFormed setting.contex
   -- ---- a local bound
 
   -- a local of a name, with the type that the table has for it, if any
-  module _ (x : ℕ) (o : Option Tree) (b : Test) (bound : b ≡ true → o ≡ Some (declared_type declared x)) (unbound : b ≡ false → o ≡ None) where
-    declared_is : (from : Tree) (b' : Test) → b' ≡ b → DeclaredAt m ctx declared (not b') x None from → unwrap_or o from ≡ declared_type declared x
+  module _ (x : ℕ) (o : Option Tree) (b : Test) (bound : b ≡ true → o ≡ Some (declared_type declared x))
+      (unbound : b ≡ false → o ≡ None) where
+    declared_is : (from : Tree) (b' : Test) → b' ≡ b → DeclaredAt m ctx declared (not b') x None from
+        → unwrap_or o from ≡ declared_type declared x
     declared_is from true e d = ap (λ p. unwrap_or p from) (bound (sym e))
     declared_is from false e d = ap (λ p. unwrap_or p from) (unbound (sym e)) ∙ sym d
 
-    want_is : (b' : Test) → b' ≡ b → (a a' : Option Tree) → (not b' ≡ true → a ≡ a') → (from : Tree) → DeclaredAt m ctx declared (not b') x a from → known_type m ctx declared (not b') x a ≡ known_declared o a'
+    want_is : (b' : Test) → b' ≡ b → (a a' : Option Tree) → (not b' ≡ true → a ≡ a') → (from : Tree)
+        → DeclaredAt m ctx declared (not b') x a from → known_type m ctx declared (not b') x a ≡ known_declared o a'
     want_is true e a a' s from d = ap (λ p. known_declared p a') (sym (bound (sym e)))
     want_is false e None a' s from d = λ i. known_declared (sym (unbound (sym e)) i) (s refl i)
     want_is false e (Some t) a' s from d = ap Some d ∙ (λ i. known_declared (sym (unbound (sym e)) i) (s refl i))
 
-    type_is : (b' : Test) → (a : Option Tree) (from : Tree) → DeclaredAt m ctx declared (not b') x a from → unwrap_or (known_type m ctx declared (not b') x a) from ≡ declared_type declared x
+    type_is : (b' : Test) → (a : Option Tree) (from : Tree) → DeclaredAt m ctx declared (not b') x a from
+        → unwrap_or (known_type m ctx declared (not b') x a) from ≡ declared_type declared x
     type_is true a from d = refl
     type_is false None from d = sym d
     type_is false (Some t) from d = refl
 
   module _ (seen : NamesBound) (n : Name) (table : Table) (h : TableFits setting declared seen table) where
     -- the flow into a local that is bound to what has a label
-    label_tells : (env : Env) (x : ℕ) (want : Option Tree) (p : Place) (label : Label) (flows : FlowLabels) (found : List Note)
-        → unwrap_or want label.type ≡ declared_type declared x → IsWellFormedIfAny ctx.bases want → IsWellFormed ctx.bases label.type → FlowsInto ctx.bases label (declared_type declared x ∷ []) flows
+    label_tells : (env : Env) (x : ℕ) (want : Option Tree) (p : Place) (label : Label) (flows : FlowLabels)
+        (found : List Note)
+        → unwrap_or want label.type ≡ declared_type declared x → IsWellFormedIfAny ctx.bases want
+        → IsWellFormed ctx.bases label.type → FlowsInto ctx.bases label (declared_type declared x ∷ []) flows
         → Grows found (bind_label context table env x want p label found).found (dynamic_at p flows)
     label_tells env x want p label flows found is kw km flow =
         let d = unwrap_or want label.type in
         let kd : IsWellFormed ctx.bases d = unwrap_well_formed ctx.bases want label.type kw km in
-        let q : flows_of ctx.bases label (d ∷ []) ≡ flows = flows_told setting label (d ∷ []) flows km (kd, tt) (subst (λ t. FlowsInto ctx.bases label (t ∷ []) flows) (sym is) flow) in
-        grow found (flows_at p (flows_of ctx.bases label (d ∷ []))) (dynamic_at p flows) (subst (λ fs. Tells (flows_at p fs) (dynamic_at p flows)) (sym q) (tell_flows p flows))
+        let q : flows_of ctx.bases label (d ∷ []) ≡ flows = flows_told setting label (d ∷ []) flows km (kd, tt)
+        (subst (λ t. FlowsInto ctx.bases label (t ∷ []) flows) (sym is) flow) in
+        grow found (flows_at p (flows_of ctx.bases label (d ∷ []))) (dynamic_at p flows)
+        (subst (λ fs. Tells (flows_at p fs) (dynamic_at p flows)) (sym q) (tell_flows p flows))
 
     -- a value bound to a local
-    value_tells : (x : ℕ) → ctx.resolve n.text ≡ res.Local x → (env : Env) → EnvFits setting declared table env → (a a' : Option Tree) → (is_first seen n ≡ true → a ≡ a') → IsWellFormedIfAny ctx.bases a' → (e : Expr) (labels : Labels e) (flows : FlowLabels) (after : Env) (found : List Note)
+    value_tells : (x : ℕ) → ctx.resolve n.text ≡ res.Local x → (env : Env) → EnvFits setting declared table env
+        → (a a' : Option Tree) → (is_first seen n ≡ true → a ≡ a') → IsWellFormedIfAny ctx.bases a'
+        → (e : Expr) (labels : Labels e) (flows : FlowLabels) (after : Env) (found : List Note)
         → LawfulBinding m ctx declared env seen n (res.Local x) a e labels flows after
-        → Grows found (bind_value context table env (res.Local x) a' e found).found (dynamic_in e labels ++ dynamic_at (place_of e) flows)
+        → Grows found (bind_value context table env (res.Local x) a' e found).found
+        (dynamic_in e labels ++ dynamic_at (place_of e) flows)
     value_tells x i env f a a' s ka e labels flows after found l =
         let o = bound_type table x in
         let b = is_one_of n.text seen in
         let bound : b ≡ true → o ≡ Some (declared_type declared x) = λ q. h.bound n.text x q i in
         let unbound : b ≡ false → o ≡ None = λ q. h.unbound n.text x q i in
         let want = known_declared o a' in
-        let w : known_type m ctx declared (is_first seen n) x a ≡ want = want_is x o b bound unbound b refl a a' s (type_of e labels) l.at_first in
-        let kw : IsWellFormedIfAny ctx.bases want = known_well_formed ctx.bases o a' (current_well_formed ctx.bases table x h.well_formed) ka in
+        let w : known_type m ctx declared (is_first seen n) x a ≡ want = want_is x o b bound unbound b refl a a' s
+        (type_of e labels) l.at_first in
+        let kw : IsWellFormedIfAny ctx.bases want = known_well_formed ctx.bases o a'
+        (current_well_formed ctx.bases table x h.well_formed) ka in
         let lw = subst (λ y. Lawful ctx declared env y e labels) w l.value in
         let v = told setting declared table h.well_formed env f want kw e labels lw in
-        let is : unwrap_or want (type_of e labels) ≡ declared_type declared x = ap (λ y. unwrap_or y (type_of e labels)) (sym w) ∙ type_is x o b bound unbound b a (type_of e labels) l.at_first in
+        let is : unwrap_or want (type_of e labels) ≡ declared_type declared x = ap (λ y. unwrap_or y (type_of e labels))
+        (sym w) ∙ type_is x o b bound unbound b a (type_of e labels) l.at_first in
         let finds = finds_in (at context table env) want e in
         let ds = dynamic_in e labels in
         let es = dynamic_at (place_of e) flows in
-        subst (λ y. Grows found (bind_label context table env x want (place_of e) y (found ++ finds)).found (ds ++ es)) (sym v.label)
-        (grow_then found (found ++ finds) (bind_label context table env x want (place_of e) (whole_label e labels) (found ++ finds)).found ds es
+        subst (λ y. Grows found (bind_label context table env x want (place_of e) y (found ++ finds)).found (ds ++ es))
+        (sym v.label)
+        (grow_then found (found ++ finds) (bind_label context table env x want (place_of e) (whole_label e labels)
+        (found ++ finds)).found ds es
         (grow found finds ds (tell_in setting returned kr declared table h.well_formed env f want kw e labels lw))
         (label_tells env x want (place_of e) (whole_label e labels) flows (found ++ finds) is kw v.well_formed l.flow))
 
     -- what is no local binds nothing, and nothing flows into it
-    plain_tells : (env : Env) → EnvFits setting declared table env → (e : Expr) (labels : Labels e) (flows : FlowLabels) (found : List Note) → Lawful ctx declared env None e labels → flows ≡ [] → Grows found (found ++ finds_in (at context table env) None e) (dynamic_in e labels ++ dynamic_at (place_of e) flows)
+    plain_tells : (env : Env) → EnvFits setting declared table env → (e : Expr) (labels : Labels e) (flows : FlowLabels)
+        (found : List Note) → Lawful ctx declared env None e labels → flows ≡ []
+        → Grows found (found ++ finds_in (at context table env) None e)
+        (dynamic_in e labels ++ dynamic_at (place_of e) flows)
     plain_tells env f e labels flows found l none =
-        subst (λ (fs : FlowLabels). Grows found (found ++ finds_in (at context table env) None e) (dynamic_in e labels ++ dynamic_at (place_of e) fs)) (sym none)
-        (subst (λ ds. Grows found (found ++ finds_in (at context table env) None e) ds) (sym (append-nil (dynamic_in e labels)))
-        (grow found (finds_in (at context table env) None e) (dynamic_in e labels) (tell_in setting returned kr declared table h.well_formed env f None tt e labels l)))
+        subst (λ (fs : FlowLabels). Grows found (found ++ finds_in (at context table env) None e)
+        (dynamic_in e labels ++ dynamic_at (place_of e) fs)) (sym none)
+        (subst (λ ds. Grows found (found ++ finds_in (at context table env) None e) ds)
+        (sym (append-nil (dynamic_in e labels)))
+        (grow found (finds_in (at context table env) None e) (dynamic_in e labels)
+        (tell_in setting returned kr declared table h.well_formed env f None tt e labels l)))
 
-    binding_tells : (r : Res) → ctx.resolve n.text ≡ r → (env : Env) → EnvFits setting declared table env → (a a' : Option Tree) → (is_first seen n ≡ true → a ≡ a') → IsWellFormedIfAny ctx.bases a' → (e : Expr) (labels : Labels e) (flows : FlowLabels) (after : Env) (found : List Note)
+    binding_tells : (r : Res) → ctx.resolve n.text ≡ r → (env : Env) → EnvFits setting declared table env
+        → (a a' : Option Tree) → (is_first seen n ≡ true → a ≡ a') → IsWellFormedIfAny ctx.bases a'
+        → (e : Expr) (labels : Labels e) (flows : FlowLabels) (after : Env) (found : List Note)
         → LawfulBinding m ctx declared env seen n r a e labels flows after
-        → Grows found (bind_value context table env r a' e found).found (dynamic_in e labels ++ dynamic_at (place_of e) flows)
-    binding_tells (res.Local x) i env f a a' s ka e labels flows after found l = value_tells x i env f a a' s ka e labels flows after found l
-    binding_tells (res.Const c) i env f a a' s ka e labels flows after found l = plain_tells env f e labels flows found l.value l.flow
-    binding_tells (res.Func c) i env f a a' s ka e labels flows after found l = plain_tells env f e labels flows found l.value l.flow
-    binding_tells (res.Class c) i env f a a' s ka e labels flows after found l = plain_tells env f e labels flows found l.value l.flow
-    binding_tells (res.Builtin c) i env f a a' s ka e labels flows after found l = plain_tells env f e labels flows found l.value l.flow
-    binding_tells res.None i env f a a' s ka e labels flows after found l = plain_tells env f e labels flows found l.value l.flow
+        → Grows found (bind_value context table env r a' e found).found
+        (dynamic_in e labels ++ dynamic_at (place_of e) flows)
+    binding_tells (res.Local x) i env f a a' s ka e labels flows after found l = value_tells x i env f a a' s ka e
+        labels flows after found l
+    binding_tells (res.Const c) i env f a a' s ka e labels flows after found l = plain_tells env f e labels flows found
+        l.value l.flow
+    binding_tells (res.Func c) i env f a a' s ka e labels flows after found l = plain_tells env f e labels flows found
+        l.value l.flow
+    binding_tells (res.Class c) i env f a a' s ka e labels flows after found l = plain_tells env f e labels flows found
+        l.value l.flow
+    binding_tells (res.Builtin c) i env f a a' s ka e labels flows after found l = plain_tells env f e labels flows
+        found l.value l.flow
+    binding_tells res.None i env f a a' s ka e labels flows after found l = plain_tells env f e labels flows found
+        l.value l.flow
 
     -- the target of a `for`
     no_flow : (p : Place) (flows : FlowLabels) (found : List Note) → flows ≡ [] → Grows found found (dynamic_at p flows)
-    no_flow p flows found none = subst (λ (fs : FlowLabels). Grows found found (dynamic_at p fs)) (sym none) (grow_none found)
+    no_flow p flows found none = subst (λ (fs : FlowLabels). Grows found found (dynamic_at p fs)) (sym none)
+        (grow_none found)
 
-    target_tells : (r : Res) → ctx.resolve n.text ≡ r → (head : Env) (item : Label) → IsWellFormed ctx.bases item.type → (p : Place) (flows : FlowLabels) (inside : Env) (found : List Note)
-        → LawfulTarget m ctx declared seen n r head item flows inside → Grows found (bind_item context table head r p item.type found).found (dynamic_at p flows)
+    target_tells : (r : Res) → ctx.resolve n.text ≡ r → (head : Env) (item : Label) → IsWellFormed ctx.bases item.type
+        → (p : Place) (flows : FlowLabels) (inside : Env) (found : List Note)
+        → LawfulTarget m ctx declared seen n r head item flows inside
+        → Grows found (bind_item context table head r p item.type found).found (dynamic_at p flows)
     target_tells (res.Local x) i head item ki p flows inside found l =
         let b = is_one_of n.text seen in
         label_tells head x (bound_type table x) p (clean item.type) flows found
-        (declared_is x (bound_type table x) b (λ q. h.bound n.text x q i) (λ q. h.unbound n.text x q i) item.type b refl l.at_first) (current_well_formed ctx.bases table x h.well_formed) ki l.flow
+        (declared_is x (bound_type table x) b (λ q. h.bound n.text x q i) (λ q. h.unbound n.text x q i) item.type b refl
+        l.at_first) (current_well_formed ctx.bases table x h.well_formed) ki l.flow
     target_tells (res.Const c) i head item ki p flows inside found l = no_flow p flows found l.0
     target_tells (res.Func c) i head item ki p flows inside found l = no_flow p flows found l.0
     target_tells (res.Class c) i head item ki p flows inside found l = no_flow p flows found l.0
@@ -150,31 +199,44 @@ module _ (setting : Setting) (returned : Tree) (kr : IsWellFormed setting.contex
     annotation_tells (Some d) a = tell_plain (finding n.place E24 ∷ [])
     annotation_tells None a = tell_plain (ann_findings m ctx.bases a)
 
-    annotated_tells : (env : Env) → EnvFits setting declared table env → (p : Place) (a : Ann) (e : Option Expr) (labels : OptionLabels e) (flows : FlowLabels) (after : Env) (found : List Note)
-        → LawfulAnnotated m ctx declared env seen n a e labels flows after → Grows found (bind_annotated context table env n a e found).found (dynamic_in_value p e labels flows)
+    annotated_tells : (env : Env) → EnvFits setting declared table env → (p : Place) (a : Ann) (e : Option Expr)
+        (labels : OptionLabels e) (flows : FlowLabels) (after : Env) (found : List Note)
+        → LawfulAnnotated m ctx declared env seen n a e labels flows after
+        → Grows found (bind_annotated context table env n a e found).found (dynamic_in_value p e labels flows)
     annotated_tells env f p a None labels flows after found l =
         let o = bound_name context table (ctx.resolve n.text) in
         let finds = annotation_finds context o n a in
-        grow_behind found finds (found ++ finds) (dynamic_at p flows) (annotation_tells o a) (no_flow p flows (found ++ finds) l.1)
+        grow_behind found finds (found ++ finds) (dynamic_at p flows) (annotation_tells o a)
+        (no_flow p flows (found ++ finds) l.1)
     annotated_tells env f p a (Some e) labels flows after found l =
         let t = read_ann m ctx.bases a in
         let o = bound_name context table (ctx.resolve n.text) in
         let finds = annotation_finds context o n a in
-        grow_behind found finds (bind_annotated context table env n a (Some e) found).found (dynamic_in e labels ++ dynamic_at (place_of e) flows) (annotation_tells o a)
-        (binding_tells (ctx.resolve n.text) refl env f (annotation_at m ctx declared (is_first seen n) t) (Some t) (λ q. ap (λ b. annotation_at m ctx declared b t) q) (read_ann_well_formed m ctx.bases ck.smaller a) e labels flows after (found ++ finds) l)
+        grow_behind found finds (bind_annotated context table env n a (Some e) found).found
+        (dynamic_in e labels ++ dynamic_at (place_of e) flows) (annotation_tells o a)
+        (binding_tells (ctx.resolve n.text) refl env f (annotation_at m ctx declared (is_first seen n) t) (Some t)
+        (λ q. ap (λ b. annotation_at m ctx declared b t) q) (read_ann_well_formed m ctx.bases ck.smaller a) e labels
+        flows after (found ++ finds) l)
 
   -- ---- assignments
 
-  assignment_tells : (seen : NamesBound) (table : Table) (env : Env) (found : List Note) → TableHere seen table → EnvFits setting declared table env → (p : Place) (t : Target) (e : Expr) (labels : StmtLabels (assigns p t e)) (out : Option Env) → LawfulStmt m ctx declared returned seen env (assigns p t e) labels out
+  assignment_tells : (seen : NamesBound) (table : Table) (env : Env) (found : List Note) → TableHere seen table
+      → EnvFits setting declared table env → (p : Place) (t : Target) (e : Expr) (labels : StmtLabels (assigns p t e))
+      (out : Option Env) → LawfulStmt m ctx declared returned seen env (assigns p t e) labels out
       → Grows found (assign_target context table env t e found).found (dynamic_in_stmt (assigns p t e) labels)
   assignment_tells seen table env found t f p (to_name n) e labels out l =
-      binding_tells seen n table t (ctx.resolve n.text) refl env f None None (λ q. refl) tt e labels.value labels.flows l.after found l.assignment
+      binding_tells seen n table t (ctx.resolve n.text) refl env f None None (λ q. refl) tt e labels.value labels.flows
+      l.after found l.assignment
   assignment_tells seen table env found t f p (to_attribute q o field) e labels out l =
-      grow found (store_finds context (at context table env) (to_attribute q o field) e) (dynamic_in_stmt (assigns p (to_attribute q o field) e) labels)
-      (tell_store setting returned kr declared table t.well_formed env f (to_attribute q o field) labels.target e labels.value labels.flows l.assignment.0)
+      grow found (store_finds context (at context table env) (to_attribute q o field) e)
+      (dynamic_in_stmt (assigns p (to_attribute q o field) e) labels)
+      (tell_store setting returned kr declared table t.well_formed env f (to_attribute q o field) labels.target e
+      labels.value labels.flows l.assignment.0)
   assignment_tells seen table env found t f p (to_index q o i) e labels out l =
-      grow found (store_finds context (at context table env) (to_index q o i) e) (dynamic_in_stmt (assigns p (to_index q o i) e) labels)
-      (tell_store setting returned kr declared table t.well_formed env f (to_index q o i) labels.target e labels.value labels.flows l.assignment.0)
+      grow found (store_finds context (at context table env) (to_index q o i) e)
+      (dynamic_in_stmt (assigns p (to_index q o i) e) labels)
+      (tell_store setting returned kr declared table t.well_formed env f (to_index q o i) labels.target e labels.value
+      labels.flows l.assignment.0)
 
   -- ---- statements, suites and branches
 
@@ -184,25 +246,37 @@ module _ (setting : Setting) (returned : Tree) (kr : IsWellFormed setting.contex
   -- what a walk over a suite tells, from where it fits
   abbrev SuiteTells : NamesBound → (b : Stmts) → Type 0
   SuiteTells seen b =
-      (w : Walk) (env : Env) → w.env ≡ Some env → TableHere seen w.table → EnvFits setting declared w.table env → OutFits setting declared w.table w.broken →
-      (labels : SuiteLabels b) (out : Option Env) → LawfulThere seen env b labels out → Grows w.found (walk_suite context w b).found (dynamic_in_suite b labels)
+      (w : Walk) (env : Env) → w.env ≡ Some env → TableHere seen w.table → EnvFits setting declared w.table env
+      → OutFits setting declared w.table w.broken →
+      (labels : SuiteLabels b) (out : Option Env) → LawfulThere seen env b labels out
+      → Grows w.found (walk_suite context w b).found (dynamic_in_suite b labels)
 
   -- what stands behind a statement, with what stands in it
-  behind_tells : (b : Test) (seen : NamesBound) (env : Env) (found : List Note) (s : Stmt) (rest : Stmts) (s0 : StmtLabels s) (r : Behind b (Following (SuiteLabels rest))) (out : Option Env) (v : Walk)
-      → ((o : Option Env) → LawfulStmt m ctx declared returned seen env s s0 o → TableHere (texts (bound_by_stmt s) ++ seen) v.table × (v.env ≡ o) × OutFits setting declared v.table o × OutFits setting declared v.table v.broken × Grows found v.found (dynamic_in_stmt s s0))
+  behind_tells : (b : Test) (seen : NamesBound) (env : Env) (found : List Note) (s : Stmt) (rest : Stmts)
+      (s0 : StmtLabels s) (r : Behind b (Following (SuiteLabels rest))) (out : Option Env) (v : Walk)
+      → ((o : Option Env) → LawfulStmt m ctx declared returned seen env s s0 o
+      → TableHere (texts (bound_by_stmt s) ++ seen) v.table × (v.env ≡ o) × OutFits setting declared v.table o
+      × OutFits setting declared v.table v.broken × Grows found v.found (dynamic_in_stmt s s0))
       → SuiteTells (texts (bound_by_stmt s) ++ seen) rest
-      → BehindRule b r (λ x. LawfulStmt m ctx declared returned seen env s s0 (Some x.env) × LawfulThere (texts (bound_by_stmt s) ++ seen) x.env rest x.rest out) (LawfulStmt m ctx declared returned seen env s s0 None × AreUndeclared m ctx declared (texts (bound_by_stmt s) ++ seen) (bound_by rest) × (out ≡ None))
-      → Grows found (walk_suite context v rest).found (dynamic_in_stmt s s0 ++ behind_list b r (λ x. dynamic_in_suite rest x.rest))
+      → BehindRule b r (λ x. LawfulStmt m ctx declared returned seen env s s0 (Some x.env)
+      × LawfulThere (texts (bound_by_stmt s) ++ seen) x.env rest x.rest out)
+      (LawfulStmt m ctx declared returned seen env s s0 None × AreUndeclared m ctx declared
+      (texts (bound_by_stmt s) ++ seen) (bound_by rest) × (out ≡ None))
+      → Grows found (walk_suite context v rest).found (dynamic_in_stmt s s0 ++ behind_list b r
+      (λ x. dynamic_in_suite rest x.rest))
   behind_tells true seen env found s rest s0 r out v first next l =
       let f = first (Some r.env) l.0 in
-      grow_then found v.found (walk_suite context v rest).found (dynamic_in_stmt s s0) (dynamic_in_suite rest r.rest) f.4 (next v r.env f.1 f.0 f.2 f.3 r.rest out l.1)
+      grow_then found v.found (walk_suite context v rest).found (dynamic_in_stmt s s0) (dynamic_in_suite rest r.rest)
+      f.4 (next v r.env f.1 f.0 f.2 f.3 r.rest out l.1)
   behind_tells false seen env found s rest s0 r out v first next l =
       let f = first None l.0 in
       subst (λ ds. Grows found (walk_suite context v rest).found ds) (sym (append-nil (dynamic_in_stmt s s0)))
-      (subst (λ (w : Walk). Grows found w.found (dynamic_in_stmt s s0)) (sym (unreached_suite setting declared returned v f.1 rest)) f.4)
+      (subst (λ (w : Walk). Grows found w.found (dynamic_in_stmt s s0))
+      (sym (unreached_suite setting declared returned v f.1 rest)) f.4)
 
   -- a walk over branches fits the labels, and tells of just what stands under them
-  record ForkTells (seen : NamesBound) (found : List Note) (w : BranchesResult) (last : Env) (flows : List DynamicFlow) : Type 0 where
+  record ForkTells (seen : NamesBound) (found : List Note) (w : BranchesResult) (last : Env)
+      (flows : List DynamicFlow) : Type 0 where
     fits : TableHere seen w.table
     last_is : w.last ≡ last
     last_fits : EnvFits setting declared w.table last
@@ -210,13 +284,17 @@ module _ (setting : Setting) (returned : Tree) (kr : IsWellFormed setting.contex
     tells : Grows found w.found flows
 
   mutual
-    pub stmt_tells : (seen : NamesBound) (table : Table) (env : Env) (broken : Option Env) (found : List Note) → TableHere seen table → EnvFits setting declared table env → OutFits setting declared table broken → (s : Stmt) (labels : StmtLabels s) (out : Option Env) → LawfulStmt m ctx declared returned seen env s labels out
+    pub stmt_tells : (seen : NamesBound) (table : Table) (env : Env) (broken : Option Env) (found : List Note)
+        → TableHere seen table → EnvFits setting declared table env → OutFits setting declared table broken
+        → (s : Stmt) (labels : StmtLabels s) (out : Option Env) → LawfulStmt m ctx declared returned seen env s labels
+        out
         → Grows found (step context table (Some env) broken found s).found (dynamic_in_stmt s labels)
     stmt_tells seen table env broken found t f kb (pass p) labels out l = grow_none found
     stmt_tells seen table env broken found t f kb (breaks p) labels out l = grow_none found
     stmt_tells seen table env broken found t f kb (continues p) labels out l = grow_none found
     stmt_tells seen table env broken found t f kb (returns p e) labels out l =
-        grow found (return_finds context (at context table env) p e) (dynamic_in_value p e labels.value labels.flows) (tell_return setting returned kr declared table t.well_formed env f p e labels.value labels.flows l.0)
+        grow found (return_finds context (at context table env) p e) (dynamic_in_value p e labels.value labels.flows)
+        (tell_return setting returned kr declared table t.well_formed env f p e labels.value labels.flows l.0)
     stmt_tells seen table env broken found t f kb (asserts p c e) labels out l =
         let no = narrow ctx.bases declared ctx.resolve false c env in
         let fn = truth_fits setting declared table t.well_formed false c env f in
@@ -224,73 +302,144 @@ module _ (setting : Setting) (returned : Tree) (kr : IsWellFormed setting.contex
         let ys = option_finds context (at context table (narrowed_at context table false c env)) None e in
         let ds = dynamic_in c labels.condition in
         let es = dynamic_in_option e labels.message in
-        grow_then found (found ++ xs) ((found ++ xs) ++ ys) ds es (grow found xs ds (tell_in setting returned kr declared table t.well_formed env f None tt c labels.condition l.condition))
+        grow_then found (found ++ xs) ((found ++ xs) ++ ys) ds es
+        (grow found xs ds (tell_in setting returned kr declared table t.well_formed env f None tt c labels.condition
+        l.condition))
         (grow (found ++ xs) ys es
-        (subst (λ x. Tells (option_finds context (at context table x) None e) es) (truth_same setting declared table t.well_formed false c env f) (tell_option setting returned kr declared table t.well_formed no fn e labels.message l.message)))
-    stmt_tells seen table env broken found t f kb (annotated p n a e) labels out l = annotated_tells seen n table t env f p a e labels.value labels.flows l.after found l.binding
-    stmt_tells seen table env broken found t f kb (assigns p x e) labels out l = assignment_tells seen table env found t f p x e labels out l
+        (subst (λ x. Tells (option_finds context (at context table x) None e) es)
+        (truth_same setting declared table t.well_formed false c env f)
+        (tell_option setting returned kr declared table t.well_formed no fn e labels.message l.message)))
+    stmt_tells seen table env broken found t f kb (annotated p n a e) labels out l = annotated_tells seen n table t env
+        f p a e labels.value labels.flows l.after found l.binding
+    stmt_tells seen table env broken found t f kb (assigns p x e) labels out l = assignment_tells seen table env found t
+        f p x e labels out l
     stmt_tells seen table env broken found t f kb (evaluates p e) labels out l =
-        grow found (finds_in (at context table env) None e) (dynamic_in e labels) (tell_in setting returned kr declared table t.well_formed env f None tt e labels l.0)
+        grow found (finds_in (at context table env) None e) (dynamic_in e labels)
+        (tell_in setting returned kr declared table t.well_formed env f None tt e labels l.0)
     stmt_tells seen table env broken found t f kb (while_loop p c b) labels out l =
         let kt = t.well_formed in
         let bound = binds_number ctx.resolve (bound_by b) in
-        let fh = subst (EnvFits setting declared table) (sym l.head) (head_fits setting declared table kt bound env f) in
-        let q : labels.head ≡ head_at context table (bound_by b) env = l.head ∙ head_same setting declared table kt bound env f in
+        let fh = subst (EnvFits setting declared table) (sym l.head)
+        (head_fits setting declared table kt bound env f) in
+        let q : labels.head ≡ head_at context table (bound_by b) env = l.head
+        ∙ head_same setting declared table kt bound env f in
         let xs = finds_in (at context table labels.head) None c in
         let yes = truth_same setting declared table kt true c labels.head fh in
         let no = truth_same setting declared table kt false c labels.head fh in
-        let out_of = subst (EnvFits setting declared table) no (truth_fits setting declared table kt false c labels.head fh) in
-        let start : Walk = record { table = table; env = Some (narrowed_at context table true c labels.head); broken = Some (narrowed_at context table false c labels.head); found = found ++ xs } in
+        let out_of = subst (EnvFits setting declared table) no (truth_fits setting declared table kt false c labels.head
+        fh) in
+        let start : Walk = record {
+          table = table;
+          env = Some (narrowed_at context table true c labels.head);
+          broken =
+              Some (narrowed_at context table false c labels.head);
+          found = found ++ xs;
+        } in
         let ds = dynamic_in c labels.condition in
         let es = dynamic_in_suite b labels.body in
-        subst (λ h. Grows found (behind_loop context broken (walk_suite context (record { table = table; env = Some (narrowed_at context table true c h); broken = Some (narrowed_at context table false c h); found = found ++ finds_in (at context table h) None c }) b)).found (ds ++ es)) q
-        (grow_then found (found ++ xs) (walk_suite context start b).found ds es (grow found xs ds (tell_in setting returned kr declared table kt labels.head fh None tt c labels.condition l.condition))
-        (suite_tells seen b start (narrow ctx.bases declared ctx.resolve true c labels.head) (ap Some (sym yes)) t (truth_fits setting declared table kt true c labels.head fh) out_of labels.body labels.out l.body))
+        subst
+        (λ h. Grows found (behind_loop context broken (walk_suite context
+        (record {
+          table = table;
+          env = Some (narrowed_at context table true c h);
+          broken =
+              Some (narrowed_at context table false c h);
+          found = found ++ finds_in (at context table h) None c;
+        })
+        b)).found (ds ++ es)) q
+        (grow_then found (found ++ xs) (walk_suite context start b).found ds es
+        (grow found xs ds (tell_in setting returned kr declared table kt labels.head fh None tt c labels.condition
+        l.condition))
+        (suite_tells seen b start (narrow ctx.bases declared ctx.resolve true c labels.head) (ap Some (sym yes)) t
+        (truth_fits setting declared table kt true c labels.head fh) out_of labels.body labels.out l.body))
     stmt_tells seen table env broken found t f kb (for_loop p n e b) labels out l =
         let kt = t.well_formed in
         let bound = binds_number ctx.resolve (n ∷ bound_by b) in
-        let fh = subst (EnvFits setting declared table) (sym l.head) (head_fits setting declared table kt bound env f) in
-        let q : labels.head ≡ head_at context table (n ∷ bound_by b) env = l.head ∙ head_same setting declared table kt bound env f in
+        let fh = subst (EnvFits setting declared table) (sym l.head)
+        (head_fits setting declared table kt bound env f) in
+        let q : labels.head ≡ head_at context table (n ∷ bound_by b) env = l.head
+        ∙ head_same setting declared table kt bound env f in
         let it = iterable_told setting declared table kt env f returned e labels.iterable labels.item l.iterable in
         let xs = iterable_finds context (at context table env) e in
         let ys = codes_at (place_of e) labels.item.codes in
-        let start = bind_item context table labels.head (ctx.resolve n.text) (place_of e) labels.item.type ((found ++ xs) ++ ys) in
-        let tg = target_says setting returned declared seen n table t (ctx.resolve n.text) refl labels.head fh labels.item it.well_formed (place_of e) labels.flows l.inside ((found ++ xs) ++ ys) l.target in
+        let start = bind_item context table labels.head (ctx.resolve n.text) (place_of e) labels.item.type
+        ((found ++ xs) ++ ys) in
+        let tg = target_says setting returned declared seen n table t (ctx.resolve n.text) refl labels.head fh
+        labels.item it.well_formed (place_of e) labels.flows l.inside ((found ++ xs) ++ ys) l.target in
         let ds = dynamic_in e labels.iterable in
         let es = dynamic_at (place_of e) labels.flows in
         let fs = dynamic_in_suite b labels.body in
         let body = inside_for context labels.head start in
-        let inside = target_tells seen n table t (ctx.resolve n.text) refl labels.head labels.item it.well_formed (place_of e) labels.flows l.inside ((found ++ xs) ++ ys) l.target in
+        let inside = target_tells seen n table t (ctx.resolve n.text) refl labels.head labels.item it.well_formed
+        (place_of e) labels.flows l.inside ((found ++ xs) ++ ys) l.target in
         let rest = grow_then ((found ++ xs) ++ ys) start.found (walk_suite context body b).found es fs inside
-        (suite_tells (n.text ∷ seen) b body l.inside (ap Some tg.env_is) tg.fits tg.env_fits (tg.grows labels.head fh) labels.body labels.out l.body) in
-        subst (λ i. Grows found (behind_loop context broken (walk_suite context (inside_for context (head_at context table (n ∷ bound_by b) env) (bind_item context table (head_at context table (n ∷ bound_by b) env) (ctx.resolve n.text) (place_of e) i.type ((found ++ xs) ++ codes_at (place_of e) i.codes))) b)).found (ds ++ (es ++ fs))) (sym it.item_is)
-        (subst (λ h. Grows found (behind_loop context broken (walk_suite context (inside_for context h (bind_item context table h (ctx.resolve n.text) (place_of e) labels.item.type ((found ++ xs) ++ ys))) b)).found (ds ++ (es ++ fs))) q
+        (suite_tells (n.text ∷ seen) b body l.inside (ap Some tg.env_is) tg.fits tg.env_fits (tg.grows labels.head fh)
+        labels.body labels.out l.body) in
+        subst
+        (λ i. Grows found (behind_loop context broken (walk_suite context
+        (inside_for context (head_at context table (n ∷ bound_by b) env)
+        (bind_item context table (head_at context table (n ∷ bound_by b) env) (ctx.resolve n.text) (place_of e)
+        i.type ((found ++ xs) ++ codes_at (place_of e) i.codes))) b)).found (ds ++ (es ++ fs))) (sym it.item_is)
+        (subst
+        (λ h. Grows found (behind_loop context broken (walk_suite context
+        (inside_for context h (bind_item context table h (ctx.resolve n.text) (place_of e) labels.item.type
+        ((found ++ xs) ++ ys))) b)).found (ds ++ (es ++ fs))) q
         (grow_then found (found ++ xs) (walk_suite context body b).found ds (es ++ fs)
-        (grow found xs ds (tell_iterable setting returned kr declared table kt env f e labels.iterable labels.item l.iterable))
-        (grow_behind (found ++ xs) ys (walk_suite context body b).found (es ++ fs) (tell_codes (place_of e) labels.item.codes) rest)))
+        (grow found xs ds (tell_iterable setting returned kr declared table kt env f e labels.iterable labels.item
+        l.iterable))
+        (grow_behind (found ++ xs) ys (walk_suite context body b).found (es ++ fs)
+        (tell_codes (place_of e) labels.item.codes) rest)))
     stmt_tells seen table env broken found t f kb (conditional p bs o) labels out l =
-        let start : BranchesResult = record { table = table; last = env; ways = None; broken = broken; found = found } in
+        let start : BranchesResult = record {
+          table = table;
+          last = env;
+          ways = None;
+          broken = broken;
+          found =
+              found;
+        } in
         let fork = walk_branches context start bs in
         let br = branches_tells seen start env refl t f kb bs labels.branches labels.last l.branches in
-        let mid : Walk = record { table = fork.table; env = Some fork.last; broken = fork.broken; found = fork.found } in
-        grow_then found fork.found (walk_suite context mid o).found (dynamic_in_branches bs labels.branches) (dynamic_in_suite o labels.otherwise) br.tells
-        (suite_tells (texts (bound_by_branches bs) ++ seen) o mid labels.last (ap Some br.last_is) br.fits br.last_fits br.broken_fits labels.otherwise labels.out l.otherwise)
+        let mid : Walk = record {
+          table = fork.table;
+          env = Some fork.last;
+          broken = fork.broken;
+          found =
+              fork.found;
+        } in
+        grow_then found fork.found (walk_suite context mid o).found (dynamic_in_branches bs labels.branches)
+        (dynamic_in_suite o labels.otherwise) br.tells
+        (suite_tells (texts (bound_by_branches bs) ++ seen) o mid labels.last (ap Some br.last_is) br.fits br.last_fits
+        br.broken_fits labels.otherwise labels.out l.otherwise)
 
-    pub suite_tells : (seen : NamesBound) (b : Stmts) (w : Walk) (env : Env) → w.env ≡ Some env → TableHere seen w.table → EnvFits setting declared w.table env → OutFits setting declared w.table w.broken → (labels : SuiteLabels b) (out : Option Env) → LawfulThere seen env b labels out
+    pub suite_tells : (seen : NamesBound) (b : Stmts) (w : Walk) (env : Env) → w.env ≡ Some env → TableHere seen w.table
+        → EnvFits setting declared w.table env → OutFits setting declared w.table w.broken
+        → (labels : SuiteLabels b) (out : Option Env) → LawfulThere seen env b labels out
         → Grows w.found (walk_suite context w b).found (dynamic_in_suite b labels)
     suite_tells seen no_stmts w env e t f kb labels out l = grow_none w.found
     suite_tells seen (more_stmts s rest) w env e t f kb labels out l =
-        subst (λ o. Grows w.found (walk_suite context (step context w.table o w.broken w.found s) rest).found (dynamic_in_suite (more_stmts s rest) labels)) (sym e)
-        (behind_tells (completes s) seen env w.found s rest labels.first labels.behind out (step context w.table (Some env) w.broken w.found s)
+        subst (λ o. Grows w.found (walk_suite context (step context w.table o w.broken w.found s) rest).found
+        (dynamic_in_suite (more_stmts s rest) labels)) (sym e)
+        (behind_tells (completes s) seen env w.found s rest labels.first labels.behind out
+        (step context w.table (Some env) w.broken w.found s)
         (λ o y.
-        let says = stmt_says setting returned kr declared seen w.table env w.broken w.found t f kb s labels.first o y in
-        (says.fits, says.env_is, says.env_fits, says.broken_fits, stmt_tells seen w.table env w.broken w.found t f kb s labels.first o y))
+        let says = stmt_says setting returned kr declared seen w.table env w.broken w.found t f kb s labels.first o y in (
+          says.fits,
+          says.env_is,
+          says.env_fits,
+          says.broken_fits,
+          stmt_tells seen w.table env w.broken w.found t f kb s
+              labels.first o y,
+        ))
         (suite_tells (texts (bound_by_stmt s) ++ seen) rest)
         l)
 
-    branches_tells : (seen : NamesBound) (w : BranchesResult) (env : Env) → w.last ≡ env → TableHere seen w.table → EnvFits setting declared w.table env → OutFits setting declared w.table w.broken
-        → (bs : Branches) (labels : BranchesLabels bs) (last : Env) → LawfulBranches m ctx declared returned seen env bs labels last
-        → ForkTells (texts (bound_by_branches bs) ++ seen) w.found (walk_branches context w bs) last (dynamic_in_branches bs labels)
+    branches_tells : (seen : NamesBound) (w : BranchesResult) (env : Env) → w.last ≡ env → TableHere seen w.table
+        → EnvFits setting declared w.table env → OutFits setting declared w.table w.broken
+        → (bs : Branches) (labels : BranchesLabels bs) (last : Env) → LawfulBranches m ctx declared returned seen env bs
+        labels last
+        → ForkTells (texts (bound_by_branches bs) ++ seen) w.found (walk_branches context w bs) last
+        (dynamic_in_branches bs labels)
     branches_tells seen w env e t f kb no_branches labels last l = record {
       fits = t;
       last_is = e ∙ sym l;
@@ -303,21 +452,51 @@ module _ (setting : Setting) (returned : Tree) (kr : IsWellFormed setting.contex
         let xs = finds_in (at context w.table env) None c in
         let yes = truth_same setting declared w.table kt true c env f in
         let no = truth_same setting declared w.table kt false c env f in
-        let start : Walk = record { table = w.table; env = Some (narrowed_at context w.table true c env); broken = w.broken; found = w.found ++ xs } in
-        let body = suite_says setting returned kr declared seen start (narrow ctx.bases declared ctx.resolve true c env) (ap Some (sym yes)) t (truth_fits setting declared w.table kt true c env f) kb b labels.body labels.out l.body in
-        let told_body = suite_tells seen b start (narrow ctx.bases declared ctx.resolve true c env) (ap Some (sym yes)) t (truth_fits setting declared w.table kt true c env f) kb labels.body labels.out l.body in
+        let start : Walk = record {
+          table = w.table;
+          env = Some (narrowed_at context w.table true c env);
+          broken =
+              w.broken;
+          found = w.found ++ xs;
+        } in
+        let body = suite_says setting returned kr declared seen start (narrow ctx.bases declared ctx.resolve true c env)
+        (ap Some (sym yes)) t (truth_fits setting declared w.table kt true c env f) kb b labels.body labels.out
+        l.body in
+        let told_body = suite_tells seen b start (narrow ctx.bases declared ctx.resolve true c env) (ap Some (sym yes))
+        t (truth_fits setting declared w.table kt true c env f) kb labels.body labels.out l.body in
         let u = walk_suite context start b in
-        let next : BranchesResult = record { table = u.table; last = narrowed_at context w.table false c env; ways = with_way ctx.bases u.table w.ways u.env; broken = u.broken; found = u.found } in
-        let others = branches_tells (texts (bound_by b) ++ seen) next (narrow ctx.bases declared ctx.resolve false c env) (sym no) body.fits (body.grows (narrow ctx.bases declared ctx.resolve false c env) (truth_fits setting declared w.table kt false c env f)) body.broken_fits rest labels.rest last l.others in
+        let next : BranchesResult = record {
+          table = u.table;
+          last = narrowed_at context w.table false c env;
+          ways =
+              with_way ctx.bases u.table w.ways u.env;
+          broken = u.broken;
+          found = u.found;
+        } in
+        let others = branches_tells (texts (bound_by b) ++ seen) next
+        (narrow ctx.bases declared ctx.resolve false c env) (sym no) body.fits
+        (body.grows (narrow ctx.bases declared ctx.resolve false c env)
+        (truth_fits setting declared w.table kt false c env f)) body.broken_fits rest labels.rest last l.others in
         let ds = dynamic_in c labels.condition in
         let es = dynamic_in_suite b labels.body in
         let fs = dynamic_in_branches rest labels.rest in
-        subst (λ x. ForkTells (texts (bound_by_branches (more_branches c b rest)) ++ seen) w.found (walk_branches context (record { table = w.table; last = x; ways = w.ways; broken = w.broken; found = w.found }) (more_branches c b rest)) last (ds ++ (es ++ fs))) (sym e)
+        subst (λ x. ForkTells (texts (bound_by_branches (more_branches c b rest)) ++ seen) w.found
+        (walk_branches context (record {
+          table = w.table;
+          last = x;
+          ways = w.ways;
+          broken = w.broken;
+          found =
+              w.found;
+        }) (more_branches c b rest)) last (ds ++ (es ++ fs))) (sym e)
         (record {
-          fits = fits_both setting declared (bound_by b) (bound_by_branches rest) seen (walk_branches context next rest).table others.fits;
+          fits = fits_both setting declared (bound_by b) (bound_by_branches rest) seen
+              (walk_branches context next rest).table others.fits;
           last_is = others.last_is;
           last_fits = others.last_fits;
           broken_fits = others.broken_fits;
-          tells = grow_then w.found (w.found ++ xs) (walk_branches context next rest).found ds (es ++ fs) (grow w.found xs ds (tell_in setting returned kr declared w.table kt env f None tt c labels.condition l.condition))
+          tells = grow_then w.found (w.found ++ xs) (walk_branches context next rest).found ds (es ++ fs)
+              (grow w.found xs ds (tell_in setting returned kr declared w.table kt env f None tt c labels.condition
+              l.condition))
               (grow_then (w.found ++ xs) u.found (walk_branches context next rest).found es fs told_body others.tells);
         })

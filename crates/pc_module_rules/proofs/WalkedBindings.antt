@@ -27,20 +27,26 @@ use Rattle.pc_rules.specs.Computed.Findings.{flows_at}
 use Rattle.pc_rules.specs.Computed.Standing.{finds_in}
 use Rattle.pc_rules.proofs.WellFormed.{unwrap_well_formed}
 use Rattle.pc_module_rules.specs.StatementLabels.{OptionLabels}
-use Rattle.pc_module_rules.specs.Statements.{NamesBound, is_first, only_code, DeclaredAt, known_type, LawfulBinding, LawfulDeclaration, LawfulTarget, annotation_at, LawfulAnnotated, OptionFinds, option_place, AnnotationFinds}
+use Rattle.pc_module_rules.specs.Statements.{NamesBound, is_first, only_code, DeclaredAt, known_type, LawfulBinding}
+use Rattle.pc_module_rules.specs.Statements.{LawfulDeclaration, LawfulTarget, annotation_at, LawfulAnnotated}
+use Rattle.pc_module_rules.specs.Statements.{OptionFinds, option_place, AnnotationFinds}
 use Rattle.pc_module_rules.specs.Laws.Labellings.{Setting}
-use Rattle.pc_module_rules.specs.Computed.Statements.{Table, type_table, bound_type, known_declared, BodyContext, BindingResult, at, bind_label, bind_value, declared_alone, annotation_finds, bound_name, bind_annotated, bind_item}
+use Rattle.pc_module_rules.specs.Computed.Statements.{Table, type_table, bound_type, known_declared, BodyContext}
+use Rattle.pc_module_rules.specs.Computed.Statements.{BindingResult, at, bind_label, bind_value, declared_alone}
+use Rattle.pc_module_rules.specs.Computed.Statements.{annotation_finds, bound_name, bind_annotated, bind_item}
 use Rattle.pc_module_rules.specs.Laws.Walks.{TableFits, EnvFits, Adds, body_context_in, Lists}
 use Rattle.pc_module_rules.proofs.BoundNames.{here_among}
 use Rattle.pc_module_rules.proofs.Labelled.{type_of_bound}
 use Rattle.pc_module_rules.proofs.OneStatement.{assign_kept}
 use Rattle.pc_module_rules.proofs.SaidByStatements.{no_flows}
-use Rattle.pc_module_rules.proofs.WalkedFindings.{lists_annotation, lists_one, adds_nothing, adds_same, adds_list, adds_both}
+use Rattle.pc_module_rules.proofs.WalkedFindings.{lists_annotation, lists_one, adds_nothing, adds_same, adds_list}
+use Rattle.pc_module_rules.proofs.WalkedFindings.{adds_both}
 use Rattle.pc_module_rules.proofs.WalkedTables.{NameFits, name_fits, other_fits}
 use Rattle.pc_module_rules.proofs.WalkedExpressions.{flows_told, flows_found, told}
 
 -- nothing found where nothing flows
-nothing_flows : (flows : FlowLabels) (p : Place) (P : Finding → Type 0) → flows ≡ [] → (f : Finding) → P f ⊎ IsFlowAt p flows f → P f
+nothing_flows : (flows : FlowLabels) (p : Place) (P : Finding → Type 0) → flows ≡ [] → (f : Finding) → P f
+    ⊎ IsFlowAt p flows f → P f
 nothing_flows flows p P e f h = elim h [ inl a ↦ a | inr b ↦ absurd (no_flows flows p f e b) ]
 
 module _ (setting : Setting) (returned : Tree) (declared : List Tree) where
@@ -50,38 +56,60 @@ module _ (setting : Setting) (returned : Tree) (declared : List Tree) where
   context = body_context_in setting returned
 
   -- a name bound has come to what is said: to this environment, with this found
-  pub record BoundSays (seen : NamesBound) (n : Name) (table : Table) (found : List Note) (b : BindingResult) (after : Env) (Says : Finding → Type 0) : Type 0 where
+  pub record BoundSays (seen : NamesBound) (n : Name) (table : Table) (found : List Note) (b : BindingResult)
+      (after : Env) (Says : Finding → Type 0) : Type 0 where
     pub fits : TableFits setting declared (n.text ∷ seen) b.table
     pub grows : (env : Env) → EnvFits setting declared table env → EnvFits setting declared b.table env
     pub env_is : b.env ≡ after
     pub env_fits : EnvFits setting declared b.table after
     pub found_is : Adds found b.found Says
 
-  says_same : {P Q : Finding → Type 0} (seen : NamesBound) (n : Name) (table : Table) (found : List Note) (b : BindingResult) (after : Env) → ((f : Finding) → P f → Q f) → ((f : Finding) → Q f → P f) → BoundSays seen n table found b after P → BoundSays seen n table found b after Q
-  says_same seen n table found b after to from h = record { fits = h.fits; grows = h.grows; env_is = h.env_is; env_fits = h.env_fits; found_is = adds_same found b.found to from h.found_is }
+  says_same : {P Q : Finding → Type 0} (seen : NamesBound) (n : Name) (table : Table) (found : List Note)
+      (b : BindingResult) (after : Env) → ((f : Finding) → P f → Q f) → ((f : Finding) → Q f → P f)
+      → BoundSays seen n table found b after P → BoundSays seen n table found b after Q
+  says_same seen n table found b after to from h = record {
+    fits = h.fits;
+    grows = h.grows;
+    env_is = h.env_is;
+    env_fits = h.env_fits;
+    found_is = adds_same found b.found to from h.found_is;
+  }
 
   -- with more found before
-  says_behind : {P Q : Finding → Type 0} (seen : NamesBound) (n : Name) (table : Table) (found more : List Note) (b : BindingResult) (after : Env) → Adds found more P → BoundSays seen n table more b after Q → BoundSays seen n table found b after (λ f. P f ⊎ Q f)
-  says_behind seen n table found more b after a h = record { fits = h.fits; grows = h.grows; env_is = h.env_is; env_fits = h.env_fits; found_is = adds_both found more b.found a h.found_is }
+  says_behind : {P Q : Finding → Type 0} (seen : NamesBound) (n : Name) (table : Table) (found more : List Note)
+      (b : BindingResult) (after : Env) → Adds found more P → BoundSays seen n table more b after Q
+      → BoundSays seen n table found b after (λ f. P f ⊎ Q f)
+  says_behind seen n table found more b after a h = record {
+    fits = h.fits;
+    grows = h.grows;
+    env_is = h.env_is;
+    env_fits = h.env_fits;
+    found_is = adds_both found more b.found a h.found_is;
+  }
 
   -- ---- what is expected of what is bound
 
-  known_well_formed : (o a : Option Tree) → IsWellFormedIfAny ctx.bases o → IsWellFormedIfAny ctx.bases a → IsWellFormedIfAny ctx.bases (known_declared o a)
+  known_well_formed : (o a : Option Tree) → IsWellFormedIfAny ctx.bases o → IsWellFormedIfAny ctx.bases a
+      → IsWellFormedIfAny ctx.bases (known_declared o a)
   known_well_formed None a h k = k
   known_well_formed (Some d) a h k = h
 
   -- a local of a name, with the type that the table has for it, if any
-  module _ (x : ℕ) (o : Option Tree) (b : Test) (bound : b ≡ true → o ≡ Some (declared_type declared x)) (unbound : b ≡ false → o ≡ None) where
-    declared_is : (from : Tree) (b' : Test) → b' ≡ b → DeclaredAt m ctx declared (not b') x None from → unwrap_or o from ≡ declared_type declared x
+  module _ (x : ℕ) (o : Option Tree) (b : Test) (bound : b ≡ true → o ≡ Some (declared_type declared x))
+      (unbound : b ≡ false → o ≡ None) where
+    declared_is : (from : Tree) (b' : Test) → b' ≡ b → DeclaredAt m ctx declared (not b') x None from
+        → unwrap_or o from ≡ declared_type declared x
     declared_is from true e d = ap (λ p. unwrap_or p from) (bound (sym e))
     declared_is from false e d = ap (λ p. unwrap_or p from) (unbound (sym e)) ∙ sym d
 
-    want_is : (b' : Test) → b' ≡ b → (a a' : Option Tree) → (not b' ≡ true → a ≡ a') → (from : Tree) → DeclaredAt m ctx declared (not b') x a from → known_type m ctx declared (not b') x a ≡ known_declared o a'
+    want_is : (b' : Test) → b' ≡ b → (a a' : Option Tree) → (not b' ≡ true → a ≡ a') → (from : Tree)
+        → DeclaredAt m ctx declared (not b') x a from → known_type m ctx declared (not b') x a ≡ known_declared o a'
     want_is true e a a' s from d = ap (λ p. known_declared p a') (sym (bound (sym e)))
     want_is false e None a' s from d = λ i. known_declared (sym (unbound (sym e)) i) (s refl i)
     want_is false e (Some t) a' s from d = ap Some d ∙ (λ i. known_declared (sym (unbound (sym e)) i) (s refl i))
 
-    type_is : (b' : Test) → (a : Option Tree) (from : Tree) → DeclaredAt m ctx declared (not b') x a from → unwrap_or (known_type m ctx declared (not b') x a) from ≡ declared_type declared x
+    type_is : (b' : Test) → (a : Option Tree) (from : Tree) → DeclaredAt m ctx declared (not b') x a from
+        → unwrap_or (known_type m ctx declared (not b') x a) from ≡ declared_type declared x
     type_is true a from d = refl
     type_is false None from d = sym d
     type_is false (Some t) from d = refl
@@ -97,18 +125,25 @@ module _ (setting : Setting) (returned : Tree) (declared : List Tree) where
       unbound_here e = h.unbound n.text x e i
 
       -- bound to what has a label
-      label_says : (env : Env) → EnvFits setting declared table env → (want : Option Tree) (p : Place) (label : Label) (flows : FlowLabels) (after : Env) (found : List Note)
-          → unwrap_or want label.type ≡ declared_type declared x → IsWellFormedIfAny ctx.bases want → IsWellFormed ctx.bases label.type
-          → FlowsInto ctx.bases label (declared_type declared x ∷ []) flows → after ≡ assign env x (assigned_type (declared_type declared x) label.type (only_code flows))
+      label_says : (env : Env) → EnvFits setting declared table env → (want : Option Tree) (p : Place) (label : Label)
+          (flows : FlowLabels) (after : Env) (found : List Note)
+          → unwrap_or want label.type ≡ declared_type declared x → IsWellFormedIfAny ctx.bases want
+          → IsWellFormed ctx.bases label.type
+          → FlowsInto ctx.bases label (declared_type declared x ∷ []) flows
+          → after ≡ assign env x (assigned_type (declared_type declared x) label.type (only_code flows))
           → BoundSays seen n table found (bind_label context table env x want p label found) after (IsFlowAt p flows)
       label_says env f want p label flows after found is kw km flow after_is =
           let d = unwrap_or want label.type in
           let kd : IsWellFormed ctx.bases d = unwrap_well_formed ctx.bases want label.type kw km in
           let nf = name_fits setting declared seen n.text x i table h d (λ e. sym is) kd in
-          let q : flows_of ctx.bases label (d ∷ []) ≡ flows = flows_told setting label (d ∷ []) flows km (kd, tt) (subst (λ t. FlowsInto ctx.bases label (t ∷ []) flows) (sym is) flow) in
+          let q : flows_of ctx.bases label (d ∷ []) ≡ flows = flows_told setting label (d ∷ []) flows km (kd, tt)
+          (subst (λ t. FlowsInto ctx.bases label (t ∷ []) flows) (sym is) flow) in
           let b = bind_label context table env x want p label found in
-          let env_is : b.env ≡ after = (λ j. assign env x (assigned_type (is j) label.type (only_code (q j)))) ∙ sym after_is in
-          let same : declared_type declared x ≡ declared_type (type_table b.table) x = sym (type_of_bound b.table x ∙ ap (λ o. unwrap_or o Any) (nf.fits.bound n.text x (here_among n.text seen) i)) in
+          let env_is : b.env ≡ after = (λ j. assign env x (assigned_type (is j) label.type (only_code (q j))))
+          ∙ sym after_is in
+          let same : declared_type declared x ≡ declared_type (type_table b.table) x =
+          sym (type_of_bound b.table x ∙ ap (λ o. unwrap_or o Any)
+          (nf.fits.bound n.text x (here_among n.text seen) i)) in
           let u = assigned_type d label.type (only_code (flows_of ctx.bases label (d ∷ []))) in
           record {
             fits = nf.fits;
@@ -116,31 +151,51 @@ module _ (setting : Setting) (returned : Tree) (declared : List Tree) where
             env_is = env_is;
             env_fits = subst (EnvFits setting declared b.table) env_is (record {
               same = assign_kept declared (type_table b.table) env x u (nf.grows env f).same same;
-              well_formed = assign_well_formed ctx.bases env x u (assigned_well_formed ctx.bases d label.type (only_code (flows_of ctx.bases label (d ∷ []))) kd km) f.well_formed;
+              well_formed = assign_well_formed ctx.bases env x u (assigned_well_formed ctx.bases d label.type
+                  (only_code (flows_of ctx.bases label (d ∷ []))) kd km) f.well_formed;
             });
-            found_is = adds_list found (flows_at p (flows_of ctx.bases label (d ∷ []))) (flows_found setting p label (d ∷ []) flows q);
+            found_is = adds_list found (flows_at p (flows_of ctx.bases label (d ∷ [])))
+                (flows_found setting p label (d ∷ []) flows q);
           }
 
       -- bound to a value
-      value_says : (env : Env) → EnvFits setting declared table env → (a a' : Option Tree) → (is_first seen n ≡ true → a ≡ a') → IsWellFormedIfAny ctx.bases a' → (e : Expr) (labels : Labels e) (flows : FlowLabels) (after : Env) (found : List Note)
+      value_says : (env : Env) → EnvFits setting declared table env → (a a' : Option Tree)
+          → (is_first seen n ≡ true → a ≡ a') → IsWellFormedIfAny ctx.bases a'
+          → (e : Expr) (labels : Labels e) (flows : FlowLabels) (after : Env) (found : List Note)
           → LawfulBinding m ctx declared env seen n (res.Local x) a e labels flows after
-          → BoundSays seen n table found (bind_value context table env (res.Local x) a' e found) after (λ f. Finds e labels f ⊎ IsFlowAt (place_of e) flows f)
+          → BoundSays seen n table found (bind_value context table env (res.Local x) a' e found) after
+          (λ f. Finds e labels f ⊎ IsFlowAt (place_of e) flows f)
       value_says env f a a' s ka e labels flows after found l =
           let o = bound_type table x in
           let want = known_declared o a' in
-          let w : known_type m ctx declared (is_first seen n) x a ≡ want = want_is x o (is_one_of n.text seen) bound_here unbound_here (is_one_of n.text seen) refl a a' s (type_of e labels) l.at_first in
-          let kw : IsWellFormedIfAny ctx.bases want = known_well_formed o a' (current_well_formed ctx.bases table x h.well_formed) ka in
-          let v = told setting declared table h.well_formed env f want kw e labels (subst (λ y. Lawful ctx declared env y e labels) w l.value) in
-          let is : unwrap_or want (type_of e labels) ≡ declared_type declared x = ap (λ y. unwrap_or y (type_of e labels)) (sym w) ∙ type_is x o (is_one_of n.text seen) bound_here unbound_here (is_one_of n.text seen) a (type_of e labels) l.at_first in
+          let w : known_type m ctx declared (is_first seen n) x a ≡ want = want_is x o (is_one_of n.text seen)
+          bound_here unbound_here (is_one_of n.text seen) refl a a' s (type_of e labels) l.at_first in
+          let kw : IsWellFormedIfAny ctx.bases want = known_well_formed o a'
+          (current_well_formed ctx.bases table x h.well_formed) ka in
+          let v = told setting declared table h.well_formed env f want kw e labels
+          (subst (λ y. Lawful ctx declared env y e labels) w l.value) in
+          let is : unwrap_or want (type_of e labels) ≡ declared_type declared x =
+          ap (λ y. unwrap_or y (type_of e labels)) (sym w) ∙ type_is x o (is_one_of n.text seen) bound_here
+          unbound_here (is_one_of n.text seen) a (type_of e labels) l.at_first in
           let finds = finds_in (at context table env) want e in
-          subst (λ k. BoundSays seen n table found (bind_label context table env x want (place_of e) k (found ++ finds)) after (λ g. Finds e labels g ⊎ IsFlowAt (place_of e) flows g)) (sym v.label)
-          (says_behind seen n table found (found ++ finds) (bind_label context table env x want (place_of e) (whole_label e labels) (found ++ finds)) after (adds_list found finds v.found)
-          (label_says env f want (place_of e) (whole_label e labels) flows after (found ++ finds) is kw v.well_formed l.flow l.after_is))
+          subst (λ k. BoundSays seen n table found (bind_label context table env x want (place_of e) k (found ++ finds))
+          after (λ g. Finds e labels g ⊎ IsFlowAt (place_of e) flows g)) (sym v.label)
+          (says_behind seen n table found (found ++ finds) (bind_label context table env x want (place_of e)
+          (whole_label e labels) (found ++ finds)) after (adds_list found finds v.found)
+          (label_says env f want (place_of e) (whole_label e labels) flows after (found ++ finds) is kw v.well_formed
+          l.flow l.after_is))
 
     -- what is no local binds nothing
-    plain_says : ((x : ℕ) → ctx.resolve n.text ≡ res.Local x → ⊥) → (env : Env) → EnvFits setting declared table env → (e : Expr) (labels : Labels e) (flows : FlowLabels) (after : Env) (found : List Note)
+    plain_says : ((x : ℕ) → ctx.resolve n.text ≡ res.Local x → ⊥) → (env : Env) → EnvFits setting declared table env
+        → (e : Expr) (labels : Labels e) (flows : FlowLabels) (after : Env) (found : List Note)
         → Lawful ctx declared env None e labels → flows ≡ [] → after ≡ env
-        → BoundSays seen n table found (record { table = table; env = env; found = found ++ finds_in (at context table env) None e }) after (λ f. Finds e labels f ⊎ IsFlowAt (place_of e) flows f)
+        → BoundSays seen n table found (record {
+          table = table;
+          env = env;
+          found =
+              found ++ finds_in (at context table env) None e;
+        }) after (λ f. Finds e labels f
+        ⊎ IsFlowAt (place_of e) flows f)
     plain_says other env f e labels flows after found l none is =
         let v = told setting declared table h.well_formed env f None tt e labels l in
         let nf = other_fits setting declared seen n.text table other h in
@@ -149,22 +204,34 @@ module _ (setting : Setting) (returned : Tree) (declared : List Tree) where
           grows = nf.grows;
           env_is = sym is;
           env_fits = subst (EnvFits setting declared table) (sym is) f;
-          found_is = adds_same found (found ++ finds_in (at context table env) None e) (λ g y. inl y) (nothing_flows flows (place_of e) (Finds e labels) none) (adds_list found (finds_in (at context table env) None e) v.found);
+          found_is = adds_same found (found ++ finds_in (at context table env) None e) (λ g y. inl y)
+              (nothing_flows flows (place_of e) (Finds e labels) none)
+              (adds_list found (finds_in (at context table env) None e) v.found);
         }
 
-    pub binding_says : (r : Res) → ctx.resolve n.text ≡ r → (env : Env) → EnvFits setting declared table env → (a a' : Option Tree) → (is_first seen n ≡ true → a ≡ a') → IsWellFormedIfAny ctx.bases a' → (e : Expr) (labels : Labels e) (flows : FlowLabels) (after : Env) (found : List Note)
+    pub binding_says : (r : Res) → ctx.resolve n.text ≡ r → (env : Env) → EnvFits setting declared table env
+        → (a a' : Option Tree) → (is_first seen n ≡ true → a ≡ a') → IsWellFormedIfAny ctx.bases a'
+        → (e : Expr) (labels : Labels e) (flows : FlowLabels) (after : Env) (found : List Note)
         → LawfulBinding m ctx declared env seen n r a e labels flows after
-        → BoundSays seen n table found (bind_value context table env r a' e found) after (λ f. Finds e labels f ⊎ IsFlowAt (place_of e) flows f)
-    binding_says (res.Local x) i env f a a' s ka e labels flows after found l = value_says x i env f a a' s ka e labels flows after found l
-    binding_says (res.Const c) i env f a a' s ka e labels flows after found l = plain_says (λ x j. absurd (grind (arith, i, j))) env f e labels flows after found l.value l.flow l.after_is
-    binding_says (res.Func c) i env f a a' s ka e labels flows after found l = plain_says (λ x j. absurd (grind (arith, i, j))) env f e labels flows after found l.value l.flow l.after_is
-    binding_says (res.Class c) i env f a a' s ka e labels flows after found l = plain_says (λ x j. absurd (grind (arith, i, j))) env f e labels flows after found l.value l.flow l.after_is
-    binding_says (res.Builtin c) i env f a a' s ka e labels flows after found l = plain_says (λ x j. absurd (grind (arith, i, j))) env f e labels flows after found l.value l.flow l.after_is
-    binding_says res.None i env f a a' s ka e labels flows after found l = plain_says (λ x j. absurd (grind (arith, i, j))) env f e labels flows after found l.value l.flow l.after_is
+        → BoundSays seen n table found (bind_value context table env r a' e found) after (λ f. Finds e labels f
+        ⊎ IsFlowAt (place_of e) flows f)
+    binding_says (res.Local x) i env f a a' s ka e labels flows after found l = value_says x i env f a a' s ka e labels
+        flows after found l
+    binding_says (res.Const c) i env f a a' s ka e labels flows after found l =
+        plain_says (λ x j. absurd (grind (arith, i, j))) env f e labels flows after found l.value l.flow l.after_is
+    binding_says (res.Func c) i env f a a' s ka e labels flows after found l =
+        plain_says (λ x j. absurd (grind (arith, i, j))) env f e labels flows after found l.value l.flow l.after_is
+    binding_says (res.Class c) i env f a a' s ka e labels flows after found l =
+        plain_says (λ x j. absurd (grind (arith, i, j))) env f e labels flows after found l.value l.flow l.after_is
+    binding_says (res.Builtin c) i env f a a' s ka e labels flows after found l =
+        plain_says (λ x j. absurd (grind (arith, i, j))) env f e labels flows after found l.value l.flow l.after_is
+    binding_says res.None i env f a a' s ka e labels flows after found l =
+        plain_says (λ x j. absurd (grind (arith, i, j))) env f e labels flows after found l.value l.flow l.after_is
 
     -- ---- the target of a `for`
 
-    idle_says : ((x : ℕ) → ctx.resolve n.text ≡ res.Local x → ⊥) → (head : Env) → EnvFits setting declared table head → (p : Place) (flows : FlowLabels) (inside : Env) (found : List Note) → flows ≡ [] → inside ≡ head
+    idle_says : ((x : ℕ) → ctx.resolve n.text ≡ res.Local x → ⊥) → (head : Env) → EnvFits setting declared table head
+        → (p : Place) (flows : FlowLabels) (inside : Env) (found : List Note) → flows ≡ [] → inside ≡ head
         → BoundSays seen n table found (record { table = table; env = head; found = found }) inside (IsFlowAt p flows)
     idle_says other head f p flows inside found none is =
         let nf = other_fits setting declared seen n.text table other h in
@@ -176,63 +243,103 @@ module _ (setting : Setting) (returned : Tree) (declared : List Tree) where
           found_is = adds_same found found (λ g y. absurd y) (λ g y. no_flows flows p g none y) (adds_nothing found);
         }
 
-    pub target_says : (r : Res) → ctx.resolve n.text ≡ r → (head : Env) → EnvFits setting declared table head → (item : Label) → IsWellFormed ctx.bases item.type → (p : Place) (flows : FlowLabels) (inside : Env) (found : List Note)
+    pub target_says : (r : Res) → ctx.resolve n.text ≡ r → (head : Env) → EnvFits setting declared table head
+        → (item : Label) → IsWellFormed ctx.bases item.type → (p : Place) (flows : FlowLabels) (inside : Env)
+        (found : List Note)
         → LawfulTarget m ctx declared seen n r head item flows inside
         → BoundSays seen n table found (bind_item context table head r p item.type found) inside (IsFlowAt p flows)
     target_says (res.Local x) i head f item k p flows inside found l =
-        label_says x i head f (bound_type table x) p (clean item.type) flows inside found (declared_is x (bound_type table x) (is_one_of n.text seen) (bound_here x i) (unbound_here x i) item.type (is_one_of n.text seen) refl l.at_first) (current_well_formed ctx.bases table x h.well_formed) k l.flow l.inside_is
-    target_says (res.Const c) i head f item k p flows inside found l = idle_says (λ x j. absurd (grind (arith, i, j))) head f p flows inside found l.0 l.1
-    target_says (res.Func c) i head f item k p flows inside found l = idle_says (λ x j. absurd (grind (arith, i, j))) head f p flows inside found l.0 l.1
-    target_says (res.Class c) i head f item k p flows inside found l = idle_says (λ x j. absurd (grind (arith, i, j))) head f p flows inside found l.0 l.1
-    target_says (res.Builtin c) i head f item k p flows inside found l = idle_says (λ x j. absurd (grind (arith, i, j))) head f p flows inside found l.0 l.1
-    target_says res.None i head f item k p flows inside found l = idle_says (λ x j. absurd (grind (arith, i, j))) head f p flows inside found l.0 l.1
+        label_says x i head f (bound_type table x) p (clean item.type) flows inside found
+        (declared_is x (bound_type table x) (is_one_of n.text seen) (bound_here x i) (unbound_here x i) item.type
+        (is_one_of n.text seen) refl l.at_first) (current_well_formed ctx.bases table x h.well_formed) k l.flow
+        l.inside_is
+    target_says (res.Const c) i head f item k p flows inside found l = idle_says (λ x j. absurd (grind (arith, i, j)))
+        head f p flows inside found l.0 l.1
+    target_says (res.Func c) i head f item k p flows inside found l = idle_says (λ x j. absurd (grind (arith, i, j)))
+        head f p flows inside found l.0 l.1
+    target_says (res.Class c) i head f item k p flows inside found l = idle_says (λ x j. absurd (grind (arith, i, j)))
+        head f p flows inside found l.0 l.1
+    target_says (res.Builtin c) i head f item k p flows inside found l = idle_says (λ x j. absurd (grind (arith, i, j)))
+        head f p flows inside found l.0 l.1
+    target_says res.None i head f item k p flows inside found l = idle_says (λ x j. absurd (grind (arith, i, j))) head f
+        p flows inside found l.0 l.1
 
     -- ---- annotations
 
-    annotation_says : (r : Res) → ctx.resolve n.text ≡ r → (a : Ann) → Lists (annotation_finds context (bound_name context table r) n a) (AnnotationFinds m ctx r (is_first seen n) n a)
+    annotation_says : (r : Res) → ctx.resolve n.text ≡ r → (a : Ann)
+        → Lists (annotation_finds context (bound_name context table r) n a)
+        (AnnotationFinds m ctx r (is_first seen n) n a)
     annotation_says (res.Local x) i a = go (is_one_of n.text seen) refl
       where
-        go : (b : Test) → is_one_of n.text seen ≡ b → Lists (annotation_finds context (bound_type table x) n a) (AnnotationFinds m ctx (res.Local x) (not b) n a)
-        go true e = subst (λ o. Lists (annotation_finds context o n a) (AnnotationFinds m ctx (res.Local x) false n a)) (sym (bound_here x i e)) (lists_one (finding n.place E24) refl)
-        go false e = subst (λ o. Lists (annotation_finds context o n a) (AnnotationFinds m ctx (res.Local x) true n a)) (sym (unbound_here x i e)) (lists_annotation m ctx.bases a)
+        go : (b : Test) → is_one_of n.text seen ≡ b → Lists (annotation_finds context (bound_type table x) n a)
+            (AnnotationFinds m ctx (res.Local x) (not b) n a)
+        go true e = subst (λ o. Lists (annotation_finds context o n a) (AnnotationFinds m ctx (res.Local x) false n a))
+            (sym (bound_here x i e)) (lists_one (finding n.place E24) refl)
+        go false e = subst (λ o. Lists (annotation_finds context o n a) (AnnotationFinds m ctx (res.Local x) true n a))
+            (sym (unbound_here x i e)) (lists_annotation m ctx.bases a)
     annotation_says (res.Const c) i a = lists_annotation m ctx.bases a
     annotation_says (res.Func c) i a = lists_annotation m ctx.bases a
     annotation_says (res.Class c) i a = lists_annotation m ctx.bases a
     annotation_says (res.Builtin c) i a = lists_annotation m ctx.bases a
     annotation_says res.None i a = lists_annotation m ctx.bases a
 
-    declaration_fits : (r : Res) → ctx.resolve n.text ≡ r → (t : Tree) → IsWellFormed ctx.bases t → LawfulDeclaration m ctx declared seen n r t → NameFits setting declared seen n.text table (declared_alone context table r t)
-    declaration_fits (res.Local x) i t k l = name_fits setting declared seen n.text x i table h t (λ e. first_type (is_one_of n.text seen) e l) k
+    declaration_fits : (r : Res) → ctx.resolve n.text ≡ r → (t : Tree) → IsWellFormed ctx.bases t
+        → LawfulDeclaration m ctx declared seen n r t → NameFits setting declared seen n.text table
+        (declared_alone context table r t)
+    declaration_fits (res.Local x) i t k l = name_fits setting declared seen n.text x i table h t
+        (λ e. first_type (is_one_of n.text seen) e l) k
       where
-        first_type : (b : Test) → b ≡ false → DeclaredAt m ctx declared (not b) x (Some t) t → declared_type declared x ≡ t
+        first_type : (b : Test) → b ≡ false → DeclaredAt m ctx declared (not b) x (Some t) t → declared_type declared x
+            ≡ t
         first_type true e d = absurd (grind (arith, e))
         first_type false e d = d
-    declaration_fits (res.Const c) i t k l = other_fits setting declared seen n.text table (λ x j. absurd (grind (arith, i, j))) h
-    declaration_fits (res.Func c) i t k l = other_fits setting declared seen n.text table (λ x j. absurd (grind (arith, i, j))) h
-    declaration_fits (res.Class c) i t k l = other_fits setting declared seen n.text table (λ x j. absurd (grind (arith, i, j))) h
-    declaration_fits (res.Builtin c) i t k l = other_fits setting declared seen n.text table (λ x j. absurd (grind (arith, i, j))) h
-    declaration_fits res.None i t k l = other_fits setting declared seen n.text table (λ x j. absurd (grind (arith, i, j))) h
+    declaration_fits (res.Const c) i t k l = other_fits setting declared seen n.text table
+        (λ x j. absurd (grind (arith, i, j))) h
+    declaration_fits (res.Func c) i t k l = other_fits setting declared seen n.text table
+        (λ x j. absurd (grind (arith, i, j))) h
+    declaration_fits (res.Class c) i t k l = other_fits setting declared seen n.text table
+        (λ x j. absurd (grind (arith, i, j))) h
+    declaration_fits (res.Builtin c) i t k l = other_fits setting declared seen n.text table
+        (λ x j. absurd (grind (arith, i, j))) h
+    declaration_fits res.None i t k l = other_fits setting declared seen n.text table
+        (λ x j. absurd (grind (arith, i, j))) h
 
     -- a name annotated, with a value or alone
-    pub annotated_says : (env : Env) → EnvFits setting declared table env → (p : Place) (a : Ann) (e : Option Expr) (labels : OptionLabels e) (flows : FlowLabels) (after : Env) (found : List Note)
+    pub annotated_says : (env : Env) → EnvFits setting declared table env → (p : Place) (a : Ann) (e : Option Expr)
+        (labels : OptionLabels e) (flows : FlowLabels) (after : Env) (found : List Note)
         → LawfulAnnotated m ctx declared env seen n a e labels flows after
-        → BoundSays seen n table found (bind_annotated context table env n a e found) after (λ f. AnnotationFinds m ctx (ctx.resolve n.text) (is_first seen n) n a f ⊎ (IsFlowAt (option_place m ctx p e) flows f ⊎ OptionFinds m ctx e labels f))
+        → BoundSays seen n table found (bind_annotated context table env n a e found) after
+        (λ f. AnnotationFinds m ctx (ctx.resolve n.text) (is_first seen n) n a f
+        ⊎ (IsFlowAt (option_place m ctx p e) flows f ⊎ OptionFinds m ctx e labels f))
     annotated_says env f p a None labels flows after found l =
-        let nf = declaration_fits (ctx.resolve n.text) refl (read_ann m ctx.bases a) (read_ann_well_formed m ctx.bases ck.smaller a) l.0 in
+        let nf = declaration_fits (ctx.resolve n.text) refl (read_ann m ctx.bases a)
+        (read_ann_well_formed m ctx.bases ck.smaller a) l.0 in
         let finds = annotation_finds context (bound_name context table (ctx.resolve n.text)) n a in
         record {
           fits = nf.fits;
           grows = nf.grows;
           env_is = sym l.2;
-          env_fits = subst (EnvFits setting declared (declared_alone context table (ctx.resolve n.text) (read_ann m ctx.bases a))) (sym l.2) (nf.grows env f);
-          found_is = adds_same found (found ++ finds) (λ g y. inl y) (λ g y. elim y [ inl u ↦ u | inr v ↦ elim v [ inl w ↦ absurd (no_flows flows p g l.1 w) | inr w ↦ absurd w ] ]) (adds_list found finds (annotation_says (ctx.resolve n.text) refl a));
+          env_fits = subst (EnvFits setting declared (declared_alone context table (ctx.resolve n.text)
+              (read_ann m ctx.bases a))) (sym l.2) (nf.grows env f);
+          found_is = adds_same found (found ++ finds) (λ g y. inl y)
+              (λ g y. elim y [
+                | inl u ↦ u
+                | inr v ↦ elim v [
+                  | inl w ↦ absurd (no_flows flows p g l.1 w)
+                  | inr w ↦
+                      absurd w
+                ]
+              ]) (adds_list found finds (annotation_says (ctx.resolve n.text) refl a));
         }
     annotated_says env f p a (Some e) labels flows after found l =
         let t = read_ann m ctx.bases a in
         let finds = annotation_finds context (bound_name context table (ctx.resolve n.text)) n a in
         let b = bind_value context table env (ctx.resolve n.text) (Some t) e (found ++ finds) in
-        let v = binding_says (ctx.resolve n.text) refl env f (annotation_at m ctx declared (is_first seen n) t) (Some t) (λ q. ap (λ b. annotation_at m ctx declared b t) q) (read_ann_well_formed m ctx.bases ck.smaller a) e labels flows after (found ++ finds) l in
+        let v = binding_says (ctx.resolve n.text) refl env f (annotation_at m ctx declared (is_first seen n) t) (Some t)
+        (λ q. ap (λ b. annotation_at m ctx declared b t) q) (read_ann_well_formed m ctx.bases ck.smaller a) e labels
+        flows after (found ++ finds) l in
         says_same seen n table found b after
         (λ g y. elim y [ inl u ↦ inl u | inr v ↦ elim v [ inl w ↦ inr (inr w) | inr w ↦ inr (inl w) ] ])
         (λ g y. elim y [ inl u ↦ inl u | inr v ↦ elim v [ inl w ↦ inr (inr w) | inr w ↦ inr (inl w) ] ])
-        (says_behind seen n table found (found ++ finds) b after (adds_list found finds (annotation_says (ctx.resolve n.text) refl a)) v)
+        (says_behind seen n table found (found ++ finds) b after (adds_list found finds
+        (annotation_says (ctx.resolve n.text) refl a)) v)

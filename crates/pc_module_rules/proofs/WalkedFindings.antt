@@ -33,15 +33,18 @@ pub lists_nothing : Lists [] (λ f. ⊥)
 lists_nothing f = (λ h. absurd (none_among f h), λ h. absurd h.0)
 
 -- the same list, of what comes to the same
-pub lists_same : {P Q : Finding → Type 0} (xs : List Note) → ((f : Finding) → P f → Q f) → ((f : Finding) → Q f → P f) → Lists xs P → Lists xs Q
+pub lists_same : {P Q : Finding → Type 0} (xs : List Note) → ((f : Finding) → P f → Q f) → ((f : Finding) → Q f → P f)
+    → Lists xs P → Lists xs Q
 lists_same xs to from h f = (λ c. let r = (h f).0 c in (to f r.0, r.1), λ q. (h f).1 (from f q.0, q.1))
 
 -- two lists, one after the other
-pub lists_both : {P Q : Finding → Type 0} (xs ys : List Note) → Lists xs P → Lists ys Q → Lists (xs ++ ys) (λ f. P f ⊎ Q f)
+pub lists_both : {P Q : Finding → Type 0} (xs ys : List Note) → Lists xs P → Lists ys Q
+    → Lists (xs ++ ys) (λ f. P f ⊎ Q f)
 lists_both {P = P} {Q = Q} xs ys h k f = (to, from)
   where
     to : Contains (findings_of (xs ++ ys)) f → (P f ⊎ Q f) × IsElsewhere f
-    to c = either (findings_of xs) (findings_of ys) f (subst (λ (l : List Finding). Contains l f) (joined xs ys) c) (λ a. let r = (h f).0 a in (inl r.0, r.1)) (λ b. let r = (k f).0 b in (inr r.0, r.1))
+    to c = either (findings_of xs) (findings_of ys) f (subst (λ (l : List Finding). Contains l f) (joined xs ys) c)
+        (λ a. let r = (h f).0 a in (inl r.0, r.1)) (λ b. let r = (k f).0 b in (inr r.0, r.1))
 
     from : (P f ⊎ Q f) × IsElsewhere f → Contains (findings_of (xs ++ ys)) f
     from q = subst (λ (l : List Finding). Contains l f) (sym (joined xs ys)) (elim q.0 [
@@ -52,7 +55,10 @@ lists_both {P = P} {Q = Q} xs ys h k f = (to, from)
 -- ---- what is found under labels
 
 pub lists_expression : (e : Expr) (m : Labels e) → Lists (notes_under e m) (Finds e m)
-lists_expression e m f = let h = findings_listed e m f in (λ c. let r = h.0 c in (r.stands, r.own), λ q. h.1 (record { stands = q.0; own = q.1 }))
+lists_expression e m f = let h = findings_listed e m f in (
+  λ c. let r = h.0 c in (r.stands, r.own),
+  λ q. h.1 (record { stands = q.0; own = q.1 }),
+)
 
 -- the codes of a label are those of a literal with this label
 pub lists_codes : (p : Place) (codes : List Code) → Lists (codes_at p codes) (IsFoundAt p codes)
@@ -71,16 +77,25 @@ module _ (p : Place) (flows : FlowLabels) where
   labels = record { here = clean Any; object = clean Any; key = clean Any; flows = flows }
 
   indexed_says : (f : Finding) → Finds indexed labels f → IsFlowAt p flows f
-  indexed_says f h = elim h [ inl a ↦ absurd (no_codes p f a) | inr b ↦ elim b [ inl c ↦ c | inr d ↦ elim d [ inl x ↦ absurd (no_codes p f x) | inr y ↦ absurd (no_codes p f y) ] ] ]
+  indexed_says f h = elim h [
+    | inl a ↦ absurd (no_codes p f a)
+    | inr b ↦
+        elim b [ inl c ↦ c | inr d ↦ elim d [ inl x ↦ absurd (no_codes p f x) | inr y ↦ absurd (no_codes p f y) ] ]
+  ]
 
   pub lists_flows : Lists (flows_at p flows) (IsFlowAt p flows)
-  lists_flows = lists_same (flows_at p flows) indexed_says (λ f h. inr (inl h)) (subst (λ xs. Lists xs (Finds indexed labels)) (append-nil (flows_at p flows)) (lists_expression indexed labels))
+  lists_flows = lists_same (flows_at p flows) indexed_says (λ f h. inr (inl h))
+      (subst (λ xs. Lists xs (Finds indexed labels)) (append-nil (flows_at p flows)) (lists_expression indexed labels))
 
 -- what is found in an annotation
-pub lists_annotation : (m : Module) (bases : Bases) (a : Ann) → Lists (map plain_note (ann_findings m bases a)) (AnnFinds m bases a)
+pub lists_annotation : (m : Module) (bases : Bases) (a : Ann) → Lists (map plain_note (ann_findings m bases a))
+    (AnnFinds m bases a)
 lists_annotation m bases a f =
-    subst (λ (l : List Finding). Contains l f ↔ (AnnFinds m bases a f × IsElsewhere f)) (sym (plain_findings (ann_findings m bases a)))
-    (λ c. let h = (all_listed m bases a f).0 c in (h, elsewhere (is_of_scopes f.code) refl h), λ q. (all_listed m bases a f).1 q.0)
+    subst (λ (l : List Finding). Contains l f ↔ (AnnFinds m bases a f × IsElsewhere f))
+    (sym (plain_findings (ann_findings m bases a))) (
+      λ c. let h = (all_listed m bases a f).0 c in (h, elsewhere (is_of_scopes f.code) refl h),
+      λ q. (all_listed m bases a f).1 q.0,
+    )
   where
     elsewhere : (b : Test) → is_of_scopes f.code ≡ b → AnnFinds m bases a f → b ≡ false
     elsewhere true e h = absurd (no_annotation m bases f e a h)
@@ -98,7 +113,8 @@ lists_one g own f = (to, λ q. subst (Contains (g ∷ [])) (sym q.0) (first_amon
 pub adds_nothing : (before : List Note) → Adds before before (λ f. ⊥)
 adds_nothing before f = (λ h. inl h, λ h. elim h [ inl a ↦ a | inr b ↦ absurd b.0 ])
 
-pub adds_same : {P Q : Finding → Type 0} (before after : List Note) → ((f : Finding) → P f → Q f) → ((f : Finding) → Q f → P f) → Adds before after P → Adds before after Q
+pub adds_same : {P Q : Finding → Type 0} (before after : List Note) → ((f : Finding) → P f → Q f)
+    → ((f : Finding) → Q f → P f) → Adds before after P → Adds before after Q
 adds_same before after to from h f = (
   λ c. elim ((h f).0 c) [ inl a ↦ inl a | inr b ↦ inr (to f b.0, b.1) ],
   λ q. (h f).1 (elim q [ inl a ↦ inl a | inr b ↦ inr (from f b.0, b.1) ]),
@@ -107,14 +123,25 @@ adds_same before after to from h f = (
 -- a list behind it
 pub adds_list : {P : Finding → Type 0} (before xs : List Note) → Lists xs P → Adds before (before ++ xs) P
 adds_list before xs h f = (
-  λ c. either (findings_of before) (findings_of xs) f (subst (λ (l : List Finding). Contains l f) (joined before xs) c) (λ a. inl a) (λ b. inr ((h f).0 b)),
-  λ q. subst (λ (l : List Finding). Contains l f) (sym (joined before xs)) (elim q [ inl a ↦ Contains-append_left (findings_of before) (findings_of xs) f a | inr b ↦ Contains-append_right (findings_of before) (findings_of xs) f ((h f).1 b) ]),
+  λ c. either (findings_of before) (findings_of xs) f (subst (λ (l : List Finding). Contains l f) (joined before xs) c)
+      (λ a. inl a) (λ b. inr ((h f).0 b)),
+  λ q. subst (λ (l : List Finding). Contains l f) (sym (joined before xs))
+      (elim q [
+        | inl a ↦ Contains-append_left (findings_of before) (findings_of xs) f a
+        | inr b ↦
+            Contains-append_right (findings_of before) (findings_of xs) f ((h f).1 b)
+      ]),
 )
 
 -- and more behind that
-pub adds_both : {P Q : Finding → Type 0} (before mid after : List Note) → Adds before mid P → Adds mid after Q → Adds before after (λ f. P f ⊎ Q f)
+pub adds_both : {P Q : Finding → Type 0} (before mid after : List Note) → Adds before mid P → Adds mid after Q
+    → Adds before after (λ f. P f ⊎ Q f)
 adds_both before mid after h k f = (
-  λ c. elim ((k f).0 c) [ inl a ↦ elim ((h f).0 a) [ inl x ↦ inl x | inr y ↦ inr (inl y.0, y.1) ] | inr b ↦ inr (inr b.0, b.1) ],
+  λ c. elim ((k f).0 c) [
+    | inl a ↦ elim ((h f).0 a) [ inl x ↦ inl x | inr y ↦ inr (inl y.0, y.1) ]
+    | inr b ↦
+        inr (inr b.0, b.1)
+  ],
   λ q. elim q [
     | inl a ↦ (k f).1 (inl ((h f).1 (inl a)))
     | inr b ↦ elim b.0 [ inl x ↦ (k f).1 (inl ((h f).1 (inr (x, b.1)))) | inr y ↦ (k f).1 (inr (y, b.1)) ]

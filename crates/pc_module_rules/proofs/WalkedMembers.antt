@@ -1,4 +1,5 @@
--- What is found of the signatures of functions and of the members of classes, and in the bodies of methods, is what lawful labels say of them.
+-- What is found of the signatures of functions and of the members of classes, and in the bodies of methods, is what
+-- lawful labels say of them.
 use Rattle.std.proofs.Common.{◌⊎◌, ℕ, suc, List, [], ◌∷◌, inl, inr}
 use Rattle.std.specs.Prelude.{codes}
 use Rattle.pc_tree.specs.declared.code.Finding.{Finding}
@@ -52,20 +53,26 @@ either_said s = elim s [
 module _ (m : Module) where
   -- ---- signatures
 
-  pub signature_listed : (before : List (List ℕ)) (f : FuncDef) (params : ParamsLabels f.params) → LawfulParams m before f.params params → Lists (def_findings m (λ t. is_one_of t before) f) (SignatureSays m f params)
-  signature_listed before f params l = lists_each (def_findings m (λ t. is_one_of t before) f) (λ g. def_listed m g before f params l)
+  pub signature_listed : (before : List (List ℕ)) (f : FuncDef) (params : ParamsLabels f.params)
+      → LawfulParams m before f.params params → Lists (def_findings m (λ t. is_one_of t before) f)
+      (SignatureSays m f params)
+  signature_listed before f params l = lists_each (def_findings m (λ t. is_one_of t before) f)
+      (λ g. def_listed m g before f params l)
 
   module _ (constants : List Tree) where
     -- what is said in the bodies of methods
     abbrev pub MethodsSay : (c number : ℕ) → (ms : List Member) → MembersLabels ms → Finding → Type 0
     MethodsSay c number [] labels g = ⊥
     MethodsSay c number (field_member d ∷ rest) labels g = MethodsSay c number rest labels.rest g
-    MethodsSay c number (method_member d ∷ rest) labels g = BodySays m constants (owners.Method c number) d labels.method g ⊎ MethodsSay c (suc number) rest labels.rest g
+    MethodsSay c number (method_member d ∷ rest) labels g = BodySays m constants (owners.Method c number) d
+        labels.method g ⊎ MethodsSay c (suc number) rest labels.rest g
 
     -- ---- lists
 
     -- what is found of members after these names
-    pub members_listed : (base : ClassFacts) (c number : ℕ) (before : List (List ℕ)) (ms : List Member) (labels : MembersLabels ms) → LawfulMembers m constants base c number before ms labels → Lists (members_findings m base (λ t. is_one_of t before) ms) (MembersSay m ms labels)
+    pub members_listed : (base : ClassFacts) (c number : ℕ) (before : List (List ℕ)) (ms : List Member)
+        (labels : MembersLabels ms) → LawfulMembers m constants base c number before ms labels
+        → Lists (members_findings m base (λ t. is_one_of t before) ms) (MembersSay m ms labels)
     members_listed base c number before [] labels l = lists_nothing
     members_listed base c number before (field_member d ∷ rest) labels l =
         let one = field_findings m base (λ t. is_one_of t before) d in
@@ -73,15 +80,18 @@ module _ (m : Module) where
         (lists_each one (λ g. field_listed m g base before d labels.default l.default))
         (members_listed base c number (d.name.text ∷ before) rest labels.rest l.others)
     members_listed base c number before (method_member d ∷ rest) labels l =
-        lists_both (def_findings m (λ t. is_one_of t (codes "self" ∷ [])) d) (members_findings m base (λ t. is_one_of t (d.name.text ∷ before)) rest)
+        lists_both (def_findings m (λ t. is_one_of t (codes "self" ∷ [])) d)
+        (members_findings m base (λ t. is_one_of t (d.name.text ∷ before)) rest)
         (signature_listed (codes "self" ∷ []) d labels.method.params l.method.params)
         (members_listed base c (suc number) (d.name.text ∷ before) rest labels.rest l.others)
 
     -- what the walks over the bodies of methods find
-    pub methods_say : AreWellFormed (bases_of m) constants → (base : ClassFacts) (c number : ℕ) (before : List (List ℕ)) (ms : List Member) (labels : MembersLabels ms) → LawfulMembers m constants base c number before ms labels
+    pub methods_say : AreWellFormed (bases_of m) constants → (base : ClassFacts) (c number : ℕ) (before : List (List ℕ))
+        (ms : List Member) (labels : MembersLabels ms) → LawfulMembers m constants base c number before ms labels
         → (found : List Note) → Adds found (methods_find m constants c number ms found) (MethodsSay c number ms labels)
     methods_say k base c number before [] labels l found = adds_nothing found
-    methods_say k base c number before (field_member d ∷ rest) labels l found = methods_say k base c number (d.name.text ∷ before) rest labels.rest l.others found
+    methods_say k base c number before (field_member d ∷ rest) labels l found = methods_say k base c number
+        (d.name.text ∷ before) rest labels.rest l.others found
     methods_say k base c number before (method_member d ∷ rest) labels l found =
         let one = function_finds m constants (owners.Method c number) d found in
         adds_both found one (methods_find m constants c (suc number) rest one)
@@ -90,13 +100,18 @@ module _ (m : Module) where
 
     -- ---- both of them are what is said
 
-    pub function_split : (owner : Owner) (f : FuncDef) (labels : FunctionLabels f) (g : Finding) → FunctionFinds m constants owner f labels g → SignatureSays m f labels.params g ⊎ BodySays m constants owner f labels g
+    pub function_split : (owner : Owner) (f : FuncDef) (labels : FunctionLabels f) (g : Finding)
+        → FunctionFinds m constants owner f labels g → SignatureSays m f labels.params g
+        ⊎ BodySays m constants owner f labels g
     function_split owner f labels g h = in_halves h
 
-    pub function_joined : (owner : Owner) (f : FuncDef) (labels : FunctionLabels f) (g : Finding) → SignatureSays m f labels.params g ⊎ BodySays m constants owner f labels g → FunctionFinds m constants owner f labels g
+    pub function_joined : (owner : Owner) (f : FuncDef) (labels : FunctionLabels f) (g : Finding)
+        → SignatureSays m f labels.params g ⊎ BodySays m constants owner f labels g
+        → FunctionFinds m constants owner f labels g
     function_joined owner f labels g h = from_halves h
 
-    pub members_split : (c number : ℕ) (ms : List Member) (labels : MembersLabels ms) (g : Finding) → MembersFind m constants c number ms labels g → MembersSay m ms labels g ⊎ MethodsSay c number ms labels g
+    pub members_split : (c number : ℕ) (ms : List Member) (labels : MembersLabels ms) (g : Finding)
+        → MembersFind m constants c number ms labels g → MembersSay m ms labels g ⊎ MethodsSay c number ms labels g
     members_split c number [] labels g h = absurd h
     members_split c number (field_member d ∷ rest) labels g h = elim h [
       | inl a ↦ inl (inl (inl a))
@@ -110,7 +125,8 @@ module _ (m : Module) where
       | inr r ↦ others_said (members_split c (suc number) rest labels.rest g r)
     ]
 
-    pub members_joined : (c number : ℕ) (ms : List Member) (labels : MembersLabels ms) (g : Finding) → MembersSay m ms labels g ⊎ MethodsSay c number ms labels g → MembersFind m constants c number ms labels g
+    pub members_joined : (c number : ℕ) (ms : List Member) (labels : MembersLabels ms) (g : Finding)
+        → MembersSay m ms labels g ⊎ MethodsSay c number ms labels g → MembersFind m constants c number ms labels g
     members_joined c number [] labels g h = elim h [ inl x ↦ x | inr y ↦ y ]
     members_joined c number (field_member d ∷ rest) labels g h = elim h [
       | inl t ↦ elim t [

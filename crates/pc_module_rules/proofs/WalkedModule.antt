@@ -12,12 +12,16 @@ use Rattle.pc_class.specs.Bases.{bases_of}
 use Rattle.pc_class.specs.Findings.{ClassFinds}
 use Rattle.pc_flow.specs.WellFormed.{AreWellFormed}
 use Rattle.pc_notes.specs.Notes.{Note, findings_of}
-use Rattle.pc_rules.specs.Computed.Signatures.{constants_of, signatures_find, nothing_reached, functions_findings, items_findings}
-use Rattle.pc_module_rules.specs.Modules.{Labelling, IsLawful, ItemsLabels, BeforeItem, nothing_before, before_next, constant_types, ItemsFind, LabelsSay, LabelsFind, IsFinding}
+use Rattle.pc_rules.specs.Computed.Signatures.{constants_of, signatures_find, nothing_reached, functions_findings}
+use Rattle.pc_rules.specs.Computed.Signatures.{items_findings}
+use Rattle.pc_module_rules.specs.Modules.{Labelling, IsLawful, ItemsLabels, BeforeItem, nothing_before, before_next}
+use Rattle.pc_module_rules.specs.Modules.{constant_types, ItemsFind, LabelsSay, LabelsFind, IsFinding}
 use Rattle.pc_module_rules.specs.SignaturesSaid.{FunctionsSay, ItemsSay, SignaturesSay}
 use Rattle.pc_module_rules.specs.Computed.Modules.{bodies_find, module_finds}
 use Rattle.pc_module_rules.specs.Laws.Walks.{Adds, Lists}
-use Rattle.pc_module_rules.specs.Laws.Modules.{ConstantsHaveTheTypesOfLabels, SignaturesFindWhatLabelsSay, ModulesFindWhatLabelsSay, ModulesFindWhatLabelsFind, FindingsOfModulesAreComputed}
+use Rattle.pc_module_rules.specs.Laws.Modules.{ConstantsHaveTheTypesOfLabels, SignaturesFindWhatLabelsSay}
+use Rattle.pc_module_rules.specs.Laws.Modules.{ModulesFindWhatLabelsSay, ModulesFindWhatLabelsFind}
+use Rattle.pc_module_rules.specs.Laws.Modules.{FindingsOfModulesAreComputed}
 use Rattle.pc_module_rules.proofs.LabelledModule.{every_module_has_a_labelling}
 use Rattle.pc_module_rules.proofs.WalkedFindings.{lists_both, adds_same, adds_list, adds_both}
 use Rattle.pc_module_rules.proofs.WalkedItems.{BodiesSay, ItemsWalked, functions_listed, items_walked, all_bodies_say}
@@ -50,9 +54,11 @@ either_part s = elim s [
 module _ (m : Module) (all : List Tree) (f : Finding) where
   -- what is said of items: of functions' signatures, of constants and classes, and in bodies
   abbrev InParts : BeforeItem → (items : List Item) → ItemsLabels items → Type 0
-  InParts b items labels = (FunctionsSay m items labels f ⊎ ItemsSay m items labels f) ⊎ BodiesSay m all b items labels f
+  InParts b items labels = (FunctionsSay m items labels f ⊎ ItemsSay m items labels f)
+      ⊎ BodiesSay m all b items labels f
 
-  items_split : (b : BeforeItem) (items : List Item) (labels : ItemsLabels items) → ItemsFind m all b items labels f → InParts b items labels
+  items_split : (b : BeforeItem) (items : List Item) (labels : ItemsLabels items) → ItemsFind m all b items labels f
+      → InParts b items labels
   items_split b [] labels h = absurd h
   items_split b (constant_item p c ∷ rest) labels h = elim h [
     | inl x ↦ inl (inr (inl (elim x [ inl a ↦ inl a | inr y ↦ inr (elim y [ inl fl ↦ inr fl | inr v ↦ inl v ]) ])))
@@ -62,15 +68,21 @@ module _ (m : Module) (all : List Tree) (f : Finding) where
     ]
   ]
   items_split b (class_item p c ∷ rest) labels h = elim h [
-    | inl x ↦ elim (members_split m all b.classes 0 c.members labels.first f x) [ inl y ↦ inl (inr (inl y)) | inr z ↦ inr (inl z) ]
+    | inl x ↦ elim (members_split m all b.classes 0 c.members labels.first f x) [
+      | inl y ↦ inl (inr (inl y))
+      | inr z ↦
+          inr (inl z)
+    ]
     | inr r ↦ other_part (items_split (before_next m b (class_item p c) labels.first) rest labels.rest r)
   ]
   items_split b (def_item p d ∷ rest) labels h = elim h [
-    | inl x ↦ elim (function_split m all (owners.Func b.functions) d labels.first f x) [ inl y ↦ inl (inl (inl y)) | inr z ↦ inr (inl z) ]
+    | inl x ↦ elim (function_split m all (owners.Func b.functions) d labels.first f x)
+        [ inl y ↦ inl (inl (inl y)) | inr z ↦ inr (inl z) ]
     | inr r ↦ other_part (items_split (before_next m b (def_item p d) labels.first) rest labels.rest r)
   ]
 
-  items_joined : (b : BeforeItem) (items : List Item) (labels : ItemsLabels items) → InParts b items labels → ItemsFind m all b items labels f
+  items_joined : (b : BeforeItem) (items : List Item) (labels : ItemsLabels items) → InParts b items labels
+      → ItemsFind m all b items labels f
   items_joined b [] labels h = elim h [ inl t ↦ elim t [ inl x ↦ x | inr y ↦ y ] | inr z ↦ z ]
   items_joined b (constant_item p c ∷ rest) labels h =
       let next = items_joined (before_next m b (constant_item p c) labels.first) rest labels.rest in
@@ -85,11 +97,13 @@ module _ (m : Module) (all : List Tree) (f : Finding) where
         | inr u ↦ inr (next (inr u))
       ]
   items_joined b (class_item p c ∷ rest) labels h = elim (either_part h) [
-    | inl x ↦ inl (members_joined m all b.classes 0 c.members labels.first f (elim x [ inl t ↦ elim t [ inl none ↦ absurd none | inr y ↦ inl y ] | inr z ↦ inr z ]))
+    | inl x ↦ inl (members_joined m all b.classes 0 c.members labels.first f
+        (elim x [ inl t ↦ elim t [ inl none ↦ absurd none | inr y ↦ inl y ] | inr z ↦ inr z ]))
     | inr r ↦ inr (items_joined (before_next m b (class_item p c) labels.first) rest labels.rest r)
   ]
   items_joined b (def_item p d ∷ rest) labels h = elim (either_part h) [
-    | inl x ↦ inl (function_joined m all (owners.Func b.functions) d labels.first f (elim x [ inl t ↦ elim t [ inl y ↦ inl y | inr none ↦ absurd none ] | inr z ↦ inr z ]))
+    | inl x ↦ inl (function_joined m all (owners.Func b.functions) d labels.first f
+        (elim x [ inl t ↦ elim t [ inl y ↦ inl y | inr none ↦ absurd none ] | inr z ↦ inr z ]))
     | inr r ↦ inr (items_joined (before_next m b (def_item p d) labels.first) rest labels.rest r)
   ]
 
@@ -100,7 +114,8 @@ module _ (m : Module) (labels : Labelling m) (l : IsLawful m labels) where
   all = constant_types m m.items labels
 
   walked : ItemsWalked m nothing_before m.items labels
-  walked = items_walked m all nothing_before tt m.items (λ i. ap (slice_get (classes_in m.items)) (omega arith)) labels l
+  walked = items_walked m all nothing_before tt m.items (λ i. ap (slice_get (classes_in m.items)) (omega arith)) labels
+      l
 
   constants_are : constants_of m ≡ all
   unfolding constants_of
@@ -108,7 +123,8 @@ module _ (m : Module) (labels : Labelling m) (l : IsLawful m labels) where
 
   signatures_listed : Lists (signatures_find m) (SignaturesSay m labels)
   unfolding signatures_find
-  signatures_listed = lists_both (functions_findings m m.items) (items_findings m nothing_reached m.items) (functions_listed m all nothing_before m.items labels l) walked.listed
+  signatures_listed = lists_both (functions_findings m m.items) (items_findings m nothing_reached m.items)
+      (functions_listed m all nothing_before m.items labels l) walked.listed
 
   module_adds : (found : List Note) → Adds found (module_finds m found) (LabelsSay m labels)
   unfolding module_finds
@@ -118,13 +134,18 @@ module _ (m : Module) (labels : Labelling m) (l : IsLawful m labels) where
       adds_same found (bodies_find m all 0 0 m.items signed)
       (λ f. items_joined m all f nothing_before m.items labels)
       (λ f. items_split m all f nothing_before m.items labels)
-      (adds_both found signed (bodies_find m all 0 0 m.items signed) (adds_list found (signatures_find m) signatures_listed)
+      (adds_both found signed (bodies_find m all 0 0 m.items signed)
+      (adds_list found (signatures_find m) signatures_listed)
       (all_bodies_say m all walked.well_formed nothing_before m.items labels l signed)) in
       subst (λ ts. Adds found (bodies_find m ts 0 0 m.items signed) (LabelsSay m labels)) (sym constants_are) adds
 
   module_found : (f : Finding) → Contains (findings_of (module_finds m [])) f ↔ LabelsFind m labels f
   module_found f = (
-    λ h. elim ((module_adds [] f).0 h) [ inl none ↦ absurd (none_among f none) | inr s ↦ record { own = s.1; said = s.0 } ],
+    λ h. elim ((module_adds [] f).0 h) [
+      | inl none ↦ absurd (none_among f none)
+      | inr s ↦
+          record { own = s.1; said = s.0 }
+    ],
     λ s. (module_adds [] f).1 (inr (s.said, s.own)),
   )
 
@@ -144,7 +165,8 @@ modules_find m labels l f = module_found m labels l f
 pub constants_well_formed : (m : Module) → AreWellFormed (bases_of m) (constants_of m)
 constants_well_formed m =
     let h = every_module_has_a_labelling m in
-    subst (AreWellFormed (bases_of m)) (sym (constants_are m h.labels h.lawful)) (walked m h.labels h.lawful).well_formed
+    subst (AreWellFormed (bases_of m)) (sym (constants_are m h.labels h.lawful))
+    (walked m h.labels h.lawful).well_formed
 
 -- the one lawful labelling of a module finds what is computed
 pub findings_computed : FindingsOfModulesAreComputed

@@ -1,4 +1,5 @@
--- A walk's table goes with declared types after each name that is bound, and what fits the table fits it when it has grown.
+-- A walk's table goes with declared types after each name that is bound, and what fits the table fits it when it has
+-- grown.
 use Rattle.std.proofs.Common.{◌≡◌, ◌<◌, ℕ, zero, suc, List, [], ◌∷◌, ◌++◌, refl, sym, ap, ◌∙◌, subst, inl, inr, arith}
 use Rattle.std.specs.Prelude.{Bool as Test, true, false, ◌||◌, not, Option, Some, None, bytes_eq, slice_set}
 use Rattle.std.proofs.lemmas.Bool.{or_cases, or_right}
@@ -19,20 +20,23 @@ use Rattle.pc_flow.specs.WellFormed.{AreWellFormed, IsWellFormedEnv}
 use Rattle.pc_flow.proofs.Conditions.{assign_well_formed}
 use Rattle.pc_module_rules.specs.Statements.{NamesBound, is_first, UndeclaredName, AreUndeclared}
 use Rattle.pc_module_rules.specs.Laws.Labellings.{Setting}
-use Rattle.pc_module_rules.specs.Computed.Statements.{Table, type_table, bound_type, with_declared, BodyContext, Walk, unreached_name, unreached_names, walk_suite}
+use Rattle.pc_module_rules.specs.Computed.Statements.{Table, type_table, bound_type, with_declared, BodyContext, Walk}
+use Rattle.pc_module_rules.specs.Computed.Statements.{unreached_name, unreached_names, walk_suite}
 use Rattle.pc_module_rules.specs.Laws.Walks.{TableFits, EnvFits, OutFits, body_context_in}
 use Rattle.pc_module_rules.proofs.BoundNames.{Within, within_both}
 use Rattle.pc_module_rules.proofs.OneStatement.{among_both}
 
 -- ---- types in a table
 
-pub types_well_formed : (bases : Bases) (table : Table) → IsWellFormedEnv bases table → AreWellFormed bases (type_table table)
+pub types_well_formed : (bases : Bases) (table : Table) → IsWellFormedEnv bases table
+    → AreWellFormed bases (type_table table)
 types_well_formed bases [] k = tt
 types_well_formed bases (None ∷ table) k = ((tt, tt, omega arith), types_well_formed bases table k.1)
 types_well_formed bases (Some t ∷ table) k = (k.0, types_well_formed bases table k.1)
 
 -- a local set to its declared type
-set_same : (declared : List Tree) (table : Table) (env : Env) (x : ℕ) (t : Tree) → declared_type declared x ≡ t → SameWhere declared (type_table table) env → SameWhere declared (type_table (slice_set table x (Some t))) env
+set_same : (declared : List Tree) (table : Table) (env : Env) (x : ℕ) (t : Tree) → declared_type declared x ≡ t
+    → SameWhere declared (type_table table) env → SameWhere declared (type_table (slice_set table x (Some t))) env
 set_same [] [] [] x t e h = tt
 set_same (d ∷ ds) (o ∷ os) (None ∷ env) zero t e h = (tt, h.1)
 set_same (d ∷ ds) (o ∷ os) (Some s ∷ env) zero t e h = (e, h.1)
@@ -62,12 +66,14 @@ module _ (setting : Setting) (declared : List Tree) where
   abbrev pub KeepsFits : Table → Table → Type 0
   KeepsFits table after = (env : Env) → EnvFits setting declared table env → EnvFits setting declared after env
 
-  pub out_grows : (table after : Table) (out : Option Env) → KeepsFits table after → OutFits setting declared table out → OutFits setting declared after out
+  pub out_grows : (table after : Table) (out : Option Env) → KeepsFits table after → OutFits setting declared table out
+      → OutFits setting declared after out
   out_grows table after None g h = tt
   out_grows table after (Some env) g h = g env h
 
   -- the same names bound so far
-  pub fits_on : (seen after : NamesBound) (table : Table) → Within after seen → Within seen after → TableHere seen table → TableHere after table
+  pub fits_on : (seen after : NamesBound) (table : Table) → Within after seen → Within seen after → TableHere seen table
+      → TableHere after table
   fits_on seen after table less more h = record {
     long = h.long;
     well_formed = h.well_formed;
@@ -80,8 +86,10 @@ module _ (setting : Setting) (declared : List Tree) where
       missing w n false e = refl
 
   -- names of two lists, one after the other
-  pub fits_both : (a b : List Name) (seen : NamesBound) (table : Table) → TableHere (texts b ++ (texts a ++ seen)) table → TableHere (texts (a ++ b) ++ seen) table
-  fits_both a b seen table h = fits_on (texts b ++ (texts a ++ seen)) (texts (a ++ b) ++ seen) table (λ w i. among_both w a b seen i) (λ w i. within_both a b seen w i) h
+  pub fits_both : (a b : List Name) (seen : NamesBound) (table : Table) → TableHere (texts b ++ (texts a ++ seen)) table
+      → TableHere (texts (a ++ b) ++ seen) table
+  fits_both a b seen table h = fits_on (texts b ++ (texts a ++ seen)) (texts (a ++ b) ++ seen) table
+      (λ w i. among_both w a b seen i) (λ w i. within_both a b seen w i) h
 
   -- ---- a name bound
 
@@ -91,25 +99,34 @@ module _ (setting : Setting) (declared : List Tree) where
     pub grows : (env : Env) → EnvFits setting declared table env → EnvFits setting declared after env
 
   -- a name bound again
-  again_fits : (seen : NamesBound) (word : List ℕ) (table : Table) → is_one_of word seen ≡ true → TableHere seen table → TableHere (word ∷ seen) table
-  again_fits seen word table a h = fits_on seen (word ∷ seen) table less (λ w i. or_right (bytes_eq w word) (is_one_of w seen) i) h
+  again_fits : (seen : NamesBound) (word : List ℕ) (table : Table) → is_one_of word seen ≡ true → TableHere seen table
+      → TableHere (word ∷ seen) table
+  again_fits seen word table a h = fits_on seen (word ∷ seen) table less
+      (λ w i. or_right (bytes_eq w word) (is_one_of w seen) i) h
     where
       less : Within (word ∷ seen) seen
-      less w i = elim (or_cases (bytes_eq w word) (is_one_of w seen) i) [ inl e ↦ subst (λ v. is_one_of v seen ≡ true) (sym ((bytes_eq-Decides w word).0 e)) a | inr k ↦ k ]
+      less w i = elim (or_cases (bytes_eq w word) (is_one_of w seen) i)
+          [ inl e ↦ subst (λ v. is_one_of v seen ≡ true) (sym ((bytes_eq-Decides w word).0 e)) a | inr k ↦ k ]
 
   -- a name that means no local
-  pub other_fits : (seen : NamesBound) (word : List ℕ) (table : Table) → ((x : ℕ) → ctx.resolve word ≡ res.Local x → ⊥) → TableHere seen table → NameFits seen word table table
+  pub other_fits : (seen : NamesBound) (word : List ℕ) (table : Table) → ((x : ℕ) → ctx.resolve word ≡ res.Local x → ⊥)
+      → TableHere seen table → NameFits seen word table table
   other_fits seen word table other h = record {
     fits = record {
       long = h.long;
       well_formed = h.well_formed;
-      bound = λ w x a r. elim (or_cases (bytes_eq w word) (is_one_of w seen) a) [ inl e ↦ absurd (other x (ap ctx.resolve (sym ((bytes_eq-Decides w word).0 e)) ∙ r)) | inr k ↦ h.bound w x k r ];
+      bound = λ w x a r. elim (or_cases (bytes_eq w word) (is_one_of w seen) a) [
+        | inl e ↦ absurd (other x (ap ctx.resolve (sym ((bytes_eq-Decides w word).0 e)) ∙ r))
+        | inr k ↦
+            h.bound w x k r
+      ];
       unbound = λ w x n r. h.unbound w x (or_none (bytes_eq w word) (is_one_of w seen) n).1 r;
     };
     grows = λ env k. k;
   }
 
-  module _ (seen : NamesBound) (word : List ℕ) (x : ℕ) (i : ctx.resolve word ≡ res.Local x) (table : Table) (h : TableFits setting declared seen table) where
+  module _ (seen : NamesBound) (word : List ℕ) (x : ℕ) (i : ctx.resolve word ≡ res.Local x) (table : Table)
+      (h : TableFits setting declared seen table) where
     -- another name means another local
     apart : (w : List ℕ) (y : ℕ) → ctx.resolve w ≡ res.Local y → bytes_eq w word ≡ false → y ≡ x → ⊥
     apart w y r e q =
@@ -117,7 +134,8 @@ module _ (setting : Setting) (declared : List Tree) where
         true_false ((bytes_eq-Decides w word).1 same) e
 
     -- a name bound first
-    first_fits : (t : Tree) → is_one_of word seen ≡ false → declared_type declared x ≡ t → IsWellFormed ctx.bases t → NameFits seen word table (slice_set table x (Some t))
+    first_fits : (t : Tree) → is_one_of word seen ≡ false → declared_type declared x ≡ t → IsWellFormed ctx.bases t
+        → NameFits seen word table (slice_set table x (Some t))
     first_fits t n d k = record {
       fits = record {
         long = length-set table x (Some t) ∙ h.long;
@@ -131,21 +149,28 @@ module _ (setting : Setting) (declared : List Tree) where
     }
       where
         here : bound_type (slice_set table x (Some t)) x ≡ Some (declared_type declared x)
-        here = get_or-set_same table x (Some t) None (subst (λ c. x < c) (sym h.long) (names.below word x i)) ∙ ap Some (sym d)
+        here = get_or-set_same table x (Some t) None (subst (λ c. x < c) (sym h.long) (names.below word x i))
+            ∙ ap Some (sym d)
 
-        is_bound : (w : List ℕ) (y : ℕ) (b : Test) → bytes_eq w word ≡ b → (bytes_eq w word || is_one_of w seen) ≡ true → ctx.resolve w ≡ res.Local y → bound_type (slice_set table x (Some t)) y ≡ Some (declared_type declared y)
+        is_bound : (w : List ℕ) (y : ℕ) (b : Test) → bytes_eq w word ≡ b → (bytes_eq w word || is_one_of w seen) ≡ true
+            → ctx.resolve w ≡ res.Local y → bound_type (slice_set table x (Some t)) y ≡ Some (declared_type declared y)
         is_bound w y true e a r =
             let q : x ≡ y = local_one (sym i ∙ ap ctx.resolve (sym ((bytes_eq-Decides w word).0 e)) ∙ r) in
             subst (λ z. bound_type (slice_set table x (Some t)) z ≡ Some (declared_type declared z)) q here
-        is_bound w y false e a r = get_or-set_other table x y (Some t) None (apart w y r e) ∙ h.bound w y (ap (λ b. b || is_one_of w seen) (sym e) ∙ a) r
+        is_bound w y false e a r = get_or-set_other table x y (Some t) None (apart w y r e)
+            ∙ h.bound w y (ap (λ b. b || is_one_of w seen) (sym e) ∙ a) r
 
     -- a name bound, first or again
-    pub name_fits : (t : Tree) → (is_one_of word seen ≡ false → declared_type declared x ≡ t) → IsWellFormed ctx.bases t → NameFits seen word table (with_declared (bound_type table x) table x t)
+    pub name_fits : (t : Tree) → (is_one_of word seen ≡ false → declared_type declared x ≡ t) → IsWellFormed ctx.bases t
+        → NameFits seen word table (with_declared (bound_type table x) table x t)
     name_fits t d k = go (is_one_of word seen) refl
       where
-        go : (b : Test) → is_one_of word seen ≡ b → NameFits seen word table (with_declared (bound_type table x) table x t)
-        go true e = subst (λ o. NameFits seen word table (with_declared o table x t)) (sym (h.bound word x e i)) (record { fits = again_fits seen word table e h; grows = λ env k. k })
-        go false e = subst (λ o. NameFits seen word table (with_declared o table x t)) (sym (h.unbound word x e i)) (first_fits t e (d e) k)
+        go : (b : Test) → is_one_of word seen ≡ b → NameFits seen word table
+            (with_declared (bound_type table x) table x t)
+        go true e = subst (λ o. NameFits seen word table (with_declared o table x t)) (sym (h.bound word x e i))
+            (record { fits = again_fits seen word table e h; grows = λ env k. k })
+        go false e = subst (λ o. NameFits seen word table (with_declared o table x t)) (sym (h.unbound word x e i))
+            (first_fits t e (d e) k)
 
   -- ---- names that no run binds
 
@@ -153,16 +178,24 @@ module _ (setting : Setting) (declared : List Tree) where
     abbrev context : BodyContext
     context = body_context_in setting returned
 
-    unreached_fits : (seen : NamesBound) (table : Table) → TableHere seen table → (n : Name) (r : Res) → ctx.resolve n.text ≡ r → UndeclaredName setting.whole ctx declared (is_first seen n) r → NameFits seen n.text table (unreached_name context table r)
-    unreached_fits seen table h n (res.Local x) i u = name_fits seen n.text x i table h Any (λ e. is_any (is_first seen n) (ap not e) u) (tt, tt, omega arith)
+    unreached_fits : (seen : NamesBound) (table : Table) → TableHere seen table → (n : Name) (r : Res)
+        → ctx.resolve n.text ≡ r → UndeclaredName setting.whole ctx declared (is_first seen n) r
+        → NameFits seen n.text table (unreached_name context table r)
+    unreached_fits seen table h n (res.Local x) i u = name_fits seen n.text x i table h Any
+        (λ e. is_any (is_first seen n) (ap not e) u) (tt, tt, omega arith)
       where
-        is_any : (b : Test) → b ≡ true → UndeclaredName setting.whole ctx declared b (res.Local x) → declared_type declared x ≡ Any
+        is_any : (b : Test) → b ≡ true → UndeclaredName setting.whole ctx declared b (res.Local x)
+            → declared_type declared x ≡ Any
         is_any true e u = u
         is_any false e u = absurd (grind (arith, e))
-    unreached_fits seen table h n (res.Const c) i u = other_fits seen n.text table (λ x j. absurd (grind (arith, i, j))) h
-    unreached_fits seen table h n (res.Func c) i u = other_fits seen n.text table (λ x j. absurd (grind (arith, i, j))) h
-    unreached_fits seen table h n (res.Class c) i u = other_fits seen n.text table (λ x j. absurd (grind (arith, i, j))) h
-    unreached_fits seen table h n (res.Builtin c) i u = other_fits seen n.text table (λ x j. absurd (grind (arith, i, j))) h
+    unreached_fits seen table h n (res.Const c) i u = other_fits seen n.text table (λ x j. absurd (grind (arith, i, j)))
+        h
+    unreached_fits seen table h n (res.Func c) i u = other_fits seen n.text table (λ x j. absurd (grind (arith, i, j)))
+        h
+    unreached_fits seen table h n (res.Class c) i u = other_fits seen n.text table (λ x j. absurd (grind (arith, i, j)))
+        h
+    unreached_fits seen table h n (res.Builtin c) i u = other_fits seen n.text table
+        (λ x j. absurd (grind (arith, i, j))) h
     unreached_fits seen table h n res.None i u = other_fits seen n.text table (λ x j. absurd (grind (arith, i, j))) h
 
     -- a table with several names more
@@ -170,15 +203,19 @@ module _ (setting : Setting) (declared : List Tree) where
       pub fits : TableFits setting declared after more
       pub grows : (env : Env) → EnvFits setting declared table env → EnvFits setting declared more env
 
-    pub all_unreached_fit : (seen : NamesBound) (table : Table) → TableHere seen table → (ns : List Name) → AreUndeclared setting.whole ctx declared seen ns → NamesFit (texts ns ++ seen) table (unreached_names context table ns)
+    pub all_unreached_fit : (seen : NamesBound) (table : Table) → TableHere seen table → (ns : List Name)
+        → AreUndeclared setting.whole ctx declared seen ns → NamesFit (texts ns ++ seen) table
+        (unreached_names context table ns)
     all_unreached_fit seen table h [] u = record { fits = h; grows = λ env k. k }
     all_unreached_fit seen table h (n ∷ ns) u =
         let first = unreached_fits seen table h n (ctx.resolve n.text) refl u.0 in
-        let rest = all_unreached_fit (n.text ∷ seen) (unreached_name context table (ctx.resolve n.text)) first.fits ns u.1 in
+        let rest = all_unreached_fit (n.text ∷ seen) (unreached_name context table (ctx.resolve n.text)) first.fits ns
+        u.1 in
         record { fits = fits_both (n ∷ []) ns seen _ rest.fits; grows = λ env k. rest.grows env (first.grows env k) }
 
     -- a walk over a suite that no run comes to
-    unreached_more : (table : Table) (a b : List Name) → unreached_names context (unreached_names context table a) b ≡ unreached_names context table (a ++ b)
+    unreached_more : (table : Table) (a b : List Name) → unreached_names context (unreached_names context table a) b
+        ≡ unreached_names context table (a ++ b)
     unreached_more table [] b = refl
     unreached_more table (n ∷ a) b = unreached_more (unreached_name context table (ctx.resolve n.text)) a b
 
@@ -189,5 +226,9 @@ module _ (setting : Setting) (declared : List Tree) where
     unreached_suite w e no_stmts = λ i. record { table = w.table; env = e i; broken = w.broken; found = w.found }
     unreached_suite w e (more_stmts s rest) =
         let none : Walk = record { table = w.table; env = None; broken = w.broken; found = w.found } in
-        let here : walk_suite context w (more_stmts s rest) ≡ walk_suite context none (more_stmts s rest) = ap (λ o. walk_suite context (record { table = w.table; env = o; broken = w.broken; found = w.found }) (more_stmts s rest)) e in
-        here ∙ unreached_suite (stopped w (bound_by_stmt s)) refl rest ∙ ap (λ t. record { table = t; env = None; broken = w.broken; found = w.found }) (unreached_more w.table (bound_by_stmt s) (bound_by rest))
+        let here : walk_suite context w (more_stmts s rest) ≡ walk_suite context none (more_stmts s rest) =
+        ap (λ o. walk_suite context (record { table = w.table; env = o; broken = w.broken; found = w.found })
+        (more_stmts s rest)) e in
+        here ∙ unreached_suite (stopped w (bound_by_stmt s)) refl rest
+        ∙ ap (λ t. record { table = t; env = None; broken = w.broken; found = w.found })
+        (unreached_more w.table (bound_by_stmt s) (bound_by rest))

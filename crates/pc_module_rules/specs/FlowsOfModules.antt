@@ -43,7 +43,8 @@ dynamic_in_function (def_item p f) labels = dynamic_in_params f.params labels.pa
 
 -- of a constant, in its initializer and of it, or at the defaults in a class; none where an item is a function
 abbrev pub dynamic_in_item : (i : Item) → ItemLabels i → List DynamicFlow
-dynamic_in_item (constant_item p c) labels = dynamic_in c.value labels.value ++ dynamic_at (place_of c.value) labels.flows
+dynamic_in_item (constant_item p c) labels = dynamic_in c.value labels.value ++ dynamic_at (place_of c.value)
+    labels.flows
 dynamic_in_item (class_item p c) labels = dynamic_in_members c.members labels
 dynamic_in_item (def_item p f) labels = []
 

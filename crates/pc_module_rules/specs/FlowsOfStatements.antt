@@ -8,7 +8,8 @@ use Rattle.pc_tree.specs.Tree.{continues, returns, asserts, annotated, assigns, 
 use Rattle.pc_tree.specs.Tree.{conditional, no_stmts, more_stmts, no_branches, more_branches}
 use Rattle.pc_scope.specs.Reach.{completes}
 use Rattle.pc_rules.specs.Labels.{FlowLabels}
-use Rattle.pc_module_rules.specs.StatementLabels.{OptionLabels, TargetLabels, StmtLabels, SuiteLabels, BranchesLabels, behind_list}
+use Rattle.pc_module_rules.specs.StatementLabels.{OptionLabels, TargetLabels, StmtLabels, SuiteLabels, BranchesLabels}
+use Rattle.pc_module_rules.specs.StatementLabels.{behind_list}
 use Rattle.pc_module_rules.specs.FlowsOfExpressions.{DynamicFlow, dynamic_at, dynamic_in}
 
 -- in an expression that may be missing

@@ -101,7 +101,8 @@ LawfulFunction m constants owner f labels = record {
 }
 
 -- in annotations, at defaults, in the body, and at the name
-abbrev pub FunctionFinds : Module → (constants : List Tree) → Owner → (f : FuncDef) → FunctionLabels f → Finding → Type 0
+abbrev pub FunctionFinds : Module → (constants : List Tree) → Owner → (f : FuncDef) → FunctionLabels f → Finding
+    → Type 0
 FunctionFinds m constants owner f labels g =
     ParamsFind m f.params labels.params g
     ⊎ (OptionAnnFinds m (bases_of m) f.returns g

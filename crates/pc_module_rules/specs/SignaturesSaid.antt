@@ -1,4 +1,5 @@
--- What labels say of a module outside its bodies: of the signatures of its functions and methods, of its fields and of its
+-- What labels say of a module outside its bodies: of the signatures of its functions and methods, of its fields and of
+-- its
 -- constants. Own rule of the profile.
 use Rattle.std.specs.Prelude.{◌⊎◌, List, [], ◌∷◌}
 use Rattle.pc_tree.specs.declared.code.Finding.{Finding}

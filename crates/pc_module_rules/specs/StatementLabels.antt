@@ -40,7 +40,11 @@ abbrev mutual
   StmtLabels (returns p value) = record { value : OptionLabels value; flows : FlowLabels }
   StmtLabels (asserts p condition message) = record { condition : Labels condition; message : OptionLabels message }
   StmtLabels (annotated p n annotation value) = record { value : OptionLabels value; flows : FlowLabels }
-  StmtLabels (assigns p target value) = record { value : Labels value; target : TargetLabels target; flows : FlowLabels }
+  StmtLabels (assigns p target value) = record {
+    value : Labels value;
+    target : TargetLabels target;
+    flows : FlowLabels;
+  }
   StmtLabels (evaluates p value) = Labels value
   StmtLabels (while_loop p c b) = record { head : Env; condition : Labels c; body : SuiteLabels b; out : Option Env }
   StmtLabels (for_loop p n e b) = record {

@@ -32,7 +32,8 @@ use Rattle.pc_rules.specs.Calls.{arguments_given, call_label, positional_seat, n
 use Rattle.pc_rules.specs.Calls.{range_item}
 use Rattle.pc_rules.specs.Labels.{FlowLabels, Labels, whole_label, type_of, with_label, Finds, IsFoundAt, IsFlowAt}
 use Rattle.pc_rules.specs.Lawful.{Lawful, LawfulItems, LawfulKeywords}
-use Rattle.pc_module_rules.specs.StatementLabels.{OptionLabels, TargetLabels, StmtLabels, SuiteLabels, BranchesLabels, BehindRule}
+use Rattle.pc_module_rules.specs.StatementLabels.{OptionLabels, TargetLabels, StmtLabels, SuiteLabels, BranchesLabels}
+use Rattle.pc_module_rules.specs.StatementLabels.{BehindRule}
 use Rattle.pc_module_rules.specs.StatementLabels.{breaks_in_suite, ways_in}
 
 -- the code of a single flow
@@ -196,7 +197,8 @@ module _ (m : Module) (ctx : Context) (declared : List Tree) where
   }
 
   -- an assignment is lawful, with the environment after it: a name is bound, any other target is stored to
-  abbrev pub LawfulAssignment : Env → NamesBound → (t : Target) → TargetLabels t → (e : Expr) → Labels e → FlowLabels → Env
+  abbrev pub LawfulAssignment : Env → NamesBound → (t : Target) → TargetLabels t → (e : Expr) → Labels e → FlowLabels
+      → Env
       → Type 0
   LawfulAssignment env seen (to_name n) target e labels flows after =
       LawfulBinding env seen n (ctx.resolve n.text) None e labels flows after

@@ -1,6 +1,7 @@
 //! The laws, each a function whose contract it is.
 
-ghost use Rattle.pc_module_rules.specs.Laws.Flows.{DynamicFlowsAreComputed, DynamicFlowsAreDynamic, DynamicFlowsAreFound};
+ghost use Rattle.pc_module_rules.specs.Laws.Flows.{DynamicFlowsAreComputed, DynamicFlowsAreDynamic};
+ghost use Rattle.pc_module_rules.specs.Laws.Flows.{DynamicFlowsAreFound};
 ghost use Rattle.pc_module_rules.specs.Laws.Flows.{DynamicFlowsAreUnique, DynamicFlowsAreWellFormed};
 
 /// The law that A1 is found at a place of a module exactly where a type flows dynamically there: where a flow under its

@@ -15,7 +15,8 @@ use Rattle.pc_class.specs.Tables.{ClassEntry, HasEntry, HasEntries, HasParameter
 use Rattle.pc_class.specs.declared.table.Parameter.{Parameter as RustParameter}
 use Rattle.pc_flow.specs.Environment.{join_all}
 use Rattle.pc_operations.specs.JudgedOperations.{item_at}
-use Rattle.pc_rules.specs.Operations.{Offer, suits, unsure, suits_not, negative_member, attribute_found, attribute_member, index_member, iterate_member, contain_member, length_member}
+use Rattle.pc_rules.specs.Operations.{Offer, suits, unsure, suits_not, negative_member, attribute_found}
+use Rattle.pc_rules.specs.Operations.{attribute_member, index_member, iterate_member, contain_member, length_member}
 
 -- a part of a type
 abbrev pub part_at : List Tree → ℕ → Tree
@@ -77,11 +78,13 @@ index_at bases literal heads.Dict ps = suits (part_at ps 1) (part_at ps 0 ∷ []
 index_at bases literal heads.Any ps = unsure A3 Any
 index_at bases literal _ ps = suits_not E16
 
-tuple_index : (bases : Bases) (literal : Option ℕ) (ts : Trees) → index_member bases literal (TupleOf ts) ≡ suits (item_at bases literal (list_of_trees ts)) (Int ∷ [])
+tuple_index : (bases : Bases) (literal : Option ℕ) (ts : Trees) → index_member bases literal (TupleOf ts)
+    ≡ suits (item_at bases literal (list_of_trees ts)) (Int ∷ [])
 tuple_index bases None ts = refl
 tuple_index bases (Some i) ts = refl
 
-pub index_is : (bases : Bases) (literal : Option ℕ) (t : Tree) → index_member bases literal t ≡ index_at bases literal (head_of t) (parts t)
+pub index_is : (bases : Bases) (literal : Option ℕ) (t : Tree) → index_member bases literal t ≡ index_at bases literal
+    (head_of t) (parts t)
 index_is bases literal (TupleOf ts) = tuple_index bases literal ts
 index_is bases literal _ = refl
 
@@ -90,12 +93,18 @@ class_head (Class d) c e = let h : d ≡ c = cc in ap Class h
 class_head _ c e = cc
 
 -- a method's name read on an instance
-pub method_read : (classes : List facts.ClassFacts) (name : List ℕ) (t : Tree) (c : ℕ) (m : Method) → heads.Class c ≡ head_of t → None ≡ field_by_name (class_facts_at classes c).fields name → Some m ≡ method_by_name (class_facts_at classes c).methods name → attribute_member classes name t ≡ suits_not E20
+pub method_read : (classes : List facts.ClassFacts) (name : List ℕ) (t : Tree) (c : ℕ) (m : Method)
+    → heads.Class c ≡ head_of t → None ≡ field_by_name (class_facts_at classes c).fields name
+    → Some m ≡ method_by_name (class_facts_at classes c).methods name → attribute_member classes name t ≡ suits_not E20
 method_read classes name t c m e f h =
-    ap (attribute_member classes name) (class_head t c e) ∙ ap (λ (o : Option TypedParameter). attribute_found o (method_by_name (class_facts_at classes c).methods name)) (sym f) ∙ ap (λ (o : Option Method). attribute_found None o) (sym h)
+    ap (attribute_member classes name) (class_head t c e) ∙ ap (λ (o : Option TypedParameter). attribute_found o
+    (method_by_name (class_facts_at classes c).methods name)) (sym f)
+    ∙ ap (λ (o : Option Method). attribute_found None o) (sym h)
 
 -- the store gave the type of a field of a table
-pub field_given : {Ty : Type 0} (has : Ty → Type 0) (es : List (ClassEntry Ty)) (p : RustParameter Ty) → HasEntries has es → IsField es p → has p.ty
-field_given has es p h f = All-contains (HasParameter has) f.class.fields p (All-contains (HasEntry has) es f.class h f.listed).fields f.among
+pub field_given : {Ty : Type 0} (has : Ty → Type 0) (es : List (ClassEntry Ty)) (p : RustParameter Ty)
+    → HasEntries has es → IsField es p → has p.ty
+field_given has es p h f = All-contains (HasParameter has) f.class.fields p
+    (All-contains (HasEntry has) es f.class h f.listed).fields f.among
 
 pub ruleset by_head = (negative_is, length_is, iterate_is, contain_is, index_is)

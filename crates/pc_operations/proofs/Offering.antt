@@ -1,5 +1,6 @@
 -- Loops over the members of a type and over what an operation comes to on them.
-use Rattle.std.proofs.Common.{◌≡◌, ◌+◌, ◌<◌, ◌≤◌, ◌∙◌, ℕ, List, [], ◌∷◌, ◌++◌, Option, Some, None, refl, sym, ap, append_assoc, length, get_or, drop}
+use Rattle.std.proofs.Common.{◌≡◌, ◌+◌, ◌<◌, ◌≤◌, ◌∙◌, ℕ, List, [], ◌∷◌, ◌++◌, Option, Some, None, refl, sym, ap}
+use Rattle.std.proofs.Common.{append_assoc, length, get_or, drop}
 use Rattle.std.specs.Prelude.{Bool as Test, true, false, ◌||◌, if◌then◌else◌, All, map, flat_map, option_to_list}
 use Rattle.std.specs.Option.{option_map}
 use Rattle.std.specs.List.{list_any}
@@ -38,7 +39,12 @@ module _ {Store Ty : Type 0} (has : Store → Ty → Type 0) (a b : Store) (k : 
   entry_kept : (e : ClassEntry Ty) → HasEntry (has a) e → HasEntry (has b) e
   entry_kept e h = record {
     fields = All-weaker (HasParameter (has a)) (HasParameter (has b)) (λ p. k p.ty) e.fields h.fields;
-    methods = All-weaker (HasMethod (has a)) (HasMethod (has b)) (λ m w. record { params = All-weaker (HasParameter (has a)) (HasParameter (has b)) (λ p. k p.ty) m.params.items w.params; ret = k m.ret w.ret }) e.methods h.methods;
+    methods = All-weaker (HasMethod (has a)) (HasMethod (has b))
+        (λ m w. record {
+          params = All-weaker (HasParameter (has a)) (HasParameter (has b)) (λ p. k p.ty) m.params.items
+              w.params;
+          ret = k m.ret w.ret;
+        }) e.methods h.methods;
   }
 
   -- the types of a table stay types of the store
@@ -47,7 +53,8 @@ module _ {Store Ty : Type 0} (has : Store → Ty → Type 0) (a b : Store) (k : 
 
 -- ---- the offers of so many members
 
-module _ {Store Ty : Type 0} (has : Store → Ty → Type 0) (tree : Ty → Tree) (on : Tree → Offer) (members : List Ty) where
+module _ {Store Ty : Type 0} (has : Store → Ty → Type 0) (tree : Ty → Tree) (on : Tree → Offer)
+    (members : List Ty) where
   pub record IsOffered (first store : Store) (i : ℕ) (offers : List (RustOffer Ty)) : Type 0 where
     pub kept : KeepsTypes has first store
     pub given : All (HasOffer (has store)) offers
@@ -56,19 +63,25 @@ module _ {Store Ty : Type 0} (has : Store → Ty → Type 0) (tree : Ty → Tree
   pub offered_none : (first : Store) → IsOffered first first 0 []
   offered_none first = record { kept = λ ty h. h; given = All-nil (HasOffer (has first)); so_far = refl }
 
-  pub offered_more : (first old new : Store) (i : ℕ) (offers : List (RustOffer Ty)) (m : Ty) (o : RustOffer Ty) → i < length members → m ≡ get_or members i m → KeepsTypes has old new → IsOffered first old i offers → IsOffer has tree new o (on (tree m)) → IsOffered first new (i + 1) (offers ++ o ∷ [])
+  pub offered_more : (first old new : Store) (i : ℕ) (offers : List (RustOffer Ty)) (m : Ty) (o : RustOffer Ty)
+      → i < length members → m ≡ get_or members i m → KeepsTypes has old new → IsOffered first old i offers
+      → IsOffer has tree new o (on (tree m)) → IsOffered first new (i + 1) (offers ++ o ∷ [])
   offered_more first old new i offers m o lt is k v h = record {
     kept = keeps_both has first old new v.kept k;
     given = All-push (HasOffer (has new)) offers o (offers_kept has old new k offers v.given) h.given;
-    so_far = rw (map_push (offer_with tree) offers o, append_assoc, h.is) (rw (mapped_rest tree members i m lt is) at v.so_far);
+    so_far = rw (map_push (offer_with tree) offers o, append_assoc, h.is)
+        (rw (mapped_rest tree members i m lt is) at v.so_far);
   }
 
-  pub offered_all : (first store : Store) (i : ℕ) (offers : List (RustOffer Ty)) → length members ≤ i → IsOffered first store i offers → map (offer_with tree) offers ≡ map on (map tree members)
-  offered_all first store i offers le v = sym (append-nil (map (offer_with tree) offers)) ∙ (rw (mapped_end tree members i le) at v.so_far)
+  pub offered_all : (first store : Store) (i : ℕ) (offers : List (RustOffer Ty)) → length members ≤ i
+      → IsOffered first store i offers → map (offer_with tree) offers ≡ map on (map tree members)
+  offered_all first store i offers le v = sym (append-nil (map (offer_with tree) offers))
+      ∙ (rw (mapped_end tree members i le) at v.so_far)
 
 -- ---- the label of so many offers
 
-module _ {Store Ty : Type 0} (has : Store → Ty → Type 0) (tree : Ty → Tree) (bases : Bases) (offers : List (RustOffer Ty)) where
+module _ {Store Ty : Type 0} (has : Store → Ty → Type 0) (tree : Ty → Tree) (bases : Bases)
+    (offers : List (RustOffer Ty)) where
   abbrev gives_of : List Offer → List Tree
   gives_of os = map (λ o. o.gives) os
 
@@ -76,43 +89,70 @@ module _ {Store Ty : Type 0} (has : Store → Ty → Type 0) (tree : Ty → Tree
     pub kept : KeepsTypes has first store
     pub offers_given : All (HasOffer (has store)) offers
     pub given : has store ty
-    pub codes_so_far : once_onto codes (found_of (drop i (map (offer_with tree) offers))) ≡ once (found_of (map (offer_with tree) offers))
-    pub type_so_far : join_onto bases (tree ty) (gives_of (drop i (map (offer_with tree) offers))) ≡ join_all bases (gives_of (map (offer_with tree) offers))
+    pub codes_so_far : once_onto codes (found_of (drop i (map (offer_with tree) offers)))
+        ≡ once (found_of (map (offer_with tree) offers))
+    pub type_so_far : join_onto bases (tree ty) (gives_of (drop i (map (offer_with tree) offers))) ≡ join_all bases
+        (gives_of (map (offer_with tree) offers))
 
-  pub joined_none : (store : Store) (codes : List Code) (ty : Ty) (first : Store) → codes ≡ [] → KeepsTypes has first store → All (HasOffer (has first)) offers → Means has tree store ty Never → IsJoined first store 0 codes ty
-  joined_none store codes ty first e k h m = record { kept = k; offers_given = offers_kept has first store k offers h; given = m.0; codes_so_far = rw e refl; type_so_far = rw m.1 refl }
+  pub joined_none : (store : Store) (codes : List Code) (ty : Ty) (first : Store) → codes ≡ []
+      → KeepsTypes has first store → All (HasOffer (has first)) offers → Means has tree store ty Never
+      → IsJoined first store 0 codes ty
+  joined_none store codes ty first e k h m = record {
+    kept = k;
+    offers_given = offers_kept has first store k offers h;
+    given = m.0;
+    codes_so_far = rw e refl;
+    type_so_far = rw m.1 refl;
+  }
 
-  pub joined_more : (first old new : Store) (i : ℕ) (codes more : List Code) (ty next : Ty) (o : RustOffer Ty) → i < length offers → o ≡ get_or offers i o → KeepsTypes has old new → IsJoined first old i codes ty → more ≡ once_onto codes (option_to_list o.found) → Means has tree new next (join_or_object bases (tree ty) (tree o.gives)) → IsJoined first new (i + 1) more next
+  pub joined_more : (first old new : Store) (i : ℕ) (codes more : List Code) (ty next : Ty) (o : RustOffer Ty)
+      → i < length offers → o ≡ get_or offers i o → KeepsTypes has old new → IsJoined first old i codes ty
+      → more ≡ once_onto codes (option_to_list o.found) → Means has tree new next
+      (join_or_object bases (tree ty) (tree o.gives)) → IsJoined first new (i + 1) more next
   joined_more first old new i codes more ty next o lt is k v e m =
       let step = mapped_rest (offer_with tree) offers i o lt is in
       record {
         kept = keeps_both has first old new v.kept k;
         offers_given = offers_kept has old new k offers v.offers_given;
         given = m.0;
-        codes_so_far = rw e (sym (onto_append codes (option_to_list o.found) (found_of (drop (i + 1) (map (offer_with tree) offers)))) ∙ (rw step at v.codes_so_far));
+        codes_so_far =
+            rw e
+            (sym (onto_append codes (option_to_list o.found) (found_of (drop (i + 1) (map (offer_with tree) offers))))
+            ∙ (rw step at v.codes_so_far));
         type_so_far = rw m.1 (rw step at v.type_so_far);
       }
 
-  pub joined_codes : (first store : Store) (i : ℕ) (codes : List Code) (ty : Ty) → length offers ≤ i → IsJoined first store i codes ty → codes ≡ once (found_of (map (offer_with tree) offers))
+  pub joined_codes : (first store : Store) (i : ℕ) (codes : List Code) (ty : Ty) → length offers ≤ i
+      → IsJoined first store i codes ty → codes ≡ once (found_of (map (offer_with tree) offers))
   joined_codes first store i codes ty le v = rw (mapped_end (offer_with tree) offers i le) at v.codes_so_far
 
-  pub joined_type : (first store : Store) (i : ℕ) (codes : List Code) (ty : Ty) → length offers ≤ i → IsJoined first store i codes ty → tree ty ≡ join_all bases (gives_of (map (offer_with tree) offers))
+  pub joined_type : (first store : Store) (i : ℕ) (codes : List Code) (ty : Ty) → length offers ≤ i
+      → IsJoined first store i codes ty → tree ty ≡ join_all bases (gives_of (map (offer_with tree) offers))
   joined_type first store i codes ty le v = rw (mapped_end (offer_with tree) offers i le) at v.type_so_far
 
   -- the type of the label, and whether there is an error, by the codes found
-  label_type : (t : Tree) (wrong : Test) → has_error (found_of (map (offer_with tree) offers)) ≡ wrong → t ≡ (if wrong then Any else join_all bases (gives_of (map (offer_with tree) offers))) → t ≡ (offers_label bases (map (offer_with tree) offers)).type
+  label_type : (t : Tree) (wrong : Test) → has_error (found_of (map (offer_with tree) offers)) ≡ wrong
+      → t ≡ (if wrong then Any else join_all bases (gives_of (map (offer_with tree) offers)))
+      → t ≡ (offers_label bases (map (offer_with tree) offers)).type
   label_type t wrong e h = rw e h
 
-  pub label_is : (store : Store) (l : RustLabel Ty) (wrong : Test) → has_error l.codes.items ≡ wrong → l.codes.items ≡ once (found_of (map (offer_with tree) offers)) → has store l.ty → tree l.ty ≡ (if wrong then Any else join_all bases (gives_of (map (offer_with tree) offers))) → MeansLabel has tree store l (offers_label bases (map (offer_with tree) offers))
+  pub label_is : (store : Store) (l : RustLabel Ty) (wrong : Test) → has_error l.codes.items ≡ wrong
+      → l.codes.items ≡ once (found_of (map (offer_with tree) offers)) → has store l.ty
+      → tree l.ty ≡ (if wrong then Any else join_all bases (gives_of (map (offer_with tree) offers)))
+      → MeansLabel has tree store l (offers_label bases (map (offer_with tree) offers))
   label_is store l wrong w e h t =
-      let found : has_error (found_of (map (offer_with tree) offers)) ≡ wrong = sym (once_error (found_of (map (offer_with tree) offers))) ∙ ap has_error (sym e) ∙ w in
+      let found : has_error (found_of (map (offer_with tree) offers)) ≡ wrong =
+      sym (once_error (found_of (map (offer_with tree) offers))) ∙ ap has_error (sym e) ∙ w in
       record { given = h; is = λ j. record { type = label_type (tree l.ty) wrong found t j; codes = e j } }
 
 -- ---- what operands flow into
 
-pub wrong_is : {Ty : Type 0} (tree : Ty → Tree) (offers : List (RustOffer Ty)) → list_any (λ (o : RustOffer Ty). has_error (option_to_list o.found)) offers ≡ has_error (found_of (map (offer_with tree) offers))
+pub wrong_is : {Ty : Type 0} (tree : Ty → Tree) (offers : List (RustOffer Ty))
+    → list_any (λ (o : RustOffer Ty). has_error (option_to_list o.found)) offers
+    ≡ has_error (found_of (map (offer_with tree) offers))
 wrong_is tree [] = refl
-wrong_is tree (o ∷ os) = ap (λ x. has_error (option_to_list o.found) || x) (wrong_is tree os) ∙ sym (list_any-append is_error (option_to_list o.found) (found_of (map (offer_with tree) os)))
+wrong_is tree (o ∷ os) = ap (λ x. has_error (option_to_list o.found) || x) (wrong_is tree os)
+    ∙ sym (list_any-append is_error (option_to_list o.found) (found_of (map (offer_with tree) os)))
 
 module _ {Ty : Type 0} (tree : Ty → Tree) (offers : List (RustOffer Ty)) where
   abbrev takes_of : List Offer → List Tree
@@ -120,15 +160,21 @@ module _ {Ty : Type 0} (tree : Ty → Tree) (offers : List (RustOffer Ty)) where
 
   -- so many offers' operands are among the types; these are to come
   abbrev pub IsTaken : ℕ → List Ty → Type 0
-  IsTaken i types = map tree types ++ takes_of (drop i (map (offer_with tree) offers)) ≡ takes_of (map (offer_with tree) offers)
+  IsTaken i types = map tree types ++ takes_of (drop i (map (offer_with tree) offers))
+      ≡ takes_of (map (offer_with tree) offers)
 
-  pub taken_more : (i : ℕ) (types more : List Ty) (o : RustOffer Ty) → i < length offers → o ≡ get_or offers i o → map tree more ≡ map tree types ++ option_to_list (option_map tree o.takes) → IsTaken i types → IsTaken (i + 1) more
+  pub taken_more : (i : ℕ) (types more : List Ty) (o : RustOffer Ty) → i < length offers → o ≡ get_or offers i o
+      → map tree more ≡ map tree types ++ option_to_list (option_map tree o.takes) → IsTaken i types
+      → IsTaken (i + 1) more
   taken_more i types more o lt is e v = rw (e, append_assoc) (rw (mapped_rest (offer_with tree) offers i o lt is) at v)
 
-  pub taken_all : (i : ℕ) (types : List Ty) → length offers ≤ i → has_error (found_of (map (offer_with tree) offers)) ≡ false → IsTaken i types → map tree types ≡ operand_types (map (offer_with tree) offers)
-  taken_all i types le e v = rw e (sym (append-nil (map tree types)) ∙ (rw (mapped_end (offer_with tree) offers i le) at v))
+  pub taken_all : (i : ℕ) (types : List Ty) → length offers ≤ i → has_error (found_of (map (offer_with tree) offers))
+      ≡ false → IsTaken i types → map tree types ≡ operand_types (map (offer_with tree) offers)
+  taken_all i types le e v = rw e (sym (append-nil (map tree types))
+      ∙ (rw (mapped_end (offer_with tree) offers i le) at v))
 
-  pub taken_none : has_error (found_of (map (offer_with tree) offers)) ≡ true → [] ≡ operand_types (map (offer_with tree) offers)
+  pub taken_none : has_error (found_of (map (offer_with tree) offers)) ≡ true
+      → [] ≡ operand_types (map (offer_with tree) offers)
   taken_none e = rw e refl
 
 -- one of the offers is in error, those before it are not
@@ -136,11 +182,14 @@ abbrev pub some_wrong : {Ty : Type 0} → List (RustOffer Ty) → Test
 some_wrong offers = list_any (λ o. has_error (option_to_list o.found)) offers
 
 module _ {Ty : Type 0} (offers : List (RustOffer Ty)) (i : ℕ) (o : RustOffer Ty) where
-  pub wrong_here : i < length offers → o ≡ get_or offers i o → has_error (option_to_list o.found) ≡ true → some_wrong (drop i offers) ≡ some_wrong offers → some_wrong offers ≡ true
+  pub wrong_here : i < length offers → o ≡ get_or offers i o → has_error (option_to_list o.found) ≡ true
+      → some_wrong (drop i offers) ≡ some_wrong offers → some_wrong offers ≡ true
   wrong_here lt is e v = sym v ∙ (rw (cons_at offers i o lt is, e) refl)
 
-  pub right_here : i < length offers → o ≡ get_or offers i o → has_error (option_to_list o.found) ≡ false → some_wrong (drop i offers) ≡ some_wrong offers → some_wrong (drop (i + 1) offers) ≡ some_wrong offers
+  pub right_here : i < length offers → o ≡ get_or offers i o → has_error (option_to_list o.found) ≡ false
+      → some_wrong (drop i offers) ≡ some_wrong offers → some_wrong (drop (i + 1) offers) ≡ some_wrong offers
   right_here lt is e v = rw (cons_at offers i o lt is, e) at v
 
-pub none_wrong : {Ty : Type 0} (offers : List (RustOffer Ty)) (i : ℕ) → length offers ≤ i → some_wrong (drop i offers) ≡ some_wrong offers → some_wrong offers ≡ false
+pub none_wrong : {Ty : Type 0} (offers : List (RustOffer Ty)) (i : ℕ) → length offers ≤ i → some_wrong (drop i offers)
+    ≡ some_wrong offers → some_wrong offers ≡ false
 none_wrong offers i le v = sym v ∙ (rw (drop_all i offers le) refl)

@@ -14,7 +14,8 @@ ghost use Rattle.pc_rules.specs.Context.{Context};
 ghost use Rattle.pc_rules.specs.Lawful.{list_item, dict_parts, tuple_parts, members_of_expected, list_label};
 ghost use Rattle.pc_rules.specs.Computed.Expressions.{dict_label};
 ghost use Rattle.pc_rules.specs.Computed.Standing.{HasIfAny, MeansLabel};
-ghost use Rattle.pc_operations.specs.Displays.{key_value_with, HasKeyValueIfAny, IsItem, IsListItem, IsDictParts, IsEntry};
+ghost use Rattle.pc_operations.specs.Displays.{key_value_with, HasKeyValueIfAny, IsItem, IsListItem, IsDictParts};
+ghost use Rattle.pc_operations.specs.Displays.{IsEntry};
 ghost use Rattle.pc_operations.specs.Displays.{is_tuple, own_dict_label};
 
 use crate::members::join_types;

@@ -10,7 +10,8 @@ ghost use Rattle.pc_types.specs.Store.{KeepsTypes};
 ghost use Rattle.pc_class.specs.Tables.{classes_with, HasEntries};
 ghost use Rattle.pc_flow.specs.Environment.{join_or_object};
 ghost use Rattle.pc_rules.specs.Computed.Checkers.{Finds, GoesOn, IsLabel};
-ghost use Rattle.pc_rules.specs.Operations.{Label as LabelOf, clean, offers_label, operand_types, negative_member, attribute_member};
+ghost use Rattle.pc_rules.specs.Operations.{Label as LabelOf, clean, offers_label, operand_types, negative_member};
+ghost use Rattle.pc_rules.specs.Operations.{attribute_member};
 ghost use Rattle.pc_rules.specs.Operations.{index_member};
 ghost use Rattle.pc_rules.specs.Lawful.{int_literal};
 ghost use Rattle.pc_rules.specs.Computed.Expressions.{flows_of};
@@ -76,7 +77,8 @@ pub fn label_negative<S: TypeStore>(
     requires classes { HasEntries (S.has store.old) setting.now.globals.now.classes.now }
     ensures value { IfOk result
         (λ l. MeansLabel S.has S.tree store.new l
-        (offers_label setting.now.globals.now.outline.now.parents.now (map negative_member (members (S.tree operand.now))))) }
+        (offers_label setting.now.globals.now.outline.now.parents.now
+        (map negative_member (members (S.tree operand.now))))) }
     ensures kept { KeepsTypes S.has store.old store.new }
 {
     let parents = setting.globals.outline.parents;
@@ -136,11 +138,13 @@ pub fn label_index<S: TypeStore>(
     ensures value { IfOk result
         (λ l. IsLabel S.TypeStore checker.new l
         (offers_label setting.now.globals.now.outline.now.parents.now
-        (map (index_member setting.now.globals.now.outline.now.parents.now (int_literal (expr_of key.now))) (members (S.tree object.now))))) }
+        (map (index_member setting.now.globals.now.outline.now.parents.now (int_literal (expr_of key.now)))
+        (members (S.tree object.now))))) }
     ensures found { (m : LabelOf) → label_with S.tree label.now ≡ brief m
         → OnOk result (Finds checker.old checker.new (flows_at (place_of (expr_of key.now))
         (flows_of setting.now.globals.now.outline.now.parents.now m
-        (operand_types (map (index_member setting.now.globals.now.outline.now.parents.now (int_literal (expr_of key.now)))
+        (operand_types (map (index_member setting.now.globals.now.outline.now.parents.now
+        (int_literal (expr_of key.now)))
         (members (S.tree object.now))))))) }
     ensures goes_on { GoesOn S.TypeStore checker.old checker.new }
 {

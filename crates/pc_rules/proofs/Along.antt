@@ -7,10 +7,13 @@ use Rattle.pc_rules.specs.Operations.{Label}
 use Rattle.pc_rules.specs.Computed.Standing.{MeansLabel}
 use Rattle.pc_rules.specs.declared.label.Label.{Label as RustLabel}
 
-pub labelled_by : {Store Ty E : Type 0} (has : Store → Ty → Type 0) (tree : Ty → Tree) (store : Store) (r : Result (RustLabel Ty) E) (m n : Label) → m ≡ n → IfOk r (λ l. MeansLabel has tree store l m) → IfOk r (λ l. MeansLabel has tree store l n)
+pub labelled_by : {Store Ty E : Type 0} (has : Store → Ty → Type 0) (tree : Ty → Tree) (store : Store)
+    (r : Result (RustLabel Ty) E) (m n : Label) → m ≡ n → IfOk r (λ l. MeansLabel has tree store l m)
+    → IfOk r (λ l. MeansLabel has tree store l n)
 labelled_by has tree store r m n e h = subst (λ (x : Label). IfOk r (λ l. MeansLabel has tree store l x)) e h
 
-pub pushed_by : {T E : Type 0} (r : Result T E) (new old more : List Note) → old ≡ more → OnOk r (new ≡ old) → OnOk r (new ≡ more)
+pub pushed_by : {T E : Type 0} (r : Result T E) (new old more : List Note) → old ≡ more → OnOk r (new ≡ old)
+    → OnOk r (new ≡ more)
 pushed_by r new old more e h = subst (λ (x : List Note). OnOk r (new ≡ x)) e h
 
 -- what holds anyway holds where there is a value

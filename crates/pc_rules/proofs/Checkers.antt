@@ -6,7 +6,8 @@ use Rattle.pc_rules.specs.declared.checker.Checker.{Checker}
 use Rattle.pc_rules.specs.Computed.Checkers.{GoesOn}
 
 -- two steps
-pub goes_further : {Store Ty : Type 0} {S : StoreOf Store Ty} {a b c : Checker Store Ty} → GoesOn S a b → GoesOn S b c → GoesOn S a c
+pub goes_further : {Store Ty : Type 0} {S : StoreOf Store Ty} {a b c : Checker Store Ty} → GoesOn S a b → GoesOn S b c
+    → GoesOn S a c
 goes_further f g = record {
   kept = λ ty h. g.kept ty (f.kept ty h);
   same_store = g.same_store ∙ f.same_store;

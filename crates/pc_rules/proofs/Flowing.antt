@@ -1,5 +1,7 @@
--- The flows of a label into several types: what is found of them, and that it is what is found of each label with the same codes.
-use Rattle.std.proofs.Common.{◌≡◌, ◌∙◌, ◌+◌, ◌<◌, ◌≤◌, ◌++◌, ℕ, List, [], ◌∷◌, refl, sym, ap, subst, length, get_or, drop, append_assoc, append-nil}
+-- The flows of a label into several types: what is found of them, and that it is what is found of each label with the
+-- same codes.
+use Rattle.std.proofs.Common.{◌≡◌, ◌∙◌, ◌+◌, ◌<◌, ◌≤◌, ◌++◌, ℕ, List, [], ◌∷◌, refl, sym, ap, subst, length, get_or}
+use Rattle.std.proofs.Common.{drop, append_assoc, append-nil}
 use Rattle.std.specs.Prelude.{map, Option, Some, None, Bool as Test, true, false}
 use Rattle.pc_source.specs.declared.place.Place.{Place}
 use Rattle.pc_tree.specs.declared.code.Code.{Code}
@@ -22,17 +24,21 @@ code_of bases early s t = code_unless (static_test bases) (assignable_test bases
 pub brief_flows : (bases : Bases) (m : Label) (ts : List Tree) → flows_of bases (brief m) ts ≡ flows_of bases m ts
 brief_flows bases m [] = refl
 brief_flows bases m (t ∷ ts) =
-    rw (brief_flows bases m ts) (ap (λ e. record { from = m.type; into = t; code = code_of bases e m.type t } ∷ flows_of bases m ts) (once_early m.codes))
+    rw (brief_flows bases m ts) (ap (λ e. record { from = m.type; into = t; code = code_of bases e m.type t }
+    ∷ flows_of bases m ts) (once_early m.codes))
 
-pub flows_alike : (bases : Bases) (p : Place) (l m : Label) (ts : List Tree) → l ≡ brief m → flows_at p (flows_of bases l ts) ≡ flows_at p (flows_of bases m ts)
-flows_alike bases p l m ts e = ap (λ (x : Label). flows_at p (flows_of bases x ts)) e ∙ ap (flows_at p) (brief_flows bases m ts)
+pub flows_alike : (bases : Bases) (p : Place) (l m : Label) (ts : List Tree) → l ≡ brief m
+    → flows_at p (flows_of bases l ts) ≡ flows_at p (flows_of bases m ts)
+flows_alike bases p l m ts e = ap (λ (x : Label). flows_at p (flows_of bases x ts)) e
+    ∙ ap (flows_at p) (brief_flows bases m ts)
 
 -- what is found of one flow
 pub one_flow : (p : Place) (s t : Tree) (o : Option Code) → flow_at p s t o ≡ flow_then p [] s t o (λ codes. [])
 one_flow p s t None = refl
 one_flow p s t (Some c) = sym (append-nil (own_flow p s t c))
 
-module _ {Ty : Type 0} (tree : Ty → Tree) (bases : Bases) (p : Place) (m : Label) (into : List Ty) (before : List Note) where
+module _ {Ty : Type 0} (tree : Ty → Tree) (bases : Bases) (p : Place) (m : Label) (into : List Ty)
+    (before : List Note) where
   -- what is found of flows into the types from this number on, after these codes
   abbrev pub to_come : ℕ → List Code → List Note
   to_come i codes = flows_behind p codes (flows_of bases m (drop i (map tree into)))
@@ -42,23 +48,34 @@ module _ {Ty : Type 0} (tree : Ty → Tree) (bases : Bases) (p : Place) (m : Lab
   IsFound i codes noted = noted ++ to_come i codes ≡ before ++ flows_at p (flows_of bases m (map tree into))
 
   -- what is found of the next flow, by its code, is what comes first
-  pub found_next : (i : ℕ) (codes : List Code) (noted : List Note) (ty : Ty) (o : Option Code) → i < length into → ty ≡ get_or into i ty → o ≡ code_of bases (is_early m.codes) m.type (tree ty) → IsFound i codes noted
-      → noted ++ flow_then p codes m.type (tree ty) o (to_come (i + 1)) ≡ before ++ flows_at p (flows_of bases m (map tree into))
+  pub found_next : (i : ℕ) (codes : List Code) (noted : List Note) (ty : Ty) (o : Option Code) → i < length into
+      → ty ≡ get_or into i ty → o ≡ code_of bases (is_early m.codes) m.type (tree ty) → IsFound i codes noted
+      → noted ++ flow_then p codes m.type (tree ty) o (to_come (i + 1)) ≡ before ++ flows_at p
+      (flows_of bases m (map tree into))
   found_next i codes noted ty o lt is e v = rw e (rw (mapped_rest tree into i ty lt is) at v)
 
   -- a flow without a code
-  pub found_none : (i : ℕ) (codes : List Code) (noted : List Note) (ty : Ty) (o : Option Code) → i < length into → ty ≡ get_or into i ty → o ≡ code_of bases (is_early m.codes) m.type (tree ty) → o ≡ None → IsFound i codes noted → IsFound (i + 1) codes noted
+  pub found_none : (i : ℕ) (codes : List Code) (noted : List Note) (ty : Ty) (o : Option Code) → i < length into
+      → ty ≡ get_or into i ty → o ≡ code_of bases (is_early m.codes) m.type (tree ty) → o ≡ None → IsFound i codes noted
+      → IsFound (i + 1) codes noted
   found_none i codes noted ty o lt is e n v = rw n at (found_next i codes noted ty o lt is e v)
 
   -- a flow whose code was found before
-  pub found_again : (i : ℕ) (codes : List Code) (noted : List Note) (ty : Ty) (o : Option Code) (c : Code) → i < length into → ty ≡ get_or into i ty → o ≡ code_of bases (is_early m.codes) m.type (tree ty) → o ≡ Some c → has_code codes c ≡ true → IsFound i codes noted → IsFound (i + 1) codes noted
+  pub found_again : (i : ℕ) (codes : List Code) (noted : List Note) (ty : Ty) (o : Option Code) (c : Code)
+      → i < length into → ty ≡ get_or into i ty → o ≡ code_of bases (is_early m.codes) m.type (tree ty) → o ≡ Some c
+      → has_code codes c ≡ true → IsFound i codes noted → IsFound (i + 1) codes noted
   found_again i codes noted ty o c lt is e s h v = rw (s, h) at (found_next i codes noted ty o lt is e v)
 
   -- a flow whose code is new
-  pub found_new : (i : ℕ) (codes : List Code) (noted : List Note) (ty : Ty) (o : Option Code) (c : Code) → i < length into → ty ≡ get_or into i ty → o ≡ code_of bases (is_early m.codes) m.type (tree ty) → o ≡ Some c → has_code codes c ≡ false → IsFound i codes noted → IsFound (i + 1) (codes ++ c ∷ []) (noted ++ own_flow p m.type (tree ty) c)
+  pub found_new : (i : ℕ) (codes : List Code) (noted : List Note) (ty : Ty) (o : Option Code) (c : Code)
+      → i < length into → ty ≡ get_or into i ty → o ≡ code_of bases (is_early m.codes) m.type (tree ty) → o ≡ Some c
+      → has_code codes c ≡ false → IsFound i codes noted → IsFound (i + 1) (codes ++ c ∷ [])
+      (noted ++ own_flow p m.type (tree ty) c)
   found_new i codes noted ty o c lt is e s h v =
-      append_assoc noted (own_flow p m.type (tree ty) c) (to_come (i + 1) (codes ++ c ∷ [])) ∙ (rw (s, h) at (found_next i codes noted ty o lt is e v))
+      append_assoc noted (own_flow p m.type (tree ty) c) (to_come (i + 1) (codes ++ c ∷ []))
+      ∙ (rw (s, h) at (found_next i codes noted ty o lt is e v))
 
   -- nothing is to come after the last type
-  pub found_all : (i : ℕ) (codes : List Code) (noted : List Note) → length into ≤ i → IsFound i codes noted → noted ≡ before ++ flows_at p (flows_of bases m (map tree into))
+  pub found_all : (i : ℕ) (codes : List Code) (noted : List Note) → length into ≤ i → IsFound i codes noted
+      → noted ≡ before ++ flows_at p (flows_of bases m (map tree into))
   found_all i codes noted le v = sym (append-nil noted) ∙ (rw (mapped_end tree into i le) at v)

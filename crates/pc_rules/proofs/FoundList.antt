@@ -1,22 +1,30 @@
 -- The list of an expression's findings has just what stands under its labels and is not found of scopes.
 use Rattle.std.proofs.Common.{◌≡◌, ◌⊎◌, ◌↔◌, List, [], ◌∷◌, ◌++◌, refl, sym, ap, ◌∙◌, subst, inl, inr, Contains}
-use Rattle.std.specs.Prelude.{Bool as Test, true, false, if◌then◌else◌, Option, Some, None, flat_map, map, option_to_list}
+use Rattle.std.specs.Prelude.{Bool as Test, true, false, if◌then◌else◌, Option, Some, None, flat_map, map}
+use Rattle.std.specs.Prelude.{option_to_list}
 use Rattle.std.proofs.lemmas.List.{map-append}
 use Rattle.std.proofs.lemmas.List.Elements.{Contains-append_left, Contains-append_right}
 use Rattle.pc_source.specs.declared.place.Place.{Place}
 use Rattle.pc_tree.specs.declared.code.Code.{Code}
 use Rattle.pc_tree.specs.declared.code.Finding.{Finding}
 use Rattle.pc_tree.specs.Code.{finding}
-use Rattle.pc_tree.specs.Tree.{Expr, Exprs, Entries, Keywords, name, number, text, truth, nothing, tuple, list, dict, negative, negation, binary, compare, is_none, is_not_none, conjunction, disjunction, attribute, index, call, no_exprs, more_exprs, no_entries, more_entries, no_keywords, more_keywords}
+use Rattle.pc_tree.specs.Tree.{Expr, Exprs, Entries, Keywords, name, number, text, truth, nothing, tuple, list, dict}
+use Rattle.pc_tree.specs.Tree.{negative, negation, binary, compare, is_none, is_not_none, conjunction, disjunction}
+use Rattle.pc_tree.specs.Tree.{attribute, index, call, no_exprs, more_exprs, no_entries, more_entries, no_keywords}
+use Rattle.pc_tree.specs.Tree.{more_keywords}
 use Rattle.pc_tree.specs.Depth.{place_of}
 use Rattle.pc_scope.specs.Expressions.{is_instance_test}
 use Rattle.pc_tree.proofs.Among.{none_among, first_among, later_among, among_first, either}
 use Rattle.pc_rules.specs.Operations.{FlowLabel}
-use Rattle.pc_rules.specs.Labels.{FlowLabels, Labels, ItemsLabels, EntriesLabels, KeywordsLabels, is_of_scopes, second_place, IsFoundAt, IsFlowAt, IsCodeAt, Finds, ItemsFind, ArgumentsFind, EntriesFind, KeywordsFind}
+use Rattle.pc_rules.specs.Labels.{FlowLabels, Labels, ItemsLabels, EntriesLabels, KeywordsLabels, is_of_scopes}
+use Rattle.pc_rules.specs.Labels.{second_place, IsFoundAt, IsFlowAt, IsCodeAt, Finds, ItemsFind, ArgumentsFind}
+use Rattle.pc_rules.specs.Labels.{EntriesFind, KeywordsFind}
 use Rattle.pc_notes.specs.Notes.{Note, plain_note, findings_of}
 use Rattle.pc_rules.specs.Computed.Findings.{once, IsOwn}
 use Rattle.pc_rules.specs.Computed.Findings as noted
-use Rattle.pc_rules.proofs.Forgotten.{own_at, codes_at, code_at, flow_codes, flows_at, found_in, found_in_items, found_in_arguments, found_in_entries, found_in_keywords, forget_inside, forget_flows}
+use Rattle.pc_rules.proofs.Forgotten.{own_at, codes_at, code_at, flow_codes, flows_at, found_in, found_in_items}
+use Rattle.pc_rules.proofs.Forgotten.{found_in_arguments, found_in_entries, found_in_keywords, forget_inside}
+use Rattle.pc_rules.proofs.Forgotten.{forget_flows}
 use Rattle.pc_rules.proofs.SameCodes.{once_has, once_from}
 
 -- ---- the findings of codes and of flows
@@ -40,34 +48,50 @@ own_listed p c f h =
     (r.0, ap (λ g. is_of_scopes g.code) r.0 ∙ r.1)
 
 own_lists : (p : Place) (c : Code) (f : Finding) → f ≡ finding p c → IsFoundElsewhere f → Contains (own_at p c) f
-own_lists p c f e own = subst (Contains (own_at p c)) (sym e) (lists_unless (is_of_scopes c) (finding p c) (sym (ap (λ g. is_of_scopes g.code) e) ∙ own))
+own_lists p c f e own = subst (Contains (own_at p c)) (sym e)
+    (lists_unless (is_of_scopes c) (finding p c) (sym (ap (λ g. is_of_scopes g.code) e) ∙ own))
 
-listed_codes : (p : Place) (cs : List Code) (f : Finding) → Contains (flat_map (own_at p) cs) f → IsFoundAt p cs f × IsFoundElsewhere f
+listed_codes : (p : Place) (cs : List Code) (f : Finding) → Contains (flat_map (own_at p) cs) f → IsFoundAt p cs f
+    × IsFoundElsewhere f
 listed_codes p [] f h = absurd (none_among f h)
 listed_codes p (c ∷ cs) f h = either (own_at p c) (flat_map (own_at p) cs) f h
     (λ a. let r = own_listed p c f a in (record { code = c; among = first_among c cs; is = r.0 }, r.1))
-    (λ b. let r = listed_codes p cs f b in (record { code = r.0.code; among = later_among c cs r.0.code r.0.among; is = r.0.is }, r.1))
+    (λ b. let r = listed_codes p cs f b in (
+      record {
+        code = r.0.code;
+        among = later_among c cs r.0.code r.0.among;
+        is =
+            r.0.is;
+      },
+      r.1,
+    ))
 
-lists_code : (p : Place) (cs : List Code) (c : Code) (f : Finding) → Contains cs c → f ≡ finding p c → IsFoundElsewhere f → Contains (flat_map (own_at p) cs) f
+lists_code : (p : Place) (cs : List Code) (c : Code) (f : Finding) → Contains cs c → f ≡ finding p c
+    → IsFoundElsewhere f → Contains (flat_map (own_at p) cs) f
 lists_code p [] c f h e own = absurd (none_among c h)
 lists_code p (d ∷ cs) c f h e own = elim (among_first d cs c h) [
-  | inl same ↦ Contains-append_left (own_at p d) (flat_map (own_at p) cs) f (own_lists p d f (e ∙ ap (finding p) (sym same)) own)
+  | inl same ↦ Contains-append_left (own_at p d) (flat_map (own_at p) cs) f
+      (own_lists p d f (e ∙ ap (finding p) (sym same)) own)
   | inr rest ↦ Contains-append_right (own_at p d) (flat_map (own_at p) cs) f (lists_code p cs c f rest e own)
 ]
 
-codes_listed : (p : Place) (cs : List Code) (f : Finding) → Contains (codes_at p cs) f → IsFoundAt p cs f × IsFoundElsewhere f
+codes_listed : (p : Place) (cs : List Code) (f : Finding) → Contains (codes_at p cs) f → IsFoundAt p cs f
+    × IsFoundElsewhere f
 codes_listed p cs f h =
     let r = listed_codes p (once cs) f h in
     (record { code = r.0.code; among = once_from cs r.0.code r.0.among; is = r.0.is }, r.1)
 
-codes_list : (p : Place) (cs : List Code) (f : Finding) → IsFoundAt p cs f → IsFoundElsewhere f → Contains (codes_at p cs) f
+codes_list : (p : Place) (cs : List Code) (f : Finding) → IsFoundAt p cs f → IsFoundElsewhere f
+    → Contains (codes_at p cs) f
 codes_list p cs f h own = lists_code p (once cs) h.code f (once_has cs h.code h.among) h.is own
 
-code_listed : (p : Place) (c : Option Code) (f : Finding) → Contains (code_at p c) f → IsCodeAt p c f × IsFoundElsewhere f
+code_listed : (p : Place) (c : Option Code) (f : Finding) → Contains (code_at p c) f → IsCodeAt p c f
+    × IsFoundElsewhere f
 code_listed p None f h = absurd (none_among f h)
 code_listed p (Some c) f h = own_listed p c f h
 
-code_lists : (p : Place) (c : Option Code) (f : Finding) → IsCodeAt p c f → IsFoundElsewhere f → Contains (code_at p c) f
+code_lists : (p : Place) (c : Option Code) (f : Finding) → IsCodeAt p c f → IsFoundElsewhere f
+    → Contains (code_at p c) f
 code_lists p None f h own = absurd h
 code_lists p (Some c) f h own = own_lists p c f h own
 
@@ -79,18 +103,29 @@ record HasFlow (fs : FlowLabels) (c : Code) : Type 0 where
 
 one_code : (g : FlowLabel) (c : Code) (o : Option Code) → g.code ≡ o → Contains (option_to_list o) c → g.code ≡ Some c
 one_code g c None e h = absurd (none_among c h)
-one_code g c (Some d) e h = elim (among_first d [] c h) [ inl s ↦ e ∙ ap (λ x. Some x) s | inr n ↦ absurd (none_among c n) ]
+one_code g c (Some d) e h = elim (among_first d [] c h) [
+  | inl s ↦ e ∙ ap (λ x. Some x) s
+  | inr n ↦
+      absurd (none_among c n)
+]
 
 flow_with : (fs : FlowLabels) (c : Code) → Contains (flow_codes fs) c → HasFlow fs c
 flow_with [] c h = absurd (none_among c h)
 flow_with (g ∷ gs) c h = either (option_to_list g.code) (flow_codes gs) c h
     (λ a. record { flow = g; among = first_among g gs; found = one_code g c g.code refl a })
-    (λ b. let r = flow_with gs c b in record { flow = r.flow; among = later_among g gs r.flow r.among; found = r.found })
+    (λ b. let r = flow_with gs c b in record {
+      flow = r.flow;
+      among = later_among g gs r.flow r.among;
+      found =
+          r.found;
+    })
 
 code_with : (fs : FlowLabels) (g : FlowLabel) (c : Code) → Contains fs g → g.code ≡ Some c → Contains (flow_codes fs) c
 code_with [] g c h e = absurd (none_among g h)
 code_with (d ∷ fs) g c h e = elim (among_first d fs g h) [
-  | inl same ↦ Contains-append_left (option_to_list d.code) (flow_codes fs) c (subst (λ (o : Option Code). Contains (option_to_list o) c) (sym (ap (λ (x : FlowLabel). x.code) same ∙ e)) (first_among c []))
+  | inl same ↦ Contains-append_left (option_to_list d.code) (flow_codes fs) c
+      (subst (λ (o : Option Code). Contains (option_to_list o) c) (sym (ap (λ (x : FlowLabel). x.code) same ∙ e))
+      (first_among c []))
   | inr rest ↦ Contains-append_right (option_to_list d.code) (flow_codes fs) c (code_with fs g c rest e)
 ]
 
@@ -113,10 +148,14 @@ pub same_listed : (f : Finding) (xs : List Finding) {P Q : Type 0} → (P → Q)
 same_listed f xs to from h = (λ c. let r = h.0 c in (to r.0, r.1), λ q own. h.1 (from q) own)
 
 -- one list after another has what either has
-pub in_turn : (f : Finding) (xs ys : List Finding) {P Q : Type 0} → Lists f xs P → Lists f ys Q → Lists f (xs ++ ys) (P ⊎ Q)
+pub in_turn : (f : Finding) (xs ys : List Finding) {P Q : Type 0} → Lists f xs P → Lists f ys Q
+    → Lists f (xs ++ ys) (P ⊎ Q)
 in_turn f xs ys h k = (
   λ c. either xs ys f c (λ a. let r = h.0 a in (inl r.0, r.1)) (λ b. let r = k.0 b in (inr r.0, r.1)),
-  λ s own. elim s [ inl p ↦ Contains-append_left xs ys f (h.1 p own) | inr q ↦ Contains-append_right xs ys f (k.1 q own) ],
+  λ s own. elim s [
+    | inl p ↦ Contains-append_left xs ys f (h.1 p own)
+    | inr q ↦ Contains-append_right xs ys f (k.1 q own)
+  ],
 )
 
 turned : {P Q : Type 0} → P ⊎ Q → Q ⊎ P
@@ -177,7 +216,8 @@ at_code : (f : Finding) (p : Place) (c : Option Code) → Lists f (code_at p c) 
 at_code f p c = (code_listed p c f, code_lists p c f)
 
 pub at_flows : (f : Finding) (p : Place) (fs : FlowLabels) → Lists f (flows_at p fs) (IsFlowAt p fs f)
-at_flows f p fs = same_listed f (flows_at p fs) (flow_of_code p fs f) (code_of_flow p fs f) (at_codes f p (flow_codes fs))
+at_flows f p fs = same_listed f (flows_at p fs) (flow_of_code p fs f) (code_of_flow p fs f)
+    (at_codes f p (flow_codes fs))
 
 pub nothing_listed : (f : Finding) → Lists f [] ⊥
 nothing_listed f = (λ h. absurd (none_among f h), λ h own. absurd h)
@@ -185,22 +225,29 @@ nothing_listed f = (λ h. absurd (none_among f h), λ h own. absurd h)
 -- ---- the forms of expressions
 
 -- parts, and then the codes of the whole
-over_parts : (f : Finding) (xs : List Finding) {P : Type 0} (p : Place) (cs : List Code) → Lists f xs P → Lists f (xs ++ codes_at p cs) (IsFoundAt p cs f ⊎ P)
-over_parts f xs p cs h = same_listed f (xs ++ codes_at p cs) turned turned (in_turn f xs (codes_at p cs) h (at_codes f p cs))
+over_parts : (f : Finding) (xs : List Finding) {P : Type 0} (p : Place) (cs : List Code) → Lists f xs P
+    → Lists f (xs ++ codes_at p cs) (IsFoundAt p cs f ⊎ P)
+over_parts f xs p cs h = same_listed f (xs ++ codes_at p cs) turned turned
+    (in_turn f xs (codes_at p cs) h (at_codes f p cs))
 
 -- two operands, and a flow of one of them
-over_flow : (f : Finding) (xs ys : List Finding) {P Q : Type 0} (q : Place) (fs : FlowLabels) → Lists f xs P → Lists f ys Q → Lists f (xs ++ (ys ++ flows_at q fs)) (IsFlowAt q fs f ⊎ (P ⊎ Q))
+over_flow : (f : Finding) (xs ys : List Finding) {P Q : Type 0} (q : Place) (fs : FlowLabels) → Lists f xs P
+    → Lists f ys Q → Lists f (xs ++ (ys ++ flows_at q fs)) (IsFlowAt q fs f ⊎ (P ⊎ Q))
 over_flow f xs ys q fs h k =
-    same_listed f (xs ++ (ys ++ flows_at q fs)) third_first first_third (in_turn f xs (ys ++ flows_at q fs) h (in_turn f ys (flows_at q fs) k (at_flows f q fs)))
+    same_listed f (xs ++ (ys ++ flows_at q fs)) third_first first_third
+    (in_turn f xs (ys ++ flows_at q fs) h (in_turn f ys (flows_at q fs) k (at_flows f q fs)))
 
 -- two operands, and then the codes of the whole
-over_operands : (f : Finding) (xs ys : List Finding) {P Q : Type 0} (p : Place) (cs : List Code) → Lists f xs P → Lists f ys Q → Lists f ((xs ++ ys) ++ codes_at p cs) (IsFoundAt p cs f ⊎ (P ⊎ Q))
+over_operands : (f : Finding) (xs ys : List Finding) {P Q : Type 0} (p : Place) (cs : List Code) → Lists f xs P
+    → Lists f ys Q → Lists f ((xs ++ ys) ++ codes_at p cs) (IsFoundAt p cs f ⊎ (P ⊎ Q))
 over_operands f xs ys p cs h k = over_parts f (xs ++ ys) p cs (in_turn f xs ys h k)
 
 -- an item with its flows, and then the others
-over_item : (f : Finding) (xs ys : List Finding) {P Q : Type 0} (p : Place) (fs : FlowLabels) → Lists f xs P → Lists f ys Q → Lists f (xs ++ (flows_at p fs ++ ys)) (IsFlowAt p fs f ⊎ (P ⊎ Q))
+over_item : (f : Finding) (xs ys : List Finding) {P Q : Type 0} (p : Place) (fs : FlowLabels) → Lists f xs P
+    → Lists f ys Q → Lists f (xs ++ (flows_at p fs ++ ys)) (IsFlowAt p fs f ⊎ (P ⊎ Q))
 over_item f xs ys p fs h k =
-    same_listed f (xs ++ (flows_at p fs ++ ys)) second_first second_first (in_turn f xs (flows_at p fs ++ ys) h (in_turn f (flows_at p fs) ys (at_flows f p fs) k))
+    same_listed f (xs ++ (flows_at p fs ++ ys)) second_first second_first
+    (in_turn f xs (flows_at p fs ++ ys) h (in_turn f (flows_at p fs) ys (at_flows f p fs) k))
 
 mutual
   in_expression : (f : Finding) (e : Expr) (m : Labels e) → Lists f (found_in e m) (Finds e m f)
@@ -211,23 +258,30 @@ mutual
   in_expression f (nothing p) m = at_codes f p m.codes
   in_expression f (tuple p es) m = over_parts f (found_in_items es m.items) p m.here.codes (in_items f es m.items)
   in_expression f (list p es) m = over_parts f (found_in_items es m.items) p m.here.codes (in_items f es m.items)
-  in_expression f (dict p es) m = over_parts f (found_in_entries es m.entries) p m.here.codes (in_entries f es m.entries)
+  in_expression f (dict p es) m = over_parts f (found_in_entries es m.entries) p m.here.codes
+      (in_entries f es m.entries)
   in_expression f (negative p e) m = over_parts f (found_in e m.operand) p m.here.codes (in_expression f e m.operand)
   in_expression f (negation p e) m = over_parts f (found_in e m.operand) p m.here.codes (in_expression f e m.operand)
-  in_expression f (binary p o l r) m = over_operands f (found_in l m.left) (found_in r m.right) p m.here.codes (in_expression f l m.left) (in_expression f r m.right)
+  in_expression f (binary p o l r) m = over_operands f (found_in l m.left) (found_in r m.right) p m.here.codes
+      (in_expression f l m.left) (in_expression f r m.right)
   in_expression f (compare p o l r) m =
       let xs = found_in l m.left in
       let ys = found_in r m.right in
-      over_parts f (xs ++ (ys ++ flows_at (place_of l) m.flows)) p m.here.codes (over_flow f xs ys (place_of l) m.flows (in_expression f l m.left) (in_expression f r m.right))
+      over_parts f (xs ++ (ys ++ flows_at (place_of l) m.flows)) p m.here.codes
+      (over_flow f xs ys (place_of l) m.flows (in_expression f l m.left) (in_expression f r m.right))
   in_expression f (is_none p e) m = over_parts f (found_in e m.operand) p m.here.codes (in_expression f e m.operand)
   in_expression f (is_not_none p e) m = over_parts f (found_in e m.operand) p m.here.codes (in_expression f e m.operand)
-  in_expression f (conjunction p l r) m = over_operands f (found_in l m.left) (found_in r m.right) p m.here.codes (in_expression f l m.left) (in_expression f r m.right)
-  in_expression f (disjunction p l r) m = over_operands f (found_in l m.left) (found_in r m.right) p m.here.codes (in_expression f l m.left) (in_expression f r m.right)
-  in_expression f (attribute p e field) m = over_parts f (found_in e m.object) p m.here.codes (in_expression f e m.object)
+  in_expression f (conjunction p l r) m = over_operands f (found_in l m.left) (found_in r m.right) p m.here.codes
+      (in_expression f l m.left) (in_expression f r m.right)
+  in_expression f (disjunction p l r) m = over_operands f (found_in l m.left) (found_in r m.right) p m.here.codes
+      (in_expression f l m.left) (in_expression f r m.right)
+  in_expression f (attribute p e field) m = over_parts f (found_in e m.object) p m.here.codes
+      (in_expression f e m.object)
   in_expression f (index p e i) m =
       let xs = found_in e m.object in
       let ys = found_in i m.key in
-      over_parts f (xs ++ (ys ++ flows_at (place_of i) m.flows)) p m.here.codes (over_flow f xs ys (place_of i) m.flows (in_expression f e m.object) (in_expression f i m.key))
+      over_parts f (xs ++ (ys ++ flows_at (place_of i) m.flows)) p m.here.codes
+      (over_flow f xs ys (place_of i) m.flows (in_expression f e m.object) (in_expression f i m.key))
   in_expression f (call p c args kws) m =
       let is_test = is_instance_test c args kws in
       let a = found_in_arguments is_test args m.arguments in
@@ -241,15 +295,19 @@ mutual
 
   in_items : (f : Finding) (es : Exprs) (m : ItemsLabels es) → Lists f (found_in_items es m) (ItemsFind es m f)
   in_items f no_exprs m = nothing_listed f
-  in_items f (more_exprs e rest) m = over_item f (found_in e m.first) (found_in_items rest m.rest) (place_of e) m.flows (in_expression f e m.first) (in_items f rest m.rest)
+  in_items f (more_exprs e rest) m = over_item f (found_in e m.first) (found_in_items rest m.rest) (place_of e) m.flows
+      (in_expression f e m.first) (in_items f rest m.rest)
 
-  in_arguments : (f : Finding) (is_test : Test) (es : Exprs) (m : ItemsLabels es) → Lists f (found_in_arguments is_test es m) (ArgumentsFind is_test es m f)
+  in_arguments : (f : Finding) (is_test : Test) (es : Exprs) (m : ItemsLabels es)
+      → Lists f (found_in_arguments is_test es m) (ArgumentsFind is_test es m f)
   in_arguments f is_test no_exprs m = nothing_listed f
   in_arguments f true (more_exprs e rest) m = in_expression f e m.first
   in_arguments f false (more_exprs e rest) m =
-      over_item f (found_in e m.first) (found_in_arguments false rest m.rest) (place_of e) m.flows (in_expression f e m.first) (in_arguments f false rest m.rest)
+      over_item f (found_in e m.first) (found_in_arguments false rest m.rest) (place_of e) m.flows
+      (in_expression f e m.first) (in_arguments f false rest m.rest)
 
-  in_entries : (f : Finding) (es : Entries) (m : EntriesLabels es) → Lists f (found_in_entries es m) (EntriesFind es m f)
+  in_entries : (f : Finding) (es : Entries) (m : EntriesLabels es)
+      → Lists f (found_in_entries es m) (EntriesFind es m f)
   in_entries f no_entries m = nothing_listed f
   in_entries f (more_entries key value rest) m =
       let k = found_in key m.key in
@@ -263,16 +321,20 @@ mutual
       (in_turn f v (y ++ r) (in_expression f value m.value)
       (in_turn f y r (at_flows f (place_of value) m.value_flows) (in_entries f rest m.rest)))))
 
-  in_keywords : (f : Finding) (es : Keywords) (m : KeywordsLabels es) → Lists f (found_in_keywords es m) (KeywordsFind es m f)
+  in_keywords : (f : Finding) (es : Keywords) (m : KeywordsLabels es)
+      → Lists f (found_in_keywords es m) (KeywordsFind es m f)
   in_keywords f no_keywords m = nothing_listed f
   in_keywords f (more_keywords parameter value rest) m =
-      over_item f (found_in value m.first) (found_in_keywords rest m.rest) (place_of value) m.flows (in_expression f value m.first) (in_keywords f rest m.rest)
+      over_item f (found_in value m.first) (found_in_keywords rest m.rest) (place_of value) m.flows
+      (in_expression f value m.first) (in_keywords f rest m.rest)
 
 -- the list has just what stands under the labels and is not found of scopes
-pub findings_listed : (e : Expr) (m : Labels e) (f : Finding) → Contains (findings_of (noted.notes_under e m)) f ↔ IsOwn e m f
+pub findings_listed : (e : Expr) (m : Labels e) (f : Finding) → Contains (findings_of (noted.notes_under e m)) f
+    ↔ IsOwn e m f
 findings_listed e m f =
     let h = in_expression f e m in
-    subst (λ (l : List Finding). Contains l f ↔ IsOwn e m f) (sym (forget_inside e m)) (λ c. let r = h.0 c in record { stands = r.0; own = r.1 }, λ o. h.1 o.stands o.own)
+    subst (λ (l : List Finding). Contains l f ↔ IsOwn e m f) (sym (forget_inside e m))
+    (λ c. let r = h.0 c in record { stands = r.0; own = r.1 }, λ o. h.1 o.stands o.own)
 
 -- ---- lists with the types of flows
 
@@ -288,13 +350,16 @@ pub noted_same : (f : Finding) (xs : List Note) {P Q : Type 0} → (P → Q) →
 noted_same f xs to from h = same_listed f (findings_of xs) to from h
 
 -- one list after another has what either has
-pub noted_in_turn : (f : Finding) (xs ys : List Note) {P Q : Type 0} → Noted f xs P → Noted f ys Q → Noted f (xs ++ ys) (P ⊎ Q)
+pub noted_in_turn : (f : Finding) (xs ys : List Note) {P Q : Type 0} → Noted f xs P → Noted f ys Q
+    → Noted f (xs ++ ys) (P ⊎ Q)
 noted_in_turn f xs ys {P} {Q} h k =
-    subst (λ (l : List Finding). Lists f l (P ⊎ Q)) (sym (map-append (λ (n : Note). n.finding) xs ys)) (in_turn f (findings_of xs) (findings_of ys) h k)
+    subst (λ (l : List Finding). Lists f l (P ⊎ Q)) (sym (map-append (λ (n : Note). n.finding) xs ys))
+    (in_turn f (findings_of xs) (findings_of ys) h k)
 
 -- the list of flows has the codes of flows
 pub noted_flows : (f : Finding) (p : Place) (flows : FlowLabels) → Noted f (noted.flows_at p flows) (IsFlowAt p flows f)
-noted_flows f p flows = subst (λ (l : List Finding). Lists f l (IsFlowAt p flows f)) (sym (forget_flows p flows)) (at_flows f p flows)
+noted_flows f p flows = subst (λ (l : List Finding). Lists f l (IsFlowAt p flows f)) (sym (forget_flows p flows))
+    (at_flows f p flows)
 
 pub plain_findings : (fs : List Finding) → findings_of (map plain_note fs) ≡ fs
 plain_findings [] = refl

@@ -1,4 +1,5 @@
--- The list of what is found of an initializer has just what stands under its lawful labels and of its flow, but for what is found of
+-- The list of what is found of an initializer has just what stands under its lawful labels and of its flow, but for
+-- what is found of
 -- scopes; and its type is that of those labels.
 use Rattle.std.proofs.Common.{◌≡◌, ◌⊎◌, List, [], ◌∷◌, ◌++◌, refl, sym, ap, ◌∙◌, subst}
 use Rattle.pc_tree.specs.declared.code.Finding.{Finding}
@@ -25,11 +26,13 @@ use Rattle.pc_rules.proofs.Contexts.{initializers_well_formed}
 use Rattle.pc_rules.proofs.FoundList.{Noted, noted_in_turn as in_turn, noted_flows as at_flows, findings_listed}
 use Rattle.pc_rules.proofs.One.{into_one, one_labelling}
 
-pub first_well_formed : (bases : Bases) (ts : List Tree) → AreWellFormed bases ts → IsWellFormedIfAny bases (first_of_types ts)
+pub first_well_formed : (bases : Bases) (ts : List Tree) → AreWellFormed bases ts
+    → IsWellFormedIfAny bases (first_of_types ts)
 first_well_formed bases [] k = tt
 first_well_formed bases (t ∷ ts) k = k.0
 
-module _ (m : Module) (r : ItemsReached) (known : AreWellFormed (bases_of m) r.constants) (into : List Tree) (wanted : AreWellFormed (bases_of m) into) (e : Expr) where
+module _ (m : Module) (r : ItemsReached) (known : AreWellFormed (bases_of m) r.constants) (into : List Tree)
+    (wanted : AreWellFormed (bases_of m) into) (e : Expr) where
   abbrev context : Context
   context = initializer_context m r.constants r.classes
 
@@ -40,7 +43,9 @@ module _ (m : Module) (r : ItemsReached) (known : AreWellFormed (bases_of m) r.c
   module _ (labels : Labels e) (lawful : Lawful context [] [] (first_of_types into) e labels) where
     is_computed : computed ≡ labels
     is_computed =
-        let h = labels_are_lawful context [] [] (first_of_types into) e (initializers_well_formed m r.constants r.classes known) tt tt (first_well_formed (bases_of m) into wanted) in
+        let h = labels_are_lawful context [] [] (first_of_types into) e
+        (initializers_well_formed m r.constants r.classes known) tt tt
+        (first_well_formed (bases_of m) into wanted) in
         one_labelling context [] [] refl (first_of_types into) e computed labels h.0 lawful
 
     pub initializer_label : label_in (initial m r.constants r.classes) (first_of_types into) e ≡ whole_label e labels
@@ -51,18 +56,31 @@ module _ (m : Module) (r : ItemsReached) (known : AreWellFormed (bases_of m) r.c
     unfolding finds_in
     initializer_found = ap (notes_under e) is_computed
 
-    flows_computed : (flows : FlowLabels) → FlowsInto (bases_of m) (whole_label e labels) into flows → flows_of (bases_of m) (label_in (initial m r.constants r.classes) (first_of_types into) e) into ≡ flows
+    flows_computed : (flows : FlowLabels) → FlowsInto (bases_of m) (whole_label e labels) into flows
+        → flows_of (bases_of m) (label_in (initial m r.constants r.classes) (first_of_types into) e) into ≡ flows
     flows_computed flows h =
-        let w = labels_are_lawful context [] [] (first_of_types into) e (initializers_well_formed m r.constants r.classes known) tt tt (first_well_formed (bases_of m) into wanted) in
-        let k = subst (λ (x : Labels e). FlowsInto (bases_of m) (whole_label e x) into (flows_of (bases_of m) (whole_label e x) into)) is_computed (flows_are_lawful (bases_of m) (whole_label e computed) into (smaller m) w.1 wanted) in
-        ap (λ (x : Label). flows_of (bases_of m) x into) initializer_label ∙ into_one (bases_of m) (whole_label e labels) into (flows_of (bases_of m) (whole_label e labels) into) flows k h
+        let w = labels_are_lawful context [] [] (first_of_types into) e
+        (initializers_well_formed m r.constants r.classes known) tt tt
+        (first_well_formed (bases_of m) into wanted) in
+        let k = subst (λ (x : Labels e). FlowsInto (bases_of m) (whole_label e x) into
+        (flows_of (bases_of m) (whole_label e x) into)) is_computed
+        (flows_are_lawful (bases_of m) (whole_label e computed) into (smaller m) w.1 wanted) in
+        ap (λ (x : Label). flows_of (bases_of m) x into) initializer_label
+        ∙ into_one (bases_of m) (whole_label e labels) into (flows_of (bases_of m) (whole_label e labels) into)
+        flows k h
 
     listed_own : (f : Finding) → Noted f (notes_under e labels) (Finds e labels f)
-    listed_own f = let l = findings_listed e labels f in (λ c. let o = l.0 c in (o.stands, o.own), λ s own. l.1 (record { stands = s; own = own }))
+    listed_own f = let l = findings_listed e labels f in (
+      λ c. let o = l.0 c in (o.stands, o.own),
+      λ s own. l.1 (record { stands = s; own = own }),
+    )
 
     -- what is found of an initializer, by its lawful labels and its lawful flow
-    pub value_listed : (flows : FlowLabels) → FlowsInto (bases_of m) (whole_label e labels) into flows → (f : Finding) → Noted f (value_findings m r into e) (Finds e labels f ⊎ IsFlowAt (place_of e) flows f)
+    pub value_listed : (flows : FlowLabels) → FlowsInto (bases_of m) (whole_label e labels) into flows → (f : Finding)
+        → Noted f (value_findings m r into e) (Finds e labels f ⊎ IsFlowAt (place_of e) flows f)
     value_listed flows h f =
         let p = place_of e in
-        let all : value_findings m r into e ≡ notes_under e labels ++ flows_at p flows = λ i. initializer_found i ++ flows_at p (flows_computed flows h i) in
-        subst (λ (l : List Note). Noted f l (Finds e labels f ⊎ IsFlowAt p flows f)) (sym all) (in_turn f (notes_under e labels) (flows_at p flows) (listed_own f) (at_flows f p flows))
+        let all : value_findings m r into e ≡ notes_under e labels ++ flows_at p flows = λ i. initializer_found i
+        ++ flows_at p (flows_computed flows h i) in
+        subst (λ (l : List Note). Noted f l (Finds e labels f ⊎ IsFlowAt p flows f)) (sym all)
+        (in_turn f (notes_under e labels) (flows_at p flows) (listed_own f) (at_flows f p flows))

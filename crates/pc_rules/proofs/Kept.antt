@@ -23,7 +23,11 @@ module _ {Ty : Type 0} (has later : Ty → Type 0) (k : (ty : Ty) → has ty →
   method_kept x h = record { params = params_kept x.params.items h.params; ret = k x.ret h.ret }
 
   entry_kept : (c : ClassEntry Ty) → HasEntry has c → HasEntry later c
-  entry_kept c h = record { fields = params_kept c.fields h.fields; methods = All-weaker (HasMethod has) (HasMethod later) method_kept c.methods h.methods }
+  entry_kept c h = record {
+    fields = params_kept c.fields h.fields;
+    methods =
+        All-weaker (HasMethod has) (HasMethod later) method_kept c.methods h.methods;
+  }
 
   pub entries_kept : (cs : List (ClassEntry Ty)) → HasEntries has cs → HasEntries later cs
   entries_kept cs h = All-weaker (HasEntry has) (HasEntry later) entry_kept cs h
@@ -50,7 +54,8 @@ module _ {Ty : Type 0} (has later : Ty → Type 0) (k : (ty : Ty) → has ty →
     pub stands_kept : HasGivenAll has tree s env → HasGivenAll later tree s env
     stands_kept h = record {
       classes = entries_kept s.globals.now.classes.now h.classes;
-      functions = All-weaker (HasSignature has) (HasSignature later) signature_kept s.globals.now.functions.now h.functions;
+      functions = All-weaker (HasSignature has) (HasSignature later) signature_kept s.globals.now.functions.now
+          h.functions;
       constants = types_kept s.globals.now.constants.now h.constants;
       declared = locals_kept s.declared.now h.declared;
       env = locals_kept env h.env;
@@ -59,10 +64,12 @@ module _ {Ty : Type 0} (has later : Ty → Type 0) (k : (ty : Ty) → has ty →
     }
 
     -- with another environment, whose types are given and well-formed
-    pub stands_after : HasGivenAll has tree s env → (after : List (Option Ty)) → HasEach later after → IsWellFormedEnv s.globals.now.outline.now.parents.now (env_of tree after) → HasGivenAll later tree s after
+    pub stands_after : HasGivenAll has tree s env → (after : List (Option Ty)) → HasEach later after
+        → IsWellFormedEnv s.globals.now.outline.now.parents.now (env_of tree after) → HasGivenAll later tree s after
     stands_after h after given well_formed = record {
       classes = entries_kept s.globals.now.classes.now h.classes;
-      functions = All-weaker (HasSignature has) (HasSignature later) signature_kept s.globals.now.functions.now h.functions;
+      functions = All-weaker (HasSignature has) (HasSignature later) signature_kept s.globals.now.functions.now
+          h.functions;
       constants = types_kept s.globals.now.constants.now h.constants;
       declared = locals_kept s.declared.now h.declared;
       env = given;
@@ -71,7 +78,9 @@ module _ {Ty : Type 0} (has later : Ty → Type 0) (k : (ty : Ty) → has ty →
     }
 
 -- the same, for tactics: what stood first, then that it is kept
-pub stands_further : {Ty : Type 0} {has later : Ty → Type 0} {tree : Ty → Tree} {s : Setting Ty} {env : List (Option Ty)} → HasGivenAll has tree s env → ((ty : Ty) → has ty → later ty) → HasGivenAll later tree s env
+pub stands_further : {Ty : Type 0} {has later : Ty → Type 0} {tree : Ty → Tree} {s : Setting Ty}
+    {env : List (Option Ty)} → HasGivenAll has tree s env → ((ty : Ty) → has ty → later ty)
+    → HasGivenAll later tree s env
 stands_further {has = has} {later = later} {tree = tree} {s = s} {env = env} h k = stands_kept has later k tree s env h
 
 module _ {Store Ty : Type 0} (has : Store → Ty → Type 0) where
@@ -80,5 +89,6 @@ module _ {Store Ty : Type 0} (has : Store → Ty → Type 0) where
 
 module _ {Store Ty : Type 0} (has : Store → Ty → Type 0) (tree : Ty → Tree) where
   -- a label stays given
-  pub label_kept : (a b : Store) → KeepsTypes has a b → (l : RustLabel Ty) (m : Label) → MeansLabel has tree a l m → MeansLabel has tree b l m
+  pub label_kept : (a b : Store) → KeepsTypes has a b → (l : RustLabel Ty) (m : Label) → MeansLabel has tree a l m
+      → MeansLabel has tree b l m
   label_kept a b k l m h = record { given = k l.ty h.given; is = h.is }

@@ -7,7 +7,8 @@ use Rattle.pc_tree.specs.Tree.{Exprs, name, no_exprs, more_exprs, no_keywords}
 use Rattle.pc_types.specs.Tree.{Tree, Any, Object}
 use Rattle.pc_types.specs.Shape.{members}
 use Rattle.pc_flow.specs.Narrowing.{as_local, test_named}
-use Rattle.pc_rules.specs.Calls.{GivenArguments, arguments_given, name_callee, is_object_or_any, any_list_codes, test_codes, test_label}
+use Rattle.pc_rules.specs.Calls.{GivenArguments, arguments_given, name_callee, is_object_or_any, any_list_codes}
+use Rattle.pc_rules.specs.Calls.{test_codes, test_label}
 use Rattle.pc_rules.specs.Labels.{item_types}
 use Rattle.pc_rules.specs.Lawful.{whole_call_label}
 use Rattle.pc_rules.specs.Laws.ListTests.{HasAnyOrObject, ListTestsAreDynamicPlaces}
@@ -17,7 +18,8 @@ second_true : (a b : Test) → b ≡ true → (a || b) ≡ true
 second_true true b e = refl
 second_true false b e = e
 
-one_passes : (t : Tree) → is_object_or_any t ≡ true → (ts : List Tree) → Contains ts t → list_any is_object_or_any ts ≡ true
+one_passes : (t : Tree) → is_object_or_any t ≡ true → (ts : List Tree) → Contains ts t → list_any is_object_or_any ts
+    ≡ true
 one_passes t passes [] among = absurd (none_among t among)
 one_passes t passes (s ∷ ts) among = elim (among_first s ts t among) [
   | inl same ↦ ap (λ b. b || list_any is_object_or_any ts) (ap is_object_or_any same ∙ passes)
@@ -25,11 +27,20 @@ one_passes t passes (s ∷ ts) among = elim (among_first s ts t among) [
 ]
 
 has_one : (t : Tree) → HasAnyOrObject t → list_any is_object_or_any (members t) ≡ true
-has_one t wide = elim wide [ inl any ↦ one_passes Any refl (members t) any | inr object ↦ one_passes Object refl (members t) object ]
+has_one t wide = elim wide [
+  | inl any ↦ one_passes Any refl (members t) any
+  | inr object ↦
+      one_passes Object refl (members t) object
+]
 
 pub list_tests_are_dynamic : ListTestsAreDynamicPlaces
 list_tests_are_dynamic ctx declared env want p callee first second labels x t test now wide law =
-    inl (record { code = A7; among = subst (λ label. Contains label.codes A7) (sym (law.here ∙ by_meaning)) listed; is = refl })
+    inl (record {
+      code = A7;
+      among = subst (λ label. Contains label.codes A7) (sym (law.here ∙ by_meaning)) listed;
+      is =
+          refl;
+    })
   where
     arguments : Exprs
     arguments = more_exprs (name first) (more_exprs (name second) no_exprs)
@@ -37,8 +48,11 @@ list_tests_are_dynamic ctx declared env want p callee first second labels x t te
     given : GivenArguments
     given = arguments_given arguments no_keywords
 
-    by_meaning : whole_call_label ctx env (name_callee ctx env given (ctx.resolve callee.text)).rule (name_callee ctx env given (ctx.resolve callee.text)).offers arguments (item_types arguments labels.arguments) ≡ test_label ctx env arguments
-    by_meaning = ap (λ r. whole_call_label ctx env (name_callee ctx env given r).rule (name_callee ctx env given r).offers arguments (item_types arguments labels.arguments)) test.instance
+    by_meaning : whole_call_label ctx env (name_callee ctx env given (ctx.resolve callee.text)).rule
+        (name_callee ctx env given (ctx.resolve callee.text)).offers arguments (item_types arguments labels.arguments)
+        ≡ test_label ctx env arguments
+    by_meaning = ap (λ r. whole_call_label ctx env (name_callee ctx env given r).rule
+        (name_callee ctx env given r).offers arguments (item_types arguments labels.arguments)) test.instance
 
     listed : Contains (test_codes env (as_local (ctx.resolve first.text)) (test_named (ctx.resolve second.text))) A7
     listed =

@@ -15,11 +15,13 @@ use Rattle.pc_flow.proofs.Conditions.{current_well_formed}
 use Rattle.pc_rules.proofs.WellFormed.{any_well_formed, at_well_formed}
 use Rattle.pc_rules.specs.Laws.WellFormed.{ContextWellFormed}
 
-local_well_formed : (bases : Bases) (t : Option Tree) → IsWellFormedIfAny bases t → IsWellFormed bases (local_label t).type
+local_well_formed : (bases : Bases) (t : Option Tree) → IsWellFormedIfAny bases t
+    → IsWellFormed bases (local_label t).type
 local_well_formed bases None h = any_well_formed bases
 local_well_formed bases (Some t) h = h
 
-constant_well_formed : (bases : Bases) (t : Option Tree) → IsWellFormedIfAny bases t → IsWellFormed bases (constant_label t).type
+constant_well_formed : (bases : Bases) (t : Option Tree) → IsWellFormedIfAny bases t
+    → IsWellFormed bases (constant_label t).type
 constant_well_formed bases None h = any_well_formed bases
 constant_well_formed bases (Some t) h = h
 
@@ -27,9 +29,12 @@ early_well_formed : (bases : Bases) (b : Test) → IsWellFormed bases (if b then
 early_well_formed bases true = any_well_formed bases
 early_well_formed bases false = any_well_formed bases
 
-pub name_well_formed : (ctx : Context) → ContextWellFormed ctx → (env : Env) → IsWellFormedEnv ctx.bases env → (r : Res) → IsWellFormed ctx.bases (name_label ctx env r).type
-name_well_formed ctx k env h (res.Local x) = local_well_formed ctx.bases (current env x) (current_well_formed ctx.bases env x h)
-name_well_formed ctx k env h (res.Const i) = constant_well_formed ctx.bases (slice_get ctx.constants i) (at_well_formed ctx.bases ctx.constants i k.constants)
+pub name_well_formed : (ctx : Context) → ContextWellFormed ctx → (env : Env) → IsWellFormedEnv ctx.bases env → (r : Res)
+    → IsWellFormed ctx.bases (name_label ctx env r).type
+name_well_formed ctx k env h (res.Local x) = local_well_formed ctx.bases (current env x)
+    (current_well_formed ctx.bases env x h)
+name_well_formed ctx k env h (res.Const i) = constant_well_formed ctx.bases (slice_get ctx.constants i)
+    (at_well_formed ctx.bases ctx.constants i k.constants)
 name_well_formed ctx k env h (res.Func i) = early_well_formed ctx.bases ctx.in_body
 name_well_formed ctx k env h (res.Class c) = early_well_formed ctx.bases (nat_lt c ctx.known)
 name_well_formed ctx k env h (res.Builtin b) = any_well_formed ctx.bases

@@ -1,6 +1,7 @@
 -- What is found in the parts of an expression has nothing of the expression's own label.
 use Rattle.std.proofs.Common.{◌≡◌, refl}
-use Rattle.pc_tree.specs.Tree.{Expr, name, number, text, truth, nothing, tuple, list, dict, negative, negation, binary, compare, is_none, is_not_none, conjunction, disjunction, attribute, index, call}
+use Rattle.pc_tree.specs.Tree.{Expr, name, number, text, truth, nothing, tuple, list, dict, negative, negation, binary}
+use Rattle.pc_tree.specs.Tree.{compare, is_none, is_not_none, conjunction, disjunction, attribute, index, call}
 use Rattle.pc_rules.specs.Operations.{Label}
 use Rattle.pc_rules.specs.Labels.{Labels, with_label}
 use Rattle.pc_rules.specs.Computed.Findings.{found_in_parts}

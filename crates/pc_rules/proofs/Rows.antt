@@ -3,11 +3,13 @@ use Rattle.std.proofs.Common.{◌≡◌, ℕ, List, [], ◌∷◌, refl}
 use Rattle.std.specs.Prelude.{true, false, Option, Some, None, codes}
 use Rattle.pc_tree.specs.declared.tree.BinaryOperator.TheVariants.{Add, Sub}
 use Rattle.pc_tree.specs.declared.code.Code.TheVariants.{A2, A6, E13, E14, E16, E17}
-use Rattle.pc_types.specs.Tree.{Any, Object, Never, Int, Bool, Str, NoneType, Class, ListOf, DictOf, TupleOf, Union, end, more}
+use Rattle.pc_types.specs.Tree.{Any, Object, Never, Int, Bool, Str, NoneType, Class, ListOf, DictOf, TupleOf, Union}
+use Rattle.pc_types.specs.Tree.{end, more}
 use Rattle.pc_types.specs.Shape.{members}
 use Rattle.pc_flow.specs.Environment.{join_or_object, join_all, assigned_type, loop_head}
 use Rattle.pc_flow.specs.Narrowing.{for_none, for_type, for_list, type_where_true, type_where_false}
-use Rattle.pc_rules.specs.Operations.{clean, in_error, offers_label, index_member, binary_label, order_label, operand_types, store_index_member, store_codes, stored_types, found_of}
+use Rattle.pc_rules.specs.Operations.{clean, in_error, offers_label, index_member, binary_label, order_label}
+use Rattle.pc_rules.specs.Operations.{operand_types, store_index_member, store_codes, stored_types, found_of}
 use Rattle.pc_rules.specs.Context.{Signature}
 use Rattle.pc_rules.specs.Calls.{is_suited, value_offers, call_label, builtin_signature}
 use Rattle.std.specs.Prelude.{map}
@@ -50,13 +52,16 @@ object_suits_nothing = refl
 
 -- ---- items
 
-item_at_literal : offers_label bases (map (index_member bases (Some 1)) (members (TupleOf (more Int (more Str end))))) ≡ clean Str
+item_at_literal : offers_label bases (map (index_member bases (Some 1)) (members (TupleOf (more Int (more Str end)))))
+    ≡ clean Str
 item_at_literal = refl
 
-item_past_the_end : offers_label bases (map (index_member bases (Some 2)) (members (TupleOf (more Int (more Str end))))) ≡ clean (Union Int Str)
+item_past_the_end : offers_label bases (map (index_member bases (Some 2)) (members (TupleOf (more Int (more Str end)))))
+    ≡ clean (Union Int Str)
 item_past_the_end = refl
 
-item_of_either : offers_label bases (map (index_member bases None) (members (Union Str (ListOf Int)))) ≡ clean (Union Int Str)
+item_of_either : offers_label bases (map (index_member bases None) (members (Union Str (ListOf Int))))
+    ≡ clean (Union Int Str)
 item_of_either = refl
 
 item_of_none : found_of (map (index_member bases None) (members (Union NoneType (ListOf Int)))) ≡ E16 ∷ []
@@ -68,7 +73,8 @@ no_flow_in_error = refl
 store_into_text : store_codes (map store_index_member (members (Union Str (ListOf Int)))) ≡ E17 ∷ []
 store_into_text = refl
 
-stored_in_either : stored_types (map store_index_member (members (Union (ListOf Int) (DictOf Str Bool)))) ≡ Int ∷ Bool ∷ []
+stored_in_either : stored_types (map store_index_member (members (Union (ListOf Int) (DictOf Str Bool)))) ≡ Int ∷ Bool
+    ∷ []
 stored_in_either = refl
 
 -- ---- joins
@@ -119,13 +125,19 @@ union_keeps_what_is_assigned = refl
 single_keeps_the_declared : assigned_type Int Bool None ≡ Int
 single_keeps_the_declared = refl
 
-bound_in_the_body : loop_head (λ x. true) (Union Int NoneType ∷ Int ∷ []) (Some Int ∷ None ∷ []) ≡ Some (Union Int NoneType) ∷ None ∷ []
+bound_in_the_body : loop_head (λ x. true) (Union Int NoneType ∷ Int ∷ []) (Some Int ∷ None ∷ [])
+    ≡ Some (Union Int NoneType) ∷ None ∷ []
 bound_in_the_body = refl
 
 -- ---- calls of `def f(a: int, b: int = 2)`
 
 abbrev f : Signature
-f = record { parameters = record { name = codes "a"; type = Int; has_default = false } ∷ record { name = codes "b"; type = Int; has_default = true } ∷ []; returns = Int; takes_names = true }
+f = record {
+  parameters = record { name = codes "a"; type = Int; has_default = false }
+      ∷ record { name = codes "b"; type = Int; has_default = true } ∷ [];
+  returns = Int;
+  takes_names = true;
+}
 
 by_names : is_suited (record { positional = 0; named = codes "b" ∷ codes "a" ∷ [] }) f ≡ true
 by_names = refl
@@ -145,7 +157,8 @@ too_many = refl
 no_such_name : is_suited (record { positional = 1; named = codes "c" ∷ [] }) f ≡ false
 no_such_name = refl
 
-no_names_for_built_in : is_suited (record { positional = 0; named = codes "" ∷ [] }) (builtin_signature (Int ∷ []) NoneType) ≡ false
+no_names_for_built_in : is_suited (record { positional = 0; named = codes "" ∷ [] })
+    (builtin_signature (Int ∷ []) NoneType) ≡ false
 no_names_for_built_in = refl
 
 any_called : call_label bases (value_offers Any) ≡ record { type = Any; codes = A6 ∷ [] }

@@ -4,7 +4,10 @@ use Rattle.std.specs.Prelude.{Bool as Test, true, false, ◌||◌, if◌then◌e
 use Rattle.std.proofs.lemmas.Slice.Eq.{bytes_eq-Decides}
 use Rattle.std.proofs.lemmas.List.Elements.{Contains-append_left, Contains-append_right}
 use Rattle.pc_tree.specs.declared.code.Code.{Code}
-use Rattle.pc_tree.specs.declared.code.Code.TheVariants.{A1, A2, A3, A4, A5, A6, A7, A8, E01, E02, E03, E04, E05, E06, E07, E08, E09, E10, E11, E12, E13, E14, E15, E16, E17, E18, E19, E20, E21, E22, E23, E24, E25, E26, E27, E28, E29, E30, E31}
+use Rattle.pc_tree.specs.declared.code.Code.TheVariants.{A1, A2, A3, A4, A5, A6, A7, A8, E01, E02, E03, E04, E05, E06}
+use Rattle.pc_tree.specs.declared.code.Code.TheVariants.{E07, E08, E09, E10, E11, E12, E13, E14, E15, E16, E17, E18}
+use Rattle.pc_tree.specs.declared.code.Code.TheVariants.{E19, E20, E21, E22, E23, E24, E25, E26, E27, E28, E29, E30}
+use Rattle.pc_tree.specs.declared.code.Code.TheVariants.{E31}
 use Rattle.pc_tree.specs.Code.{text_of}
 use Rattle.pc_tree.proofs.Among.{none_among, first_among, later_among, among_first, either}
 use Rattle.pc_rules.specs.Computed.Findings.{has_code, add_code, once_onto, once}
@@ -12,7 +15,9 @@ use Rattle.pc_rules.specs.Computed.Findings.{has_code, add_code, once_onto, once
 -- ---- codes by their texts
 
 every_code : List Code
-every_code = A1 ∷ A2 ∷ A3 ∷ A4 ∷ A5 ∷ A6 ∷ A7 ∷ A8 ∷ E01 ∷ E02 ∷ E03 ∷ E04 ∷ E05 ∷ E06 ∷ E07 ∷ E08 ∷ E09 ∷ E10 ∷ E11 ∷ E12 ∷ E13 ∷ E14 ∷ E15 ∷ E16 ∷ E17 ∷ E18 ∷ E19 ∷ E20 ∷ E21 ∷ E22 ∷ E23 ∷ E24 ∷ E25 ∷ E26 ∷ E27 ∷ E28 ∷ E29 ∷ E30 ∷ E31 ∷ []
+every_code = A1 ∷ A2 ∷ A3 ∷ A4 ∷ A5 ∷ A6 ∷ A7 ∷ A8 ∷ E01 ∷ E02 ∷ E03 ∷ E04 ∷ E05 ∷ E06 ∷ E07 ∷ E08 ∷ E09 ∷ E10 ∷ E11
+    ∷ E12 ∷ E13 ∷ E14 ∷ E15 ∷ E16 ∷ E17 ∷ E18 ∷ E19 ∷ E20 ∷ E21 ∷ E22 ∷ E23 ∷ E24 ∷ E25 ∷ E26 ∷ E27 ∷ E28 ∷ E29 ∷ E30
+    ∷ E31 ∷ []
 
 -- the first of several codes that has this text
 code_by_text : List Code → List ℕ → Code
@@ -62,7 +67,8 @@ text_back E30 = refl
 text_back E31 = refl
 
 pub same_text : (c d : Code) → bytes_eq (text_of c) (text_of d) ≡ true → c ≡ d
-same_text c d h = sym (text_back c) ∙ ap (code_by_text every_code) ((bytes_eq-Decides (text_of c) (text_of d)).0 h) ∙ text_back d
+same_text c d h = sym (text_back c) ∙ ap (code_by_text every_code) ((bytes_eq-Decides (text_of c) (text_of d)).0 h)
+    ∙ text_back d
 
 -- ---- each code once
 
@@ -70,7 +76,8 @@ among_codes : (cs : List Code) (c : Code) → has_code cs c ≡ true → Contain
 among_codes [] c h = absurd (cc h)
 among_codes (d ∷ cs) c h = go (bytes_eq (text_of c) (text_of d)) refl h (λ k. among_codes cs c k)
   where
-    go : (b : Test) → bytes_eq (text_of c) (text_of d) ≡ b → (b || has_code cs c) ≡ true → (has_code cs c ≡ true → Contains cs c) → Contains (d ∷ cs) c
+    go : (b : Test) → bytes_eq (text_of c) (text_of d) ≡ b → (b || has_code cs c) ≡ true
+        → (has_code cs c ≡ true → Contains cs c) → Contains (d ∷ cs) c
     go true e k rest = subst (Contains (d ∷ cs)) (sym (same_text c d e)) (first_among d cs)
     go false e k rest = later_among d cs c (rest k)
 
@@ -95,7 +102,8 @@ module _ (cs : List Code) (c : Code) where
     where
       go : (b : Test) → Contains (if b then cs else cs ++ c ∷ []) x → Contains cs x ⊎ (c ≡ x)
       go true h = inl h
-      go false h = either cs (c ∷ []) x h (λ a. inl a) (λ b. elim (among_first c [] x b) [ inl e ↦ inr e | inr n ↦ absurd (none_among x n) ])
+      go false h = either cs (c ∷ []) x h (λ a. inl a) (λ b. elim (among_first c [] x b)
+          [ inl e ↦ inr e | inr n ↦ absurd (none_among x n) ])
 
 onto_keeps : (before cs : List Code) (x : Code) → Contains before x → Contains (once_onto before cs) x
 onto_keeps before [] x h = h
@@ -111,7 +119,11 @@ onto_has before (c ∷ cs) x h = elim (among_first c cs x h) [
 onto_from : (before cs : List Code) (x : Code) → Contains (once_onto before cs) x → Contains before x ⊎ Contains cs x
 onto_from before [] x h = inl h
 onto_from before (c ∷ cs) x h = elim (onto_from (add_code before c) cs x h) [
-  | inl a ↦ elim (added_from before c x a) [ inl b ↦ inl b | inr e ↦ inr (subst (Contains (c ∷ cs)) e (first_among c cs)) ]
+  | inl a ↦ elim (added_from before c x a) [
+    | inl b ↦ inl b
+    | inr e ↦
+        inr (subst (Contains (c ∷ cs)) e (first_among c cs))
+  ]
   | inr rest ↦ inr (later_among c cs x rest)
 ]
 

@@ -1,4 +1,5 @@
--- What labels say of scopes: that a name means nothing, or is named too early, and that an initializer calls what is no name.
+-- What labels say of scopes: that a name means nothing, or is named too early, and that an initializer calls what is no
+-- name.
 -- They say it of the parts of an expression alone, and of each part that is judged.
 use Rattle.std.proofs.Common.{◌≡◌, ℕ, List, [], ◌∷◌, ◌++◌, refl, sym, ap, ◌∙◌, subst, inl, inr, arith, Contains}
 use Rattle.std.specs.Prelude.{◌⊎◌, Bool as Test, true, false, if◌then◌else◌, nat_lt, Option, Some, None, slice_get}
@@ -10,7 +11,8 @@ use Rattle.pc_tree.specs.declared.code.Code.TheVariants.{E02, E03, E14, E20}
 use Rattle.pc_tree.specs.declared.code.Finding.{Finding}
 use Rattle.pc_tree.specs.Code.{finding}
 use Rattle.pc_tree.specs.Depth.{place_of}
-use Rattle.pc_tree.specs.Tree.{Name, Expr, name, number, text, truth, nothing, tuple, list, dict, negative, negation, binary, compare, is_none, is_not_none, conjunction, disjunction, attribute, index, call}
+use Rattle.pc_tree.specs.Tree.{Name, Expr, name, number, text, truth, nothing, tuple, list, dict, negative, negation}
+use Rattle.pc_tree.specs.Tree.{binary, compare, is_none, is_not_none, conjunction, disjunction, attribute, index, call}
 use Rattle.pc_scope.specs.declared.resolution.Builtin.{Builtin}
 use Rattle.pc_scope.specs.declared.resolution.Builtin.TheVariants as builtin
 use Rattle.pc_scope.specs.declared.resolution.Res.{Res}
@@ -21,9 +23,13 @@ use Rattle.pc_types.specs.Below.{Bases}
 use Rattle.pc_flow.specs.Environment.{Env, current}
 use Rattle.pc_flow.specs.Narrowing.{Tested}
 use Rattle.pc_rules.specs.Operations.{Label, in_error}
-use Rattle.pc_rules.specs.Context.{Context, Flows, static, dynamic, wrong, FlowUnless, FlowsInto, is_early, local_label, constant_label, name_label}
-use Rattle.pc_rules.specs.Calls.{GivenArguments, CallRule, length_rule, test_rule, function_offer, signature_offer, class_signature, own_callee, builtin_callee, good_callee, value_callee, name_callee, fails_at_call, is_one, is_two, second_code}
-use Rattle.pc_rules.specs.Labels.{FlowLabels, Labels, whole_label, with_label, is_of_scopes, IsFoundAt, IsFlowAt, IsCodeAt, Finds}
+use Rattle.pc_rules.specs.Context.{Context, Flows, static, dynamic, wrong, FlowUnless, FlowsInto, is_early, local_label}
+use Rattle.pc_rules.specs.Context.{constant_label, name_label}
+use Rattle.pc_rules.specs.Calls.{GivenArguments, CallRule, length_rule, test_rule, function_offer, signature_offer}
+use Rattle.pc_rules.specs.Calls.{class_signature, own_callee, builtin_callee, good_callee, value_callee, name_callee}
+use Rattle.pc_rules.specs.Calls.{fails_at_call, is_one, is_two, second_code}
+use Rattle.pc_rules.specs.Labels.{FlowLabels, Labels, whole_label, with_label, is_of_scopes, IsFoundAt, IsFlowAt}
+use Rattle.pc_rules.specs.Labels.{IsCodeAt, Finds}
 use Rattle.pc_rules.proofs.Silent.{Silent}
 
 -- ---- codes at a place
@@ -42,38 +48,57 @@ both e e' = absurd (grind (arith, e, e'))
 
 silent_code : (cs : List Code) (c : Code) → Silent cs → Contains cs c → is_of_scopes c ≡ false
 silent_code [] c h among = absurd (none_among c among)
-silent_code (d ∷ cs) c h among = elim (among_first d cs c among) [ inl e ↦ subst (λ x. is_of_scopes x ≡ false) e h.0 | inr r ↦ silent_code cs c h.1 r ]
+silent_code (d ∷ cs) c h among = elim (among_first d cs c among) [
+  | inl e ↦ subst (λ x. is_of_scopes x ≡ false) e h.0
+  | inr r ↦ silent_code cs c h.1 r
+]
 
 -- where nothing is said of scopes, what is found is of another code
-pub not_of_scopes : (p : Place) (cs : List Code) (f : Finding) → Silent cs → is_of_scopes f.code ≡ true → IsFoundAt p cs f → ⊥
-not_of_scopes p cs f h s found = both s (ap (λ x. is_of_scopes x.code) found.is ∙ silent_code cs found.code h found.among)
+pub not_of_scopes : (p : Place) (cs : List Code) (f : Finding) → Silent cs → is_of_scopes f.code ≡ true
+    → IsFoundAt p cs f → ⊥
+not_of_scopes p cs f h s found = both s (ap (λ x. is_of_scopes x.code) found.is
+    ∙ silent_code cs found.code h found.among)
 
 pub only_at : (p : Place) (c : Code) (f : Finding) → IsFoundAt p (c ∷ []) f → f ≡ finding p c
-only_at p c f found = elim (among_first c [] found.code found.among) [ inl e ↦ found.is ∙ ap (finding p) (sym e) | inr r ↦ absurd (none_among found.code r) ]
+only_at p c f found = elim (among_first c [] found.code found.among) [
+  | inl e ↦ found.is ∙ ap (finding p) (sym e)
+  | inr r ↦ absurd (none_among found.code r)
+]
 
 pub found_at : (p : Place) (c : Code) (f : Finding) → f ≡ finding p c → IsFoundAt p (c ∷ []) f
 found_at p c f is = record { code = c; among = (0, omega arith, refl); is = is }
 
 -- the code of a flow is not of scopes
-flow_silent : {bases : Bases} {s t : Tree} {c : Option Code} → Flows bases s t c → (x : Code) → c ≡ Some x → is_of_scopes x ≡ false
+flow_silent : {bases : Bases} {s t : Tree} {c : Option Code} → Flows bases s t c → (x : Code) → c ≡ Some x
+    → is_of_scopes x ≡ false
 flow_silent (static a) x e = absurd (grind (arith, e))
 flow_silent (dynamic n a) x e = subst (λ y. is_of_scopes y ≡ false) (same_Some _ _ e) refl
 flow_silent (wrong n) x e = subst (λ y. is_of_scopes y ≡ false) (same_Some _ _ e) refl
 
-unless_silent : (early : Test) (bases : Bases) (s t : Tree) (c : Option Code) → FlowUnless early bases s t c → (x : Code) → c ≡ Some x → is_of_scopes x ≡ false
+unless_silent : (early : Test) (bases : Bases) (s t : Tree) (c : Option Code) → FlowUnless early bases s t c
+    → (x : Code) → c ≡ Some x → is_of_scopes x ≡ false
 unless_silent true bases s t c h x e = absurd (grind (arith, h, e))
 unless_silent false bases s t c h x e = flow_silent h x e
 
 -- what is found at flows is of another code
-pub no_flow_of_scopes : (bases : Bases) (m : Label) (ts : List Tree) (flows : FlowLabels) (p : Place) (f : Finding) → FlowsInto bases m ts flows → is_of_scopes f.code ≡ true → IsFlowAt p flows f → ⊥
+pub no_flow_of_scopes : (bases : Bases) (m : Label) (ts : List Tree) (flows : FlowLabels) (p : Place) (f : Finding)
+    → FlowsInto bases m ts flows → is_of_scopes f.code ≡ true → IsFlowAt p flows f → ⊥
 no_flow_of_scopes bases m ts [] p f law s found = none_among found.flow found.among
 no_flow_of_scopes bases m [] (x ∷ xs) p f law s found = law
 no_flow_of_scopes bases m (t ∷ ts) (x ∷ xs) p f law s found = elim (among_first x xs found.flow found.among) [
-  | inl e ↦ both s (ap (λ y. is_of_scopes y.code) found.is ∙ unless_silent (is_early m.codes) bases m.type t x.code law.0.code found.code (ap (λ y. y.code) e ∙ found.found))
-  | inr r ↦ no_flow_of_scopes bases m ts xs p f law.1 s (record { flow = found.flow; among = r; code = found.code; found = found.found; is = found.is })
+  | inl e ↦ both s (ap (λ y. is_of_scopes y.code) found.is ∙ unless_silent (is_early m.codes) bases m.type t x.code
+      law.0.code found.code (ap (λ y. y.code) e ∙ found.found))
+  | inr r ↦ no_flow_of_scopes bases m ts xs p f law.1 s (record {
+    flow = found.flow;
+    among = r;
+    code = found.code;
+    found = found.found;
+    is = found.is;
+  })
 ]
 
-pub second_silent : (o : Option Tested) (early : Test) (p : Place) (f : Finding) → is_of_scopes f.code ≡ true → IsCodeAt p (second_code o early) f → ⊥
+pub second_silent : (o : Option Tested) (early : Test) (p : Place) (f : Finding) → is_of_scopes f.code ≡ true
+    → IsCodeAt p (second_code o early) f → ⊥
 second_silent (Some test) early p f s h = h
 second_silent None true p f s h = h
 second_silent None false p f s h = both s (ap (λ x. is_of_scopes x.code) h)
@@ -95,7 +120,11 @@ part_right e (x ∷ xs) ys h = inr (part_right e xs ys h)
 
 pub part_either : (e : Expr) (xs ys : List Expr) → IsPart e (xs ++ ys) → IsPart e xs ⊎ IsPart e ys
 part_either e [] ys h = inr h
-part_either e (x ∷ xs) ys h = elim h [ inl a ↦ inl (inl a) | inr b ↦ elim (part_either e xs ys b) [ inl c ↦ inl (inr c) | inr d ↦ inr d ] ]
+part_either e (x ∷ xs) ys h = elim h [
+  | inl a ↦ inl (inl a)
+  | inr b ↦ elim (part_either e xs ys b)
+      [ inl c ↦ inl (inr c) | inr d ↦ inr d ]
+]
 
 -- what an expression may not name here
 abbrev pub IsEarlyHere : Context → Res → Type 0
@@ -106,7 +135,8 @@ IsEarlyHere ctx _ = ⊥
 
 -- a name means nothing, or what may not be named here
 abbrev pub NameSays : Context → Name → Finding → Type 0
-NameSays ctx n f = ((ctx.resolve n.text ≡ res.None) × (f ≡ finding n.place E02)) ⊎ (IsEarlyHere ctx (ctx.resolve n.text) × (f ≡ finding n.place E03))
+NameSays ctx n f = ((ctx.resolve n.text ≡ res.None) × (f ≡ finding n.place E02))
+    ⊎ (IsEarlyHere ctx (ctx.resolve n.text) × (f ≡ finding n.place E03))
 
 -- in an initializer a callee is no name
 abbrev pub CalleeSays : Context → Expr → Finding → Type 0
@@ -136,7 +166,8 @@ said_behind ctx x xs f h = record { part = h.part; among = inr h.among; says = h
 -- ---- labels of a node itself
 
 -- the codes of an expression's own label are found at its place
-pub found_here : (e : Expr) (m : Labels e) (f : Finding) → IsFoundAt (place_of e) (whole_label e m).codes f → Finds e m f
+pub found_here : (e : Expr) (m : Labels e) (f : Finding) → IsFoundAt (place_of e) (whole_label e m).codes f
+    → Finds e m f
 found_here (name n) m f h = h
 found_here (number p d) m f h = h
 found_here (text p d) m f h = h
@@ -180,7 +211,8 @@ own_label (index p a b) m here = refl
 own_label (call p c args kws) m here = refl
 
 -- under labels with another one for the expression itself: that one, or what is found under the others
-pub with_found : (e : Expr) (m : Labels e) (here : Label) (f : Finding) → Finds e (with_label e m here) f → IsFoundAt (place_of e) here.codes f ⊎ Finds e m f
+pub with_found : (e : Expr) (m : Labels e) (here : Label) (f : Finding) → Finds e (with_label e m here) f
+    → IsFoundAt (place_of e) here.codes f ⊎ Finds e m f
 with_found (name n) m here f h = inl h
 with_found (number p d) m here f h = inl h
 with_found (text p d) m here f h = inl h
@@ -205,7 +237,8 @@ with_found (call p c args kws) m here f h = elim h [ inl a ↦ inl a | inr b ↦
 
 module _ (ctx : Context) where
   -- what a name's label says of scopes
-  pub name_says : (env : Env) (n : Name) (f : Finding) → is_of_scopes f.code ≡ true → IsFoundAt n.place (name_label ctx env (ctx.resolve n.text)).codes f → NameSays ctx n f
+  pub name_says : (env : Env) (n : Name) (f : Finding) → is_of_scopes f.code ≡ true
+      → IsFoundAt n.place (name_label ctx env (ctx.resolve n.text)).codes f → NameSays ctx n f
   name_says env n f s found = go (ctx.resolve n.text) refl found
     where
       early : (r : Res) → ctx.resolve n.text ≡ r → IsEarlyHere ctx r → IsFoundAt n.place (E03 ∷ []) f → NameSays ctx n f
@@ -215,15 +248,18 @@ module _ (ctx : Context) where
       of_local None found = absurd (not_of_scopes n.place _ f (refl, tt) s found)
       of_local (Some t) found = absurd (not_of_scopes n.place [] f tt s found)
 
-      of_constant : (i : ℕ) (o : Option Tree) → ctx.resolve n.text ≡ res.Const i → slice_get ctx.constants i ≡ o → IsFoundAt n.place (constant_label o).codes f → NameSays ctx n f
+      of_constant : (i : ℕ) (o : Option Tree) → ctx.resolve n.text ≡ res.Const i → slice_get ctx.constants i ≡ o
+          → IsFoundAt n.place (constant_label o).codes f → NameSays ctx n f
       of_constant i None is e found = early (res.Const i) is e found
       of_constant i (Some t) is e found = absurd (not_of_scopes n.place [] f tt s found)
 
-      of_function : (i : ℕ) (b : Test) → ctx.resolve n.text ≡ res.Func i → ctx.in_body ≡ b → IsFoundAt n.place (if b then in_error E20 else in_error E03).codes f → NameSays ctx n f
+      of_function : (i : ℕ) (b : Test) → ctx.resolve n.text ≡ res.Func i → ctx.in_body ≡ b
+          → IsFoundAt n.place (if b then in_error E20 else in_error E03).codes f → NameSays ctx n f
       of_function i true is e found = absurd (not_of_scopes n.place _ f (refl, tt) s found)
       of_function i false is e found = early (res.Func i) is e found
 
-      of_class : (c : ℕ) (b : Test) → ctx.resolve n.text ≡ res.Class c → nat_lt c ctx.known ≡ b → IsFoundAt n.place (if b then in_error E20 else in_error E03).codes f → NameSays ctx n f
+      of_class : (c : ℕ) (b : Test) → ctx.resolve n.text ≡ res.Class c → nat_lt c ctx.known ≡ b
+          → IsFoundAt n.place (if b then in_error E20 else in_error E03).codes f → NameSays ctx n f
       of_class c true is e found = absurd (not_of_scopes n.place _ f (refl, tt) s found)
       of_class c false is e found = early (res.Class c) is e found
 
@@ -236,24 +272,32 @@ module _ (ctx : Context) where
       go res.None is found = inl (is, only_at n.place E02 f found)
 
   -- and as a callee
-  pub callee_name_says : (env : Env) (g : GivenArguments) (n : Name) (f : Finding) → is_of_scopes f.code ≡ true → IsFoundAt n.place (name_callee ctx env g (ctx.resolve n.text)).label.codes f → NameSays ctx n f
+  pub callee_name_says : (env : Env) (g : GivenArguments) (n : Name) (f : Finding) → is_of_scopes f.code ≡ true
+      → IsFoundAt n.place (name_callee ctx env g (ctx.resolve n.text)).label.codes f → NameSays ctx n f
   callee_name_says env g n f s found = go (ctx.resolve n.text) refl found
     where
       early : (r : Res) → ctx.resolve n.text ≡ r → IsEarlyHere ctx r → IsFoundAt n.place (E03 ∷ []) f → NameSays ctx n f
       early r is h found = inr (subst (IsEarlyHere ctx) (sym is) h, only_at n.place E03 f found)
 
-      as_value : (r : Res) → ctx.resolve n.text ≡ r → IsFoundAt n.place (name_label ctx env r).codes f → NameSays ctx n f
-      as_value r is found = name_says env n f s (subst (λ x. IsFoundAt n.place (name_label ctx env x).codes f) (sym is) found)
+      as_value : (r : Res) → ctx.resolve n.text ≡ r → IsFoundAt n.place (name_label ctx env r).codes f
+          → NameSays ctx n f
+      as_value r is found = name_says env n f s (subst (λ x. IsFoundAt n.place (name_label ctx env x).codes f) (sym is)
+          found)
 
-      of_function : (i : ℕ) (b : Test) → ctx.resolve n.text ≡ res.Func i → ctx.in_body ≡ b → IsFoundAt n.place (if b then good_callee (function_offer g (slice_get ctx.functions i) ∷ []) else value_callee (in_error E03)).label.codes f → NameSays ctx n f
+      of_function : (i : ℕ) (b : Test) → ctx.resolve n.text ≡ res.Func i → ctx.in_body ≡ b
+          → IsFoundAt n.place (if b then good_callee (function_offer g (slice_get ctx.functions i) ∷ [])
+          else value_callee (in_error E03)).label.codes f → NameSays ctx n f
       of_function i true is e found = absurd (not_of_scopes n.place [] f tt s found)
       of_function i false is e found = early (res.Func i) is e found
 
-      of_class : (c : ℕ) (b : Test) → ctx.resolve n.text ≡ res.Class c → nat_lt c ctx.known ≡ b → IsFoundAt n.place (if b then good_callee (signature_offer g (class_signature ctx.classes c) ∷ []) else value_callee (in_error E03)).label.codes f → NameSays ctx n f
+      of_class : (c : ℕ) (b : Test) → ctx.resolve n.text ≡ res.Class c → nat_lt c ctx.known ≡ b
+          → IsFoundAt n.place (if b then good_callee (signature_offer g (class_signature ctx.classes c) ∷ [])
+          else value_callee (in_error E03)).label.codes f → NameSays ctx n f
       of_class c true is e found = absurd (not_of_scopes n.place [] f tt s found)
       of_class c false is e found = early (res.Class c) is e found
 
-      own_or_error : (rule : CallRule) (b : Test) → IsFoundAt n.place (if b then own_callee rule else good_callee (fails_at_call E14 ∷ [])).label.codes f → ⊥
+      own_or_error : (rule : CallRule) (b : Test) → IsFoundAt n.place
+          (if b then own_callee rule else good_callee (fails_at_call E14 ∷ [])).label.codes f → ⊥
       own_or_error rule true found = not_of_scopes n.place [] f tt s found
       own_or_error rule false found = not_of_scopes n.place [] f tt s found
 
@@ -265,7 +309,8 @@ module _ (ctx : Context) where
       of_builtin builtin.Range found = not_of_scopes n.place [] f tt s found
       of_builtin _ found = not_of_scopes n.place _ f (refl, tt) s found
 
-      go : (r : Res) → ctx.resolve n.text ≡ r → IsFoundAt n.place (name_callee ctx env g r).label.codes f → NameSays ctx n f
+      go : (r : Res) → ctx.resolve n.text ≡ r → IsFoundAt n.place (name_callee ctx env g r).label.codes f
+          → NameSays ctx n f
       go (res.Local x) is found = as_value (res.Local x) is found
       go (res.Const i) is found = as_value (res.Const i) is found
       go (res.Func i) is found = of_function i ctx.in_body is refl found
@@ -274,13 +319,15 @@ module _ (ctx : Context) where
       go res.None is found = as_value res.None is found
 
   -- what is said of a name stands at its label
-  pub name_said : (env : Env) (n : Name) (f : Finding) → NameSays ctx n f → IsFoundAt n.place (name_label ctx env (ctx.resolve n.text)).codes f
+  pub name_said : (env : Env) (n : Name) (f : Finding) → NameSays ctx n f
+      → IsFoundAt n.place (name_label ctx env (ctx.resolve n.text)).codes f
   name_said env n f h = elim h [
     | inl a ↦ subst (λ r. IsFoundAt n.place (name_label ctx env r).codes f) (sym a.0) (found_at n.place E02 f a.1)
     | inr b ↦ go (ctx.resolve n.text) b.0 (found_at n.place E03 f b.1)
   ]
     where
-      go : (r : Res) → IsEarlyHere ctx r → IsFoundAt n.place (E03 ∷ []) f → IsFoundAt n.place (name_label ctx env r).codes f
+      go : (r : Res) → IsEarlyHere ctx r → IsFoundAt n.place (E03 ∷ []) f
+          → IsFoundAt n.place (name_label ctx env r).codes f
       go (res.Func i) e h = subst (λ b. IsFoundAt n.place (if b then in_error E20 else in_error E03).codes f) (sym e) h
       go (res.Const i) e h = subst (λ o. IsFoundAt n.place (constant_label o).codes f) (sym e) h
       go (res.Class c) e h = subst (λ b. IsFoundAt n.place (if b then in_error E20 else in_error E03).codes f) (sym e) h
@@ -288,16 +335,23 @@ module _ (ctx : Context) where
       go (res.Builtin x) e h = absurd e
       go res.None e h = absurd e
 
-  pub callee_name_said : (env : Env) (g : GivenArguments) (n : Name) (f : Finding) → NameSays ctx n f → IsFoundAt n.place (name_callee ctx env g (ctx.resolve n.text)).label.codes f
+  pub callee_name_said : (env : Env) (g : GivenArguments) (n : Name) (f : Finding) → NameSays ctx n f
+      → IsFoundAt n.place (name_callee ctx env g (ctx.resolve n.text)).label.codes f
   callee_name_said env g n f h = elim h [
-    | inl a ↦ subst (λ r. IsFoundAt n.place (name_callee ctx env g r).label.codes f) (sym a.0) (found_at n.place E02 f a.1)
+    | inl a ↦ subst (λ r. IsFoundAt n.place (name_callee ctx env g r).label.codes f) (sym a.0)
+        (found_at n.place E02 f a.1)
     | inr b ↦ go (ctx.resolve n.text) b.0 (found_at n.place E03 f b.1)
   ]
     where
-      go : (r : Res) → IsEarlyHere ctx r → IsFoundAt n.place (E03 ∷ []) f → IsFoundAt n.place (name_callee ctx env g r).label.codes f
-      go (res.Func i) e h = subst (λ b. IsFoundAt n.place (if b then good_callee (function_offer g (slice_get ctx.functions i) ∷ []) else value_callee (in_error E03)).label.codes f) (sym e) h
+      go : (r : Res) → IsEarlyHere ctx r → IsFoundAt n.place (E03 ∷ []) f
+          → IsFoundAt n.place (name_callee ctx env g r).label.codes f
+      go (res.Func i) e h =
+          subst (λ b. IsFoundAt n.place (if b then good_callee (function_offer g (slice_get ctx.functions i) ∷ [])
+          else value_callee (in_error E03)).label.codes f) (sym e) h
       go (res.Const i) e h = subst (λ o. IsFoundAt n.place (constant_label o).codes f) (sym e) h
-      go (res.Class c) e h = subst (λ b. IsFoundAt n.place (if b then good_callee (signature_offer g (class_signature ctx.classes c) ∷ []) else value_callee (in_error E03)).label.codes f) (sym e) h
+      go (res.Class c) e h =
+          subst (λ b. IsFoundAt n.place (if b then good_callee (signature_offer g (class_signature ctx.classes c) ∷ [])
+          else value_callee (in_error E03)).label.codes f) (sym e) h
       go (res.Local x) e h = absurd e
       go (res.Builtin x) e h = absurd e
       go res.None e h = absurd e

@@ -1,4 +1,5 @@
--- The lists of what is found of parameters, functions' signatures and fields have just what the rules find, but for what is found of
+-- The lists of what is found of parameters, functions' signatures and fields have just what the rules find, but for
+-- what is found of
 -- scopes.
 use Rattle.std.proofs.Common.{◌≡◌, ◌⊎◌, List, [], ◌∷◌, ◌++◌, refl, sym, ap, ◌∙◌, subst, inl, inr, arith}
 use Rattle.std.specs.Prelude.{ℕ, Bool as Test, true, false, Option, Some, None, MatchOption, map}
@@ -7,13 +8,16 @@ use Rattle.pc_tree.specs.declared.code.Code.{Code}
 use Rattle.pc_tree.specs.declared.code.Code.TheVariants.{E09, E10, E26}
 use Rattle.pc_tree.specs.declared.code.Finding.{Finding}
 use Rattle.pc_tree.specs.Code.{finding}
-use Rattle.pc_tree.specs.Tree.{Ann, Anns, named, none_type, applied, applied_empty, no_anns, more_anns, Literal, number_literal, negative_literal, text_literal, truth_literal, none_literal, Param, FuncDef, Field, Module}
+use Rattle.pc_tree.specs.Tree.{Ann, Anns, named, none_type, applied, applied_empty, no_anns, more_anns, Literal}
+use Rattle.pc_tree.specs.Tree.{number_literal, negative_literal, text_literal, truth_literal, none_literal, Param}
+use Rattle.pc_tree.specs.Tree.{FuncDef, Field, Module}
 use Rattle.pc_tree.specs.Tree as tree
 use Rattle.pc_scope.specs.Resolution.{is_one_of, resolve_in_module}
 use Rattle.pc_types.specs.Tree.{Tree}
 use Rattle.pc_types.specs.Below.{Bases}
 use Rattle.pc_types.specs.WellFormed.{IsWellFormed}
-use Rattle.pc_ann.specs.Annotations.{named_type, applied_type, empty_type, union_type, readings, read_ann, read_option, PartFinds, PartsFind, AnnFinds, OptionAnnFinds}
+use Rattle.pc_ann.specs.Annotations.{named_type, applied_type, empty_type, union_type, readings, read_ann, read_option}
+use Rattle.pc_ann.specs.Annotations.{PartFinds, PartsFind, AnnFinds, OptionAnnFinds}
 use Rattle.pc_ann.proofs.Earlier.{smaller}
 use Rattle.pc_ann.proofs.Readings.{read_ann_well_formed}
 use Rattle.pc_ann.specs.Listed.{ann_findings, option_findings}
@@ -25,10 +29,14 @@ use Rattle.pc_rules.specs.Computed.Expressions.{flows_of}
 use Rattle.pc_notes.specs.Notes.{plain_note}
 use Rattle.pc_rules.specs.Computed.Findings.{flows_at}
 use Rattle.pc_rules.specs.Labels.{FlowLabels, IsFlowAt, is_of_scopes}
-use Rattle.pc_rules.specs.Signatures.{literal_type, literal_place, LawfulDefault, DefaultFinds, binds_name, ParamsLabels, LawfulParams, ParamsFind}
-use Rattle.pc_rules.specs.Computed.Signatures.{default_findings, param_findings, params_findings, def_findings, field_findings}
+use Rattle.pc_rules.specs.Signatures.{literal_type, literal_place, LawfulDefault, DefaultFinds, binds_name}
+use Rattle.pc_rules.specs.Signatures.{ParamsLabels, LawfulParams, ParamsFind}
+use Rattle.pc_rules.specs.Computed.Signatures.{default_findings, param_findings, params_findings, def_findings}
+use Rattle.pc_rules.specs.Computed.Signatures.{field_findings}
 use Rattle.pc_rules.proofs.ComputedFlows.{flows_are_lawful}
-use Rattle.pc_rules.proofs.FoundList.{IsFoundElsewhere, Lists, Noted, noted_same as same_listed, noted_in_turn as in_turn, noted_flows as at_flows, noted_plain, nothing_noted, nothing_listed}
+use Rattle.pc_rules.proofs.FoundList.{IsFoundElsewhere, Lists, Noted, noted_same as same_listed}
+use Rattle.pc_rules.proofs.FoundList.{noted_in_turn as in_turn, noted_flows as at_flows, noted_plain, nothing_noted}
+use Rattle.pc_rules.proofs.FoundList.{nothing_listed}
 use Rattle.pc_rules.proofs.One.{into_one}
 
 -- ---- defaults
@@ -48,13 +56,16 @@ module _ (m : Module) (f : Finding) where
   nothing_flows p flows e = subst (λ (fs : FlowLabels). Noted f [] (IsFlowAt p fs f)) (sym e) (at_flows f p [])
 
   -- what is found at a default, where its flow is lawful
-  pub default_listed : (binds : Test) (d : Option Literal) (t : Tree) (flows : FlowLabels) → IsWellFormed bases t → LawfulDefault bases binds d t flows → Noted f (default_findings bases binds d t) (DefaultFinds d flows f)
+  pub default_listed : (binds : Test) (d : Option Literal) (t : Tree) (flows : FlowLabels) → IsWellFormed bases t
+      → LawfulDefault bases binds d t flows → Noted f (default_findings bases binds d t) (DefaultFinds d flows f)
   default_listed binds None t flows k h = nothing_noted f
   default_listed false (Some l) t flows k h = nothing_flows (literal_place l) flows h
   default_listed true (Some l) t flows k h =
       let from = clean (literal_type l) in
-      let e : flows_of bases from (t ∷ []) ≡ flows = into_one bases from (t ∷ []) (flows_of bases from (t ∷ [])) flows (flows_are_lawful bases from (t ∷ []) (smaller m) (literal_well_formed bases l) (k, tt)) h in
-      subst (λ (fs : FlowLabels). Noted f (flows_at (literal_place l) (flows_of bases from (t ∷ []))) (IsFlowAt (literal_place l) fs f)) e (at_flows f (literal_place l) (flows_of bases from (t ∷ [])))
+      let e : flows_of bases from (t ∷ []) ≡ flows = into_one bases from (t ∷ []) (flows_of bases from (t ∷ [])) flows
+      (flows_are_lawful bases from (t ∷ []) (smaller m) (literal_well_formed bases l) (k, tt)) h in
+      subst (λ (fs : FlowLabels). Noted f (flows_at (literal_place l) (flows_of bases from (t ∷ [])))
+      (IsFlowAt (literal_place l) fs f)) e (at_flows f (literal_place l) (flows_of bases from (t ∷ [])))
 
   -- ---- annotations
 
@@ -62,16 +73,20 @@ module _ (m : Module) (f : Finding) where
   elsewhere : (p : Place) (c : Code) → is_of_scopes c ≡ false → f ≡ finding p c → IsFoundElsewhere f
   elsewhere p c own e = ap (λ (g : Finding). is_of_scopes g.code) e ∙ own
 
-  none_or : (o : Option Tree) (p : Place) (c : Code) (X : Type 0) → is_of_scopes c ≡ false → (X → IsFoundElsewhere f) → MatchOption o (f ≡ finding p c) (λ t. X) → IsFoundElsewhere f
+  none_or : (o : Option Tree) (p : Place) (c : Code) (X : Type 0) → is_of_scopes c ≡ false → (X → IsFoundElsewhere f)
+      → MatchOption o (f ≡ finding p c) (λ t. X) → IsFoundElsewhere f
   none_or None p c X own inside h = elsewhere p c own h
   none_or (Some t) p c X own inside h = inside h
 
   mutual
     part_elsewhere : (a : Ann) → PartFinds m bases a f → IsFoundElsewhere f
-    part_elsewhere (named n) h = none_or (named_type m.imports_any (resolve_in_module m n.text)) n.place E09 ⊥ refl (λ x. absurd x) h
+    part_elsewhere (named n) h = none_or (named_type m.imports_any (resolve_in_module m n.text)) n.place E09 ⊥ refl
+        (λ x. absurd x) h
     part_elsewhere (none_type p) h = absurd h
-    part_elsewhere (applied p head arguments) h = none_or (applied_type (resolve_in_module m head.text) (readings m bases arguments)) p E09 (PartsFind m bases arguments f) refl (parts_elsewhere arguments) h
-    part_elsewhere (applied_empty p head) h = none_or (empty_type (resolve_in_module m head.text)) p E09 ⊥ refl (λ x. absurd x) h
+    part_elsewhere (applied p head arguments) h = none_or (applied_type (resolve_in_module m head.text)
+        (readings m bases arguments)) p E09 (PartsFind m bases arguments f) refl (parts_elsewhere arguments) h
+    part_elsewhere (applied_empty p head) h = none_or (empty_type (resolve_in_module m head.text)) p E09 ⊥ refl
+        (λ x. absurd x) h
     part_elsewhere (tree.union p parts) h = elim h [
       | inl u ↦ none_or (union_type bases (readings m bases parts)) p E10 ⊥ refl (λ x. absurd x) u
       | inr r ↦ parts_elsewhere parts r
@@ -88,9 +103,13 @@ module _ (m : Module) (f : Finding) where
   pub ann_listed : (a : Ann) → Noted f (map plain_note (ann_findings m bases a)) (AnnFinds m bases a f)
   ann_listed a =
       let l = listed m bases f a in
-      noted_plain f (ann_findings m bases a) (AnnFinds m bases a f) (λ c. (l.0 c, ann_elsewhere a (l.0 c)), λ h own. l.1 h)
+      noted_plain f (ann_findings m bases a) (AnnFinds m bases a f) (
+        λ c. (l.0 c, ann_elsewhere a (l.0 c)),
+        λ h own. l.1 h,
+      )
 
-  pub option_listed : (a : Option Ann) → Noted f (map plain_note (option_findings m bases a)) (OptionAnnFinds m bases a f)
+  pub option_listed : (a : Option Ann) → Noted f (map plain_note (option_findings m bases a))
+      (OptionAnnFinds m bases a f)
   option_listed None = nothing_noted f
   option_listed (Some a) = ann_listed a
 
@@ -107,21 +126,38 @@ module _ (m : Module) (f : Finding) where
   option_well_formed (Some a) = read_ann_well_formed m bases (smaller m) a
 
   -- what is found of parameters, after names
-  pub params_listed : (before : List (List ℕ)) (ps : List Param) (labels : ParamsLabels ps) → LawfulParams m before ps labels → Noted f (params_findings m (λ t. is_one_of t before) ps) (ParamsFind m ps labels f)
+  pub params_listed : (before : List (List ℕ)) (ps : List Param) (labels : ParamsLabels ps)
+      → LawfulParams m before ps labels → Noted f (params_findings m (λ t. is_one_of t before) ps)
+      (ParamsFind m ps labels f)
   params_listed before [] labels h = nothing_noted f
   params_listed before (p ∷ ps) labels h =
-      let one = in_turn f (map plain_note (option_findings m bases p.annotation)) (default_findings bases (binds_name before p.name) p.default (read_option m bases p.annotation)) (option_listed p.annotation)
-      (default_listed (binds_name before p.name) p.default (read_option m bases p.annotation) labels.default (option_well_formed p.annotation) h.default) in
-      same_listed f (param_findings m (λ t. is_one_of t before) p ++ params_findings m (λ t. is_one_of t (p.name.text ∷ before)) ps) first_two two_first
-      (in_turn f (param_findings m (λ t. is_one_of t before) p) (params_findings m (λ t. is_one_of t (p.name.text ∷ before)) ps) one (params_listed (p.name.text ∷ before) ps labels.rest h.rest))
+      let one = in_turn f (map plain_note (option_findings m bases p.annotation))
+      (default_findings bases (binds_name before p.name) p.default (read_option m bases p.annotation))
+      (option_listed p.annotation)
+      (default_listed (binds_name before p.name) p.default (read_option m bases p.annotation) labels.default
+      (option_well_formed p.annotation) h.default) in
+      same_listed f (param_findings m (λ t. is_one_of t before) p ++ params_findings m
+      (λ t. is_one_of t (p.name.text ∷ before)) ps) first_two two_first
+      (in_turn f (param_findings m (λ t. is_one_of t before) p) (params_findings m
+      (λ t. is_one_of t (p.name.text ∷ before)) ps) one (params_listed (p.name.text ∷ before) ps labels.rest
+      h.rest))
 
   -- what is found of a function's signature
-  pub def_listed : (before : List (List ℕ)) (d : FuncDef) (labels : ParamsLabels d.params) → LawfulParams m before d.params labels → Noted f (def_findings m (λ t. is_one_of t before) d) (ParamsFind m d.params labels f ⊎ OptionAnnFinds m bases d.returns f)
-  def_listed before d labels h = in_turn f (params_findings m (λ t. is_one_of t before) d.params) (map plain_note (option_findings m bases d.returns)) (params_listed before d.params labels h) (option_listed d.returns)
+  pub def_listed : (before : List (List ℕ)) (d : FuncDef) (labels : ParamsLabels d.params)
+      → LawfulParams m before d.params labels → Noted f (def_findings m (λ t. is_one_of t before) d)
+      (ParamsFind m d.params labels f ⊎ OptionAnnFinds m bases d.returns f)
+  def_listed before d labels h = in_turn f (params_findings m (λ t. is_one_of t before) d.params)
+      (map plain_note (option_findings m bases d.returns)) (params_listed before d.params labels h)
+      (option_listed d.returns)
 
   -- what is found of a field of a class with this base
-  pub field_listed : (base : ClassFacts) (before : List (List ℕ)) (d : Field) (flows : FlowLabels) → LawfulDefault bases (binds_field base before d.name.text) d.default (read_ann m bases d.annotation) flows
-      → Noted f (field_findings m base (λ t. is_one_of t before) d) (AnnFinds m bases d.annotation f ⊎ DefaultFinds d.default flows f)
+  pub field_listed : (base : ClassFacts) (before : List (List ℕ)) (d : Field) (flows : FlowLabels)
+      → LawfulDefault bases (binds_field base before d.name.text) d.default (read_ann m bases d.annotation) flows
+      → Noted f (field_findings m base (λ t. is_one_of t before) d) (AnnFinds m bases d.annotation f
+      ⊎ DefaultFinds d.default flows f)
   field_listed base before d flows h =
-      in_turn f (map plain_note (ann_findings m bases d.annotation)) (default_findings bases (binds_field base before d.name.text) d.default (read_ann m bases d.annotation)) (ann_listed d.annotation)
-      (default_listed (binds_field base before d.name.text) d.default (read_ann m bases d.annotation) flows (read_ann_well_formed m bases (smaller m) d.annotation) h)
+      in_turn f (map plain_note (ann_findings m bases d.annotation))
+      (default_findings bases (binds_field base before d.name.text) d.default (read_ann m bases d.annotation))
+      (ann_listed d.annotation)
+      (default_listed (binds_field base before d.name.text) d.default (read_ann m bases d.annotation) flows
+      (read_ann_well_formed m bases (smaller m) d.annotation) h)

@@ -1,7 +1,9 @@
 -- Well-formed types: atoms, the parts and the members of a type, lists of types, joins.
-use Rattle.std.proofs.Common.{◌≤◌, ◌+◌, ◌++◌, ℕ, zero, suc, Bool as Test, true, false, List, [], ◌∷◌, Option, Some, None, arith}
+use Rattle.std.proofs.Common.{◌≤◌, ◌+◌, ◌++◌, ℕ, zero, suc, Bool as Test, true, false, List, [], ◌∷◌, Option, Some}
+use Rattle.std.proofs.Common.{None, arith}
 use Rattle.std.specs.Prelude.{if◌then◌else◌, unwrap_or, slice_get}
-use Rattle.pc_types.specs.Tree.{Tree, Trees, Any, Object, Never, Int, Bool, Str, NoneType, Class, ListOf, DictOf, TupleOf, Union, end, more}
+use Rattle.pc_types.specs.Tree.{Tree, Trees, Any, Object, Never, Int, Bool, Str, NoneType, Class, ListOf, DictOf}
+use Rattle.pc_types.specs.Tree.{TupleOf, Union, end, more}
 use Rattle.pc_types.specs.Below.{Bases, AreSmaller}
 use Rattle.pc_types.specs.Shape.{nodes, nodes_of, members, list_of_trees, trees}
 use Rattle.pc_types.specs.Normal.{IsKey, AreNormal, AreReduced}
@@ -50,9 +52,14 @@ module _ (bases : Bases) where
   pub value_well_formed : (k v : Tree) → IsWellFormed bases (DictOf k v) → IsWellFormed bases v
   value_well_formed k v h = let e : 1 + nodes k + nodes v ≤ 256 = h.2 in (h.0.2, h.1, omega (arith, e))
 
-  listed_well_formed : (ts : Trees) → AreNormal ts → AreReduced bases ts → nodes_of ts ≤ 256 → AreWellFormed bases (list_of_trees ts)
+  listed_well_formed : (ts : Trees) → AreNormal ts → AreReduced bases ts → nodes_of ts ≤ 256
+      → AreWellFormed bases (list_of_trees ts)
   listed_well_formed end n r h = tt
-  listed_well_formed (more t ts) n r h = ((n.0, r.0, omega (arith, h)), listed_well_formed ts n.1 r.1 (omega (arith, h)))
+  listed_well_formed (more t ts) n r h = (
+    (n.0, r.0, omega (arith, h)),
+    listed_well_formed ts n.1 r.1
+        (omega (arith, h)),
+  )
 
   pub parts_well_formed : (ts : Trees) → IsWellFormed bases (TupleOf ts) → AreWellFormed bases (list_of_trees ts)
   parts_well_formed ts h = let e : 1 + nodes_of ts ≤ 256 = h.2 in listed_well_formed ts h.0 h.1 (omega (arith, e))
@@ -73,11 +80,13 @@ module _ (bases : Bases) where
   at_well_formed (t ∷ ts) zero h = h.0
   at_well_formed (t ∷ ts) (suc i) h = at_well_formed ts i h.1
 
-  pub unwrap_well_formed : (o : Option Tree) (t : Tree) → IsWellFormedIfAny bases o → IsWellFormed bases t → IsWellFormed bases (unwrap_or o t)
+  pub unwrap_well_formed : (o : Option Tree) (t : Tree) → IsWellFormedIfAny bases o → IsWellFormed bases t
+      → IsWellFormed bases (unwrap_or o t)
   unwrap_well_formed None t h k = k
   unwrap_well_formed (Some s) t h k = h
 
-  pub append_well_formed : (ss ts : List Tree) → AreWellFormed bases ss → AreWellFormed bases ts → AreWellFormed bases (ss ++ ts)
+  pub append_well_formed : (ss ts : List Tree) → AreWellFormed bases ss → AreWellFormed bases ts
+      → AreWellFormed bases (ss ++ ts)
   append_well_formed [] ts h k = k
   append_well_formed (s ∷ ss) ts h k = (h.0, append_well_formed ss ts h.1 k)
 
@@ -92,9 +101,11 @@ module _ (bases : Bases) where
   -- ---- joins
 
   module _ (o : AreSmaller bases) where
-    onto_well_formed : (s : Tree) (ts : List Tree) → IsWellFormed bases s → AreWellFormed bases ts → IsWellFormed bases (join_onto bases s ts)
+    onto_well_formed : (s : Tree) (ts : List Tree) → IsWellFormed bases s → AreWellFormed bases ts
+        → IsWellFormed bases (join_onto bases s ts)
     onto_well_formed s [] h k = h
-    onto_well_formed s (t ∷ ts) h k = onto_well_formed (join_or_object bases s t) ts (join_object_well_formed bases s t o h k.0) k.1
+    onto_well_formed s (t ∷ ts) h k = onto_well_formed (join_or_object bases s t) ts
+        (join_object_well_formed bases s t o h k.0) k.1
 
     pub all_well_formed : (ts : List Tree) → AreWellFormed bases ts → IsWellFormed bases (join_all bases ts)
     all_well_formed ts h = onto_well_formed Never ts never_well_formed h

@@ -23,7 +23,8 @@ module _ {Store Ty : Type 0} (has : Store → Ty → Type 0) (a b : Store) (k : 
   pub signatures_kept : (ss : List (RustSignature Ty)) → HasSignatures (has a) ss → HasSignatures (has b) ss
   signatures_kept ss h = All-weaker (HasSignature (has a)) (HasSignature (has b)) signature_kept ss h
 
-  pub methods_kept : (vs : List (Vec (RustSignature Ty) Global)) → All (HasMethods (has a)) vs → All (HasMethods (has b)) vs
+  pub methods_kept : (vs : List (Vec (RustSignature Ty) Global)) → All (HasMethods (has a)) vs
+      → All (HasMethods (has b)) vs
   methods_kept vs h = All-weaker (HasMethods (has a)) (HasMethods (has b)) (λ v g. signatures_kept v.items g) vs h
 
   pub types_kept : (ts : List Ty) → All (has a) ts → All (has b) ts
@@ -32,15 +33,18 @@ module _ {Store Ty : Type 0} (has : Store → Ty → Type 0) (a b : Store) (k : 
   pub entries_kept : (cs : List (ClassEntry Ty)) → HasEntries (has a) cs → HasEntries (has b) cs
   entries_kept cs h = All-weaker (HasEntry (has a)) (HasEntry (has b)) (λ c g. record {
     fields = params_kept c.fields g.fields;
-    methods = All-weaker (HasMethod (has a)) (HasMethod (has b)) (λ x y. record { params = params_kept x.params.items y.params; ret = k x.ret y.ret }) c.methods g.methods;
+    methods = All-weaker (HasMethod (has a)) (HasMethod (has b))
+        (λ x y. record { params = params_kept x.params.items y.params; ret = k x.ret y.ret }) c.methods g.methods;
   }) cs h
 
 -- one more, pushed after those that are held
-pub held_push : {X : Type 0} (P : X → Type 0) (old new : List X) (x : X) → All P old → P x → new ≡ old ++ x ∷ [] → All P new
+pub held_push : {X : Type 0} (P : X → Type 0) (old new : List X) (x : X) → All P old → P x → new ≡ old ++ x ∷ []
+    → All P new
 held_push P old new x h p e = subst (All P) (sym e) (All-push P old x h p)
 
 -- classes and functions of a module stay what members and initializers may name
-pub globals_kept : {Store Ty : Type 0} (has : Store → Ty → Type 0) (tree : Ty → Tree) (a b : Store) (g : ModuleContext Ty) → KeepsTypes has a b → AreGlobals has tree a g → AreGlobals has tree b g
+pub globals_kept : {Store Ty : Type 0} (has : Store → Ty → Type 0) (tree : Ty → Tree) (a b : Store)
+    (g : ModuleContext Ty) → KeepsTypes has a b → AreGlobals has tree a g → AreGlobals has tree b g
 globals_kept has tree a b g k h = record {
   outline = h.outline;
   classes = h.classes;
@@ -49,6 +53,7 @@ globals_kept has tree a b g k h = record {
 }
 
 -- the signatures of methods as the program has them
-pub all_seen : {Ty : Type 0} (tree : Ty → Tree) (vs : List (Vec (RustSignature Ty) Global)) → all_signatures_with tree (methods_seen vs) ≡ map (methods_with tree) vs
+pub all_seen : {Ty : Type 0} (tree : Ty → Tree) (vs : List (Vec (RustSignature Ty) Global))
+    → all_signatures_with tree (methods_seen vs) ≡ map (methods_with tree) vs
 all_seen tree [] = refl
 all_seen tree (v ∷ vs) = ap (λ ms. methods_with tree v ∷ ms) (all_seen tree vs)

@@ -21,11 +21,39 @@ use Rattle.pc_rules.specs.Computed.Standing.{Standing}
 module _ (m : Module) where
   -- names mean to the module what its tables say
   pub module_names : (t : Tables) → AreTables m t → meaning_by_tables t owners.Module ≡ resolve_in_module m
-  module_names t are = λ j text. (ap (λ r. or_meaning (builtin_meaning (builtin_of text)) (or_meaning r res.None)) (are.globals text)) j
+  module_names t are = λ j text. (ap (λ r. or_meaning (builtin_meaning (builtin_of text)) (or_meaning r res.None))
+      (are.globals text)) j
 
   -- what an initializer stands in, part by part
-  pub standing_is : (bases : Bases) (classes : List ClassFacts) (functions : List Signature) (constants types : List Tree) (known number : ℕ) (resolve : List ℕ → Res) (declared : List Tree) (env : Env)
-      → bases ≡ bases_of m → classes ≡ classes_of m → functions ≡ signatures_of m → constants ≡ types → known ≡ number → resolve ≡ resolve_in_module m → declared ≡ [] → env ≡ []
-      → (let k : Standing = record { context = record { bases = bases; classes = classes; functions = functions; constants = constants; known = known; in_body = false; resolve = resolve }; declared = declared; env = env } in k) ≡ initial m types number
+  pub standing_is : (bases : Bases) (classes : List ClassFacts) (functions : List Signature)
+      (constants types : List Tree) (known number : ℕ) (resolve : List ℕ → Res) (declared : List Tree) (env : Env)
+      → bases ≡ bases_of m → classes ≡ classes_of m → functions ≡ signatures_of m → constants ≡ types → known ≡ number
+      → resolve ≡ resolve_in_module m → declared ≡ [] → env ≡ []
+      → (let k : Standing = record {
+        context = record {
+          bases = bases;
+          classes = classes;
+          functions = functions;
+          constants = constants;
+          known = known;
+          in_body = false;
+          resolve = resolve;
+        };
+        declared = declared;
+        env =
+            env;
+      } in k) ≡ initial m types number
   standing_is bases classes functions constants types known number resolve declared env b c f t k r d e =
-      λ i. record { context = record { bases = b i; classes = c i; functions = f i; constants = t i; known = k i; in_body = false; resolve = r i }; declared = d i; env = e i }
+      λ i. record {
+        context = record {
+          bases = b i;
+          classes = c i;
+          functions = f i;
+          constants = t i;
+          known = k i;
+          in_body = false;
+          resolve = r i;
+        };
+        declared = d i;
+        env = e i;
+      }

@@ -1,5 +1,6 @@
 -- Walks over parameters, members and items, one after another: what is read so far, and what is to come.
-use Rattle.std.proofs.Common.{◌≡◌, ◌<◌, ◌≤◌, ◌+◌, ℕ, List, [], ◌∷◌, ◌++◌, map, drop, length, get_or, refl, sym, ap, ◌∙◌, append_assoc, append-nil}
+use Rattle.std.proofs.Common.{◌≡◌, ◌<◌, ◌≤◌, ◌+◌, ℕ, List, [], ◌∷◌, ◌++◌, map, drop, length, get_or, refl, sym, ap, ◌∙◌}
+use Rattle.std.proofs.Common.{append_assoc, append-nil}
 use Rattle.std.specs.Prelude.{Option, Some, None, filter_map}
 use Rattle.std.specs.List.{cons_option}
 use Rattle.std.proofs.lemmas.List.{map_push, map-append, drop_all}
@@ -12,82 +13,110 @@ use Rattle.pc_tree.specs.Tree.{Module, param_of, member_of, item_of}
 use Rattle.pc_scope.specs.Bindings.{as_function, as_class, as_method, functions_in, classes_in, methods_in}
 use Rattle.pc_class.specs.Facts.{ClassFacts, typed_parameter, parameters_of}
 use Rattle.pc_rules.specs.Signatures.{signature_of}
-use Rattle.pc_rules.specs.Computed.Signatures.{ItemsReached, with_name, param_findings, params_findings, function_findings, functions_findings, member_findings, members_findings, class_methods, signatures_of_methods, behind, behind_all, item_findings, items_findings}
+use Rattle.pc_rules.specs.Computed.Signatures.{ItemsReached, with_name, param_findings, params_findings}
+use Rattle.pc_rules.specs.Computed.Signatures.{function_findings, functions_findings, member_findings, members_findings}
+use Rattle.pc_rules.specs.Computed.Signatures.{class_methods, signatures_of_methods, behind, behind_all, item_findings}
+use Rattle.pc_rules.specs.Computed.Signatures.{items_findings}
 
 -- one step of a walk that goes on with the rest
-pub stepped : {X : Type 0} (old mid these rest more total : List X) → old ++ rest ≡ total → rest ≡ these ++ more → mid ≡ old ++ these → mid ++ more ≡ total
-stepped old mid these rest more total inv parted is = ap (λ l. l ++ more) is ∙ append_assoc old these more ∙ ap (λ l. old ++ l) (sym parted) ∙ inv
+pub stepped : {X : Type 0} (old mid these rest more total : List X) → old ++ rest ≡ total → rest ≡ these ++ more
+    → mid ≡ old ++ these → mid ++ more ≡ total
+stepped old mid these rest more total inv parted is = ap (λ l. l ++ more) is ∙ append_assoc old these more
+    ∙ ap (λ l. old ++ l) (sym parted) ∙ inv
 
 -- a walk that is at its end
 pub walked : {X : Type 0} (all rest total : List X) → all ++ rest ≡ total → rest ≡ [] → all ≡ total
 walked all rest total inv e = sym (append-nil all) ∙ ap (λ l. all ++ l) (sym e) ∙ inv
 
 -- one more that is pushed
-pub pushed_one : {X Y : Type 0} (f : X → Y) (old new : List X) (x : X) (y : Y) → new ≡ old ++ x ∷ [] → f x ≡ y → map f new ≡ map f old ++ y ∷ []
+pub pushed_one : {X Y : Type 0} (f : X → Y) (old new : List X) (x : X) (y : Y) → new ≡ old ++ x ∷ [] → f x ≡ y
+    → map f new ≡ map f old ++ y ∷ []
 pushed_one f old new x y e is = ap (map f) e ∙ map_push f old x ∙ ap (λ z. map f old ++ z ∷ []) is
 
 -- those that are something among items, the first apart
-pub first_apart : {X Y : Type 0} (f : X → Option Y) (x : X) (rest : List X) → filter_map f (x ∷ rest) ≡ filter_map f (x ∷ []) ++ filter_map f rest
+pub first_apart : {X Y : Type 0} (f : X → Option Y) (x : X) (rest : List X)
+    → filter_map f (x ∷ rest) ≡ filter_map f (x ∷ []) ++ filter_map f rest
 first_apart f x rest = go (f x)
   where
     go : (o : Option _) → cons_option o (filter_map f rest) ≡ cons_option o [] ++ filter_map f rest
     go None = refl
     go (Some y) = refl
 
-pub mapped_apart : {X Y Z : Type 0} (g : Y → Z) (f : X → Option Y) (x : X) (rest : List X) → map g (filter_map f (x ∷ rest)) ≡ map g (filter_map f (x ∷ [])) ++ map g (filter_map f rest)
+pub mapped_apart : {X Y Z : Type 0} (g : Y → Z) (f : X → Option Y) (x : X) (rest : List X)
+    → map g (filter_map f (x ∷ rest)) ≡ map g (filter_map f (x ∷ [])) ++ map g (filter_map f rest)
 mapped_apart g f x rest = ap (map g) (first_apart f x rest) ∙ map-append g (filter_map f (x ∷ [])) (filter_map f rest)
 
 module _ (m : Module) where
   -- parameters from one on
   pub params_apart : (ps : List RustParam) (i : ℕ) (p : RustParam) → i < length ps → p ≡ get_or ps i p
-      → parameters_of m (map param_of (drop i ps)) ≡ (typed_parameter m (param_of p) ∷ []) ++ parameters_of m (map param_of (drop (i + 1) ps))
+      → parameters_of m (map param_of (drop i ps)) ≡ (typed_parameter m (param_of p) ∷ []) ++ parameters_of m
+      (map param_of (drop (i + 1) ps))
   params_apart ps i p less is = ap (λ (l : List RustParam). parameters_of m (map param_of l)) (cons_at ps i p less is)
 
-  pub params_found : (bound next : List ℕ → _) (ps : List RustParam) (i : ℕ) (p : RustParam) → i < length ps → p ≡ get_or ps i p → next ≡ with_name bound (param_of p).name.text
-      → params_findings m bound (map param_of (drop i ps)) ≡ param_findings m bound (param_of p) ++ params_findings m next (map param_of (drop (i + 1) ps))
+  pub params_found : (bound next : List ℕ → _) (ps : List RustParam) (i : ℕ) (p : RustParam) → i < length ps
+      → p ≡ get_or ps i p → next ≡ with_name bound (param_of p).name.text
+      → params_findings m bound (map param_of (drop i ps)) ≡ param_findings m bound (param_of p) ++ params_findings m
+      next (map param_of (drop (i + 1) ps))
   params_found bound next ps i p less is e =
       ap (λ (l : List RustParam). params_findings m bound (map param_of l)) (cons_at ps i p less is)
       ∙ ap (λ b. param_findings m bound (param_of p) ++ params_findings m b (map param_of (drop (i + 1) ps))) (sym e)
 
   -- items from one on
   pub functions_apart : (items : List RustItem) (i : ℕ) (x : RustItem) → i < length items → x ≡ get_or items i x
-      → map (signature_of m) (functions_in (map item_of (drop i items))) ≡ map (signature_of m) (functions_in (item_of x ∷ [])) ++ map (signature_of m) (functions_in (map item_of (drop (i + 1) items)))
+      → map (signature_of m) (functions_in (map item_of (drop i items))) ≡ map (signature_of m)
+      (functions_in (item_of x ∷ [])) ++ map (signature_of m) (functions_in (map item_of (drop (i + 1) items)))
   functions_apart items i x less is =
-      ap (λ (l : List RustItem). map (signature_of m) (functions_in (map item_of l))) (cons_at items i x less is) ∙ mapped_apart (signature_of m) as_function (item_of x) (map item_of (drop (i + 1) items))
+      ap (λ (l : List RustItem). map (signature_of m) (functions_in (map item_of l))) (cons_at items i x less is)
+      ∙ mapped_apart (signature_of m) as_function (item_of x) (map item_of (drop (i + 1) items))
 
   pub functions_found : (items : List RustItem) (i : ℕ) (x : RustItem) → i < length items → x ≡ get_or items i x
-      → functions_findings m (map item_of (drop i items)) ≡ function_findings m (item_of x) ++ functions_findings m (map item_of (drop (i + 1) items))
-  functions_found items i x less is = ap (λ (l : List RustItem). functions_findings m (map item_of l)) (cons_at items i x less is)
+      → functions_findings m (map item_of (drop i items)) ≡ function_findings m (item_of x) ++ functions_findings m
+      (map item_of (drop (i + 1) items))
+  functions_found items i x less is = ap (λ (l : List RustItem). functions_findings m (map item_of l))
+      (cons_at items i x less is)
 
   -- members from one on
   pub methods_apart : (ms : List RustMember) (i : ℕ) (x : RustMember) → i < length ms → x ≡ get_or ms i x
-      → map (signature_of m) (methods_in (map member_of (drop i ms))) ≡ map (signature_of m) (methods_in (member_of x ∷ [])) ++ map (signature_of m) (methods_in (map member_of (drop (i + 1) ms)))
+      → map (signature_of m) (methods_in (map member_of (drop i ms))) ≡ map (signature_of m)
+      (methods_in (member_of x ∷ [])) ++ map (signature_of m) (methods_in (map member_of (drop (i + 1) ms)))
   methods_apart ms i x less is =
-      ap (λ (l : List RustMember). map (signature_of m) (methods_in (map member_of l))) (cons_at ms i x less is) ∙ mapped_apart (signature_of m) as_method (member_of x) (map member_of (drop (i + 1) ms))
+      ap (λ (l : List RustMember). map (signature_of m) (methods_in (map member_of l))) (cons_at ms i x less is)
+      ∙ mapped_apart (signature_of m) as_method (member_of x) (map member_of (drop (i + 1) ms))
 
-  pub members_found : (base : ClassFacts) (bound next : List ℕ → _) (ms : List RustMember) (i : ℕ) (x : RustMember) → i < length ms → x ≡ get_or ms i x → next ≡ with_name bound (name_of_member (member_of x)).text
-      → members_findings m base bound (map member_of (drop i ms)) ≡ member_findings m base bound (member_of x) ++ members_findings m base next (map member_of (drop (i + 1) ms))
+  pub members_found : (base : ClassFacts) (bound next : List ℕ → _) (ms : List RustMember) (i : ℕ) (x : RustMember)
+      → i < length ms → x ≡ get_or ms i x → next ≡ with_name bound (name_of_member (member_of x)).text
+      → members_findings m base bound (map member_of (drop i ms)) ≡ member_findings m base bound (member_of x)
+      ++ members_findings m base next (map member_of (drop (i + 1) ms))
   members_found base bound next ms i x less is e =
       ap (λ (l : List RustMember). members_findings m base bound (map member_of l)) (cons_at ms i x less is)
-      ∙ ap (λ b. member_findings m base bound (member_of x) ++ members_findings m base b (map member_of (drop (i + 1) ms))) (sym e)
+      ∙ ap (λ b. member_findings m base bound (member_of x) ++ members_findings m base b
+      (map member_of (drop (i + 1) ms))) (sym e)
 
-  pub no_methods : (ms : List RustMember) (i : ℕ) → length ms ≤ i → map (signature_of m) (methods_in (map member_of (drop i ms))) ≡ []
-  no_methods ms i h = ap (λ (l : List RustMember). map (signature_of m) (methods_in (map member_of l))) (drop_all i ms h)
+  pub no_methods : (ms : List RustMember) (i : ℕ) → length ms ≤ i
+      → map (signature_of m) (methods_in (map member_of (drop i ms))) ≡ []
+  no_methods ms i h = ap (λ (l : List RustMember). map (signature_of m) (methods_in (map member_of l)))
+      (drop_all i ms h)
 
   -- the methods of the classes among items from one on
   pub classes_apart : (items : List RustItem) (i : ℕ) (x : RustItem) → i < length items → x ≡ get_or items i x
-      → signatures_of_methods m (classes_in (map item_of (drop i items))) ≡ signatures_of_methods m (classes_in (item_of x ∷ [])) ++ signatures_of_methods m (classes_in (map item_of (drop (i + 1) items)))
+      → signatures_of_methods m (classes_in (map item_of (drop i items))) ≡ signatures_of_methods m
+      (classes_in (item_of x ∷ [])) ++ signatures_of_methods m (classes_in (map item_of (drop (i + 1) items)))
   classes_apart items i x less is =
-      ap (λ (l : List RustItem). signatures_of_methods m (classes_in (map item_of l))) (cons_at items i x less is) ∙ mapped_apart (class_methods m) as_class (item_of x) (map item_of (drop (i + 1) items))
+      ap (λ (l : List RustItem). signatures_of_methods m (classes_in (map item_of l))) (cons_at items i x less is)
+      ∙ mapped_apart (class_methods m) as_class (item_of x) (map item_of (drop (i + 1) items))
 
   -- what is reached after items from one on, and what is found of them
-  pub reached_next : (r next : ItemsReached) (items : List RustItem) (i : ℕ) (x : RustItem) → i < length items → x ≡ get_or items i x → next ≡ behind m r (item_of x)
+  pub reached_next : (r next : ItemsReached) (items : List RustItem) (i : ℕ) (x : RustItem) → i < length items
+      → x ≡ get_or items i x → next ≡ behind m r (item_of x)
       → behind_all m next (map item_of (drop (i + 1) items)) ≡ behind_all m r (map item_of (drop i items))
   reached_next r next items i x less is e =
-      ap (λ n. behind_all m n (map item_of (drop (i + 1) items))) e ∙ ap (λ (l : List RustItem). behind_all m r (map item_of l)) (sym (cons_at items i x less is))
+      ap (λ n. behind_all m n (map item_of (drop (i + 1) items))) e
+      ∙ ap (λ (l : List RustItem). behind_all m r (map item_of l)) (sym (cons_at items i x less is))
 
-  pub items_found : (r next : ItemsReached) (items : List RustItem) (i : ℕ) (x : RustItem) → i < length items → x ≡ get_or items i x → next ≡ behind m r (item_of x)
-      → items_findings m r (map item_of (drop i items)) ≡ item_findings m r (item_of x) ++ items_findings m next (map item_of (drop (i + 1) items))
+  pub items_found : (r next : ItemsReached) (items : List RustItem) (i : ℕ) (x : RustItem) → i < length items
+      → x ≡ get_or items i x → next ≡ behind m r (item_of x)
+      → items_findings m r (map item_of (drop i items)) ≡ item_findings m r (item_of x) ++ items_findings m next
+      (map item_of (drop (i + 1) items))
   items_found r next items i x less is e =
       ap (λ (l : List RustItem). items_findings m r (map item_of l)) (cons_at items i x less is)
       ∙ ap (λ n. item_findings m r (item_of x) ++ items_findings m n (map item_of (drop (i + 1) items))) (sym e)

@@ -79,7 +79,8 @@ fn read_param<S: TypeStore>(
 ) -> Result<Parameter<S::Ty>, OutOfMemory>
     requires { IsModuleOutline outline.now }
     ensures typed { IfOk result
-        (λ p. IsParameter S.has S.tree checker.new.store.now p (typed_parameter (module_in outline.now) (param_of param.now))) }
+        (λ p. IsParameter S.has S.tree checker.new.store.now p (typed_parameter (module_in outline.now)
+        (param_of param.now))) }
     ensures found { OnOk result (Finds checker.old checker.new
         (param_findings (module_in outline.now) (bound_in bound.now) (param_of param.now))) }
     ensures goes_on { GoesOn S.TypeStore checker.old checker.new }

@@ -95,7 +95,8 @@ pub fn read_signatures<S: TypeStore>(
     ensures constants { IfOk result (λ s. map S.tree s.constants ≡ constants_of (module_in outline.now)) }
     ensures functions { IfOk result
         (λ s. map (signature_with S.tree) s.functions ≡ signatures_of (module_in outline.now)) }
-    ensures methods { IfOk result (λ s. all_signatures_with S.tree s.methods ≡ method_signatures (module_in outline.now)) }
+    ensures methods { IfOk result (λ s. all_signatures_with S.tree s.methods ≡ method_signatures
+        (module_in outline.now)) }
     ensures found { OnOk result (Finds checker.old checker.new
         (signatures_find (module_in outline.now))) }
     ensures goes_on { GoesOn S.TypeStore checker.old checker.new }

@@ -16,18 +16,24 @@ use Rattle.pc_statements.specs.Internal.Ranges.{over_range}
 
 module _ (context : BodyContext) (k : Standing) where
   -- the item of a call of `range`
-  pub range_items : (p : Place) (c : Expr) (arguments : Exprs) (by_name : Keywords) → over_range context.context.resolve (call p c arguments by_name) ≡ true → item_label_of context k (call p c arguments by_name) ≡ range_item (arguments_given arguments by_name)
-  range_items p (name n) arguments by_name h = ap (λ b. if b then range_item (arguments_given arguments by_name) else values_item context k (call p (name n) arguments by_name)) h
+  pub range_items : (p : Place) (c : Expr) (arguments : Exprs) (by_name : Keywords)
+      → over_range context.context.resolve (call p c arguments by_name) ≡ true
+      → item_label_of context k (call p c arguments by_name) ≡ range_item (arguments_given arguments by_name)
+  range_items p (name n) arguments by_name h = ap (λ b. if b then range_item (arguments_given arguments by_name)
+      else values_item context k (call p (name n) arguments by_name)) h
   range_items p c arguments by_name h = absurd (grind (arith, h))
 
   -- what is found in it
-  pub range_found : (p : Place) (c : Expr) (arguments : Exprs) (by_name : Keywords) → over_range context.context.resolve (call p c arguments by_name) ≡ true →
+  pub range_found : (p : Place) (c : Expr) (arguments : Exprs) (by_name : Keywords)
+      → over_range context.context.resolve (call p c arguments by_name) ≡ true →
       iterable_finds context k (call p c arguments by_name) ≡ range_finds k p c arguments by_name
-  range_found p (name n) arguments by_name h = ap (λ b. if b then range_finds k p (name n) arguments by_name else finds_in k None (call p (name n) arguments by_name)) h
+  range_found p (name n) arguments by_name h = ap (λ b. if b then range_finds k p (name n) arguments by_name
+      else finds_in k None (call p (name n) arguments by_name)) h
   range_found p c arguments by_name h = absurd (grind (arith, h))
 
 -- the type of the item is well-formed
-range_type_well_formed : (bases : Bases) (suited : Test) → IsWellFormed bases (if suited then clean Int else record { type = Any; codes = A5 ∷ [] }).type
+range_type_well_formed : (bases : Bases) (suited : Test) → IsWellFormed bases
+    (if suited then clean Int else record { type = Any; codes = A5 ∷ [] }).type
 range_type_well_formed bases true = (tt, tt, omega arith)
 range_type_well_formed bases false = (tt, tt, omega arith)
 

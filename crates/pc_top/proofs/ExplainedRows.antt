@@ -1,5 +1,6 @@
 -- The rows of a report, whose flows are those of the notes of a module, are explained.
-use Rattle.std.proofs.Common.{◌≡◌, zero, suc, List, [], ◌∷◌, refl, sym, ap, ◌∙◌, subst, inl, inr, arith, Contains, Option, Some, None}
+use Rattle.std.proofs.Common.{◌≡◌, zero, suc, List, [], ◌∷◌, refl, sym, ap, ◌∙◌, subst, inl, inr, arith, Contains}
+use Rattle.std.proofs.Common.{Option, Some, None}
 use Rattle.std.specs.Prelude.{◌⊎◌, MatchOption, IsSome, string_bytes, map}
 use Rattle.std.specs.List.{AllByRecursion}
 use Rattle.pc_source.specs.declared.place.Place.{Place}
@@ -38,7 +39,11 @@ module _ {X : Type 0} where
 -- what holds of each holds of one of them
 holds_of : {X : Type 0} (P : X → Type 0) (xs : List X) (x : X) → AllByRecursion P xs → Contains xs x → P x
 holds_of P [] x all h = absurd (contains_none x h)
-holds_of P (y ∷ ys) x all h = elim (contains_cases y ys x h) [ inl e ↦ subst P e all.0 | inr r ↦ holds_of P ys x all.1 r ]
+holds_of P (y ∷ ys) x all h = elim (contains_cases y ys x h) [
+  | inl e ↦ subst P e all.0
+  | inr r ↦
+      holds_of P ys x all.1 r
+]
 
 -- a place of texts is listed among them
 listed_place : (texts : List FlowText) (p : Place) → Contains (places_of texts) p → IsListed texts p
@@ -53,21 +58,35 @@ with_code : (f : Finding) → f.code ≡ A1 → f ≡ finding f.place A1
 with_code f code = λ i. record { place = f.place; code = code i }
 
 -- what holds of each finding of rows holds of each row's
-each_finding : (P : Finding → Type 0) (rows : List Row) → ((f : Finding) → Contains (row_findings rows) f → P f) → AllByRecursion (λ (row : Row). P row.finding) rows
+each_finding : (P : Finding → Type 0) (rows : List Row) → ((f : Finding) → Contains (row_findings rows) f → P f)
+    → AllByRecursion (λ (row : Row). P row.finding) rows
 each_finding P [] h = tt
-each_finding P (row ∷ rows) h = (h row.finding (contains_here row.finding (row_findings rows) row.finding refl), each_finding P rows (λ f c. h f (contains_later row.finding (row_findings rows) f c)))
+each_finding P (row ∷ rows) h = (
+  h row.finding (contains_here row.finding (row_findings rows) row.finding refl),
+  each_finding P rows (λ f c. h f (contains_later row.finding (row_findings rows) f c)),
+)
 
 -- what follows of two for each
-each_of_both : {X : Type 0} (P Q R : X → Type 0) (xs : List X) → ((x : X) → P x → Q x → R x) → AllByRecursion P xs → AllByRecursion Q xs → AllByRecursion R xs
+each_of_both : {X : Type 0} (P Q R : X → Type 0) (xs : List X) → ((x : X) → P x → Q x → R x) → AllByRecursion P xs
+    → AllByRecursion Q xs → AllByRecursion R xs
 each_of_both P Q R [] f all others = tt
 each_of_both P Q R (x ∷ xs) f all others = (f x all.0 others.0, each_of_both P Q R xs f all.1 others.1)
 
-module _ (m : Module) (notes : List Note) (texts : List FlowText) (are : AreFlowTexts m notes texts) (flows : TellsFlows m notes) where
+module _ (m : Module) (notes : List Note) (texts : List FlowText) (are : AreFlowTexts m notes texts)
+    (flows : TellsFlows m notes) where
   -- texts of what notes tell of at a place are those of the dynamic flow there
-  read_as : (p : Place) (o : Option (Tree × Tree)) (t : FlowText) (shown : FlowTexts) → flow_noted p notes ≡ o → string_bytes shown.from ≡ string_bytes t.1 → string_bytes shown.to ≡ string_bytes t.2
-      → MatchOption o ⊥ (λ f. (string_bytes t.1 ≡ type_text m f.0) × (string_bytes t.2 ≡ type_text m f.1)) → AreTextsOfFlow m p shown
+  read_as : (p : Place) (o : Option (Tree × Tree)) (t : FlowText) (shown : FlowTexts) → flow_noted p notes ≡ o
+      → string_bytes shown.from ≡ string_bytes t.1 → string_bytes shown.to ≡ string_bytes t.2
+      → MatchOption o ⊥ (λ f. (string_bytes t.1 ≡ type_text m f.0) × (string_bytes t.2 ≡ type_text m f.1))
+      → AreTextsOfFlow m p shown
   read_as p None t shown is from to h = absurd h
-  read_as p (Some f) t shown is from to h = record { from = f.0; into = f.1; flows = (flows.just p f.0 f.1).0 is; from_text = from ∙ h.0; into_text = to ∙ h.1 }
+  read_as p (Some f) t shown is from to h = record {
+    from = f.0;
+    into = f.1;
+    flows = (flows.just p f.0 f.1).0 is;
+    from_text = from ∙ h.0;
+    into_text = to ∙ h.1;
+  }
 
   explained : (f : Finding) (shown : Option FlowTexts) → IsFinding m f → IsExplained texts f shown
       → MatchOption shown (¬ (f.code ≡ A1)) (λ t. (f.code ≡ A1) × AreTextsOfFlow m f.place t)
@@ -81,10 +100,13 @@ module _ (m : Module) (notes : List Note) (texts : List FlowText) (are : AreFlow
       let noted : flow_noted t.0 notes ≡ flow_noted finding.place notes = ap (λ p. flow_noted p notes) h.1.2 in (
         h.0,
         read_as finding.place (flow_noted finding.place notes) t shown refl h.1.3 h.1.4
-            (subst (λ (o : Option (Tree × Tree)). MatchOption o ⊥ (λ f. (string_bytes t.1 ≡ type_text m f.0) × (string_bytes t.2 ≡ type_text m f.1))) noted own),
+            (subst (λ (o : Option (Tree × Tree)). MatchOption o ⊥ (λ f. (string_bytes t.1 ≡ type_text m f.0)
+            × (string_bytes t.2 ≡ type_text m f.1))) noted own),
       )
 
-  pub rows_explained : (rows : List Row) → ((f : Finding) → Contains (row_findings rows) f → IsFinding m f) → ExplainsRows texts rows → AllByRecursion (IsExplainedRow m) rows
+  pub rows_explained : (rows : List Row) → ((f : Finding) → Contains (row_findings rows) f → IsFinding m f)
+      → ExplainsRows texts rows → AllByRecursion (IsExplainedRow m) rows
   rows_explained rows found all =
-      each_of_both (λ (row : Row). IsFinding m row.finding) (λ (row : Row). IsExplained texts row.finding row.flow) (IsExplainedRow m) rows (λ row f h. explained row.finding row.flow f h)
+      each_of_both (λ (row : Row). IsFinding m row.finding) (λ (row : Row). IsExplained texts row.finding row.flow)
+      (IsExplainedRow m) rows (λ row f h. explained row.finding row.flow f h)
       (each_finding (IsFinding m) rows found) all

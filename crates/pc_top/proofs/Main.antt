@@ -14,26 +14,46 @@ use Rattle.pc_sound.proofs.Modules.Soundness.{sound}
 use Rattle.pc_front.specs.Bytes.{IsModuleOf, IsRefusalOf}
 use Rattle.pc_report.specs.declared.report.Row.{Row}
 use Rattle.pc_report.specs.Report.{Lists, row_findings}
-use Rattle.pc_top.specs.Headline.{HasNoErrorRow, HasEvaluatedRow, Headline, IsExplainedRow, OnCheckFault, check_fault_of}
+use Rattle.pc_top.specs.Headline.{HasNoErrorRow, HasEvaluatedRow, Headline, IsExplainedRow, OnCheckFault}
+use Rattle.pc_top.specs.Headline.{check_fault_of}
 use Rattle.pc_front.proofs.BytesLaws.{one_module}
 
 module _ (bytes : List ℕ) (whole : Module) where
-  sound_here : (rows : List Row) → Lists bytes (IsFinding whole) rows → HasNoErrorRow rows → (events : List Place) (end : End) → Run whole events end → IsFaultyEnd end → HasEvaluatedRow rows events
+  sound_here : (rows : List Row) → Lists bytes (IsFinding whole) rows → HasNoErrorRow rows
+      → (events : List Place) (end : End) → Run whole events end → IsFaultyEnd end → HasEvaluatedRow rows events
   sound_here rows lists clean events end run fault =
       let e = sound whole (λ f found. clean f ((lists.exact f).1 found)) events end run fault in
       record { finding = e.finding; listed = (lists.exact e.finding).1 e.found; dynamic = e.dynamic; event = e.event }
 
-  pub headline_from : IsModuleOf bytes whole → (found : List Finding) (rows : List Row) → ((f : Finding) → Contains found f ↔ IsFinding whole f) → Lists bytes (Contains found) rows
-      → (((f : Finding) → Contains (row_findings rows) f → IsFinding whole f) → AllByRecursion (IsExplainedRow whole) rows) → Headline bytes rows
+  pub headline_from : IsModuleOf bytes whole → (found : List Finding) (rows : List Row)
+      → ((f : Finding) → Contains found f ↔ IsFinding whole f) → Lists bytes (Contains found) rows
+      → (((f : Finding) → Contains (row_findings rows) f → IsFinding whole f)
+      → AllByRecursion (IsExplainedRow whole) rows) → Headline bytes rows
   headline_from spelled found rows exactly lists explained =
       let exact : (f : Finding) → Contains (row_findings rows) f ↔ IsFinding whole f = λ f. (
         (λ h. (exactly f).0 ((lists.exact f).0 h)),
         (λ h. (lists.exact f).1 ((exactly f).1 h)),
       ) in
-      let listed : Lists bytes (IsFinding whole) rows = record { sorted = lists.sorted; exact = exact; placed = lists.placed } in
-      record { whole = whole; spelled = spelled; only = λ other h. one_module bytes other whole h spelled; labelled = every_module_has_a_labelling whole; listed = listed; explained = explained (λ f h. (exact f).0 h); sound = sound_here rows listed }
+      let listed : Lists bytes (IsFinding whole) rows = record {
+        sorted = lists.sorted;
+        exact = exact;
+        placed =
+            lists.placed;
+      } in
+      record {
+        whole = whole;
+        spelled = spelled;
+        only = λ other h. one_module bytes other whole h spelled;
+        labelled =
+            every_module_has_a_labelling whole;
+        listed = listed;
+        explained = explained (λ f h. (exact f).0 h);
+        sound =
+            sound_here rows listed;
+      }
 
 -- a refusal of the bytes
-pub refused_bytes : (bytes : List ℕ) (f : Fault) → OnRefusal (IsRefusalOf bytes) f → OnCheckFault (IsRefusalOf bytes) (check_fault_of f)
+pub refused_bytes : (bytes : List ℕ) (f : Fault) → OnRefusal (IsRefusalOf bytes) f
+    → OnCheckFault (IsRefusalOf bytes) (check_fault_of f)
 refused_bytes bytes (fault.Refused r) h = h
 refused_bytes bytes fault.OutOfMemory h = tt

@@ -1,6 +1,8 @@
--- What is found under the labels of a module, of its scopes and of its classes are together just its findings; and the dynamic flows
+-- What is found under the labels of a module, of its scopes and of its classes are together just its findings; and the
+-- dynamic flows
 -- are those found under the labels.
-use Rattle.std.proofs.Common.{◌≡◌, List, [], ◌∷◌, ◌++◌, map, refl, ap, ◌∙◌, sym, subst, inl, inr, Contains, ◌↔◌, Option, None, append-nil}
+use Rattle.std.proofs.Common.{◌≡◌, List, [], ◌∷◌, ◌++◌, map, refl, ap, ◌∙◌, sym, subst, inl, inr, Contains, ◌↔◌, Option}
+use Rattle.std.proofs.Common.{None, append-nil}
 use Rattle.std.specs.Prelude.{◌⊎◌, Bool, true, false, if◌then◌else◌}
 use Rattle.std.proofs.lemmas.List.{map-append}
 use Rattle.std.proofs.lemmas.List.Elements.{Contains-append_left, Contains-append_right, Contains-append_cases}
@@ -29,10 +31,13 @@ plain_findings [] = refl
 plain_findings (f ∷ fs) = ap (λ (l : List Finding). f ∷ l) (plain_findings fs)
 
 -- the findings of notes with others after them that tell of no flow
-with_plain : (notes : List Note) (fs : List Finding) → findings_of (notes ++ map plain_note fs) ≡ findings_of notes ++ fs
-with_plain notes fs = map-append (λ (n : Note). n.finding) notes (map plain_note fs) ∙ ap (λ (l : List Finding). findings_of notes ++ l) (plain_findings fs)
+with_plain : (notes : List Note) (fs : List Finding) → findings_of (notes ++ map plain_note fs) ≡ findings_of notes
+    ++ fs
+with_plain notes fs = map-append (λ (n : Note). n.finding) notes (map plain_note fs)
+    ∙ ap (λ (l : List Finding). findings_of notes ++ l) (plain_findings fs)
 
-module _ (m : Module) (of_scopes : List Finding) (scopes_found : (f : Finding) → Contains of_scopes f ↔ ScopeFinds m f) where
+module _ (m : Module) (of_scopes : List Finding) (scopes_found : (f : Finding) → Contains of_scopes f
+    ↔ ScopeFinds m f) where
   of_classes : List Finding
   of_classes = class_findings m ++ override_findings m
 
@@ -52,24 +57,32 @@ module _ (m : Module) (of_scopes : List Finding) (scopes_found : (f : Finding) �
       let labels = findings_of (module_finds m []) in
       let computed = findings_computed m f in (
         (λ h. elim (Contains-append_cases (labels ++ of_scopes) of_classes f h) [
-          | inl a ↦ elim (Contains-append_cases labels of_scopes f a) [ inl l ↦ computed.1 (inr (inr l)) | inr s ↦ computed.1 (inl ((scopes_found f).0 s)) ]
+          | inl a ↦ elim (Contains-append_cases labels of_scopes f a) [
+            | inl l ↦ computed.1 (inr (inr l))
+            | inr s ↦
+                computed.1 (inl ((scopes_found f).0 s))
+          ]
           | inr c ↦ computed.1 (inr (inl ((classes_found f).0 c)))
         ]),
         (λ h. elim (computed.0 h) [
-          | inl s ↦ Contains-append_left (labels ++ of_scopes) of_classes f (Contains-append_right labels of_scopes f ((scopes_found f).1 s))
+          | inl s ↦ Contains-append_left (labels ++ of_scopes) of_classes f
+              (Contains-append_right labels of_scopes f ((scopes_found f).1 s))
           | inr rest ↦ elim rest [
             | inl c ↦ Contains-append_right (labels ++ of_scopes) of_classes f ((classes_found f).1 c)
-            | inr l ↦ Contains-append_left (labels ++ of_scopes) of_classes f (Contains-append_left labels of_scopes f l)
+            | inr l ↦ Contains-append_left (labels ++ of_scopes) of_classes f
+                (Contains-append_left labels of_scopes f l)
           ]
         ]),
       )
 
   -- what the walk over a module finds, with what is found of scopes and of classes after it, are just its findings
-  pub exactly : (notes : List Note) → notes ≡ (module_finds m [] ++ map plain_note of_scopes) ++ map plain_note (class_findings m ++ override_findings m) → (f : Finding) → Contains (findings_of notes) f ↔ IsFinding m f
+  pub exactly : (notes : List Note) → notes ≡ (module_finds m [] ++ map plain_note of_scopes) ++ map plain_note
+      (class_findings m ++ override_findings m) → (f : Finding) → Contains (findings_of notes) f ↔ IsFinding m f
   unfolding of_classes
   exactly notes is f =
       let whole : findings_of notes ≡ (findings_of (module_finds m []) ++ of_scopes) ++ of_classes =
-      ap findings_of is ∙ with_plain (module_finds m [] ++ map plain_note of_scopes) of_classes ∙ ap (λ (l : List Finding). l ++ of_classes) (with_plain (module_finds m []) of_scopes) in
+      ap findings_of is ∙ with_plain (module_finds m [] ++ map plain_note of_scopes) of_classes
+      ∙ ap (λ (l : List Finding). l ++ of_classes) (with_plain (module_finds m []) of_scopes) in
       subst (λ (l : List Finding). Contains l f ↔ IsFinding m f) (sym whole) (all_found f)
 
 -- ---- flows
@@ -83,13 +96,23 @@ none_added : (p : Place) (fs : List Finding) → flow_noted p (map plain_note fs
 none_added p [] = refl
 none_added p (f ∷ fs) = same_or (is_same_place p f.place) (flow_noted p (map plain_note fs)) ∙ none_added p fs
 
-flows_stay : (p : Place) (notes : List Note) (fs : List Finding) → flow_noted p (notes ++ map plain_note fs) ≡ flow_noted p notes
+flows_stay : (p : Place) (notes : List Note) (fs : List Finding) → flow_noted p (notes ++ map plain_note fs)
+    ≡ flow_noted p notes
 flows_stay p [] fs = none_added p fs
 flows_stay p (n ∷ ns) fs = ap (flow_or p n) (flows_stay p ns fs)
 
-pub same_flows : (p : Place) (notes first : List Note) (xs ys : List Finding) → notes ≡ (first ++ map plain_note xs) ++ map plain_note ys → flow_noted p notes ≡ flow_noted p first
-same_flows p notes first xs ys is = ap (flow_noted p) is ∙ flows_stay p (first ++ map plain_note xs) ys ∙ flows_stay p first xs
+pub same_flows : (p : Place) (notes first : List Note) (xs ys : List Finding) → notes ≡ (first ++ map plain_note xs)
+    ++ map plain_note ys → flow_noted p notes ≡ flow_noted p first
+same_flows p notes first xs ys is = ap (flow_noted p) is ∙ flows_stay p (first ++ map plain_note xs) ys
+    ∙ flows_stay p first xs
 
 -- what is computed at each place is the dynamic flow there
-pub told_flows : (m : Module) (notes : List Note) → ((p : Place) → flow_noted p notes ≡ dynamic_flow m p) → TellsFlows m notes
-told_flows m notes same = record { just = λ p s t. (λ e. (flows_computed m p s t).0 (sym (same p) ∙ e), λ h. same p ∙ (flows_computed m p s t).1 h) }
+pub told_flows : (m : Module) (notes : List Note) → ((p : Place) → flow_noted p notes ≡ dynamic_flow m p)
+    → TellsFlows m notes
+told_flows m notes same = record {
+  just = λ p s t. (
+    λ e. (flows_computed m p s t).0 (sym (same p) ∙ e),
+    λ h. same p
+        ∙ (flows_computed m p s t).1 h,
+  );
+}

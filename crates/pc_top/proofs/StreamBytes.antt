@@ -1,5 +1,6 @@
 -- What is answered of the bytes that were read is answered of the bytes of the reader.
-use Rattle.std.proofs.Common.{◌≡◌, ℕ, ◌+◌, ◌<◌, ◌≤◌, List, ◌++◌, length, Bool, Option, None, Some, refl, sym, ap, ◌∙◌, subst, inl, inr, arith, append-nil, length-append}
+use Rattle.std.proofs.Common.{◌≡◌, ℕ, ◌+◌, ◌<◌, ◌≤◌, List, ◌++◌, length, Bool, Option, None, Some, refl, sym, ap, ◌∙◌}
+use Rattle.std.proofs.Common.{subst, inl, inr, arith, append-nil, length-append}
 use Rattle.std.specs.Io.KnownBytes.{Consumes, IsAtEnd}
 use Rattle.std.proofs.lemmas.Bool.{cases_lt}
 use Rattle.pc_source.specs.declared.fault.Refusal.{Refusal}
@@ -15,7 +16,8 @@ use Rattle.pc_report.specs.declared.writing.WriteFault.TheVariants as write_faul
 use Rattle.pc_report.specs.Report.{errors_of, dynamic_count}
 use Rattle.pc_report.specs.Writing.{OnWriteFault, TakesAll, TakesBeginning}
 use Rattle.pc_top.specs.Headline.{Headline, OnCheckFault}
-use Rattle.pc_top.specs.Streaming.{AreBytesOf, IsRefusedStream, IsReported, IsBegun, IsWithinStream, WhenRefused, WhenWriteFails, most_read, report_bytes, write_checked}
+use Rattle.pc_top.specs.Streaming.{AreBytesOf, IsRefusedStream, IsReported, IsBegun, IsWithinStream, WhenRefused}
+use Rattle.pc_top.specs.Streaming.{WhenWriteFails, most_read, report_bytes, write_checked}
 use Rattle.pc_top.specs.declared.fault.CheckFault.{CheckFault}
 use Rattle.pc_top.specs.declared.fault.CheckFault.TheVariants as check_fault
 
@@ -28,12 +30,14 @@ pub are_all : (told : Option (List ℕ)) (given : List ℕ) → AreBytesOf told 
 are_all None given = tt
 are_all (Some told) given = refl
 
-all_given : (told left : Option (List ℕ)) (given : List ℕ) → Consumes told left given → IsAtEnd left → all_bytes told given ≡ given
+all_given : (told left : Option (List ℕ)) (given : List ℕ) → Consumes told left given → IsAtEnd left
+    → all_bytes told given ≡ given
 all_given None left given p end = refl
 all_given (Some told) None given p end = absurd p
 all_given (Some told) (Some rest) given p end = p ∙ ap (λ (l : List ℕ). given ++ l) end ∙ append-nil given
 
-given_le : (told left : Option (List ℕ)) (given : List ℕ) → Consumes told left given → length given ≤ length (all_bytes told given)
+given_le : (told left : Option (List ℕ)) (given : List ℕ) → Consumes told left given
+    → length given ≤ length (all_bytes told given)
 given_le None left given p = omega arith
 given_le (Some told) None given p = absurd p
 given_le (Some told) (Some rest) given p = omega (arith, ap length p, length-append given rest)
@@ -55,7 +59,8 @@ module _ (given all : List ℕ) (long : source_limit < length given) (more : len
   refused_long r (of_layout h) = absurd (no_text h.lined.text)
   refused_long r (of_grammar h) = absurd (no_text h.laid_out.lined.text)
 
-module _ (told left : Option (List ℕ)) (given : List ℕ) (consumed : Consumes told left given) (whole : length given < source_limit + 1 → IsAtEnd left) where
+module _ (told left : Option (List ℕ)) (given : List ℕ) (consumed : Consumes told left given)
+    (whole : length given < source_limit + 1 → IsAtEnd left) where
   same : length given ≤ source_limit → all_bytes told given ≡ given
   same short = all_given told left given consumed (whole (omega arith))
 
@@ -67,7 +72,11 @@ module _ (told left : Option (List ℕ)) (given : List ℕ) (consumed : Consumes
   ]
 
   pub refused_stream : (e : CheckFault) → OnCheckFault (IsRefusalOf given) e → WhenRefused (IsRefusedStream told) e
-  refused_stream (check_fault.Refused r) h = record { bytes = all_bytes told given; given = are_all told given; refused = refused_all r h }
+  refused_stream (check_fault.Refused r) h = record {
+    bytes = all_bytes told given;
+    given = are_all told given;
+    refused = refused_all r h;
+  }
   refused_stream check_fault.OutOfMemory h = tt
   refused_stream check_fault.Read h = tt
   refused_stream check_fault.Write h = tt
@@ -81,7 +90,8 @@ module _ (told left : Option (List ℕ)) (given : List ℕ) (consumed : Consumes
     most = omega (arith, h, short);
   }
 
-  pub within_stream : length given ≤ most_read → (e : CheckFault) → OnCheckFault (λ r. r.byte ≤ length given) e → WhenRefused (λ r. IsWithinStream told r.byte) e
+  pub within_stream : length given ≤ most_read → (e : CheckFault) → OnCheckFault (λ r. r.byte ≤ length given) e
+      → WhenRefused (λ r. IsWithinStream told r.byte) e
   within_stream short (check_fault.Refused r) h = within_all short r.byte h
   within_stream short check_fault.OutOfMemory h = tt
   within_stream short check_fault.Read h = tt
@@ -91,8 +101,10 @@ module _ (told left : Option (List ℕ)) (given : List ℕ) (consumed : Consumes
   reported_all : (rows : List Row) → Headline given rows → Headline (all_bytes told given) rows
   reported_all rows h = subst (λ (l : List ℕ). Headline l rows) (sym (same h.spelled.laid_out.lined.text.short)) h
 
-  module _ {W : Type 0} (contents : W → Option (List ℕ)) (json : Bool) (format : Format) (old new : Counted W) (rows : List Row) (h : Headline given rows) where
-    pub reported_stream : (errors dynamic : ℕ) → errors ≡ errors_of rows → dynamic ≡ dynamic_count rows → TakesAll contents (report_bytes json format rows) old new
+  module _ {W : Type 0} (contents : W → Option (List ℕ)) (json : Bool) (format : Format) (old new : Counted W)
+      (rows : List Row) (h : Headline given rows) where
+    pub reported_stream : (errors dynamic : ℕ) → errors ≡ errors_of rows → dynamic ≡ dynamic_count rows
+        → TakesAll contents (report_bytes json format rows) old new
         → IsReported contents told json format old new errors dynamic
     reported_stream errors dynamic e d written = record {
       bytes = all_bytes told given;
@@ -104,7 +116,15 @@ module _ (told left : Option (List ℕ)) (given : List ℕ) (consumed : Consumes
       written = written;
     }
 
-    pub begun_stream : (e : WriteFault) → OnWriteFault e (new ≡ old) (TakesBeginning contents (report_bytes json format rows) old new)
+    pub begun_stream : (e : WriteFault) → OnWriteFault e (new ≡ old)
+        (TakesBeginning contents (report_bytes json format rows) old new)
         → WhenWriteFails (IsBegun contents told json format old new) (write_checked e)
     begun_stream write_fault.OutOfMemory written = tt
-    begun_stream write_fault.Write written = record { bytes = all_bytes told given; given = are_all told given; rows = rows; headline = reported_all rows h; written = written }
+    begun_stream write_fault.Write written = record {
+      bytes = all_bytes told given;
+      given = are_all told given;
+      rows =
+          rows;
+      headline = reported_all rows h;
+      written = written;
+    }

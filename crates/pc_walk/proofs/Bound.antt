@@ -30,18 +30,25 @@ use Rattle.pc_rules.proofs.Flowing.{one_flow}
 use Rattle.pc_rules.proofs.Once.{once_early}
 use Rattle.pc_flow.specs.WellFormed.{IsWellFormedIfAny}
 use Rattle.pc_module_rules.specs.Statements.{only_code}
-use Rattle.pc_module_rules.specs.Computed.Statements.{BodyContext, Table, BindingResult, with_declared, known_declared, at, bound_type, bound_name, bind_label, bind_value, bind_item, declared_alone, annotation_finds}
+use Rattle.pc_module_rules.specs.Computed.Statements.{BodyContext, Table, BindingResult, with_declared, known_declared}
+use Rattle.pc_module_rules.specs.Computed.Statements.{at, bound_type, bound_name, bind_label, bind_value, bind_item}
+use Rattle.pc_module_rules.specs.Computed.Statements.{declared_alone, annotation_finds}
 use Rattle.pc_walk.specs.StatementsHeld.{HoldsType, HoldsTypeIfAny, HoldsTypes, GivesTypes, GivesBound, bound_with}
 use Rattle.pc_walk.specs.AnnotatedNames.{annotation_unless, declared_by}
 use Rattle.pc_flow.specs.Stored.{GivesOne}
 
 -- the label's code of being early is that of the label
-pub early_alike : {Ty : Type 0} (tree : Ty → Tree) (l : RustLabel Ty) (m : Label) → label_with tree l ≡ brief m → is_early l.codes.items ≡ is_early m.codes
+pub early_alike : {Ty : Type 0} (tree : Ty → Tree) (l : RustLabel Ty) (m : Label) → label_with tree l ≡ brief m
+    → is_early l.codes.items ≡ is_early m.codes
 early_alike tree l m e = ap (λ (x : Label). is_early x.codes) e ∙ once_early m.codes
 
 -- the code of a flow of a label is that of its label
-pub code_alike : {Ty : Type 0} (tree : Ty → Tree) (bases : Bases) (l : RustLabel Ty) (m : Label) (d : Tree) → label_with tree l ≡ brief m → code_unless (static_test bases) (assignable_test bases) (is_early l.codes.items) (tree l.ty) d ≡ code_unless (static_test bases) (assignable_test bases) (is_early m.codes) m.type d
-code_alike tree bases l m d e = ap (λ (b : _). code_unless (static_test bases) (assignable_test bases) b (tree l.ty) d) (early_alike tree l m e) ∙ ap (λ (x : Label). code_unless (static_test bases) (assignable_test bases) (is_early m.codes) x.type d) e
+pub code_alike : {Ty : Type 0} (tree : Ty → Tree) (bases : Bases) (l : RustLabel Ty) (m : Label) (d : Tree)
+    → label_with tree l ≡ brief m → code_unless (static_test bases) (assignable_test bases) (is_early l.codes.items)
+    (tree l.ty) d ≡ code_unless (static_test bases) (assignable_test bases) (is_early m.codes) m.type d
+code_alike tree bases l m d e = ap (λ (b : _). code_unless (static_test bases) (assignable_test bases) b (tree l.ty) d)
+    (early_alike tree l m e) ∙ ap (λ (x : Label). code_unless (static_test bases) (assignable_test bases)
+    (is_early m.codes) x.type d) e
 
 -- what is found of a flow of a label is what is found of the flow of its label
 pub flow_found : {Ty : Type 0} (tree : Ty → Tree) (bases : Bases) (p : Place) (l : RustLabel Ty) (m : Label) (into : Ty)
@@ -59,7 +66,8 @@ flow_found tree bases p l m into code old new e ec en =
 
 -- a local bound to a value of which this is expected
 abbrev bind_known : BodyContext → Table → Env → ℕ → (want : Option Tree) → Expr → List Note → BindingResult
-bind_known context table env x want e found = bind_label context table env x want (place_of e) (label_in (at context table env) want e) (found ++ finds_in (at context table env) want e)
+bind_known context table env x want e found = bind_label context table env x want (place_of e)
+    (label_in (at context table env) want e) (found ++ finds_in (at context table env) want e)
 
 -- a local bound to a label, by the classes' bases alone
 abbrev bind_over : Bases → Table → Env → ℕ → (want : Option Tree) → Place → Label → List Note → BindingResult
@@ -74,38 +82,57 @@ bind_over bases table env x want p m found =
 
 module _ {Store Ty : Type 0} (has : Store → Ty → Type 0) (tree : Ty → Tree) (bases : Bases) (store : Store) where
   -- a local of a well-formed type
-  pub set_gives : (types : List (Option Ty)) (x : ℕ) (d : Ty) → HoldsType (has store) tree bases d → HoldsTypes (has store) tree bases types → GivesTypes has tree bases store (slice_set types x (Some d)) (slice_set (env_of tree types) x (Some (tree d)))
-  set_gives types x d h k = let a = assigned_gives has tree store types x d (env_of tree types) h.given (record { given = k.given; is = refl }) in record {
-    holds = record { given = a.given; well_formed = set_well_formed tree bases types x d h.well_formed k.well_formed };
-    is = a.is;
-  }
+  pub set_gives : (types : List (Option Ty)) (x : ℕ) (d : Ty) → HoldsType (has store) tree bases d
+      → HoldsTypes (has store) tree bases types → GivesTypes has tree bases store (slice_set types x (Some d))
+      (slice_set (env_of tree types) x (Some (tree d)))
+  set_gives types x d h k = let a = assigned_gives has tree store types x d (env_of tree types) h.given
+      (record { given = k.given; is = refl }) in record {
+        holds = record { given = a.given; well_formed = set_well_formed tree bases types x d h.well_formed k.well_formed };
+        is = a.is;
+      }
 
-  settled_by : (o : Option Ty) (types : List (Option Ty)) (x : ℕ) (d : Ty) → HoldsType (has store) tree bases d → HoldsTypes (has store) tree bases types → GivesTypes has tree bases store (with_declared o types x d) (with_declared (option_map tree o) (env_of tree types) x (tree d))
+  settled_by : (o : Option Ty) (types : List (Option Ty)) (x : ℕ) (d : Ty) → HoldsType (has store) tree bases d
+      → HoldsTypes (has store) tree bases types → GivesTypes has tree bases store (with_declared o types x d)
+      (with_declared (option_map tree o) (env_of tree types) x (tree d))
   settled_by (Some c) types x d h k = record { holds = k; is = refl }
   settled_by None types x d h k = set_gives types x d h k
 
-  pub bound_is : (types : List (Option Ty)) (x : ℕ) → bound_type (env_of tree types) x ≡ option_map tree (slice_index_or types x None)
+  pub bound_is : (types : List (Option Ty)) (x : ℕ) → bound_type (env_of tree types) x ≡ option_map tree
+      (slice_index_or types x None)
   bound_is types x = local_current tree types x (slice_index_or types x None) refl
 
   -- a local whose declared type is settled
-  pub settled_gives : (types : List (Option Ty)) (x : ℕ) (d : Ty) → HoldsType (has store) tree bases d → HoldsTypes (has store) tree bases types → GivesTypes has tree bases store (with_declared (slice_index_or types x None) types x d) (with_declared (bound_type (env_of tree types) x) (env_of tree types) x (tree d))
-  settled_gives types x d h k = subst (λ o. GivesTypes has tree bases store (with_declared (slice_index_or types x None) types x d) (with_declared o (env_of tree types) x (tree d))) (sym (bound_is types x)) (settled_by (slice_index_or types x None) types x d h k)
+  pub settled_gives : (types : List (Option Ty)) (x : ℕ) (d : Ty) → HoldsType (has store) tree bases d
+      → HoldsTypes (has store) tree bases types → GivesTypes has tree bases store
+      (with_declared (slice_index_or types x None) types x d) (with_declared (bound_type (env_of tree types) x)
+      (env_of tree types) x (tree d))
+  settled_gives types x d h k = subst (λ o. GivesTypes has tree bases store
+      (with_declared (slice_index_or types x None) types x d) (with_declared o (env_of tree types) x (tree d)))
+      (sym (bound_is types x)) (settled_by (slice_index_or types x None) types x d h k)
 
   -- what is known of a declared type is well-formed
-  known_by : (o annotation : Option Tree) → IsWellFormedIfAny bases o → IsWellFormedIfAny bases annotation → IsWellFormedIfAny bases (known_declared o annotation)
+  known_by : (o annotation : Option Tree) → IsWellFormedIfAny bases o → IsWellFormedIfAny bases annotation
+      → IsWellFormedIfAny bases (known_declared o annotation)
   known_by (Some d) annotation h k = h
   known_by None annotation h k = k
 
-  pub holds_one : (ty : Option Ty) (t : Option Tree) → GivesOne has tree store ty t → IsWellFormedIfAny bases t → HoldsTypeIfAny (has store) tree bases ty
+  pub holds_one : (ty : Option Ty) (t : Option Tree) → GivesOne has tree store ty t → IsWellFormedIfAny bases t
+      → HoldsTypeIfAny (has store) tree bases ty
   holds_one None t g w = tt
   holds_one (Some ty) t g w = record { given = g.given; well_formed = subst (IsWellFormedIfAny bases) (sym g.is) w }
 
-  pub known_holds : (types : List (Option Ty)) (x : ℕ) (annotation : Option Tree) (ty : Option Ty) → HoldsTypes (has store) tree bases types → IsWellFormedIfAny bases annotation → GivesOne has tree store ty (known_declared (bound_type (env_of tree types) x) annotation) → HoldsTypeIfAny (has store) tree bases ty
-  known_holds types x annotation ty h k g = holds_one ty (known_declared (bound_type (env_of tree types) x) annotation) g (known_by (bound_type (env_of tree types) x) annotation (current_well_formed bases (env_of tree types) x h.well_formed) k)
+  pub known_holds : (types : List (Option Ty)) (x : ℕ) (annotation : Option Tree) (ty : Option Ty)
+      → HoldsTypes (has store) tree bases types → IsWellFormedIfAny bases annotation
+      → GivesOne has tree store ty (known_declared (bound_type (env_of tree types) x) annotation)
+      → HoldsTypeIfAny (has store) tree bases ty
+  known_holds types x annotation ty h k g = holds_one ty (known_declared (bound_type (env_of tree types) x) annotation)
+      g (known_by (bound_type (env_of tree types) x) annotation (current_well_formed bases (env_of tree types) x
+      h.well_formed) k)
 
   module _ (context : BodyContext) (b : bases ≡ context.context.bases) where
     -- a local bound to a label
-    pub label_bound : (types env : List (Option Ty)) (x : ℕ) (want : Option Tree) (p : Place) (l : RustLabel Ty) (m : Label) (before found : List Note) (d current : Ty) (code : Option Code) →
+    pub label_bound : (types env : List (Option Ty)) (x : ℕ) (want : Option Tree) (p : Place) (l : RustLabel Ty)
+        (m : Label) (before found : List Note) (d current : Ty) (code : Option Code) →
         label_with tree l ≡ brief m →
         HoldsType (has store) tree bases d →
         tree d ≡ unwrap_or want (tree l.ty) →
@@ -116,28 +143,41 @@ module _ {Store Ty : Type 0} (has : Store → Ty → Type 0) (tree : Ty → Tree
         found ≡ before ++ flows_at p (flows_of bases m (tree d ∷ [])) →
         HoldsTypes (has store) tree bases types →
         HoldsTypes (has store) tree bases env →
-        GivesBound has tree bases store (with_declared (slice_index_or types x None) types x d) (slice_set env x (Some current)) found (bind_label context (env_of tree types) (env_of tree env) x want p m before)
+        GivesBound has tree bases store (with_declared (slice_index_or types x None) types x d)
+        (slice_set env x (Some current)) found (bind_label context (env_of tree types) (env_of tree env) x want p m
+        before)
     label_bound types env x want p l m before found d current code e hd ed ec hc et wl ef ht he =
         let type_is : tree l.ty ≡ m.type = ap (λ (y : Label). y.type) e in
         let d_is : tree d ≡ unwrap_or want m.type = ed ∙ ap (unwrap_or want) type_is in
-        let current_holds : HoldsType (has store) tree bases current = record { given = hc; well_formed = subst (IsWellFormed bases) (sym et) (assigned_well_formed bases (tree d) (tree l.ty) code hd.well_formed wl) } in
+        let current_holds : HoldsType (has store) tree bases current =
+        record {
+          given = hc;
+          well_formed = subst (IsWellFormed bases) (sym et)
+              (assigned_well_formed bases (tree d) (tree l.ty) code hd.well_formed wl);
+        } in
         let declared = settled_gives types x d hd ht in
         let after = set_gives env x current current_holds he in
-        let code_is : code ≡ code_unless (static_test bases) (assignable_test bases) (is_early m.codes) m.type (tree d) = ec ∙ code_alike tree bases l m (tree d) e in
+        let code_is : code ≡ code_unless (static_test bases) (assignable_test bases) (is_early m.codes) m.type
+        (tree d) = ec ∙ code_alike tree bases l m (tree d) e in
         let T = env_of tree types in
         let E = env_of tree env in
         record {
           declared_holds = declared.holds;
           env_holds = after.holds;
-          is = subst (λ (bs : Bases). bound_with tree (with_declared (slice_index_or types x None) types x d) (slice_set env x (Some current)) found ≡ bind_over bs T E x want p m before) b (λ i. record {
-            table = (declared.is ∙ ap (λ t. with_declared (bound_type T x) T x t) d_is) i;
-            env = (after.is ∙ ap (λ t. assign E x t) (et ∙ ap (λ t. assigned_type (tree d) t code) type_is ∙ ap (λ c. assigned_type (tree d) m.type c) code_is ∙ ap (λ t. assigned_type t m.type (code_unless (static_test bases) (assignable_test bases) (is_early m.codes) m.type t)) d_is)) i;
-            found = (ef ∙ ap (λ t. before ++ flows_at p (flows_of bases m (t ∷ []))) d_is) i;
-          });
+          is = subst (λ (bs : Bases). bound_with tree (with_declared (slice_index_or types x None) types x d)
+              (slice_set env x (Some current)) found ≡ bind_over bs T E x want p m before) b (λ i. record {
+                table = (declared.is ∙ ap (λ t. with_declared (bound_type T x) T x t) d_is) i;
+                env = (after.is ∙ ap (λ t. assign E x t) (et ∙ ap (λ t. assigned_type (tree d) t code) type_is
+                    ∙ ap (λ c. assigned_type (tree d) m.type c) code_is
+                    ∙ ap (λ t. assigned_type t m.type (code_unless (static_test bases) (assignable_test bases)
+                    (is_early m.codes) m.type t)) d_is)) i;
+                found = (ef ∙ ap (λ t. before ++ flows_at p (flows_of bases m (t ∷ []))) d_is) i;
+              });
         }
 
 -- a type or another one is well-formed
-pub or_well_formed : (bases : Bases) (o : Option Tree) (t : Tree) → IsWellFormedIfAny bases o → IsWellFormed bases t → IsWellFormed bases (unwrap_or o t)
+pub or_well_formed : (bases : Bases) (o : Option Tree) (t : Tree) → IsWellFormedIfAny bases o → IsWellFormed bases t
+    → IsWellFormed bases (unwrap_or o t)
 or_well_formed bases None t h k = k
 or_well_formed bases (Some d) t h k = h
 
@@ -148,7 +188,8 @@ pub bound_unless : (o : Option Tree) (t : Tree) → is_some o ≡ true → annot
 bound_unless (Some d) t e = refl
 bound_unless None t e = absurd (grind (arith, e))
 
-pub bound_finds : (context : BodyContext) (o : Option Tree) (n : Name) (a : Ann) → is_some o ≡ true → annotation_finds context o n a ≡ plain_note (finding n.place E24) ∷ []
+pub bound_finds : (context : BodyContext) (o : Option Tree) (n : Name) (a : Ann) → is_some o ≡ true
+    → annotation_finds context o n a ≡ plain_note (finding n.place E24) ∷ []
 bound_finds context (Some d) n a e = refl
 bound_finds context None n a e = absurd (grind (arith, e))
 
@@ -157,15 +198,19 @@ pub first_unless : (o : Option Tree) (t : Tree) → is_some o ≡ false → anno
 first_unless (Some d) t e = absurd (grind (arith, e))
 first_unless None t e = refl
 
-pub first_finds : (context : BodyContext) (o : Option Tree) (n : Name) (a : Ann) → is_some o ≡ false → annotation_finds context o n a ≡ map plain_note (ann_findings context.whole context.context.bases a)
+pub first_finds : (context : BodyContext) (o : Option Tree) (n : Name) (a : Ann) → is_some o ≡ false
+    → annotation_finds context o n a ≡ map plain_note (ann_findings context.whole context.context.bases a)
 first_finds context (Some d) n a e = absurd (grind (arith, e))
 first_finds context None n a e = refl
 
 -- an annotation that doesn't count changes nothing of a value that is bound
-pub value_unless : (context : BodyContext) (table : Table) (env : Env) (r : Res) (t : Tree) (e : Expr) (found : List Note) → bind_value context table env r (annotation_unless (bound_name context table r) t) e found ≡ bind_value context table env r (Some t) e found
+pub value_unless : (context : BodyContext) (table : Table) (env : Env) (r : Res) (t : Tree) (e : Expr)
+    (found : List Note) → bind_value context table env r (annotation_unless (bound_name context table r) t) e found
+    ≡ bind_value context table env r (Some t) e found
 value_unless context table env (res.Local x) t e found = go (bound_type table x)
   where
-    go : (o : Option Tree) → bind_known context table env x (known_declared o (annotation_unless o t)) e found ≡ bind_known context table env x (known_declared o (Some t)) e found
+    go : (o : Option Tree) → bind_known context table env x (known_declared o (annotation_unless o t)) e found
+        ≡ bind_known context table env x (known_declared o (Some t)) e found
     go None = refl
     go (Some d) = refl
 value_unless context table env (res.Const i) t e found = refl
@@ -176,7 +221,9 @@ value_unless context table env res.None t e found = refl
 
 -- ---- names that are no locals
 
-pub value_elsewhere : (context : BodyContext) (table : Table) (env : Env) (r : Res) (a : Option Tree) (e : Expr) (found : List Note) → ((x : ℕ) → r ≡ res.Local x → ⊥) → bind_value context table env r a e found ≡ record { table = table; env = env; found = found ++ finds_in (at context table env) None e }
+pub value_elsewhere : (context : BodyContext) (table : Table) (env : Env) (r : Res) (a : Option Tree) (e : Expr)
+    (found : List Note) → ((x : ℕ) → r ≡ res.Local x → ⊥) → bind_value context table env r a e found
+    ≡ record { table = table; env = env; found = found ++ finds_in (at context table env) None e }
 value_elsewhere context table env (res.Local x) a e found h = absurd (h x refl)
 value_elsewhere context table env (res.Const i) a e found h = refl
 value_elsewhere context table env (res.Func i) a e found h = refl
@@ -185,7 +232,8 @@ value_elsewhere context table env (res.Builtin b) a e found h = refl
 value_elsewhere context table env res.None a e found h = refl
 
 -- so the target of a `for`
-pub item_elsewhere : (context : BodyContext) (table : Table) (head : Env) (r : Res) (p : Place) (t : Tree) (found : List Note)
+pub item_elsewhere : (context : BodyContext) (table : Table) (head : Env) (r : Res) (p : Place) (t : Tree)
+    (found : List Note)
     → ((x : ℕ) → r ≡ res.Local x → ⊥)
     → bind_item context table head r p t found ≡ record { table = table; env = head; found = found }
 item_elsewhere context table head (res.Local x) p t found h = absurd (h x refl)
@@ -201,16 +249,25 @@ some_one : {A : Type 0} {x y : A} → Some x ≡ Some y → x ≡ y
 some_one {x = x} e = ap (λ o. unwrap_or o x) e
 
 module _ {Store Ty : Type 0} (has : Store → Ty → Type 0) (tree : Ty → Tree) (bases : Bases) (store : Store) where
-  local_alone : (types : List (Option Ty)) (x : ℕ) (ty : Option Ty) (t : Tree) (o : Option Tree) → bound_type (env_of tree types) x ≡ o → option_map tree ty ≡ annotation_unless o t → HoldsTypeIfAny (has store) tree bases ty → HoldsTypes (has store) tree bases types → GivesTypes has tree bases store (declared_by types (res.Local x) ty) (with_declared o (env_of tree types) x t)
+  local_alone : (types : List (Option Ty)) (x : ℕ) (ty : Option Ty) (t : Tree) (o : Option Tree)
+      → bound_type (env_of tree types) x ≡ o → option_map tree ty ≡ annotation_unless o t
+      → HoldsTypeIfAny (has store) tree bases ty → HoldsTypes (has store) tree bases types
+      → GivesTypes has tree bases store (declared_by types (res.Local x) ty) (with_declared o (env_of tree types) x t)
   local_alone types x None t (Some c) b e h k = record { holds = k; is = refl }
   local_alone types x (Some d) t (Some c) b e h k = absurd (grind (arith, e))
   local_alone types x None t None b e h k = absurd (grind (arith, e))
   local_alone types x (Some d) t None b e h k =
-      subst (λ u. GivesTypes has tree bases store (declared_by types (res.Local x) (Some d)) (with_declared None (env_of tree types) x u)) (some_one e)
-      (subst (λ o. GivesTypes has tree bases store (declared_by types (res.Local x) (Some d)) (with_declared o (env_of tree types) x (tree d))) b (settled_gives has tree bases store types x d h k))
+      subst (λ u. GivesTypes has tree bases store (declared_by types (res.Local x) (Some d))
+      (with_declared None (env_of tree types) x u)) (some_one e)
+      (subst (λ o. GivesTypes has tree bases store (declared_by types (res.Local x) (Some d))
+      (with_declared o (env_of tree types) x (tree d))) b (settled_gives has tree bases store types x d h k))
 
-  pub alone_gives : (context : BodyContext) (types : List (Option Ty)) (r : Res) (ty : Option Ty) (t : Tree) → option_map tree ty ≡ annotation_unless (bound_name context (env_of tree types) r) t → HoldsTypeIfAny (has store) tree bases ty → HoldsTypes (has store) tree bases types → GivesTypes has tree bases store (declared_by types r ty) (declared_alone context (env_of tree types) r t)
-  alone_gives context types (res.Local x) ty t e h k = local_alone types x ty t (bound_type (env_of tree types) x) refl e h k
+  pub alone_gives : (context : BodyContext) (types : List (Option Ty)) (r : Res) (ty : Option Ty) (t : Tree)
+      → option_map tree ty ≡ annotation_unless (bound_name context (env_of tree types) r) t
+      → HoldsTypeIfAny (has store) tree bases ty → HoldsTypes (has store) tree bases types
+      → GivesTypes has tree bases store (declared_by types r ty) (declared_alone context (env_of tree types) r t)
+  alone_gives context types (res.Local x) ty t e h k = local_alone types x ty t (bound_type (env_of tree types) x) refl
+      e h k
   alone_gives context types (res.Const i) ty t e h k = record { holds = k; is = refl }
   alone_gives context types (res.Func i) ty t e h k = record { holds = k; is = refl }
   alone_gives context types (res.Class i) ty t e h k = record { holds = k; is = refl }
@@ -223,7 +280,15 @@ known_bound None = refl
 known_bound (Some d) = refl
 
 -- a local that gets Any where it has no declared type
-pub settled_any : {Store Ty : Type 0} (has : Store → Ty → Type 0) (tree : Ty → Tree) (bases : Bases) (store : Store) (types : List (Option Ty)) (x : ℕ) (d : Ty) → has store d → tree d ≡ Any → HoldsTypes (has store) tree bases types → GivesTypes has tree bases store (with_declared (slice_index_or types x None) types x d) (with_declared (bound_type (env_of tree types) x) (env_of tree types) x Any)
+pub settled_any : {Store Ty : Type 0} (has : Store → Ty → Type 0) (tree : Ty → Tree) (bases : Bases) (store : Store)
+    (types : List (Option Ty)) (x : ℕ) (d : Ty) → has store d → tree d ≡ Any → HoldsTypes (has store) tree bases types
+    → GivesTypes has tree bases store (with_declared (slice_index_or types x None) types x d)
+    (with_declared (bound_type (env_of tree types) x) (env_of tree types) x Any)
 settled_any has tree bases store types x d h e k =
-    subst (λ t. GivesTypes has tree bases store (with_declared (slice_index_or types x None) types x d) (with_declared (bound_type (env_of tree types) x) (env_of tree types) x t)) e
-    (settled_gives has tree bases store types x d (record { given = h; well_formed = subst (IsWellFormed bases) (sym e) (tt, tt, omega arith) }) k)
+    subst (λ t. GivesTypes has tree bases store (with_declared (slice_index_or types x None) types x d)
+    (with_declared (bound_type (env_of tree types) x) (env_of tree types) x t)) e
+    (settled_gives has tree bases store types x d (record {
+      given = h;
+      well_formed = subst (IsWellFormed bases) (sym e)
+          (tt, tt, omega arith);
+    }) k)

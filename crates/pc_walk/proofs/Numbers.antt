@@ -12,11 +12,14 @@ use Rattle.pc_walk.specs.Touched.{numbers_of}
 use Rattle.pc_walk.specs.Internal.BoundNames.{unreached_numbers}
 
 -- a number is among those of names where one of the names binds it
-pub numbers_bind : (resolve : List ℕ → Res) (names : List Name) (x : ℕ) → list_any (nat_eq x) (numbers_of resolve names) ≡ binds_number resolve names x
+pub numbers_bind : (resolve : List ℕ → Res) (names : List Name) (x : ℕ) → list_any (nat_eq x) (numbers_of resolve names)
+    ≡ binds_number resolve names x
 numbers_bind resolve [] x = refl
-numbers_bind resolve (n ∷ ns) x = go (resolve n.text) ∙ ap (λ b. is_local_number x (resolve n.text) || b) (numbers_bind resolve ns x)
+numbers_bind resolve (n ∷ ns) x = go (resolve n.text) ∙ ap (λ b. is_local_number x (resolve n.text) || b)
+    (numbers_bind resolve ns x)
   where
-    go : (r : Res) → list_any (nat_eq x) (cons_option (as_local r) (numbers_of resolve ns)) ≡ (is_local_number x r || list_any (nat_eq x) (numbers_of resolve ns))
+    go : (r : Res) → list_any (nat_eq x) (cons_option (as_local r) (numbers_of resolve ns))
+        ≡ (is_local_number x r || list_any (nat_eq x) (numbers_of resolve ns))
     go (res.Local y) = refl
     go (res.Const y) = refl
     go (res.Func y) = refl
@@ -25,11 +28,14 @@ numbers_bind resolve (n ∷ ns) x = go (resolve n.text) ∙ ap (λ b. is_local_n
     go res.None = refl
 
 -- locals that no run binds, by their numbers
-pub unreached_by : (context : BodyContext) (table : Table) (names : List Name) → unreached_numbers table (numbers_of context.context.resolve names) ≡ unreached_names context table names
+pub unreached_by : (context : BodyContext) (table : Table) (names : List Name)
+    → unreached_numbers table (numbers_of context.context.resolve names) ≡ unreached_names context table names
 unreached_by context table [] = refl
 unreached_by context table (n ∷ ns) = go (context.context.resolve n.text) (λ t. unreached_by context t ns)
   where
-    go : (r : Res) → ((t : Table) → unreached_numbers t (numbers_of context.context.resolve ns) ≡ unreached_names context t ns) → unreached_numbers table (cons_option (as_local r) (numbers_of context.context.resolve ns)) ≡ unreached_names context (unreached_name context table r) ns
+    go : (r : Res) → ((t : Table) → unreached_numbers t (numbers_of context.context.resolve ns) ≡ unreached_names
+        context t ns) → unreached_numbers table (cons_option (as_local r) (numbers_of context.context.resolve ns))
+        ≡ unreached_names context (unreached_name context table r) ns
     go (res.Local y) h = h (unreached_name context table (res.Local y))
     go (res.Const y) h = h table
     go (res.Func y) h = h table

@@ -6,7 +6,9 @@ use Rattle.std.proofs.lemmas.List.{length-set, length-map}
 use Rattle.std.proofs.lemmas.List.Elements.{filter_map-append}
 use Rattle.std.proofs.lemmas.Bool.{eqb-true}
 use Rattle.pc_source.specs.declared.place.Place.{Place}
-use Rattle.pc_tree.specs.Tree.{Name, Expr, Ann, Target, to_name, to_attribute, to_index, Stmt, Stmts, Branches, pass, breaks, continues, returns, asserts, annotated, assigns, evaluates, while_loop, for_loop, conditional, no_stmts, more_stmts, no_branches, more_branches}
+use Rattle.pc_tree.specs.Tree.{Name, Expr, Ann, Target, to_name, to_attribute, to_index, Stmt, Stmts, Branches, pass}
+use Rattle.pc_tree.specs.Tree.{breaks, continues, returns, asserts, annotated, assigns, evaluates, while_loop, for_loop}
+use Rattle.pc_tree.specs.Tree.{conditional, no_stmts, more_stmts, no_branches, more_branches}
 use Rattle.pc_tree.specs.Stopping.{bound_by, bound_by_stmt, bound_by_branches, name_of_target}
 use Rattle.pc_tree.specs.Depth.{place_of}
 use Rattle.pc_scope.specs.declared.resolution.Res.{Res}
@@ -21,19 +23,27 @@ use Rattle.pc_rules.specs.Operations.{Label, clean}
 use Rattle.pc_rules.specs.Computed.Standing.{label_in, finds_in}
 use Rattle.pc_ann.specs.Annotations.{read_ann}
 use Rattle.pc_module_rules.specs.Statements.{binds_number, is_local_number}
-use Rattle.pc_module_rules.specs.Computed.Statements.{BodyContext, Table, type_table, bound_type, with_declared, known_declared, Walk, BindingResult, BranchesResult, join_onto_way, with_way, at, narrowed_at, unreached_name, unreached_names, bind_label, bind_value, declared_alone, annotation_finds, bound_name, bind_annotated, assign_target, bind_item, head_at, item_label_of, step, walk_suite, walk_branches}
+use Rattle.pc_module_rules.specs.Computed.Statements.{BodyContext, Table, type_table, bound_type, with_declared}
+use Rattle.pc_module_rules.specs.Computed.Statements.{known_declared, Walk, BindingResult, BranchesResult}
+use Rattle.pc_module_rules.specs.Computed.Statements.{join_onto_way, with_way, at, narrowed_at, unreached_name}
+use Rattle.pc_module_rules.specs.Computed.Statements.{unreached_names, bind_label, bind_value, declared_alone}
+use Rattle.pc_module_rules.specs.Computed.Statements.{annotation_finds, bound_name, bind_annotated, assign_target}
+use Rattle.pc_module_rules.specs.Computed.Statements.{bind_item, head_at, item_label_of, step, walk_suite}
+use Rattle.pc_module_rules.specs.Computed.Statements.{walk_branches}
 use Rattle.pc_walk.specs.Touched.{numbers_of, tested_in_stmt, tested_in, tested_in_branches, touched_by}
 use Rattle.pc_flow.specs.Agreement.{is_among}
 use Rattle.pc_flow.specs.Narrowing.{tested_locals}
 use Rattle.pc_walk.specs.Untouched.{AreAmong, IsAsOutsideIfAny, SuitesKeepUntouchedLocals}
-use Rattle.pc_walk.proofs.KeptLocals.{IsKept, IsKeptIfAny, AreApart, apart_both, assigned_kept, head_kept, joined_kept, narrow_kept}
+use Rattle.pc_walk.proofs.KeptLocals.{IsKept, IsKeptIfAny, AreApart, apart_both, assigned_kept, head_kept, joined_kept}
+use Rattle.pc_walk.proofs.KeptLocals.{narrow_kept}
 
 -- ---- tables stay as long
 
 types_long : (table : Table) → length (type_table table) ≡ length table
 types_long table = length-map table (λ o. unwrap_or o Any)
 
-declared_long : {A : Type 0} (o : Option A) (table : List (Option A)) (x : ℕ) (t : A) → length (with_declared o table x t) ≡ length table
+declared_long : {A : Type 0} (o : Option A) (table : List (Option A)) (x : ℕ) (t : A)
+    → length (with_declared o table x t) ≡ length table
 declared_long (Some d) table x t = refl
 declared_long None table x t = length-set table x (Some t)
 
@@ -48,7 +58,8 @@ module _ (context : BodyContext) where
 
   unreached_long : (table : Table) (names : List Name) → length (unreached_names context table names) ≡ length table
   unreached_long table [] = refl
-  unreached_long table (n ∷ ns) = unreached_long (unreached_name context table (context.context.resolve n.text)) ns ∙ unreached_long_at table (context.context.resolve n.text)
+  unreached_long table (n ∷ ns) = unreached_long (unreached_name context table (context.context.resolve n.text)) ns
+      ∙ unreached_long_at table (context.context.resolve n.text)
 
   alone_long : (table : Table) (r : Res) (t : Tree) → length (declared_alone context table r t) ≡ length table
   alone_long table (res.Local x) t = declared_long (bound_type table x) table x t
@@ -60,7 +71,8 @@ module _ (context : BodyContext) where
 
 -- ---- locals of some kind, in a function
 
-module _ (context : BodyContext) (Kind : ℕ → Type 0) (base : Env) (fine : (x : ℕ) → Kind x → IsWellFormedIfAny context.context.bases (current base x)) where
+module _ (context : BodyContext) (Kind : ℕ → Type 0) (base : Env) (fine : (x : ℕ) → Kind x
+    → IsWellFormedIfAny context.context.bases (current base x)) where
   abbrev Here : Env → Type 0
   Here env = IsKept Kind base env
 
@@ -72,7 +84,8 @@ module _ (context : BodyContext) (Kind : ℕ → Type 0) (base : Env) (fine : (x
   NamesApart names = AreApart Kind base (numbers_of context.context.resolve names)
 
   pub names_both : (a b : List Name) → NamesApart (a ++ b) → NamesApart a × NamesApart b
-  names_both a b h = apart_both Kind base (numbers_of context.context.resolve a) (numbers_of context.context.resolve b) (subst (AreApart Kind base) (filter_map-append (λ (n : Name). as_local (context.context.resolve n.text)) a b) h)
+  names_both a b h = apart_both Kind base (numbers_of context.context.resolve a) (numbers_of context.context.resolve b)
+      (subst (AreApart Kind base) (filter_map-append (λ (n : Name). as_local (context.context.resolve n.text)) a b) h)
 
   -- the meaning of one name, and of others
   abbrev MeaningApart : Res → List ℕ → Type 0
@@ -85,11 +98,14 @@ module _ (context : BodyContext) (Kind : ℕ → Type 0) (base : Env) (fine : (x
       go true e = absurd (a (subst Kind (eqb-true x y e) k))
       go false e = refl
 
-  binds_none : (names : List Name) (x : ℕ) → Kind x → NamesApart names → binds_number context.context.resolve names x ≡ false
+  binds_none : (names : List Name) (x : ℕ) → Kind x → NamesApart names → binds_number context.context.resolve names x
+      ≡ false
   binds_none [] x k h = refl
   binds_none (n ∷ ns) x k h = go (context.context.resolve n.text) h (λ g. binds_none ns x k g)
     where
-      go : (r : Res) → MeaningApart r (numbers_of context.context.resolve ns) → (NamesApart ns → binds_number context.context.resolve ns x ≡ false) → (is_local_number x r || binds_number context.context.resolve ns x) ≡ false
+      go : (r : Res) → MeaningApart r (numbers_of context.context.resolve ns)
+          → (NamesApart ns → binds_number context.context.resolve ns x ≡ false)
+          → (is_local_number x r || binds_number context.context.resolve ns x) ≡ false
       go (res.Local y) h f = ap (λ b. b || binds_number context.context.resolve ns x) (not_equal x y k h.0) ∙ f h.1
       go (res.Const y) h f = f h
       go (res.Func y) h f = f h
@@ -102,20 +118,29 @@ module _ (context : BodyContext) (Kind : ℕ → Type 0) (base : Env) (fine : (x
   here_types : (table : Table) → length table ≡ length base → length (type_table table) ≡ length base
   here_types table l = types_long table ∙ l
 
-  pub narrowed_here : (table : Table) (holds : Test) (c : Expr) (env : Env) → length table ≡ length base → AreApart Kind base (tested_locals context.context.resolve c) → Here env → Here (narrowed_at context table holds c env)
-  narrowed_here table holds c env l a h = narrow_kept Kind base context.context.bases (type_table table) (here_types table l) fine context.context.resolve holds c env a h
+  pub narrowed_here : (table : Table) (holds : Test) (c : Expr) (env : Env) → length table ≡ length base
+      → AreApart Kind base (tested_locals context.context.resolve c) → Here env
+      → Here (narrowed_at context table holds c env)
+  narrowed_here table holds c env l a h = narrow_kept Kind base context.context.bases (type_table table)
+      (here_types table l) fine context.context.resolve holds c env a h
 
-  pub head_here : (table : Table) (names : List Name) (env : Env) → length table ≡ length base → NamesApart names → Here env → Here (head_at context table names env)
-  head_here table names env l n h = head_kept Kind base (binds_number context.context.resolve names) (type_table table) env (here_types table l) (λ x k. binds_none names x k n) h
+  pub head_here : (table : Table) (names : List Name) (env : Env) → length table ≡ length base → NamesApart names
+      → Here env → Here (head_at context table names env)
+  head_here table names env l n h = head_kept Kind base (binds_number context.context.resolve names) (type_table table)
+      env (here_types table l) (λ x k. binds_none names x k n) h
 
-  join_here : (table : Table) (a b : Env) → length table ≡ length base → Here a → Here b → Here (join_env context.context.bases (type_table table) a b)
-  join_here table a b l h g = joined_kept Kind base context.context.bases (type_table table) (here_types table l) fine a b h g
+  join_here : (table : Table) (a b : Env) → length table ≡ length base → Here a → Here b
+      → Here (join_env context.context.bases (type_table table) a b)
+  join_here table a b l h g = joined_kept Kind base context.context.bases (type_table table) (here_types table l) fine a
+      b h g
 
-  break_here : (table : Table) (way : Option Env) (env : Env) → length table ≡ length base → HereIfAny way → Here env → HereIfAny (join_onto_way context.context.bases table way env)
+  break_here : (table : Table) (way : Option Env) (env : Env) → length table ≡ length base → HereIfAny way → Here env
+      → HereIfAny (join_onto_way context.context.bases table way env)
   break_here table None env l h g = tt
   break_here table (Some way) env l h g = join_here table way env l h g
 
-  pub way_here : (table : Table) (ways out : Option Env) → length table ≡ length base → HereIfAny ways → HereIfAny out → HereIfAny (with_way context.context.bases table ways out)
+  pub way_here : (table : Table) (ways out : Option Env) → length table ≡ length base → HereIfAny ways → HereIfAny out
+      → HereIfAny (with_way context.context.bases table ways out)
   way_here table ways None l h g = h
   way_here table None (Some env) l h g = g
   way_here table (Some way) (Some env) l h g = join_here table way env l h g
@@ -126,31 +151,52 @@ module _ (context : BodyContext) (Kind : ℕ → Type 0) (base : Env) (fine : (x
     pub long : length b.table ≡ length base
     pub env_here : IsKept Kind base b.env
 
-  label_here : (table : Table) (env : Env) (x : ℕ) (want : Option Tree) (p : Place) (m : Label) (found : List Note) → length table ≡ length base → (Kind x → ⊥) → Here env → BindingHere (bind_label context table env x want p m found)
+  label_here : (table : Table) (env : Env) (x : ℕ) (want : Option Tree) (p : Place) (m : Label) (found : List Note)
+      → length table ≡ length base → (Kind x → ⊥) → Here env → BindingHere
+      (bind_label context table env x want p m found)
   label_here table env x want p m found l a h = record {
     long = declared_long (bound_type table x) table x (unwrap_or want m.type) ∙ l;
     env_here = assigned_kept Kind base env x _ a h;
   }
 
-  value_here : (table : Table) (env : Env) (r : Res) (annotation : Option Tree) (e : Expr) (found : List Note) → length table ≡ length base → MeaningApart r [] → Here env → BindingHere (bind_value context table env r annotation e found)
-  value_here table env (res.Local x) annotation e found l a h = label_here table env x (known_declared (bound_type table x) annotation) (place_of e) (label_in (at context table env) (known_declared (bound_type table x) annotation) e) (found ++ finds_in (at context table env) (known_declared (bound_type table x) annotation) e) l a.0 h
+  value_here : (table : Table) (env : Env) (r : Res) (annotation : Option Tree) (e : Expr) (found : List Note)
+      → length table ≡ length base → MeaningApart r [] → Here env
+      → BindingHere (bind_value context table env r annotation e found)
+  value_here table env (res.Local x) annotation e found l a h =
+      label_here table env x (known_declared (bound_type table x) annotation) (place_of e)
+      (label_in (at context table env) (known_declared (bound_type table x) annotation) e)
+      (found ++ finds_in (at context table env) (known_declared (bound_type table x) annotation) e) l a.0 h
   value_here table env (res.Const i) annotation e found l a h = record { long = l; env_here = h }
   value_here table env (res.Func i) annotation e found l a h = record { long = l; env_here = h }
   value_here table env (res.Class i) annotation e found l a h = record { long = l; env_here = h }
   value_here table env (res.Builtin b) annotation e found l a h = record { long = l; env_here = h }
   value_here table env res.None annotation e found l a h = record { long = l; env_here = h }
 
-  annotated_here : (table : Table) (env : Env) (n : Name) (a : Ann) (e : Option Expr) (found : List Note) → length table ≡ length base → NamesApart (n ∷ []) → Here env → BindingHere (bind_annotated context table env n a e found)
-  annotated_here table env n a None found l m h = record { long = alone_long context table (context.context.resolve n.text) (read_ann context.whole context.context.bases a) ∙ l; env_here = h }
-  annotated_here table env n a (Some e) found l m h = value_here table env (context.context.resolve n.text) (Some (read_ann context.whole context.context.bases a)) e (found ++ annotation_finds context (bound_name context table (context.context.resolve n.text)) n a) l m h
+  annotated_here : (table : Table) (env : Env) (n : Name) (a : Ann) (e : Option Expr) (found : List Note)
+      → length table ≡ length base → NamesApart (n ∷ []) → Here env
+      → BindingHere (bind_annotated context table env n a e found)
+  annotated_here table env n a None found l m h = record {
+    long =
+        alone_long context table (context.context.resolve n.text) (read_ann context.whole context.context.bases a)
+        ∙ l;
+    env_here = h;
+  }
+  annotated_here table env n a (Some e) found l m h = value_here table env (context.context.resolve n.text)
+      (Some (read_ann context.whole context.context.bases a)) e (found ++ annotation_finds context
+      (bound_name context table (context.context.resolve n.text)) n a) l m h
 
-  target_here : (table : Table) (env : Env) (t : Target) (e : Expr) (found : List Note) → length table ≡ length base → NamesApart (name_of_target t) → Here env → BindingHere (assign_target context table env t e found)
-  target_here table env (to_name n) e found l m h = value_here table env (context.context.resolve n.text) None e found l m h
+  target_here : (table : Table) (env : Env) (t : Target) (e : Expr) (found : List Note) → length table ≡ length base
+      → NamesApart (name_of_target t) → Here env → BindingHere (assign_target context table env t e found)
+  target_here table env (to_name n) e found l m h = value_here table env (context.context.resolve n.text) None e found l
+      m h
   target_here table env (to_attribute p o field) e found l m h = record { long = l; env_here = h }
   target_here table env (to_index p o i) e found l m h = record { long = l; env_here = h }
 
-  pub item_here : (table : Table) (head : Env) (r : Res) (p : Place) (t : Tree) (found : List Note) (others : List ℕ) → length table ≡ length base → MeaningApart r others → Here head → BindingHere (bind_item context table head r p t found)
-  item_here table head (res.Local x) p t found others l a h = label_here table head x (bound_type table x) p (clean t) found l a.0 h
+  pub item_here : (table : Table) (head : Env) (r : Res) (p : Place) (t : Tree) (found : List Note) (others : List ℕ)
+      → length table ≡ length base → MeaningApart r others → Here head
+      → BindingHere (bind_item context table head r p t found)
+  item_here table head (res.Local x) p t found others l a h = label_here table head x (bound_type table x) p (clean t)
+      found l a.0 h
   item_here table head (res.Const i) p t found others l a h = record { long = l; env_here = h }
   item_here table head (res.Func i) p t found others l a h = record { long = l; env_here = h }
   item_here table head (res.Class i) p t found others l a h = record { long = l; env_here = h }
@@ -175,88 +221,163 @@ module _ (context : BodyContext) (Kind : ℕ → Type 0) (base : Env) (fine : (x
   abbrev TestsApart : List ℕ → Type 0
   TestsApart locals = AreApart Kind base locals
 
-  still : (table : Table) (env broken : Option Env) (found : List Note) → length table ≡ length base → HereIfAny env → WalkHere broken (record { table = table; env = env; broken = broken; found = found })
+  still : (table : Table) (env broken : Option Env) (found : List Note) → length table ≡ length base → HereIfAny env
+      → WalkHere broken (record { table = table; env = env; broken = broken; found = found })
   still table env broken found l h = record { long = l; env_here = h; broken_here = λ k. k }
 
   mutual
-    pub step_here : (table : Table) (env broken : Option Env) (found : List Note) (s : Stmt) → length table ≡ length base → HereIfAny env → NamesApart (bound_by_stmt s) → TestsApart (tested_in_stmt context.context.resolve s) → WalkHere broken (step context table env broken found s)
-    step_here table None broken found s l h n t = record { long = unreached_long context table (bound_by_stmt s) ∙ l; env_here = tt; broken_here = λ k. k }
+    pub step_here : (table : Table) (env broken : Option Env) (found : List Note) (s : Stmt)
+        → length table ≡ length base → HereIfAny env → NamesApart (bound_by_stmt s)
+        → TestsApart (tested_in_stmt context.context.resolve s) → WalkHere broken
+        (step context table env broken found s)
+    step_here table None broken found s l h n t = record {
+      long = unreached_long context table (bound_by_stmt s)
+          ∙ l;
+      env_here = tt;
+      broken_here = λ k. k;
+    }
     step_here table (Some env) broken found (pass p) l h n t = record { long = l; env_here = h; broken_here = λ k. k }
-    step_here table (Some env) broken found (breaks p) l h n t = record { long = l; env_here = tt; broken_here = λ k. break_here table broken env l k h }
-    step_here table (Some env) broken found (continues p) l h n t = record { long = l; env_here = tt; broken_here = λ k. k }
-    step_here table (Some env) broken found (returns p e) l h n t = record { long = l; env_here = tt; broken_here = λ k. k }
-    step_here table (Some env) broken found (asserts p c e) l h n t = record { long = l; env_here = narrowed_here table true c env l t h; broken_here = λ k. k }
+    step_here table (Some env) broken found (breaks p) l h n t =
+        record { long = l; env_here = tt; broken_here = λ k. break_here table broken env l k h }
+    step_here table (Some env) broken found (continues p) l h n t =
+        record { long = l; env_here = tt; broken_here = λ k. k }
+    step_here table (Some env) broken found (returns p e) l h n t =
+        record { long = l; env_here = tt; broken_here = λ k. k }
+    step_here table (Some env) broken found (asserts p c e) l h n t =
+        record { long = l; env_here = narrowed_here table true c env l t h; broken_here = λ k. k }
     step_here table (Some env) broken found (annotated p m a e) l h n t =
         let b = annotated_here table env m a e found l n h in
         record { long = b.long; env_here = b.env_here; broken_here = λ k. k }
     step_here table (Some env) broken found (assigns p g e) l h n t =
         let b = target_here table env g e found l n h in
         record { long = b.long; env_here = b.env_here; broken_here = λ k. k }
-    step_here table (Some env) broken found (evaluates p e) l h n t = record { long = l; env_here = h; broken_here = λ k. k }
+    step_here table (Some env) broken found (evaluates p e) l h n t =
+        record { long = l; env_here = h; broken_here = λ k. k }
     step_here table (Some env) broken found (while_loop p c b) l h n t =
-        let tests = apart_both Kind base (tested_locals context.context.resolve c) (tested_in context.context.resolve b) t in
+        let tests = apart_both Kind base (tested_locals context.context.resolve c) (tested_in context.context.resolve b)
+        t in
         let head = head_at context table (bound_by b) env in
         let k = head_here table (bound_by b) env l n h in
-        let body = suite_here (record { table = table; env = Some (narrowed_at context table true c head); broken = Some (narrowed_at context table false c head); found = found ++ finds_in (at context table head) None c }) b l (narrowed_here table true c head l tests.0 k) n tests.1 in
-        record { long = body.long; env_here = body.broken_here (narrowed_here table false c head l tests.0 k); broken_here = λ k. k }
+        let body = suite_here (record {
+          table = table;
+          env = Some (narrowed_at context table true c head);
+          broken =
+              Some (narrowed_at context table false c head);
+          found = found ++ finds_in (at context table head) None c;
+        }) b
+        l (narrowed_here table true c head l tests.0 k) n tests.1 in
+        record {
+          long = body.long;
+          env_here = body.broken_here (narrowed_here table false c head l tests.0 k);
+          broken_here = λ k. k;
+        }
     step_here table (Some env) broken found (for_loop p m e b) l h n t =
         let names = names_both (m ∷ []) (bound_by b) n in
         let head = head_at context table (m ∷ bound_by b) env in
         let k = head_here table (m ∷ bound_by b) env l n h in
-        let inside = item_here table head (context.context.resolve m.text) (place_of e) (item_label_of context (at context table env) e).type _ [] l names.0 k in
+        let inside = item_here table head (context.context.resolve m.text) (place_of e)
+        (item_label_of context (at context table env) e).type _ [] l names.0 k in
         let body = suite_here _ b inside.long inside.env_here names.1 t in
         record { long = body.long; env_here = body.broken_here k; broken_here = λ k. k }
     step_here table (Some env) broken found (conditional p bs o) l h n t =
         let names = names_both (bound_by_branches bs) (bound_by o) n in
-        let tests = apart_both Kind base (tested_in_branches context.context.resolve bs) (tested_in context.context.resolve o) t in
-        let start : BranchesResult = record { table = table; last = env; ways = None; broken = broken; found = found } in
+        let tests = apart_both Kind base (tested_in_branches context.context.resolve bs)
+        (tested_in context.context.resolve o) t in
+        let start : BranchesResult = record {
+          table = table;
+          last = env;
+          ways = None;
+          broken = broken;
+          found =
+              found;
+        } in
         let fork = branches_here start bs l h tt names.0 tests.0 in
         let f = walk_branches context start bs in
-        let last = suite_here (record { table = f.table; env = Some f.last; broken = f.broken; found = f.found }) o fork.long fork.last_here names.1 tests.1 in
-        let w = walk_suite context (record { table = f.table; env = Some f.last; broken = f.broken; found = f.found }) o in
-        record { long = last.long; env_here = way_here w.table f.ways w.env last.long fork.ways_here last.env_here; broken_here = λ k. last.broken_here (fork.broken_here k) }
+        let last = suite_here (record { table = f.table; env = Some f.last; broken = f.broken; found = f.found }) o
+        fork.long fork.last_here names.1 tests.1 in
+        let w = walk_suite context (record { table = f.table; env = Some f.last; broken = f.broken; found = f.found })
+        o in
+        record {
+          long = last.long;
+          env_here = way_here w.table f.ways w.env last.long fork.ways_here last.env_here;
+          broken_here = λ k. last.broken_here (fork.broken_here k);
+        }
 
-    pub suite_here : (w : Walk) (b : Stmts) → length w.table ≡ length base → HereIfAny w.env → NamesApart (bound_by b) → TestsApart (tested_in context.context.resolve b) → WalkHere w.broken (walk_suite context w b)
+    pub suite_here : (w : Walk) (b : Stmts) → length w.table ≡ length base → HereIfAny w.env → NamesApart (bound_by b)
+        → TestsApart (tested_in context.context.resolve b) → WalkHere w.broken (walk_suite context w b)
     suite_here w no_stmts l h n t = record { long = l; env_here = h; broken_here = λ k. k }
     suite_here w (more_stmts s rest) l h n t =
         let names = names_both (bound_by_stmt s) (bound_by rest) n in
-        let tests = apart_both Kind base (tested_in_stmt context.context.resolve s) (tested_in context.context.resolve rest) t in
+        let tests = apart_both Kind base (tested_in_stmt context.context.resolve s)
+        (tested_in context.context.resolve rest) t in
         let first = step_here w.table w.env w.broken w.found s l h names.0 tests.0 in
-        let next = suite_here (step context w.table w.env w.broken w.found s) rest first.long first.env_here names.1 tests.1 in
+        let next = suite_here (step context w.table w.env w.broken w.found s) rest first.long first.env_here names.1
+        tests.1 in
         record { long = next.long; env_here = next.env_here; broken_here = λ k. next.broken_here (first.broken_here k) }
 
-    pub branches_here : (f : BranchesResult) (bs : Branches) → length f.table ≡ length base → Here f.last → HereIfAny f.ways → NamesApart (bound_by_branches bs) → TestsApart (tested_in_branches context.context.resolve bs) → ForkHere f.broken (walk_branches context f bs)
+    pub branches_here : (f : BranchesResult) (bs : Branches) → length f.table ≡ length base → Here f.last
+        → HereIfAny f.ways → NamesApart (bound_by_branches bs) → TestsApart
+        (tested_in_branches context.context.resolve bs) → ForkHere f.broken (walk_branches context f bs)
     branches_here f no_branches l h w n t = record { long = l; last_here = h; ways_here = w; broken_here = λ k. k }
     branches_here f (more_branches c b rest) l h w n t =
         let names = names_both (bound_by b) (bound_by_branches rest) n in
-        let tests = apart_both Kind base (tested_locals context.context.resolve c) (tested_in context.context.resolve b ++ tested_in_branches context.context.resolve rest) t in
-        let later = apart_both Kind base (tested_in context.context.resolve b) (tested_in_branches context.context.resolve rest) tests.1 in
-        let start : Walk = record { table = f.table; env = Some (narrowed_at context f.table true c f.last); broken = f.broken; found = f.found ++ finds_in (at context f.table f.last) None c } in
+        let tests = apart_both Kind base (tested_locals context.context.resolve c)
+        (tested_in context.context.resolve b ++ tested_in_branches context.context.resolve rest) t in
+        let later = apart_both Kind base (tested_in context.context.resolve b)
+        (tested_in_branches context.context.resolve rest) tests.1 in
+        let start : Walk = record {
+          table = f.table;
+          env = Some (narrowed_at context f.table true c f.last);
+          broken =
+              f.broken;
+          found = f.found ++ finds_in (at context f.table f.last) None c;
+        } in
         let body = suite_here start b l (narrowed_here f.table true c f.last l tests.0 h) names.0 later.0 in
         let out = walk_suite context start b in
-        let next = branches_here (record { table = out.table; last = narrowed_at context f.table false c f.last; ways = with_way context.context.bases out.table f.ways out.env; broken = out.broken; found = out.found }) rest body.long (narrowed_here f.table false c f.last l tests.0 h) (way_here out.table f.ways out.env body.long w body.env_here) names.1 later.1 in
-        record { long = next.long; last_here = next.last_here; ways_here = next.ways_here; broken_here = λ k. next.broken_here (body.broken_here k) }
+        let next = branches_here (record {
+          table = out.table;
+          last = narrowed_at context f.table false c f.last;
+          ways =
+              with_way context.context.bases out.table f.ways out.env;
+          broken = out.broken;
+          found = out.found;
+        }) rest
+        body.long (narrowed_here f.table false c f.last l tests.0 h)
+        (way_here out.table f.ways out.env body.long w body.env_here) names.1 later.1 in
+        record {
+          long = next.long;
+          last_here = next.last_here;
+          ways_here = next.ways_here;
+          broken_here =
+              λ k. next.broken_here (body.broken_here k);
+        }
 
 -- ---- the law
 
 -- what is among some locals is apart from what is outside them
-pub among_apart : (locals : List ℕ) (base : Env) (xs : List ℕ) → AreAmong locals xs → AreApart (λ x. is_among locals x ≡ false) base xs
+pub among_apart : (locals : List ℕ) (base : Env) (xs : List ℕ) → AreAmong locals xs
+    → AreApart (λ x. is_among locals x ≡ false) base xs
 among_apart locals base [] h = tt
 among_apart locals base (x ∷ xs) h = (λ e. absurd (grind (arith, h.0, e)), among_apart locals base xs h.1)
 
-pub as_kept : (locals : List ℕ) (base : Env) (env : Option Env) → IsAsOutsideIfAny locals base env → IsKeptIfAny (λ x. is_among locals x ≡ false) base env
+pub as_kept : (locals : List ℕ) (base : Env) (env : Option Env) → IsAsOutsideIfAny locals base env
+    → IsKeptIfAny (λ x. is_among locals x ≡ false) base env
 as_kept locals base None h = tt
 as_kept locals base (Some env) h = record { long = h.long; same = h.same }
 
-pub kept_as : (locals : List ℕ) (base : Env) (env : Option Env) → IsKeptIfAny (λ x. is_among locals x ≡ false) base env → IsAsOutsideIfAny locals base env
+pub kept_as : (locals : List ℕ) (base : Env) (env : Option Env) → IsKeptIfAny (λ x. is_among locals x ≡ false) base env
+    → IsAsOutsideIfAny locals base env
 kept_as locals base None h = tt
 kept_as locals base (Some env) h = record { long = h.long; same = h.same }
 
 pub untouched_kept : SuitesKeepUntouchedLocals
 untouched_kept context table env broken found b locals l w a =
-    let apart = apart_both (λ x. is_among locals x ≡ false) env (numbers_of context.context.resolve (bound_by b)) (tested_in context.context.resolve b) (among_apart locals env (touched_by context.context.resolve b) a) in
+    let apart = apart_both (λ x. is_among locals x ≡ false) env (numbers_of context.context.resolve (bound_by b))
+    (tested_in context.context.resolve b) (among_apart locals env (touched_by context.context.resolve b) a) in
     let start : Walk = record { table = table; env = Some env; broken = broken; found = found } in
-    let behind = suite_here context (λ x. is_among locals x ≡ false) env (λ x k. current_well_formed context.context.bases env x w) start b l (record { long = refl; same = λ x k. refl }) apart.0 apart.1 in
+    let behind = suite_here context (λ x. is_among locals x ≡ false) env
+    (λ x k. current_well_formed context.context.bases env x w) start b l
+    (record { long = refl; same = λ x k. refl }) apart.0 apart.1 in
     let out = walk_suite context start b in
     record {
       long = behind.long ∙ sym l;
@@ -275,13 +396,20 @@ pub long_kept : (base env : Env) → length env ≡ length base → IsKept (λ x
 long_kept base env l = record { long = l; same = λ x k. absurd k }
 
 module _ (context : BodyContext) (table : Table) where
-  pub narrowed_long : (holds : Test) (c : Expr) (env : Env) → length env ≡ length table → length (narrowed_at context table holds c env) ≡ length table
-  narrowed_long holds c env l = (narrowed_here context (λ x. ⊥) table (λ x k. absurd k) table holds c env refl (none_apart table (tested_locals context.context.resolve c)) (long_kept table env l)).long
+  pub narrowed_long : (holds : Test) (c : Expr) (env : Env) → length env ≡ length table
+      → length (narrowed_at context table holds c env) ≡ length table
+  narrowed_long holds c env l = (narrowed_here context (λ x. ⊥) table (λ x k. absurd k) table holds c env refl
+      (none_apart table (tested_locals context.context.resolve c)) (long_kept table env l)).long
 
-  pub head_at_long : (names : List Name) (env : Env) → length env ≡ length table → length (head_at context table names env) ≡ length table
-  head_at_long names env l = (head_here context (λ x. ⊥) table (λ x k. absurd k) table names env refl (none_apart table (numbers_of context.context.resolve names)) (long_kept table env l)).long
+  pub head_at_long : (names : List Name) (env : Env) → length env ≡ length table
+      → length (head_at context table names env) ≡ length table
+  head_at_long names env l = (head_here context (λ x. ⊥) table (λ x k. absurd k) table names env refl
+      (none_apart table (numbers_of context.context.resolve names)) (long_kept table env l)).long
 
-  pub item_long : (head : Env) (r : Res) (p : Place) (t : Tree) (found : List Note) → length head ≡ length table → (length (bind_item context table head r p t found).table ≡ length table) × (length (bind_item context table head r p t found).env ≡ length table)
+  pub item_long : (head : Env) (r : Res) (p : Place) (t : Tree) (found : List Note) → length head ≡ length table
+      → (length (bind_item context table head r p t found).table ≡ length table)
+      × (length (bind_item context table head r p t found).env ≡ length table)
   item_long head r p t found l =
-      let b = item_here context (λ x. ⊥) table (λ x k. absurd k) table head r p t found [] refl (none_apart table (cons_option (as_local r) [])) (long_kept table head l) in
+      let b = item_here context (λ x. ⊥) table (λ x k. absurd k) table head r p t found [] refl
+      (none_apart table (cons_option (as_local r) [])) (long_kept table head l) in
       (b.long, b.env_here.long)

@@ -56,23 +56,29 @@ module _ {Store Ty : Type 0} (S : StoreOf Store Ty) (old new : Walk Store Ty) wh
 
   -- a type that the walk held it holds later
   pub one_kept : (ty : Ty) → GoesOn S old new → HoldsOne S old ty → HoldsOne S new ty
-  one_kept ty g h = in_body_context (λ (f : RustBodyContext Ty). HoldsType (S.has new.store.now) S.tree f.globals.now.outline.now.parents.now ty) g
+  one_kept ty g h = in_body_context (λ (f : RustBodyContext Ty). HoldsType (S.has new.store.now) S.tree
+      f.globals.now.outline.now.parents.now ty) g
       (type_kept S.has S.tree old.context.globals.now.outline.now.parents.now old.store.now new.store.now g.kept ty h)
 
   -- so an environment
   pub env_kept : (env : List (Option Ty)) → GoesOn S old new → HoldsEnv S old env → HoldsEnv S new env
-  env_kept env g h = in_body_context (λ (f : RustBodyContext Ty). HoldsTypes (S.has new.store.now) S.tree f.globals.now.outline.now.parents.now env) g
+  env_kept env g h = in_body_context (λ (f : RustBodyContext Ty). HoldsTypes (S.has new.store.now) S.tree
+      f.globals.now.outline.now.parents.now env) g
       (types_kept S.has S.tree old.context.globals.now.outline.now.parents.now old.store.now new.store.now g.kept env h)
 
   -- so one that there may be
   pub way_kept : (way : Option (List (Option Ty))) → GoesOn S old new → HoldsWay S old way → HoldsWay S new way
-  way_kept way g h = in_body_context (λ (f : RustBodyContext Ty). HoldsTypesIfAny (S.has new.store.now) S.tree f.globals.now.outline.now.parents.now way) g
-      (types_kept_if_any S.has S.tree old.context.globals.now.outline.now.parents.now old.store.now new.store.now g.kept way h)
+  way_kept way g h = in_body_context (λ (f : RustBodyContext Ty). HoldsTypesIfAny (S.has new.store.now) S.tree
+      f.globals.now.outline.now.parents.now way) g
+      (types_kept_if_any S.has S.tree old.context.globals.now.outline.now.parents.now old.store.now new.store.now g.kept
+      way h)
 
   -- so a type that there may be
   pub want_kept : (want : Option Ty) → GoesOn S old new → HoldsWant S old want → HoldsWant S new want
-  want_kept want g h = in_body_context (λ (f : RustBodyContext Ty). HoldsTypeIfAny (S.has new.store.now) S.tree f.globals.now.outline.now.parents.now want) g
-      (type_kept_if_any S.has S.tree old.context.globals.now.outline.now.parents.now old.store.now new.store.now g.kept want h)
+  want_kept want g h = in_body_context (λ (f : RustBodyContext Ty). HoldsTypeIfAny (S.has new.store.now) S.tree
+      f.globals.now.outline.now.parents.now want) g
+      (type_kept_if_any S.has S.tree old.context.globals.now.outline.now.parents.now old.store.now new.store.now g.kept
+      want h)
 
   -- what an environment means, later
   pub env_given : (types : List (Option Ty)) (env : Env) → GoesOn S old new → IsEnv S old types env
@@ -108,7 +114,8 @@ module _ {Store Ty : Type 0} (S : StoreOf Store Ty) (old new : Walk Store Ty) wh
   same_standing env f g d =
       ap (λ (x : RustBodyContext Ty). let k = body_context_with S.tree x in
       f k (at k (env_of S.tree new.declared.now) (env_of S.tree env))) g.context
-      ∙ ap (λ (ds : List (Option Ty)). f (body_context_in S old) (at (body_context_in S old) (env_of S.tree ds) (env_of S.tree env))) d
+      ∙ ap (λ (ds : List (Option Ty)). f (body_context_in S old)
+      (at (body_context_in S old) (env_of S.tree ds) (env_of S.tree env))) d
 
 -- two steps
 module _ {Store Ty : Type 0} (S : StoreOf Store Ty) (old mid new : Walk Store Ty) where
@@ -125,7 +132,8 @@ module _ {Store Ty : Type 0} (S : StoreOf Store Ty) (old mid new : Walk Store Ty
   -- what two steps found, the second maybe in another environment
   pub found_then : (env other : List (Option Ty)) (first second finds : BodyContext → Standing → List Note)
       → GoesOn S old mid → GoesOn S mid new → Found S old env mid first → Found S mid other new second
-      → first (body_context_in S old) (standing_in S old env) ++ second (body_context_in S old) (standing_in S old other)
+      → first (body_context_in S old) (standing_in S old env) ++ second (body_context_in S old)
+      (standing_in S old other)
       ≡ finds (body_context_in S old) (standing_in S old env)
       → Found S old env new finds
   found_then env other first second finds g h a b e =
@@ -154,7 +162,8 @@ module _ {Store Ty : Type 0} (S : StoreOf Store Ty) (old mid new : Walk Store Ty
         is = b.is
             ∙ ap (λ (f : RustBodyContext Ty). binds (body_context_with S.tree f) (env_of S.tree mid.declared.now) E
             (notes_of mid.found.now)) g.context
-            ∙ ap (λ (ds : List (Option Ty)). binds (body_context_in S old) (env_of S.tree ds) E (notes_of mid.found.now))
+            ∙ ap (λ (ds : List (Option Ty)). binds (body_context_in S old) (env_of S.tree ds) E
+            (notes_of mid.found.now))
             a.declared
             ∙ ap (λ (ns : List Note). binds (body_context_in S old) (env_of S.tree old.declared.now) E ns) a.pushed;
         stands = b.stands;

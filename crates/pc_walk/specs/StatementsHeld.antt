@@ -35,7 +35,11 @@ module _ {Ty : Type 0} (tree : Ty → Tree) where
 
   -- what the statements of a function stand in
   abbrev pub body_context_with : RustBodyContext Ty → BodyContext
-  body_context_with f = record { whole = module_of f.globals.now.outline.now.tree.now; context = context_in f; returned = tree f.returned.now }
+  body_context_with f = record {
+    whole = module_of f.globals.now.outline.now.tree.now;
+    context = context_in f;
+    returned = tree f.returned.now;
+  }
 
 -- a type is of the store and well-formed
 pub record HoldsType {Ty : Type 0} (has : Ty → Type 0) (tree : Ty → Tree) (bases : Bases) (ty : Ty) : Type 0 where

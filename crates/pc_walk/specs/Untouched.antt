@@ -1,5 +1,7 @@
--- A walk over statements leaves each local that they do not touch as it is, on the way after them and on each way out of
--- a loop. So where the ways out of an `if` meet, only the locals that it touches have to be joined, and at a `break` only
+-- A walk over statements leaves each local that they do not touch as it is, on the way after them and on each way out
+-- of
+-- a loop. So where the ways out of an `if` meet, only the locals that it touches have to be joined, and at a `break`
+-- only
 -- those that its loop touches.
 -- Own rule of the profile.
 use Rattle.std.specs.Prelude.{◌≡◌, ℕ, List, [], ◌∷◌, length, true, Option, Some, None}
@@ -43,7 +45,8 @@ pub record KeepsOutside (locals : List ℕ) (table : Table) (env : Env) (broken 
   pub behind : IsAsOutsideIfAny locals env w.env
   pub out_of_loop : IsAsOutsideIfAny locals env broken → IsAsOutsideIfAny locals env w.broken
 
--- a walk over a suite, from an environment of well-formed types with as many locals as the table, leaves each local that
+-- a walk over a suite, from an environment of well-formed types with as many locals as the table, leaves each local
+-- that
 -- the suite does not touch as it is
 abbrev pub SuitesKeepUntouchedLocals : Type 0
 SuitesKeepUntouchedLocals =

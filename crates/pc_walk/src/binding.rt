@@ -14,7 +14,8 @@ ghost use Rattle.pc_notes.specs.Notes.{notes_of};
 ghost use Rattle.pc_rules.specs.Operations.{Label as LabelOf};
 ghost use Rattle.pc_rules.specs.Computed.Findings.{brief};
 ghost use Rattle.pc_rules.specs.Computed.Standing.{label_with};
-ghost use Rattle.pc_module_rules.specs.Computed.Statements.{BodyContext as BodyContextOf, with_declared, known_declared, bound_type};
+ghost use Rattle.pc_module_rules.specs.Computed.Statements.{BodyContext as BodyContextOf, with_declared};
+ghost use Rattle.pc_module_rules.specs.Computed.Statements.{known_declared, bound_type};
 ghost use Rattle.pc_module_rules.specs.Computed.Statements.{bound_name, bind_label, annotation_finds};
 ghost use Rattle.pc_walk.specs.AnnotatedNames.{annotation_unless, declared_by};
 ghost use Rattle.pc_walk.specs.StatementsHeld.{HoldsContext};
@@ -106,7 +107,8 @@ pub fn bind_label<S: TypeStore>(
 
 /// Whether a name means a local whose declared type is settled.
 fn is_bound<Ty: Drop>(declared: &DeclaredTypes<Ty>, meaning: Res) -> bool
-    ensures { (f : BodyContextOf) (tree : Ty → Tree) → result ≡ is_some (bound_name f (env_of tree declared.now) meaning) }
+    ensures { (f : BodyContextOf) (tree : Ty → Tree) → result ≡ is_some
+        (bound_name f (env_of tree declared.now) meaning) }
 {
     match meaning {
         Res::Local(local) => declared.declared(local).is_some(),
@@ -125,7 +127,8 @@ pub fn annotated_type<S: TypeStore>(
     requires { HoldsContext (S.has walk.old.store.now) S.tree walk.old.context }
     ensures typed { IfOk result (λ t. HoldsWant S.TypeStore walk.new t × (option_map S.tree t ≡ annotation_unless
         (bound_name (body_context_in S.TypeStore walk.old) (env_of S.tree walk.old.declared.now) meaning)
-        (read_ann (module_of walk.old.context.globals.now.outline.now.tree.now) walk.old.context.globals.now.outline.now.parents.now (ann_of annotation.now)))) }
+        (read_ann (module_of walk.old.context.globals.now.outline.now.tree.now)
+        walk.old.context.globals.now.outline.now.parents.now (ann_of annotation.now)))) }
     ensures pushed { OnOk result (notes_of walk.new.found.now ≡ notes_of walk.old.found.now
         ++ annotation_finds (body_context_in S.TypeStore walk.old)
         (bound_name (body_context_in S.TypeStore walk.old) (env_of S.tree walk.old.declared.now) meaning)

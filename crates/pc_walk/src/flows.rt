@@ -29,7 +29,8 @@ pub fn find_flow_in<S: TypeStore>(
     requires label { S.has walk.old.store.now label.now.ty }
     requires into { S.has walk.old.store.now into.now }
     ensures value { IfOk result
-        (λ c. c ≡ code_unless (static_test walk.old.context.globals.now.outline.now.parents.now) (assignable_test walk.old.context.globals.now.outline.now.parents.now)
+        (λ c. c ≡ code_unless (static_test walk.old.context.globals.now.outline.now.parents.now)
+        (assignable_test walk.old.context.globals.now.outline.now.parents.now)
         (is_early label.now.codes.items) (S.tree label.now.ty) (S.tree into.now)) }
     ensures found { IfOk result
         (λ c. notes_of walk.new.found.now

@@ -25,7 +25,8 @@ pub(crate) fn join_at<S: TypeStore>(
     requires left { HoldsEnv S.TypeStore walk.old a }
     requires right { HoldsEnv S.TypeStore walk.old b.now }
     requires agree { AgreeOutside locals.now (env_of S.tree a) (env_of S.tree b.now) }
-    ensures joined { IfOk result (λ e. IsEnv S.TypeStore walk.new e (join_env walk.old.context.globals.now.outline.now.parents.now
+    ensures joined { IfOk result (λ e. IsEnv S.TypeStore walk.new e
+        (join_env walk.old.context.globals.now.outline.now.parents.now
         (type_table (env_of S.tree walk.old.declared.now)) (env_of S.tree a) (env_of S.tree b.now))) }
     ensures quiet { OnOk result (IsQuiet S.TypeStore walk.old walk.new) }
     ensures goes_on { GoesOn S.TypeStore walk.old walk.new }

@@ -27,7 +27,8 @@ pub fn break_out<S: TypeStore>(
     requires env { HoldsEnv S.TypeStore walk.old env.now }
     requires broken { HoldsWay S.TypeStore walk.old broken.old }
     requires agree { WaysAgree locals.now (option_map (env_of S.tree) broken.old) (Some (env_of S.tree env.now)) }
-    ensures joined { OnOk result (IsWay S.TypeStore walk.new broken.new (join_onto_way walk.old.context.globals.now.outline.now.parents.now
+    ensures joined { OnOk result (IsWay S.TypeStore walk.new broken.new
+        (join_onto_way walk.old.context.globals.now.outline.now.parents.now
         (env_of S.tree walk.old.declared.now) (option_map (env_of S.tree) broken.old) (env_of S.tree env.now))) }
     ensures quiet { OnOk result (IsQuiet S.TypeStore walk.old walk.new) }
     ensures goes_on { GoesOn S.TypeStore walk.old walk.new }
@@ -54,7 +55,8 @@ pub fn meet<S: TypeStore>(
     requires ways { HoldsWay S.TypeStore walk.old ways }
     requires out { HoldsWay S.TypeStore walk.old out }
     requires agree { WaysAgree locals.now (option_map (env_of S.tree) ways) (option_map (env_of S.tree) out) }
-    ensures joined { IfOk result (λ w. IsWay S.TypeStore walk.new w (with_way walk.old.context.globals.now.outline.now.parents.now
+    ensures joined { IfOk result (λ w. IsWay S.TypeStore walk.new w
+        (with_way walk.old.context.globals.now.outline.now.parents.now
         (env_of S.tree walk.old.declared.now) (option_map (env_of S.tree) ways) (option_map (env_of S.tree) out))) }
     ensures quiet { OnOk result (IsQuiet S.TypeStore walk.old walk.new) }
     ensures goes_on { GoesOn S.TypeStore walk.old walk.new }

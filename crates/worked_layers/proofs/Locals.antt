@@ -11,7 +11,8 @@ pub none_given : (n : ℕ) → HasEach IsGiven (replicate n None)
 none_given n = All-replicate (HasOne IsGiven) n None tt
 
 -- the type of a local is of the store where all are
-pub local_held : (types : List (Option BoxType)) (x : ℕ) → HasEach IsGiven types → HasOne IsGiven (slice_index_or types x None)
+pub local_held : (types : List (Option BoxType)) (x : ℕ) → HasEach IsGiven types
+    → HasOne IsGiven (slice_index_or types x None)
 local_held [] x h = tt
 local_held (o ∷ os) zero h = All-head (HasOne IsGiven) o os h
 local_held (o ∷ os) (suc x) h = local_held os x (All-tail (HasOne IsGiven) o os h)

@@ -32,7 +32,8 @@ module _ {Store Ty : Type 0} (S : StoreOf Store Ty) where
     pub current : HoldsWay S w env
     pub out : HoldsWay S w way
 
-  -- where statements stand in a loop, what they touch is among these locals, and the environment before them agrees with
+  -- where statements stand in a loop, what they touch is among these locals, and the environment before them agrees
+  -- with
   -- the way out of the loop so far at each other local
   abbrev pub Breaks : Walk Store Ty → List ℕ → (env way : Option (List (Option Ty)))
       → (touched : (List ℕ → Res) → List ℕ) → Type 0

@@ -3,7 +3,8 @@ use Rattle.std.specs.Prelude.{◌||◌, vec_len}
 use Rattle.pc_tree.specs.Lists.{exprs_of_list, entries_of_list, keywords_of_list}
 use Rattle.pc_notes.specs.Notes.{notes_of}
 use Rattle.pc_rules.specs.Calls.{positional_seat, named_seat}
-use Rattle.pc_rules.specs.Computed.Standing.{standing_of, types_in, items_find, keys_in, values_in, entries_find, HasGivenAll, keywords_find}
+use Rattle.pc_rules.specs.Computed.Standing.{standing_of, types_in, items_find, keys_in, values_in, entries_find}
+use Rattle.pc_rules.specs.Computed.Standing.{HasGivenAll, keywords_find}
 use Rattle.pc_calls.specs.JudgedCalls.{offer_called, HasCallOffer, names_in}
 use Rattle.pc_rules.specs.Computed.Checkers.{GoesOn}
 use Rattle.pc_expr.specs.Typing.{early_in}
@@ -18,8 +19,13 @@ invariant-displays::type_items-loop-item g l = record {
   given : HasGivenAll (g.S.TypeStore.has l.checker.store.now) g.S.TypeStore.tree l.setting l.env;
   seats : HasSeats (g.S.TypeStore.has l.checker.store.now) l.seats;
   held : All (g.S.TypeStore.has l.checker.store.now) l.types.items;
-  types : map g.S.TypeStore.tree l.types.items ++ types_from (standing_of g.S.TypeStore.tree l.setting l.env) (seats_of g.S.TypeStore.tree l.seats) l.items l.item-index ≡ types_in (standing_of g.S.TypeStore.tree l.setting l.env) (seats_of g.S.TypeStore.tree l.seats) (exprs_of_list l.items);
-  found : (notes_of l.checker.found.now) ++ finds_from (standing_of g.S.TypeStore.tree l.setting l.env) (seats_of g.S.TypeStore.tree l.seats) l.items l.item-index ≡ (notes_of l.fn.checker.found.now) ++ items_find (standing_of g.S.TypeStore.tree l.setting l.env) (seats_of g.S.TypeStore.tree l.seats) (exprs_of_list l.items);
+  types : map g.S.TypeStore.tree l.types.items ++ types_from (standing_of g.S.TypeStore.tree l.setting l.env)
+      (seats_of g.S.TypeStore.tree l.seats) l.items l.item-index
+      ≡ types_in (standing_of g.S.TypeStore.tree l.setting l.env) (seats_of g.S.TypeStore.tree l.seats)
+      (exprs_of_list l.items);
+  found : (notes_of l.checker.found.now) ++ finds_from (standing_of g.S.TypeStore.tree l.setting l.env)
+      (seats_of g.S.TypeStore.tree l.seats) l.items l.item-index ≡ (notes_of l.fn.checker.found.now) ++ items_find
+      (standing_of g.S.TypeStore.tree l.setting l.env) (seats_of g.S.TypeStore.tree l.seats) (exprs_of_list l.items);
   goes_on : GoesOn g.S.TypeStore l.fn.checker l.checker;
 }
 
@@ -29,9 +35,19 @@ invariant-displays::type_entries-loop-entry g l = record {
   seats : HasEntrySeats (g.S.TypeStore.has l.checker.store.now) l.seats;
   held_keys : All (g.S.TypeStore.has l.checker.store.now) l.keys.items;
   held_values : All (g.S.TypeStore.has l.checker.store.now) l.values.items;
-  keys : map g.S.TypeStore.tree l.keys.items ++ keys_from (standing_of g.S.TypeStore.tree l.setting l.env) (seat_with g.S.TypeStore.tree l.seats.key) (seat_with g.S.TypeStore.tree l.seats.value) l.entries l.entry-index ≡ keys_in (standing_of g.S.TypeStore.tree l.setting l.env) (seat_with g.S.TypeStore.tree l.seats.key) (seat_with g.S.TypeStore.tree l.seats.value) (entries_of_list l.entries);
-  values : map g.S.TypeStore.tree l.values.items ++ values_from (standing_of g.S.TypeStore.tree l.setting l.env) (seat_with g.S.TypeStore.tree l.seats.key) (seat_with g.S.TypeStore.tree l.seats.value) l.entries l.entry-index ≡ values_in (standing_of g.S.TypeStore.tree l.setting l.env) (seat_with g.S.TypeStore.tree l.seats.key) (seat_with g.S.TypeStore.tree l.seats.value) (entries_of_list l.entries);
-  found : (notes_of l.checker.found.now) ++ entries_from (standing_of g.S.TypeStore.tree l.setting l.env) (seat_with g.S.TypeStore.tree l.seats.key) (seat_with g.S.TypeStore.tree l.seats.value) l.entries l.entry-index ≡ (notes_of l.fn.checker.found.now) ++ entries_find (standing_of g.S.TypeStore.tree l.setting l.env) (seat_with g.S.TypeStore.tree l.seats.key) (seat_with g.S.TypeStore.tree l.seats.value) (entries_of_list l.entries);
+  keys : map g.S.TypeStore.tree l.keys.items ++ keys_from (standing_of g.S.TypeStore.tree l.setting l.env)
+      (seat_with g.S.TypeStore.tree l.seats.key) (seat_with g.S.TypeStore.tree l.seats.value) l.entries l.entry-index
+      ≡ keys_in (standing_of g.S.TypeStore.tree l.setting l.env) (seat_with g.S.TypeStore.tree l.seats.key)
+      (seat_with g.S.TypeStore.tree l.seats.value) (entries_of_list l.entries);
+  values : map g.S.TypeStore.tree l.values.items ++ values_from (standing_of g.S.TypeStore.tree l.setting l.env)
+      (seat_with g.S.TypeStore.tree l.seats.key) (seat_with g.S.TypeStore.tree l.seats.value) l.entries l.entry-index
+      ≡ values_in (standing_of g.S.TypeStore.tree l.setting l.env) (seat_with g.S.TypeStore.tree l.seats.key)
+      (seat_with g.S.TypeStore.tree l.seats.value) (entries_of_list l.entries);
+  found : (notes_of l.checker.found.now) ++ entries_from (standing_of g.S.TypeStore.tree l.setting l.env)
+      (seat_with g.S.TypeStore.tree l.seats.key) (seat_with g.S.TypeStore.tree l.seats.value) l.entries l.entry-index
+      ≡ (notes_of l.fn.checker.found.now) ++ entries_find (standing_of g.S.TypeStore.tree l.setting l.env)
+      (seat_with g.S.TypeStore.tree l.seats.key) (seat_with g.S.TypeStore.tree l.seats.value)
+      (entries_of_list l.entries);
   goes_on : GoesOn g.S.TypeStore l.fn.checker l.checker;
 }
 
@@ -41,9 +57,18 @@ invariant-calls::type_arguments-loop-argument g l = record {
   given : HasGivenAll (g.S.TypeStore.has l.checker.store.now) g.S.TypeStore.tree l.setting l.env;
   offers : All (HasCallOffer (g.S.TypeStore.has l.checker.store.now)) l.offers;
   held : All (g.S.TypeStore.has l.checker.store.now) l.types.items;
-  types : map g.S.TypeStore.tree l.types.items ++ types_from (standing_of g.S.TypeStore.tree l.setting l.env) (positional_seat (map (offer_called g.S.TypeStore.tree) l.offers)) l.arguments l.argument-index ≡ types_in (standing_of g.S.TypeStore.tree l.setting l.env) (positional_seat (map (offer_called g.S.TypeStore.tree) l.offers)) (exprs_of_list l.arguments);
-  early : (l.early || early_from l.argument-index (standing_of g.S.TypeStore.tree l.setting l.env) (seats_from l.argument-index (positional_seat (map (offer_called g.S.TypeStore.tree) l.offers))) (exprs_of_list (drop l.argument-index l.arguments))) ≡ early_in (standing_of g.S.TypeStore.tree l.setting l.env) (positional_seat (map (offer_called g.S.TypeStore.tree) l.offers)) (exprs_of_list l.arguments);
-  found : (notes_of l.checker.found.now) ++ finds_from (standing_of g.S.TypeStore.tree l.setting l.env) (positional_seat (map (offer_called g.S.TypeStore.tree) l.offers)) l.arguments l.argument-index ≡ (notes_of l.fn.checker.found.now) ++ items_find (standing_of g.S.TypeStore.tree l.setting l.env) (positional_seat (map (offer_called g.S.TypeStore.tree) l.offers)) (exprs_of_list l.arguments);
+  types : map g.S.TypeStore.tree l.types.items ++ types_from (standing_of g.S.TypeStore.tree l.setting l.env)
+      (positional_seat (map (offer_called g.S.TypeStore.tree) l.offers)) l.arguments l.argument-index
+      ≡ types_in (standing_of g.S.TypeStore.tree l.setting l.env)
+      (positional_seat (map (offer_called g.S.TypeStore.tree) l.offers)) (exprs_of_list l.arguments);
+  early : (l.early || early_from l.argument-index (standing_of g.S.TypeStore.tree l.setting l.env)
+      (seats_from l.argument-index (positional_seat (map (offer_called g.S.TypeStore.tree) l.offers)))
+      (exprs_of_list (drop l.argument-index l.arguments))) ≡ early_in (standing_of g.S.TypeStore.tree l.setting l.env)
+      (positional_seat (map (offer_called g.S.TypeStore.tree) l.offers)) (exprs_of_list l.arguments);
+  found : (notes_of l.checker.found.now) ++ finds_from (standing_of g.S.TypeStore.tree l.setting l.env)
+      (positional_seat (map (offer_called g.S.TypeStore.tree) l.offers)) l.arguments l.argument-index
+      ≡ (notes_of l.fn.checker.found.now) ++ items_find (standing_of g.S.TypeStore.tree l.setting l.env)
+      (positional_seat (map (offer_called g.S.TypeStore.tree) l.offers)) (exprs_of_list l.arguments);
   goes_on : GoesOn g.S.TypeStore l.fn.checker l.checker;
 }
 
@@ -51,6 +76,10 @@ abbrev pub invariant-calls::type_keywords-loop-argument : goal.invariant-calls::
 invariant-calls::type_keywords-loop-argument g l = record {
   given : HasGivenAll (g.S.TypeStore.has l.checker.store.now) g.S.TypeStore.tree l.setting l.env;
   offers : All (HasCallOffer (g.S.TypeStore.has l.checker.store.now)) l.offers;
-  found : (notes_of l.checker.found.now) ++ keywords_find (standing_of g.S.TypeStore.tree l.setting l.env) (named_seat (map (offer_called g.S.TypeStore.tree) l.offers)) (names_in l.before) (keywords_of_list (drop l.argument-index l.by_name)) ≡ (notes_of l.fn.checker.found.now) ++ keywords_find (standing_of g.S.TypeStore.tree l.setting l.env) (named_seat (map (offer_called g.S.TypeStore.tree) l.offers)) [] (keywords_of_list l.by_name);
+  found : (notes_of l.checker.found.now) ++ keywords_find (standing_of g.S.TypeStore.tree l.setting l.env)
+      (named_seat (map (offer_called g.S.TypeStore.tree) l.offers)) (names_in l.before)
+      (keywords_of_list (drop l.argument-index l.by_name)) ≡ (notes_of l.fn.checker.found.now) ++ keywords_find
+      (standing_of g.S.TypeStore.tree l.setting l.env) (named_seat (map (offer_called g.S.TypeStore.tree) l.offers)) []
+      (keywords_of_list l.by_name);
   goes_on : GoesOn g.S.TypeStore l.fn.checker l.checker;
 }

@@ -144,7 +144,8 @@ module _ (context : BodyContext) where
   abbrev pub bind_value : Table → Env → Res → (annotation : Option Tree) → Expr → List Note → BindingResult
   bind_value table env (res.Local x) annotation e found =
       let want = known_declared (bound_type table x) annotation in
-      bind_label table env x want (place_of e) (label_in (at table env) want e) (found ++ finds_in (at table env) want e)
+      bind_label table env x want (place_of e) (label_in (at table env) want e)
+      (found ++ finds_in (at table env) want e)
   bind_value table env r annotation e found = record {
     table = table;
     env = env;
@@ -257,7 +258,8 @@ module _ (context : BodyContext) where
   abbrev pub return_finds : Standing → Place → Option Expr → List Note
   return_finds k p None = flows_at p (flows_of context.context.bases (clean NoneType) (context.returned ∷ []))
   return_finds k p (Some e) = finds_in k (Some context.returned) e
-      ++ flows_at (place_of e) (flows_of context.context.bases (label_in k (Some context.returned) e) (context.returned ∷ []))
+      ++ flows_at (place_of e) (flows_of context.context.bases (label_in k (Some context.returned) e)
+      (context.returned ∷ []))
 
   -- after a name that is bound
   abbrev pub behind_binding : (broken : Option Env) → BindingResult → Walk

@@ -1,5 +1,6 @@
 -- The laws on the dynamic flows of a module: A1 is found at a place exactly where there is one under the lawful
--- labelling of the module; of the first one there, the one type flows into the other by a reading of Any alone, and both
+-- labelling of the module; of the first one there, the one type flows into the other by a reading of Any alone, and
+-- both
 -- are well-formed; and it is the one that is computed. Own rule of the profile.
 use Rattle.std.specs.Prelude.{◌≡◌, ◌↔◌, List, ◌∷◌, ◌++◌, Option, Some, None, Contains}
 use Rattle.pc_source.specs.declared.place.Place.{Place}

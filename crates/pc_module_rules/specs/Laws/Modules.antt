@@ -18,7 +18,8 @@ abbrev pub ConstantsHaveTheTypesOfLabels : Type 0
 ConstantsHaveTheTypesOfLabels = (m : Module) (labels : Labelling m) → IsLawful m labels
     → constants_of m ≡ constant_types m m.items labels
 
--- what is found of signatures and constants is just what any lawful labelling says of them, but for what is found of scopes
+-- what is found of signatures and constants is just what any lawful labelling says of them, but for what is found of
+-- scopes
 abbrev pub SignaturesFindWhatLabelsSay : Type 0
 SignaturesFindWhatLabelsSay = (m : Module) (labels : Labelling m) → IsLawful m labels
     → Lists (signatures_find m) (SignaturesSay m labels)

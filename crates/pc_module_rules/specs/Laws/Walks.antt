@@ -23,7 +23,8 @@ use Rattle.pc_module_rules.specs.StatementLabels.{StmtLabels, SuiteLabels, break
 use Rattle.pc_module_rules.specs.Statements.{NamesBound, LawfulStmt, LawfulSuite, StmtFinds, SuiteFinds}
 use Rattle.pc_module_rules.specs.Modules.{FunctionLabels, LawfulFunction, entry_parameters, names_entered}
 use Rattle.pc_module_rules.specs.Laws.Labellings.{Setting}
-use Rattle.pc_module_rules.specs.Computed.Statements.{Table, type_table, bound_type, BodyContext, Walk, step, walk_suite}
+use Rattle.pc_module_rules.specs.Computed.Statements.{Table, type_table, bound_type, BodyContext, Walk, step}
+use Rattle.pc_module_rules.specs.Computed.Statements.{walk_suite}
 use Rattle.pc_module_rules.specs.Computed.Statements.{function_finds}
 
 -- what the statements of a function that returns this type stand in

@@ -25,7 +25,8 @@ use Rattle.pc_rules.specs.Calls.{Seat, arguments_given, count_exprs, positional_
 use Rattle.pc_rules.specs.Labels.{FlowLabels, Labels, ItemsLabels, EntriesLabels, KeywordsLabels, whole_label, type_of}
 use Rattle.pc_rules.specs.Labels.{with_label, item_types, key_types, value_types}
 use Rattle.pc_rules.specs.Lawful.{KeyValue, list_item, dict_parts, tuple_parts, members_of_expected, item_seat}
-use Rattle.pc_rules.specs.Lawful.{part_seat, list_label, key_seat, value_seat, int_literal, compare_label, compare_types}
+use Rattle.pc_rules.specs.Lawful.{part_seat, list_label, key_seat, value_seat, int_literal, compare_label}
+use Rattle.pc_rules.specs.Lawful.{compare_types}
 use Rattle.pc_rules.specs.Lawful.{callee_of, whole_call_label, whole_second_code, keyword_seat, Lawful}
 
 -- the code of a flow that is static, or assignable alone, or neither

@@ -18,7 +18,8 @@ use Rattle.pc_types.specs.Tree.{Tree}
 use Rattle.pc_scope.specs.Expressions.{is_instance_test}
 use Rattle.pc_notes.specs.Notes.{Note, plain_note, dynamic, findings_of}
 use Rattle.pc_rules.specs.Operations.{Label}
-use Rattle.pc_rules.specs.Labels.{FlowLabels, Labels, ItemsLabels, EntriesLabels, KeywordsLabels, whole_label, is_of_scopes}
+use Rattle.pc_rules.specs.Labels.{FlowLabels, Labels, ItemsLabels, EntriesLabels, KeywordsLabels, whole_label}
+use Rattle.pc_rules.specs.Labels.{is_of_scopes}
 use Rattle.pc_rules.specs.Labels.{second_place, Finds}
 
 -- the finding of a code at a place, none of a code that is found of scopes

@@ -10,8 +10,10 @@ returns-then-not-is_suited-clause-offer g c =
     let tree = g.S.TypeStore.tree in
     let returns = tree c.args.returns in
     let gave = given_with c.args.given.now in
-    subst (λ (m : CallOffer). IfOk c.fails_at_call.result (λ o. IsCallOffer g.S.TypeStore.has tree c.fails_at_call.new.store o m))
-    (called_unsuited gave (params_called tree returns c.in_ok-params.params.all.items) (sym (c.is_suited.ensures tree returns) ∙ c.if-not-is_suited.true)
+    subst (λ (m : CallOffer). IfOk c.fails_at_call.result (λ o. IsCallOffer g.S.TypeStore.has tree
+    c.fails_at_call.new.store o m))
+    (called_unsuited gave (params_called tree returns c.in_ok-params.params.all.items)
+    (sym (c.is_suited.ensures tree returns) ∙ c.if-not-is_suited.true)
     ∙ ap (λ v. signature_offer gave (params_called tree returns v.items)) c.in_ok-params.ensures.all)
     c.fails_at_call.ensures.offer
 
@@ -24,10 +26,12 @@ returns-clause-offer g c =
       given = record {
         gives = c.requires.returns;
         calls = record {
-          all = subst (λ v. All (HasParam (g.S.TypeStore.has c.args.store.now)) v.items) (sym c.in_ok-params.ensures.all) c.requires.params;
+          all = subst (λ v. All (HasParam (g.S.TypeStore.has c.args.store.now)) v.items)
+              (sym c.in_ok-params.ensures.all) c.requires.params;
           numbers = c.in_ok-params.ensures.numbers;
         };
       };
-      is = called_suited gave (params_called tree returns c.in_ok-params.params.all.items) (sym (c.is_suited.ensures tree returns) ∙ c.if-not-is_suited.false)
+      is = called_suited gave (params_called tree returns c.in_ok-params.params.all.items)
+          (sym (c.is_suited.ensures tree returns) ∙ c.if-not-is_suited.false)
           ∙ ap (λ v. signature_offer gave (params_called tree returns v.items)) c.in_ok-params.ensures.all;
     }

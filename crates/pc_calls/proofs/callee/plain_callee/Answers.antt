@@ -8,6 +8,8 @@ use Rattle.pc_calls.proofs.callee.plain_callee.Goals as goal
 pub returns-then-suits-clause-callee : goal.returns-then-suits-clause-callee
 returns-then-suits-clause-callee g c =
     let tree = g.S.TypeStore.tree in
-    subst (λ (o : CallOffer). IsCallee g.S.TypeStore.has tree c.good_callee.new.store c.in_ok-callee.callee (good_callee (o ∷ [])))
-    (c.plain_call.ensures.offer tree ∙ sym (ap (λ b. if b then plain_call (tree c.args.gives) else fails_at_call E14) c.if-suits.true))
+    subst (λ (o : CallOffer). IsCallee g.S.TypeStore.has tree c.good_callee.new.store c.in_ok-callee.callee
+    (good_callee (o ∷ [])))
+    (c.plain_call.ensures.offer tree ∙ sym (ap (λ b. if b then plain_call (tree c.args.gives) else fails_at_call E14)
+    c.if-suits.true))
     c.in_ok-callee.ensures.callee

@@ -11,6 +11,8 @@ returns-clause-offer g c =
     let tree = g.S.TypeStore.tree in
     let gave = given_with c.args.given.now in
     subst (λ (m : CallOffer). IsCallOffer g.S.TypeStore.has tree c.call_of.new.store c.in_ok-offer.offer m)
-    (called_meant gave _ _ _ _ (c.in_ok-params.ensures.value ∙ ap (parameters_with tree) c.deref.ensures.value) c.in_ok-returns.ensures.1
-    ∙ ap (function_offer gave) (sym (mapped_get (signature_with tree) c.args.functions.now c.args.function c.index-functions-function.result c.if-function-functions.false c.index-functions-function.is)))
+    (called_meant gave _ _ _ _ (c.in_ok-params.ensures.value ∙ ap (parameters_with tree) c.deref.ensures.value)
+    c.in_ok-returns.ensures.1
+    ∙ ap (function_offer gave) (sym (mapped_get (signature_with tree) c.args.functions.now c.args.function
+    c.index-functions-function.result c.if-function-functions.false c.index-functions-function.is)))
     c.in_ok-offer.ensures.offer

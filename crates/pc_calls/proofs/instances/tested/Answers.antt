@@ -7,7 +7,8 @@ use Rattle.pc_flow.specs.Narrowing.{second_argument, test_of_argument}
 use Rattle.pc_calls.proofs.instances.tested.Goals as goal
 
 -- of fewer than two arguments none stands second
-no_second : (resolve : List ℕ → Res) (es : List RustExpr) → length es < 2 → None ≡ test_of_argument resolve (second_argument (exprs_of_list es))
+no_second : (resolve : List ℕ → Res) (es : List RustExpr) → length es < 2
+    → None ≡ test_of_argument resolve (second_argument (exprs_of_list es))
 no_second resolve [] h = refl
 no_second resolve (x ∷ []) h = refl
 no_second resolve (x ∷ y ∷ es) h = absurd (omega (arith, h))

@@ -9,5 +9,6 @@ pub returns-clause-offer : goal.returns-clause-offer
 returns-clause-offer g c =
     let tree = g.S.TypeStore.tree in
     subst (λ (m : CallOffer). IsCallOffer g.S.TypeStore.has tree c.call_of.new.store c.in_ok-offer.offer m)
-    (called_meant (given_with c.args.given.now) _ _ _ _ (c.in_ok-params.ensures.value ∙ ap (parameters_with tree) c.deref.ensures.value) c.in_ok-returns.ensures.1)
+    (called_meant (given_with c.args.given.now) _ _ _ _ (c.in_ok-params.ensures.value
+    ∙ ap (parameters_with tree) c.deref.ensures.value) c.in_ok-returns.ensures.1)
     c.in_ok-offer.ensures.offer

@@ -6,4 +6,6 @@ use Rattle.pc_calls.specs.JudgedCalls.{names_called}
 use Rattle.pc_calls.proofs.params.are_free.Given as goal
 
 abbrev pub invariant-loop-i : goal.invariant-loop-i
-invariant-loop-i g l = list_all (λ word. is_free l.given.positional (index_of word (names_called l.params.all.items))) (map (λ k. k.now) (drop l.i l.names)) ≡ list_all (λ word. is_free l.given.positional (index_of word (names_called l.params.all.items))) (map (λ k. k.now) l.names)
+invariant-loop-i g l = list_all (λ word. is_free l.given.positional (index_of word (names_called l.params.all.items)))
+    (map (λ k. k.now) (drop l.i l.names)) ≡ list_all (λ word. is_free l.given.positional
+    (index_of word (names_called l.params.all.items))) (map (λ k. k.now) l.names)

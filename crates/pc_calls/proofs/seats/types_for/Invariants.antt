@@ -5,4 +5,8 @@ use Rattle.pc_calls.specs.JudgedCalls.{offer_called, types_at}
 use Rattle.pc_calls.proofs.seats.types_for.Given as goal
 
 abbrev pub invariant-loop-i : goal.invariant-loop-i
-invariant-loop-i g l = All (g.S.TypeStore.has l.store) l.types.items × (map g.S.TypeStore.tree l.types.items ++ flat_map (types_at l.argument) (flat_map (λ (o : CallOffer). o.calls) (map (offer_called g.S.TypeStore.tree) (drop l.i l.offers))) ≡ flat_map (types_at l.argument) (flat_map (λ (o : CallOffer). o.calls) (map (offer_called g.S.TypeStore.tree) l.offers)))
+invariant-loop-i g l = All (g.S.TypeStore.has l.store) l.types.items
+    × (map g.S.TypeStore.tree l.types.items ++ flat_map (types_at l.argument)
+    (flat_map (λ (o : CallOffer). o.calls) (map (offer_called g.S.TypeStore.tree) (drop l.i l.offers)))
+    ≡ flat_map (types_at l.argument) (flat_map (λ (o : CallOffer). o.calls)
+    (map (offer_called g.S.TypeStore.tree) l.offers)))

@@ -42,7 +42,8 @@ check_function-requires-clause-body g c =
     let signature = signature_is m tree bodies.signatures.now h.functions h.methods c.args.owner f
     c.in-Some.signature.now
     c.requires.owner (sym c.signature_for.ensures ∙ ap option_copied c.in-Some.is) in
-    context_is m c.args.owner f _ _ _ (map tree c.args.bodies.now.globals.now.constants.now) _ _ _ h.outline.parents h.classes
+    context_is m c.args.owner f _ _ _ (map tree c.args.bodies.now.globals.now.constants.now) _ _ _ h.outline.parents
+    h.classes
     (ap (map (signature_with tree)) h.same_functions ∙ h.functions) h.known
     (names_mean m bodies.globals.now.outline.now.scopes.now h.outline.scopes c.args.owner f c.requires.owner)
     (ap (λ (s : Signature). s.returns) signature)

@@ -18,10 +18,12 @@ returns-clause-bound g c =
     let table = env_of tree w.declared.now in
     let env = env_of tree c.args.env.now in
     let none = sym c.declared.ensures ∙ none_copied c.declared.result (sym c.is_some.ensures ∙ c.if-is_some.false) in
-    let entry = local_entered S.has tree w.context.globals.now.outline.now.parents.now w.store.now w.declared.now c.args.env.now x c.args.ty.now
+    let entry = local_entered S.has tree w.context.globals.now.outline.now.parents.now w.store.now w.declared.now
+    c.args.env.now x c.args.ty.now
     c.in_ok-first.first c.in_ok-current.current h.declared h.current c.requires.ty c.in_ok-first.ensures
     c.in_ok-current.ensures none in
-    let is = entry.is ∙ ap (λ (r : Res). enter_name table env r (tree c.args.ty.now)) (sym c.in-Local.is ∙ c.resolve.ensures) in
+    let is = entry.is ∙ ap (λ (r : Res). enter_name table env r (tree c.args.ty.now))
+    (sym c.in-Local.is ∙ c.resolve.ensures) in
     rw (c.declare.ensures, c.in_ok-assign.ensures.assigned) (record {
       is = ap (λ e. entered e found) is;
       stands = record { context = h.context; declared = entry.declared_holds; current = entry.env_holds };

@@ -11,7 +11,8 @@ use Rattle.pc_class.proofs.WellFormed.{params_well_formed}
 use Rattle.pc_flow.specs.Environment.{Env, none_assigned}
 use Rattle.pc_flow.specs.Stored.{env_of}
 use Rattle.pc_notes.specs.Notes.{Note, notes_of}
-use Rattle.pc_module_rules.specs.Computed.Statements.{BindingResult, BodyContext, Table, end_finds, enter_parameters, walk_suite}
+use Rattle.pc_module_rules.specs.Computed.Statements.{BindingResult, BodyContext, Table, end_finds, enter_parameters}
+use Rattle.pc_module_rules.specs.Computed.Statements.{walk_suite}
 use Rattle.pc_module_rules.specs.Modules.{receiver_parameter}
 use Rattle.pc_walk.specs.declared.context.BodyContext.{BodyContext as RustBodyContext}
 use Rattle.pc_walk.specs.StatementsHeld.{HoldsType}
@@ -28,7 +29,11 @@ enter_receiver-requires g c =
     let S = g.S.TypeStore in
     let w = c.args.walk.now in
     let none = none_holds (S.has w.store.now) S.tree w.context.globals.now.outline.now.parents.now c.args.count in
-    record { context = c.requires.context; declared = rw c.requires.declared none; current = rw c.in_ok-env.ensures none }
+    record {
+      context = c.requires.context;
+      declared = rw c.requires.declared none;
+      current = rw c.in_ok-env.ensures none;
+    }
 
 pub enter-requires-clause-params : goal.enter-requires-clause-params
 enter-requires-clause-params g c =
@@ -40,12 +45,16 @@ enter-requires-clause-params g c =
     let m = module_of old.context.globals.now.outline.now.tree.now in
     let given = All-weaker (HasParameter (S.has old.store.now)) (HasParameter (S.has new.store.now))
     (λ p h. on.kept p.ty h) params c.requires.given in
-    let bases : bases_of m ≡ old.context.globals.now.outline.now.parents.now = sym (ap (λ (x : BodyContext). x.context.bases) c.requires.body) in
+    let bases : bases_of m ≡ old.context.globals.now.outline.now.parents.now =
+    sym (ap (λ (x : BodyContext). x.context.bases) c.requires.body) in
     let well_formed = subst (λ bases. ParametersWellFormed bases (parameters_with S.tree params)) bases
-    (subst (ParametersWellFormed (bases_of m)) (sym c.requires.params) (params_well_formed m (func_of c.args.def.now).params))
+    (subst (ParametersWellFormed (bases_of m)) (sym c.requires.params)
+    (params_well_formed m (func_of c.args.def.now).params))
     in
-    in_body_context S old new (λ (f : RustBodyContext _). All (λ p. HoldsType (S.has new.store.now) S.tree f.globals.now.outline.now.parents.now
-    p.ty) params) on (parameters_hold (S.has new.store.now) S.tree old.context.globals.now.outline.now.parents.now params given well_formed)
+    in_body_context S old new (λ (f : RustBodyContext _). All (λ p. HoldsType (S.has new.store.now) S.tree
+    f.globals.now.outline.now.parents.now
+    p.ty) params) on (parameters_hold (S.has new.store.now) S.tree old.context.globals.now.outline.now.parents.now
+    params given well_formed)
 
 pub check_suite-requires-clause-stands : goal.check_suite-requires-clause-stands
 check_suite-requires-clause-stands g c =
@@ -69,7 +78,8 @@ check_suite-requires-clause-long g c =
     ∙ (λ i. enter_parameters resolve (declared i) (env i) receiver) in
     let between = subst (λ (r : Table × Env). length r.1 ≡ length r.0) (sym received)
     (entered_long resolve none none receiver refl) in
-    let behind = entered_long (meanings mid.context.names.now) table first (parameters_with tree c.args.params.now) between in
+    let behind = entered_long (meanings mid.context.names.now) table first (parameters_with tree c.args.params.now)
+    between in
     record {
       env_long = subst (λ (r : Table × Env). length r.1 ≡ length r.0)
           (sym (ap (λ (b : BindingResult). (b.table, b.env)) c.in_ok-enter.ensures.bound.is)) behind;
@@ -115,8 +125,10 @@ returns-clause-pushed g c =
     (λ f w. walk_suite f w (stmts_of_list c.deref.result.now)) g2 s
     ∙ ap (λ b. walk_suite context (reached S mid (Some env) None) (stmts_of_list b)) c.deref.ensures.value
     ∙ ap (λ (ns : List Note). walk_suite context (reached_by start.0 (Some start.1) None ns) def.body) notes in
-    let whole = function_found m (map tree old.context.globals.now.constants.now) c.args.owner def context found n middle start body
+    let whole = function_found m (map tree old.context.globals.now.constants.now) c.args.owner def context found n
+    middle start body
     c.requires.body c.requires.count received started walked in
     c.in_ok-find_end.ensures.pushed
-    ∙ (λ i. notes_of later.found.now ++ end_finds (g3.context i).parents.now (tree (g3.context i).returned.now) def.name.place
+    ∙ (λ i. notes_of later.found.now ++ end_finds (g3.context i).parents.now (tree (g3.context i).returned.now)
+    def.name.place
     (option_map (env_of tree) out)) ∙ whole

@@ -68,7 +68,8 @@ loop-item-preserved g c =
       | in-Class+in_ok-check_methods-in-Class w ↦ class_passed m cs classes functions total before rest n k
           c.match-item.classes c.match-item.functions old new v.classes_stand v.functions_stand v.found
           x.first (class_of w.in-Class.class) (step ∙ ap (λ q. item_of_kind x.first q ∷ rest) w.in-Class.is)
-          w.classes-is w.functions-is ((λ j. notes_of ((w.checker-is j).found.now)) ∙ w.in_ok-check_methods-in-Class.ensures.found)
+          w.classes-is w.functions-is ((λ j. notes_of ((w.checker-is j).found.now))
+          ∙ w.in_ok-check_methods-in-Class.ensures.found)
       | in-Def+in_ok-check_owned-in-Def w ↦ def_passed m cs classes functions total before rest n k
           c.match-item.classes c.match-item.functions old new v.classes_stand v.functions_stand v.found
           x.first (func_of w.in-Def.def) (step ∙ ap (λ q. item_of_kind x.first q ∷ rest) w.in-Def.is) w.classes-is
@@ -76,11 +77,14 @@ loop-item-preserved g c =
     ] in
     record {
       bodies = elim c.match-item.branch [
-        | in-Constant w ↦ subst (λ (k : Checker _ _). IsModuleBodies (has k.store.now) tree c.args.bodies.now) (sym w.checker-is) v.bodies
-        | in-Class+in_ok-check_methods-in-Class w ↦ subst (λ (k : Checker _ _). IsModuleBodies (has k.store.now) tree c.args.bodies.now)
+        | in-Constant w ↦ subst (λ (k : Checker _ _). IsModuleBodies (has k.store.now) tree c.args.bodies.now)
+            (sym w.checker-is) v.bodies
+        | in-Class+in_ok-check_methods-in-Class w ↦ subst (λ (k : Checker _ _). IsModuleBodies (has k.store.now) tree
+            c.args.bodies.now)
             (sym w.checker-is) (bodies_kept has tree c.loop-item.checker.store.now w.check_methods.new.checker.store.now
             w.check_methods.ensures.goes_on.kept c.args.bodies.now v.bodies)
-        | in-Def+in_ok-check_owned-in-Def w ↦ subst (λ (k : Checker _ _). IsModuleBodies (has k.store.now) tree c.args.bodies.now)
+        | in-Def+in_ok-check_owned-in-Def w ↦ subst (λ (k : Checker _ _). IsModuleBodies (has k.store.now) tree
+            c.args.bodies.now)
             (sym w.checker-is) (bodies_kept has tree c.loop-item.checker.store.now w.check_owned.new.checker.store.now
             w.check_owned.ensures.goes_on.kept c.args.bodies.now v.bodies)
       ];
@@ -99,7 +103,8 @@ loop-item-preserved g c =
       found = here.found;
       goes_on = elim c.match-item.branch [
         | in-Constant w ↦ rw w.checker-is v.goes_on
-        | in-Class+in_ok-check_methods-in-Class w ↦ rw w.checker-is (goes_further v.goes_on w.check_methods.ensures.goes_on)
+        | in-Class+in_ok-check_methods-in-Class w ↦ rw w.checker-is
+            (goes_further v.goes_on w.check_methods.ensures.goes_on)
         | in-Def+in_ok-check_owned-in-Def w ↦ rw w.checker-is (goes_further v.goes_on w.check_owned.ensures.goes_on)
       ];
     }

@@ -37,22 +37,27 @@ loop-member-preserved g c =
     let before = map member_of (drop i ms) in
     let rest = map member_of (drop (i + 1) ms) in
     let step = members_next ms i c.member-item.result c.loop-member-test.true c.member-item.is in
-    let total = methods_find m (constants_of m) c.args.class 0 (map member_of ms) (notes_of c.args.checker.now.found.now) in
+    let total = methods_find m (constants_of m) c.args.class 0 (map member_of ms)
+    (notes_of c.args.checker.now.found.now) in
     let here : MembersAt m (constants_of m) c.args.class all total before rest n c.match-member.methods
-    (notes_of c.loop-member.checker.found.now) (notes_of c.match-member.checker.found.now) = elim c.match-member.branch [
+    (notes_of c.loop-member.checker.found.now) (notes_of c.match-member.checker.found.now) =
+    elim c.match-member.branch [
       | in-Field w ↦ field_passed m (constants_of m) c.args.class all total before rest n c.match-member.methods
           (notes_of c.loop-member.checker.found.now) (notes_of c.match-member.checker.found.now) v.stand v.found
           (field_of w.in-Field.field-0) (step ∙ ap (λ y. member_of y ∷ rest) w.in-Field.is) w.methods-is
           (λ j. notes_of ((w.checker-is j).found.now))
       | in-Method+in_ok-check_owned-in-Method w ↦ method_passed m (constants_of m) c.args.class all total before rest
-          n c.match-member.methods (notes_of c.loop-member.checker.found.now) (notes_of c.match-member.checker.found.now) v.stand v.found
+          n c.match-member.methods (notes_of c.loop-member.checker.found.now)
+          (notes_of c.match-member.checker.found.now) v.stand v.found
           (func_of w.in-Method.method) (step ∙ ap (λ y. member_of y ∷ rest) w.in-Method.is) w.methods-is
           ((λ j. notes_of ((w.checker-is j).found.now)) ∙ w.in_ok-check_owned-in-Method.ensures.found)
     ] in
     record {
       bodies = elim c.match-member.branch [
-        | in-Field w ↦ subst (λ (k : Checker _ _). IsModuleBodies (has k.store.now) tree c.args.bodies.now) (sym w.checker-is) v.bodies
-        | in-Method+in_ok-check_owned-in-Method w ↦ subst (λ (k : Checker _ _). IsModuleBodies (has k.store.now) tree c.args.bodies.now)
+        | in-Field w ↦ subst (λ (k : Checker _ _). IsModuleBodies (has k.store.now) tree c.args.bodies.now)
+            (sym w.checker-is) v.bodies
+        | in-Method+in_ok-check_owned-in-Method w ↦ subst (λ (k : Checker _ _). IsModuleBodies (has k.store.now) tree
+            c.args.bodies.now)
             (sym w.checker-is) (bodies_kept has tree c.loop-member.checker.store.now w.check_owned.new.checker.store.now
             w.check_owned.ensures.goes_on.kept c.args.bodies.now v.bodies)
       ];
@@ -64,6 +69,7 @@ loop-member-preserved g c =
       found = here.found;
       goes_on = elim c.match-member.branch [
         | in-Field w ↦ rw w.checker-is v.goes_on
-        | in-Method+in_ok-check_owned-in-Method w ↦ rw w.checker-is (goes_further v.goes_on w.check_owned.ensures.goes_on)
+        | in-Method+in_ok-check_owned-in-Method w ↦ rw w.checker-is
+            (goes_further v.goes_on w.check_owned.ensures.goes_on)
       ];
     }

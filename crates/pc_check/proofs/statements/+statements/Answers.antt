@@ -19,10 +19,13 @@ use Rattle.pc_flow.specs.Stored.{env_of}
 use Rattle.pc_notes.specs.Notes.{notes_of}
 use Rattle.pc_rules.specs.Computed.Findings.{codes_at}
 use Rattle.pc_rules.specs.Computed.Standing.{finds_in, narrowed_standing}
-use Rattle.pc_module_rules.specs.Computed.Statements.{Walk as Reached, BranchesResult, BindingResult, at, narrowed_at, head_at}
-use Rattle.pc_module_rules.specs.Computed.Statements.{option_finds, bind_item, item_label_of, iterable_finds, step, walk_suite}
+use Rattle.pc_module_rules.specs.Computed.Statements.{Walk as Reached, BranchesResult, BindingResult, at, narrowed_at}
+use Rattle.pc_module_rules.specs.Computed.Statements.{head_at}
+use Rattle.pc_module_rules.specs.Computed.Statements.{option_finds, bind_item, item_label_of, iterable_finds, step}
+use Rattle.pc_module_rules.specs.Computed.Statements.{walk_suite}
 use Rattle.pc_module_rules.specs.Computed.Statements.{walk_branches}
-use Rattle.pc_module_rules.specs.Computed.Statements.{with_way, behind_binding, behind_branches, behind_loop, inside_for}
+use Rattle.pc_module_rules.specs.Computed.Statements.{with_way, behind_binding, behind_branches, behind_loop}
+use Rattle.pc_module_rules.specs.Computed.Statements.{inside_for}
 use Rattle.pc_walk.specs.declared.context.BodyContext.{BodyContext as RustBodyContext}
 use Rattle.pc_walk.specs.StatementsHeld.{body_context_with}
 use Rattle.pc_walk.specs.Touched.{touched_by_stmt, touched_by, touched_by_branches, touched_by_if, touched_by_while}
@@ -31,7 +34,8 @@ use Rattle.pc_walk.specs.Untouched.{AreAmong, WaysAgree}
 use Rattle.pc_walk.specs.Walks.{body_context_in, standing_in}
 use Rattle.pc_walk.proofs.Held.{gives_types}
 use Rattle.pc_walk.proofs.Untouched.{narrowed_long, head_at_long, item_long}
-use Rattle.pc_walk.proofs.Walks.{same_walk, goes_further, in_body_context, env_kept, way_kept, one_kept, context_on, stands_on}
+use Rattle.pc_walk.proofs.Walks.{same_walk, goes_further, in_body_context, env_kept, way_kept, one_kept, context_on}
+use Rattle.pc_walk.proofs.Walks.{stands_on}
 use Rattle.pc_check.specs.Internal.StatementWalk.{IsLong, ForkAgrees, BreaksAgree}
 use Rattle.pc_check.specs.Internal.Walked.{Walked, reached, forked}
 use Rattle.pc_check.proofs.Agreed.{step_long, otherwise_agrees, branch_agrees, branches_agree, among_same, among_left}
@@ -103,7 +107,8 @@ check_suite-loop-statement-preserved g t c =
     let before = reached S here.walk here.env here.broken in
     let behind = reached S new c.in_ok-env.env c.check_next.new.broken in
     let next = stmts_next c.args.body.now i c.statement-item.result c.loop-statement-test.true c.statement-item.is in
-    let held = well_formed_if_any (S.has here.walk.store.now) S.tree here.walk.context.globals.now.outline.now.parents.now here.env
+    let held = well_formed_if_any (S.has here.walk.store.now) S.tree
+    here.walk.context.globals.now.outline.now.parents.now here.env
     v.stands.current in
     let all = subst (λ ss. BreaksAgree breaking (touched_by resolve ss) before.broken before.env) next v.breaks in
     let breaks = later_breaks context breaking before.table before.env before.broken before.found s rest held v.long all
@@ -466,7 +471,8 @@ check_while-check_suite-requires g t c κs within =
     let same_table : length table ≡ length (env_of S.tree old.declared.now) =
     ap (λ ds. length (env_of S.tree ds)) (a.finds.declared ∙ q.declared) in
     let head_long : length head ≡ length table = ap (λ (e : Env). length e) start.is
-    ∙ head_at_long (body_context_in S old) (env_of S.tree old.declared.now) (bound_by body) (env_of S.tree c.args.env.now)
+    ∙ head_at_long (body_context_in S old) (env_of S.tree old.declared.now) (bound_by body)
+    (env_of S.tree c.args.env.now)
     c.requires.long ∙ sym same_table in
     let touched = among_same locals (touched_by_while resolve condition body) (λ x. c.in_ok-breaking.ensures x) in
     let breaks = while_breaks context locals table head condition body a.finds.stands.current.well_formed head_long
@@ -599,7 +605,8 @@ check_for-check_suite-requires g t c κs within =
     (among_same locals (touched_by_for (meanings old.context.names.now) name body) (λ x. c.in_ok-breaking.ensures x)) in
     let breaks = for_breaks context locals table head name body place item found start.holds.well_formed head_long
     touched in
-    let held = gives_types S.has S.tree mid.context.globals.now.outline.now.parents.now mid.store.now copied.field-0 head copied.ensures
+    let held = gives_types S.has S.tree mid.context.globals.now.outline.now.parents.now mid.store.now copied.field-0
+    head copied.ensures
     start.holds.well_formed in (
       first_of (omega (arith, c.decreases), search rules, grind (arith, c.decreases)),
       (
@@ -841,8 +848,10 @@ check_branches-loop-branch-preserved g t c =
     let all = subst (λ bs. AreAmong locals (touched_by_branches resolve bs)) next v.touched in
     let first = subst (λ bs. AreAmong locals (touched_by_branches resolve bs)) (sym one)
     (first_touched resolve locals condition body rest all) in
-    let agree = branches_agree context locals before (with_branch c.branch-item.result no_branches) held v.agree first in
-    let breaks = branch_breaks context breaking before.table before.last before.ways before.broken before.found condition
+    let agree = branches_agree context locals before (with_branch c.branch-item.result no_branches) held v.agree
+    first in
+    let breaks = branch_breaks context breaking before.table before.last before.ways before.broken before.found
+    condition
     body rest held v.agree.last_long v.agree.broken_long
     (subst (λ bs. BreaksAgree breaking (touched_by_branches resolve bs) before.broken (Some before.last)) next
     v.breaks) in

@@ -15,5 +15,7 @@ returns c =
     let with_json : app_of c.in_ok-arg.field-0 ≡ with_rule bare json_rule =
     c.in_ok-arg.ensures.shape c.json_argument.ensures.local ∙ ap₂ with_rule bare_is c.json_argument.ensures.rule in
     let with_format : app_of c.in_ok-arg-2.field-0 ≡ with_rule (with_rule bare json_rule) format_rule =
-    c.in_ok-arg-2.ensures.shape c.format_argument.ensures.local ∙ ap₂ with_rule with_json c.format_argument.ensures.rule in
-    IfOk-weaker c.arg-3.result _ _ (λ r h. h.shape c.file_argument.ensures.local ∙ ap₂ with_rule with_format c.file_argument.ensures.rule) c.arg-3.ensures
+    c.in_ok-arg-2.ensures.shape c.format_argument.ensures.local
+    ∙ ap₂ with_rule with_json c.format_argument.ensures.rule in
+    IfOk-weaker c.arg-3.result _ _ (λ r h. h.shape c.file_argument.ensures.local
+    ∙ ap₂ with_rule with_format c.file_argument.ensures.rule) c.arg-3.ensures

@@ -1,5 +1,6 @@
 use Rattle.std.proofs.Common.{◌≡◌, ◌∙◌, ◌⊎◌, None, ap, inl, inr, subst, sym, [], map, option_map}
-use Rattle.clap.specs.Words.{App, IsAmong, fault_of, found_of, is_simple, is_simple_and_free, kind_of, matches_of, rows_of}
+use Rattle.clap.specs.Words.{App, IsAmong, fault_of, found_of, is_simple, is_simple_and_free, kind_of, matches_of}
+use Rattle.clap.specs.Words.{rows_of}
 use Rattle.clap.specs.declared.error.kind.ErrorKind.TheVariants as kind
 use Rattle.pc_commands.specs.RunWords.{asked, command_line, faults}
 use Rattle.pc_commands.proofs.RunPlain.{plain_words}
@@ -12,7 +13,8 @@ returns-in-Err c =
     let app_is = c.in_ok-command.ensures in
     let words = map (λ w. w.now) c.args.words.now in
     let kinds = c.in-Err.ensures.kinds (ap is_simple_and_free app_is ∙ simple_and_free) in
-    let has = subst (λ (a : App). (kind_of c.in-Err.error ≡ kind.OutOfMemory) ⊎ IsAmong (kind_of c.in-Err.error) (fault_of a words)) app_is kinds in
+    let has = subst (λ (a : App). (kind_of c.in-Err.error ≡ kind.OutOfMemory)
+    ⊎ IsAmong (kind_of c.in-Err.error) (fault_of a words)) app_is kinds in
     let said = says words _ c.fault_of.result has c.fault_of.ensures in
     record { read = tt; plain = plain_words words; none = said.0; which = said.1 }
 
@@ -20,11 +22,14 @@ pub returns-in_default : goal.returns-in_default
 returns-in_default c =
     let app_is = c.in_ok-command.ensures in
     let words = map (λ w. w.now) c.args.words.now in
-    let none : faults words ≡ [] = ap (λ a. fault_of a words) (sym app_is) ∙ c.in-Ok.ensures.kinds (ap is_simple_and_free app_is ∙ simple_and_free) in
-    let rows : rows_of (found_of c.in-Ok.matches) ≡ matches_of command_line words = (c.in-Ok.ensures.matches (ap is_simple app_is ∙ simple)).0 ∙ ap (λ a. matches_of a words) app_is in
+    let none : faults words ≡ [] = ap (λ a. fault_of a words) (sym app_is)
+    ∙ c.in-Ok.ensures.kinds (ap is_simple_and_free app_is ∙ simple_and_free) in
+    let rows : rows_of (found_of c.in-Ok.matches) ≡ matches_of command_line words =
+    (c.in-Ok.ensures.matches (ap is_simple app_is ∙ simple)).0 ∙ ap (λ a. matches_of a words) app_is in
     let asked_so = reads words c.in-Ok.matches c.fuel_given.result _ none rows c.fuel_given.ensures c.get_str.ensures in
     let nothing : asked words ≡ None = elim c.in_default.branch [
-      | in_default-via-in-Some+in_default w ↦ asked_so ∙ misses _ _ (inr (ap (option_map (λ s. s.now)) w.in_default.is-1))
+      | in_default-via-in-Some+in_default w ↦ asked_so ∙ misses _ _
+          (inr (ap (option_map (λ s. s.now)) w.in_default.is-1))
       | in_default-via-in_default w ↦ asked_so ∙ misses _ _ (inl w.in_default.is-0)
     ] in
     let said = number_at_fault words c.number_fault.result none nothing c.number_fault.ensures in
@@ -34,10 +39,13 @@ pub returns-clause-read : goal.returns-clause-read
 returns-clause-read c =
     let app_is = c.in_ok-command.ensures in
     let words = map (λ w. w.now) c.args.words.now in
-    let none : faults words ≡ [] = ap (λ a. fault_of a words) (sym app_is) ∙ c.in-Ok.ensures.kinds (ap is_simple_and_free app_is ∙ simple_and_free) in
-    let rows : rows_of (found_of c.in-Ok.matches) ≡ matches_of command_line words = (c.in-Ok.ensures.matches (ap is_simple app_is ∙ simple)).0 ∙ ap (λ a. matches_of a words) app_is in
+    let none : faults words ≡ [] = ap (λ a. fault_of a words) (sym app_is)
+    ∙ c.in-Ok.ensures.kinds (ap is_simple_and_free app_is ∙ simple_and_free) in
+    let rows : rows_of (found_of c.in-Ok.matches) ≡ matches_of command_line words =
+    (c.in-Ok.ensures.matches (ap is_simple app_is ∙ simple)).0 ∙ ap (λ a. matches_of a words) app_is in
     let asked_so = reads words c.in-Ok.matches c.fuel_given.result _ none rows c.fuel_given.ensures c.get_str.ensures in
-    gives words _ _ _ _ _ asked_so c.in-Some-Some.is-0 (ap (option_map (λ s. s.now)) c.in-Some-Some.is-1) c.in_ok-file.ensures.ok
+    gives words _ _ _ _ _ asked_so c.in-Some-Some.is-0 (ap (option_map (λ s. s.now)) c.in-Some-Some.is-1)
+    c.in_ok-file.ensures.ok
 
 pub returns-clause-plain : goal.returns-clause-plain
 returns-clause-plain c = plain_words (map (λ w. w.now) c.args.words.now)

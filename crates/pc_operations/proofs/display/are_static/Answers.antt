@@ -6,7 +6,9 @@ use Rattle.pc_operations.proofs.display.are_static.Goals as goal
 
 pub returns-then-not-is_static-clause-value : goal.returns-then-not-is_static-clause-value
 returns-then-not-is_static-clause-value g c =
-    not_all g.S.TypeStore.tree (λ t. static_test c.args.parents.now t (g.S.TypeStore.tree c.args.into.now)) c.args.types.now c.loop-ty.ty-index c.ty-item.result c.loop-ty-test.true c.ty-item.is (sym c.if-not-is_static.ensures.test) c.loop-ty.invariant.so_far
+    not_all g.S.TypeStore.tree (λ t. static_test c.args.parents.now t (g.S.TypeStore.tree c.args.into.now))
+    c.args.types.now c.loop-ty.ty-index c.ty-item.result c.loop-ty-test.true c.ty-item.is
+    (sym c.if-not-is_static.ensures.test) c.loop-ty.invariant.so_far
 
 pub loop-ty-preserved : goal.loop-ty-preserved
 loop-ty-preserved g c =
@@ -16,5 +18,7 @@ loop-ty-preserved g c =
       kept = keeps_both g.S.TypeStore.has _ _ _ v.kept k;
       types = all_kept g.S.TypeStore.has _ _ k c.args.types.now v.types;
       into = k c.args.into.now v.into;
-      so_far = all_later g.S.TypeStore.tree (λ t. static_test c.args.parents.now t (g.S.TypeStore.tree c.args.into.now)) c.args.types.now c.loop-ty.ty-index c.ty-item.result c.loop-ty-test.true c.ty-item.is (sym c.if-not-is_static.ensures.test) v.so_far;
+      so_far = all_later g.S.TypeStore.tree (λ t. static_test c.args.parents.now t (g.S.TypeStore.tree c.args.into.now))
+          c.args.types.now c.loop-ty.ty-index c.ty-item.result c.loop-ty-test.true c.ty-item.is
+          (sym c.if-not-is_static.ensures.test) v.so_far;
     }

@@ -9,5 +9,7 @@ invariant-loop-ty g l = record {
   kept : KeepsTypes g.S.TypeStore.has l.fn.store l.store;
   types : All (g.S.TypeStore.has l.store) l.types;
   into : g.S.TypeStore.has l.store l.into;
-  so_far : list_all (λ t. static_test l.parents t (g.S.TypeStore.tree l.into)) (drop l.ty-index (map g.S.TypeStore.tree l.types)) ≡ list_all (λ t. static_test l.parents t (g.S.TypeStore.tree l.into)) (map g.S.TypeStore.tree l.types);
+  so_far : list_all (λ t. static_test l.parents t (g.S.TypeStore.tree l.into))
+      (drop l.ty-index (map g.S.TypeStore.tree l.types)) ≡ list_all
+      (λ t. static_test l.parents t (g.S.TypeStore.tree l.into)) (map g.S.TypeStore.tree l.types);
 }

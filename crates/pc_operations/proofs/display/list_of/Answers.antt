@@ -4,4 +4,6 @@ use Rattle.pc_operations.proofs.display.list_of.Goals as goal
 
 pub returns-in-Some-clause-value : goal.returns-in-Some-clause-value
 returns-in-Some-clause-value g c =
-    made_is g.S.TypeStore.has g.S.TypeStore.tree c.list.new.self c.clean.result c.in-Some.ty (ListOf (g.S.TypeStore.tree c.args.item.now)) (c.clean.ensures.label g.S.TypeStore.tree) c.clean.ensures.ty (rw c.in-Some.is at c.in_ok-made.ensures.value)
+    made_is g.S.TypeStore.has g.S.TypeStore.tree c.list.new.self c.clean.result c.in-Some.ty
+    (ListOf (g.S.TypeStore.tree c.args.item.now)) (c.clean.ensures.label g.S.TypeStore.tree) c.clean.ensures.ty
+    (rw c.in-Some.is at c.in_ok-made.ensures.value)

@@ -10,7 +10,8 @@ loop-ty-preserved g c =
     record {
       all = all_kept g.S.TypeStore.has _ _ c.join_or_object.ensures.kept c.args.types.now v.all;
       has = j.0;
-      type = rw j.1 (rw (mapped_rest g.S.TypeStore.tree c.args.types.now c.loop-ty.ty-index c.ty-item.result c.loop-ty-test.true c.ty-item.is) at v.type);
+      type = rw j.1 (rw (mapped_rest g.S.TypeStore.tree c.args.types.now c.loop-ty.ty-index c.ty-item.result
+          c.loop-ty-test.true c.ty-item.is) at v.type);
       kept = keeps_both g.S.TypeStore.has _ _ _ v.kept c.join_or_object.ensures.kept;
     }
 

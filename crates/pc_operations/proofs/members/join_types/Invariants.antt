@@ -7,6 +7,7 @@ abbrev pub invariant-loop-ty : goal.invariant-loop-ty
 invariant-loop-ty g l = record {
   all : All (g.S.TypeStore.has l.store) l.types;
   has : g.S.TypeStore.has l.store l.joined;
-  type : join_onto l.parents (g.S.TypeStore.tree l.joined) (drop l.ty-index (map g.S.TypeStore.tree l.types)) ≡ join_all l.parents (map g.S.TypeStore.tree l.types);
+  type : join_onto l.parents (g.S.TypeStore.tree l.joined) (drop l.ty-index (map g.S.TypeStore.tree l.types))
+      ≡ join_all l.parents (map g.S.TypeStore.tree l.types);
   kept : KeepsTypes g.S.TypeStore.has l.fn.store l.store;
 }

@@ -10,7 +10,9 @@ pub loop-i-init : goal.loop-i-init
 loop-i-init g c = record {
   members = c.in_ok-members.ensures.held;
   classes = c.requires.classes;
-  offered = rw c.new-offers.ensures.items (offered_none g.S.TypeStore.has g.S.TypeStore.tree (offer_on c.args.parents.now (classes_with g.S.TypeStore.tree c.args.classes.now) c.args.operation) c.in_ok-members.members.items c.args.store.now);
+  offered = rw c.new-offers.ensures.items (offered_none g.S.TypeStore.has g.S.TypeStore.tree
+      (offer_on c.args.parents.now (classes_with g.S.TypeStore.tree c.args.classes.now) c.args.operation)
+      c.in_ok-members.members.items c.args.store.now);
 }
 
 pub loop-i-preserved : goal.loop-i-preserved
@@ -19,10 +21,17 @@ loop-i-preserved g c =
     record {
       members = all_kept g.S.TypeStore.has _ _ c.offer_on.ensures.kept c.in_ok-members.members.items v.members;
       classes = entries_kept g.S.TypeStore.has _ _ c.offer_on.ensures.kept c.args.classes.now v.classes;
-      offered = rw c.in_ok-push.ensures.items (offered_more g.S.TypeStore.has g.S.TypeStore.tree (offer_on c.args.parents.now (classes_with g.S.TypeStore.tree c.args.classes.now) c.args.operation) c.in_ok-members.members.items c.args.store.now c.loop-i.store c.offer_on.new.store c.loop-i.i c.loop-i.offers.items c.index.result.now c.in_ok-offer.offer (omega arith) c.index.ensures c.offer_on.ensures.kept v.offered c.in_ok-offer.ensures.value);
+      offered = rw c.in_ok-push.ensures.items (offered_more g.S.TypeStore.has g.S.TypeStore.tree
+          (offer_on c.args.parents.now (classes_with g.S.TypeStore.tree c.args.classes.now) c.args.operation)
+          c.in_ok-members.members.items c.args.store.now c.loop-i.store c.offer_on.new.store c.loop-i.i
+          c.loop-i.offers.items c.index.result.now c.in_ok-offer.offer (omega arith) c.index.ensures
+          c.offer_on.ensures.kept v.offered c.in_ok-offer.ensures.value);
     }
 
 pub returns-clause-value : goal.returns-clause-value
 returns-clause-value g c =
-    offered_all g.S.TypeStore.has g.S.TypeStore.tree (offer_on c.args.parents.now (classes_with g.S.TypeStore.tree c.args.classes.now) c.args.operation) c.in_ok-members.members.items c.args.store.now c.loop-i.store c.loop-i.i c.loop-i.offers.items (omega arith) c.loop-i.invariant.offered
-    ∙ ap (map (offer_on c.args.parents.now (classes_with g.S.TypeStore.tree c.args.classes.now) c.args.operation)) c.in_ok-members.ensures.value
+    offered_all g.S.TypeStore.has g.S.TypeStore.tree (offer_on c.args.parents.now
+    (classes_with g.S.TypeStore.tree c.args.classes.now) c.args.operation) c.in_ok-members.members.items
+    c.args.store.now c.loop-i.store c.loop-i.i c.loop-i.offers.items (omega arith) c.loop-i.invariant.offered
+    ∙ ap (map (offer_on c.args.parents.now (classes_with g.S.TypeStore.tree c.args.classes.now) c.args.operation))
+    c.in_ok-members.ensures.value

@@ -8,5 +8,6 @@ abbrev pub invariant-loop-i : goal.invariant-loop-i
 invariant-loop-i g l = record {
   members : All (g.S.TypeStore.has l.store) l.members.items;
   classes : HasEntries (g.S.TypeStore.has l.store) l.classes;
-  offered : IsOffered g.S.TypeStore.has g.S.TypeStore.tree (offer_on l.parents (classes_with g.S.TypeStore.tree l.classes) l.operation) l.members.items l.fn.store l.store l.i l.offers.items;
+  offered : IsOffered g.S.TypeStore.has g.S.TypeStore.tree (offer_on l.parents
+      (classes_with g.S.TypeStore.tree l.classes) l.operation) l.members.items l.fn.store l.store l.i l.offers.items;
 }

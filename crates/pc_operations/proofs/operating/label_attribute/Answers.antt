@@ -4,4 +4,7 @@ use Rattle.pc_rules.proofs.Along.{labelled_by}
 use Rattle.pc_operations.proofs.operating.label_attribute.Goals as goal
 
 pub returns-clause-value : goal.returns-clause-value
-returns-clause-value g c = labelled_by g.S.TypeStore.has g.S.TypeStore.tree _ c.offers_label.result _ _ (ap (offers_label c.args.setting.now.globals.now.outline.now.parents.now) (rw c.as_str.ensures.value at c.in_ok-offers.ensures.value)) (rw c.deref.ensures.value at c.offers_label.ensures.value)
+returns-clause-value g c = labelled_by g.S.TypeStore.has g.S.TypeStore.tree _ c.offers_label.result _ _
+    (ap (offers_label c.args.setting.now.globals.now.outline.now.parents.now)
+    (rw c.as_str.ensures.value at c.in_ok-offers.ensures.value))
+    (rw c.deref.ensures.value at c.offers_label.ensures.value)

@@ -8,5 +8,6 @@ abbrev pub invariant-loop-i : goal.invariant-loop-i
 invariant-loop-i g l = record {
   members : All (g.S.TypeStore.has l.store) l.members.items;
   classes : HasEntries (g.S.TypeStore.has l.store) l.classes;
-  offered : AreStores g.S.TypeStore.has g.S.TypeStore.tree (store_on (classes_with g.S.TypeStore.tree l.classes) l.target) l.members.items l.fn.store l.store l.i l.offers.items;
+  offered : AreStores g.S.TypeStore.has g.S.TypeStore.tree (store_on (classes_with g.S.TypeStore.tree l.classes)
+      l.target) l.members.items l.fn.store l.store l.i l.offers.items;
 }

@@ -10,5 +10,6 @@ invariant-loop-ty g l = record {
   goes_on : GoesOn g.S.TypeStore l.fn.checker l.checker;
   label : g.S.TypeStore.has l.checker.store.now l.label.ty;
   into : All (g.S.TypeStore.has l.checker.store.now) l.into;
-  found : IsFound g.S.TypeStore.tree l.parents l.place (label_with g.S.TypeStore.tree l.label) l.into (notes_of l.fn.checker.found.now) l.ty-index l.codes.items (notes_of l.checker.found.now);
+  found : IsFound g.S.TypeStore.tree l.parents l.place (label_with g.S.TypeStore.tree l.label) l.into
+      (notes_of l.fn.checker.found.now) l.ty-index l.codes.items (notes_of l.checker.found.now);
 }

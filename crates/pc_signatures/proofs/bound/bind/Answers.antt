@@ -9,7 +9,8 @@ pub returns-else-not-contains : goal.returns-else-not-contains
 returns-else-not-contains c =
     let keys = c.args.bound.now.keys in
     let name = c.args.name.now in
-    bound_again name (map string_bytes keys) (sym (among string_bytes name keys) ∙ sym c.contains.ensures ∙ c.if-not-contains.false)
+    bound_again name (map string_bytes keys) (sym (among string_bytes name keys) ∙ sym c.contains.ensures
+    ∙ c.if-not-contains.false)
 
 pub returns-in_ok-insert : goal.returns-in_ok-insert
 returns-in_ok-insert c =
@@ -19,5 +20,6 @@ returns-in_ok-insert c =
     let absent = sym c.contains.ensures ∙ c.if-not-contains.true in
     bound_anew name (map string_bytes keys) _ (sym (among string_bytes name keys) ∙ absent)
     (ap (map string_bytes) c.in_ok-insert.ensures.keys
-    ∙ put string_bytes keys s (list_any (λ k. bytes_eq (string_bytes s) (string_bytes k)) keys) refl (ap (λ t. list_any (λ k. bytes_eq t (string_bytes k)) keys) c.in_ok-from_str.ensures.ok ∙ absent)
+    ∙ put string_bytes keys s (list_any (λ k. bytes_eq (string_bytes s) (string_bytes k)) keys) refl
+    (ap (λ t. list_any (λ k. bytes_eq t (string_bytes k)) keys) c.in_ok-from_str.ensures.ok ∙ absent)
     ∙ ap (λ t. map string_bytes keys ++ (t ∷ [])) c.in_ok-from_str.ensures.ok)

@@ -9,5 +9,7 @@ use Rattle.pc_signatures.proofs.constants.add_method.Goals as goal
 
 pub returns-clause-found : goal.returns-clause-found
 returns-clause-found g c =
-    let e : bound_in c.bind.new.bound ≡ with_name no_name (codes "self") = c.in_ok-bind.ensures ∙ ap (λ ks. with_name (λ t. is_one_of t (map string_bytes ks)) (codes "self")) c.new-bound.ensures.empty in
-    c.in_ok-signature.ensures.found ∙ ap (λ b. (notes_of c.args.checker.now.found.now) ++ def_findings (module_in c.args.outline.now) b (func_of c.args.def.now)) e
+    let e : bound_in c.bind.new.bound ≡ with_name no_name (codes "self") = c.in_ok-bind.ensures
+    ∙ ap (λ ks. with_name (λ t. is_one_of t (map string_bytes ks)) (codes "self")) c.new-bound.ensures.empty in
+    c.in_ok-signature.ensures.found ∙ ap (λ b. (notes_of c.args.checker.now.found.now) ++ def_findings
+    (module_in c.args.outline.now) b (func_of c.args.def.now)) e

@@ -21,10 +21,15 @@ loop-item-preserved g c =
     let old = reached_with tree c.loop-item.walk in
     let new = reached_with tree c.add_item.new.walk in
     record {
-      globals = globals_kept has tree c.loop-item.checker.store.now c.add_item.new.checker.store.now c.args.globals.now c.add_item.ensures.goes_on.kept v.globals;
+      globals = globals_kept has tree c.loop-item.checker.store.now c.add_item.new.checker.store.now c.args.globals.now
+          c.add_item.ensures.goes_on.kept v.globals;
       held = c.in_ok-add_item.ensures.held;
       reached = reached_next m old new items i x less is c.in_ok-add_item.ensures.reached ∙ v.reached;
-      methods = stepped (map (methods_with tree) c.loop-item.walk.methods.items) (map (methods_with tree) c.add_item.new.walk.methods.items) _ _ _ _ v.methods (classes_apart m items i x less is) c.in_ok-add_item.ensures.methods;
-      found = stepped (notes_of c.loop-item.checker.found.now) (notes_of c.add_item.new.checker.found.now) _ _ _ _ v.found (items_found m old new items i x less is c.in_ok-add_item.ensures.reached) c.in_ok-add_item.ensures.found;
+      methods = stepped (map (methods_with tree) c.loop-item.walk.methods.items)
+          (map (methods_with tree) c.add_item.new.walk.methods.items) _ _ _ _ v.methods
+          (classes_apart m items i x less is) c.in_ok-add_item.ensures.methods;
+      found = stepped (notes_of c.loop-item.checker.found.now) (notes_of c.add_item.new.checker.found.now) _ _ _ _
+          v.found (items_found m old new items i x less is c.in_ok-add_item.ensures.reached)
+          c.in_ok-add_item.ensures.found;
       goes_on = goes_further v.goes_on c.add_item.ensures.goes_on;
     }

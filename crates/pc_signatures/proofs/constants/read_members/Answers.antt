@@ -24,10 +24,15 @@ loop-member-preserved g c =
     let is = c.member-item.is in
     let text = c.as_str.ensures.value ∙ ap (λ (n : Name). n.text) c.name_of.ensures in
     record {
-      globals = globals_kept has tree c.loop-member.checker.store.now c.add_member.new.checker.store.now c.args.globals.now c.add_member.ensures.goes_on.kept v.globals;
+      globals = globals_kept has tree c.loop-member.checker.store.now c.add_member.new.checker.store.now
+          c.args.globals.now c.add_member.ensures.goes_on.kept v.globals;
       held = c.in_ok-add_member.ensures.held;
-      are = stepped (signatures_with tree c.loop-member.methods.items) (signatures_with tree c.add_member.new.methods.items) _ _ _ _ v.are (methods_apart m ms i x less is) c.in_ok-add_member.ensures.typed;
-      found = stepped (notes_of c.loop-member.checker.found.now) (notes_of c.add_member.new.checker.found.now) _ _ _ _ v.found (members_found m base (bound_in c.loop-member.bound) (bound_in c.bind.new.bound) ms i x less is (c.in_ok-bind.ensures ∙ ap (with_name (bound_in c.loop-member.bound)) text)) c.in_ok-add_member.ensures.found;
+      are = stepped (signatures_with tree c.loop-member.methods.items)
+          (signatures_with tree c.add_member.new.methods.items) _ _ _ _ v.are (methods_apart m ms i x less is)
+          c.in_ok-add_member.ensures.typed;
+      found = stepped (notes_of c.loop-member.checker.found.now) (notes_of c.add_member.new.checker.found.now) _ _ _ _
+          v.found (members_found m base (bound_in c.loop-member.bound) (bound_in c.bind.new.bound) ms i x less is
+          (c.in_ok-bind.ensures ∙ ap (with_name (bound_in c.loop-member.bound)) text)) c.in_ok-add_member.ensures.found;
       goes_on = goes_further v.goes_on c.add_member.ensures.goes_on;
     }
 
@@ -37,5 +42,6 @@ returns-clause-typed g c =
     let v = c.loop-member.invariant in
     record {
       given = v.held;
-      are = walked (signatures_with g.S.TypeStore.tree c.loop-member.methods.items) _ _ v.are (no_methods m c.args.members.now c.loop-member.member-index (omega arith));
+      are = walked (signatures_with g.S.TypeStore.tree c.loop-member.methods.items) _ _ v.are
+          (no_methods m c.args.members.now c.loop-member.member-index (omega arith));
     }

@@ -14,7 +14,13 @@ abbrev pub invariant-loop-member : goal.invariant-loop-member
 invariant-loop-member g l = record {
   globals : AreGlobals g.S.TypeStore.has g.S.TypeStore.tree l.checker.store.now l.globals;
   held : HasSignatures (g.S.TypeStore.has l.checker.store.now) l.methods.items;
-  are : signatures_with g.S.TypeStore.tree l.methods.items ++ map (signature_of (module_in l.globals.outline.now)) (methods_in (map member_of (drop l.member-index l.members))) ≡ map (signature_of (module_in l.globals.outline.now)) (methods_in (map member_of l.members));
-  found : (notes_of l.checker.found.now) ++ members_findings (module_in l.globals.outline.now) (base_facts (classes_of (module_in l.globals.outline.now)) l.base) (bound_in l.bound) (map member_of (drop l.member-index l.members)) ≡ (notes_of l.fn.checker.found.now) ++ members_findings (module_in l.globals.outline.now) (base_facts (classes_of (module_in l.globals.outline.now)) l.base) no_name (map member_of l.members);
+  are : signatures_with g.S.TypeStore.tree l.methods.items ++ map (signature_of (module_in l.globals.outline.now))
+      (methods_in (map member_of (drop l.member-index l.members)))
+      ≡ map (signature_of (module_in l.globals.outline.now)) (methods_in (map member_of l.members));
+  found : (notes_of l.checker.found.now) ++ members_findings (module_in l.globals.outline.now)
+      (base_facts (classes_of (module_in l.globals.outline.now)) l.base) (bound_in l.bound)
+      (map member_of (drop l.member-index l.members)) ≡ (notes_of l.fn.checker.found.now) ++ members_findings
+      (module_in l.globals.outline.now) (base_facts (classes_of (module_in l.globals.outline.now)) l.base) no_name
+      (map member_of l.members);
   goes_on : GoesOn g.S.TypeStore l.fn.checker l.checker;
 }

@@ -18,7 +18,9 @@ returns-clause-found g c = λ m e.
     let p = c.args.place in
     let from = tree c.args.label.now.ty in
     let into = tree c.args.into.now in
-    let code : Option Code = code_unless (static_test bases) (assignable_test bases) (is_early c.args.label.now.codes.items) from into in
+    let code : Option Code = code_unless (static_test bases) (assignable_test bases)
+    (is_early c.args.label.now.codes.items) from into in
     c.in_ok-find_flow.ensures.found
     ∙ ap (λ (o : Option Code). old ++ flow_at p from into o) c.in_ok-find_flow.ensures.value
-    ∙ ap (λ l. old ++ l) (one_flow p from into code ∙ flows_alike bases p (label_with tree c.args.label.now) m (into ∷ []) e)
+    ∙ ap (λ l. old ++ l) (one_flow p from into code ∙ flows_alike bases p (label_with tree c.args.label.now) m
+    (into ∷ []) e)

@@ -17,7 +17,10 @@ loop-item-preserved g c =
     let is = c.item-item.is in
     record {
       given = c.in_ok-add_function.ensures.held;
-      are = stepped (signatures_with tree c.loop-item.functions.items) (signatures_with tree c.add_function.new.functions.items) _ _ _ _ v.are (functions_apart m items i x less is) c.in_ok-add_function.ensures.typed;
-      found = stepped (notes_of c.loop-item.checker.found.now) (notes_of c.add_function.new.checker.found.now) _ _ _ _ v.found (functions_found m items i x less is) c.in_ok-add_function.ensures.found;
+      are = stepped (signatures_with tree c.loop-item.functions.items)
+          (signatures_with tree c.add_function.new.functions.items) _ _ _ _ v.are (functions_apart m items i x less is)
+          c.in_ok-add_function.ensures.typed;
+      found = stepped (notes_of c.loop-item.checker.found.now) (notes_of c.add_function.new.checker.found.now) _ _ _ _
+          v.found (functions_found m items i x less is) c.in_ok-add_function.ensures.found;
       goes_on = goes_further v.goes_on c.add_function.ensures.goes_on;
     }

@@ -12,7 +12,11 @@ use Rattle.pc_signatures.proofs.signatures.read_functions.Given as goal
 abbrev pub invariant-loop-item : goal.invariant-loop-item
 invariant-loop-item g l = record {
   given : HasSignatures (g.S.TypeStore.has l.checker.store.now) l.functions.items;
-  are : signatures_with g.S.TypeStore.tree l.functions.items ++ map (signature_of (module_in l.outline)) (functions_in (map item_of (drop l.item-index l.items))) ≡ map (signature_of (module_in l.outline)) (functions_in (map item_of l.items));
-  found : (notes_of l.checker.found.now) ++ functions_findings (module_in l.outline) (map item_of (drop l.item-index l.items)) ≡ (notes_of l.fn.checker.found.now) ++ functions_findings (module_in l.outline) (map item_of l.items);
+  are : signatures_with g.S.TypeStore.tree l.functions.items ++ map (signature_of (module_in l.outline))
+      (functions_in (map item_of (drop l.item-index l.items))) ≡ map (signature_of (module_in l.outline))
+      (functions_in (map item_of l.items));
+  found : (notes_of l.checker.found.now) ++ functions_findings (module_in l.outline)
+      (map item_of (drop l.item-index l.items)) ≡ (notes_of l.fn.checker.found.now) ++ functions_findings
+      (module_in l.outline) (map item_of l.items);
   goes_on : GoesOn g.S.TypeStore l.fn.checker l.checker;
 }

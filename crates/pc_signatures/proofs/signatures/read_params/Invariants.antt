@@ -11,7 +11,10 @@ use Rattle.pc_signatures.proofs.signatures.read_params.Given as goal
 abbrev pub invariant-loop-param : goal.invariant-loop-param
 invariant-loop-param g l = record {
   given : All (HasParameter (g.S.TypeStore.has l.checker.store.now)) l.all.items;
-  are : parameters_with g.S.TypeStore.tree l.all.items ++ parameters_of (module_in l.outline) (map param_of (drop l.param-index l.params)) ≡ parameters_of (module_in l.outline) (map param_of l.params);
-  found : (notes_of l.checker.found.now) ++ params_findings (module_in l.outline) (bound_in l.bound) (map param_of (drop l.param-index l.params)) ≡ (notes_of l.fn.checker.found.now) ++ params_findings (module_in l.outline) (bound_in l.fn.bound) (map param_of l.params);
+  are : parameters_with g.S.TypeStore.tree l.all.items ++ parameters_of (module_in l.outline)
+      (map param_of (drop l.param-index l.params)) ≡ parameters_of (module_in l.outline) (map param_of l.params);
+  found : (notes_of l.checker.found.now) ++ params_findings (module_in l.outline) (bound_in l.bound)
+      (map param_of (drop l.param-index l.params)) ≡ (notes_of l.fn.checker.found.now) ++ params_findings
+      (module_in l.outline) (bound_in l.fn.bound) (map param_of l.params);
   goes_on : GoesOn g.S.TypeStore l.fn.checker l.checker;
 }

@@ -13,7 +13,8 @@ read_items-requires g c =
     record {
       outline = c.requires.outline;
       classes = c.requires.classes;
-      entries = entries_kept has c.args.checker.now.store.now store c.read_functions.ensures.goes_on.kept _ c.requires.entries;
+      entries = entries_kept has c.args.checker.now.store.now store c.read_functions.ensures.goes_on.kept _
+          c.requires.entries;
       functions = record {
         given = subst (HasSignatures (has store)) (sym c.deref.ensures.value) typed.given;
         are = ap (signatures_with tree) c.deref.ensures.value ∙ typed.are;
@@ -27,7 +28,8 @@ returns-clause-held g c =
     let walk = c.in_ok-walk.ensures.held in
     record {
       constants = walk.constants;
-      functions = signatures_kept has c.read_functions.new.checker.store.now store c.read_items.ensures.goes_on.kept c.in_ok-functions.functions.items c.in_ok-functions.ensures.typed.given;
+      functions = signatures_kept has c.read_functions.new.checker.store.now store c.read_items.ensures.goes_on.kept
+          c.in_ok-functions.functions.items c.in_ok-functions.ensures.typed.given;
       methods = All-map (HasSignatures (has store)) (λ v. v.items) c.in_ok-walk.walk.methods.items walk.methods;
     }
 

@@ -42,10 +42,12 @@ returns-in-None-clause-bound g c =
     let meaning = c.resolve-meaning.result in
     let ty = c.in_ok-ty.ty in
     let declared = declared_by old.declared.now meaning ty in
-    let held = subst (λ (f : RustBodyContext _). HoldsTypeIfAny (S.has mid.store.now) tree f.globals.now.outline.now.parents.now ty)
+    let held = subst (λ (f : RustBodyContext _). HoldsTypeIfAny (S.has mid.store.now) tree
+    f.globals.now.outline.now.parents.now ty)
     c.annotated_type.ensures.goes_on.context a.typed.0 in
     let alone = alone_gives S.has tree bases mid.store.now F old.declared.now meaning ty t a.typed.1 held
-    (types_kept S.has tree bases old.store.now mid.store.now c.annotated_type.ensures.goes_on.kept old.declared.now c.requires.declared) in
+    (types_kept S.has tree bases old.store.now mid.store.now c.annotated_type.ensures.goes_on.kept old.declared.now
+    c.requires.declared) in
     let made : Res → BindingResult = λ r. record {
       table = declared_alone F T r t;
       env = E;
@@ -56,7 +58,8 @@ returns-in-None-clause-bound g c =
     let meaning_is = c.resolve-meaning.ensures ∙ ap (meanings old.context.names.now) c.as_str.ensures.value in
     let table_is = ap (env_of tree) declared_is ∙ alone.is in
     let stood = stands_on S old mid c.args.env c.requires c.annotated_type.ensures.goes_on a.declared in
-    let later = subst (λ (f : RustBodyContext _). HoldsTypes (S.has mid.store.now) tree f.globals.now.outline.now.parents.now declared)
+    let later = subst (λ (f : RustBodyContext _). HoldsTypes (S.has mid.store.now) tree
+    f.globals.now.outline.now.parents.now declared)
     (sym c.annotated_type.ensures.goes_on.context) alone.holds in
     rw c.in-None.is (record {
       is = (λ i. record { table = table_is i; env = E; found = a.pushed i }) ∙ ap made meaning_is;
@@ -82,7 +85,8 @@ returns-in_ok-behind-in-Some-clause-bound g c =
     let annotation = ann_of c.args.annotation.now in
     let found = notes_of old.found.now in
     let after = notes_of mid.found.now in
-    let t = read_ann (module_of old.context.globals.now.outline.now.tree.now) old.context.globals.now.outline.now.parents.now annotation in
+    let t = read_ann (module_of old.context.globals.now.outline.now.tree.now)
+    old.context.globals.now.outline.now.parents.now annotation in
     let meaning = c.resolve-meaning.result in
     let ty = option_map tree c.in_ok-ty.ty in
     let e = expr_of c.deref.result.now in

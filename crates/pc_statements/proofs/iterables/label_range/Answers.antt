@@ -28,7 +28,8 @@ type_range-requires g c =
       constants = h.context.constants;
       declared = h.declared.given;
       env = h.current.given;
-      declared_well_formed = declared_well_formed g.S.TypeStore.tree w.context.globals.now.outline.now.parents.now w.declared.now
+      declared_well_formed = declared_well_formed g.S.TypeStore.tree w.context.globals.now.outline.now.parents.now
+          w.declared.now
           h.declared.well_formed;
       env_well_formed = h.current.well_formed;
     }

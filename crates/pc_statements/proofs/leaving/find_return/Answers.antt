@@ -34,7 +34,8 @@ returns-in_ok-find_flow_in-in-None-clause-finds g c =
     let none = c.in_ok-none-in-None in
     let l : RustLabel _ = record { ty = none.none; codes = c.new.result } in
     let flow = c.in_ok-find_flow_in-in-None in
-    let found = flow_found S.tree w.context.globals.now.outline.now.parents.now c.args.first l (clean NoneType) w.context.returned.now flow.field-0
+    let found = flow_found S.tree w.context.globals.now.outline.now.parents.now c.args.first l (clean NoneType)
+    w.context.returned.now flow.field-0
     (notes_of w.found.now) (notes_of c.find_flow_in.new.walk.found.now)
     (λ i. record { type = none.ensures.value.1 i; codes = c.new.ensures.items i }) flow.ensures.value
     flow.ensures.found in
@@ -59,14 +60,19 @@ returns-in_ok-find_flow_in-in-Some-clause-finds g c =
     let flowed : BodyContext → Standing → List Note = λ f k. flows_at c.place.result
     (flows_of bases m (S.tree into ∷ [])) in
     let pushed = subst (λ (f : RustBodyContext _). notes_of c.find_flow_in-in-Some.new.walk.found.now
-    ≡ notes_of mid.found.now ++ flows_at c.place.result (flows_of f.globals.now.outline.now.parents.now m (S.tree into ∷ [])))
-    c.type_in.ensures.goes_on.context (flow_found S.tree mid.context.globals.now.outline.now.parents.now c.place.result c.in_ok-label-in-Some.label m into flow.field-0
-    (notes_of mid.found.now) (notes_of c.find_flow_in-in-Some.new.walk.found.now) typed.labelled.label.is flow.ensures.value
+    ≡ notes_of mid.found.now ++ flows_at c.place.result (flows_of f.globals.now.outline.now.parents.now m
+    (S.tree into ∷ [])))
+    c.type_in.ensures.goes_on.context (flow_found S.tree mid.context.globals.now.outline.now.parents.now c.place.result
+    c.in_ok-label-in-Some.label m into flow.field-0
+    (notes_of mid.found.now) (notes_of c.find_flow_in-in-Some.new.walk.found.now) typed.labelled.label.is
+    flow.ensures.value
     flow.ensures.found) in
     let place = c.place.ensures ∙ ap (λ x. place_of (expr_of x)) (c.deref-in-Some.ensures ∙ sym c.deref.ensures) in
     let is = returned F K c.args.first (expr_of c.deref.result.now) c.place.result (S.tree copied.field-0)
     copied.ensures.1 place
     ∙ ap (λ x. return_finds F K c.args.first (Some (expr_of x))) c.deref.ensures
     ∙ ap (λ v. return_finds F K c.args.first (option_expr_of v)) (sym c.in-Some.is) in
-    found_then S old mid _ env env _ flowed _ c.type_in.ensures.goes_on c.find_flow_in-in-Some.ensures.goes_on typed.finds
-    (found_by S mid _ env flowed typed.finds.stands c.find_flow_in-in-Some.ensures.goes_on c.find_flow_in-in-Some.ensures.declared pushed) is
+    found_then S old mid _ env env _ flowed _ c.type_in.ensures.goes_on c.find_flow_in-in-Some.ensures.goes_on
+    typed.finds
+    (found_by S mid _ env flowed typed.finds.stands c.find_flow_in-in-Some.ensures.goes_on
+    c.find_flow_in-in-Some.ensures.declared pushed) is

@@ -47,11 +47,13 @@ pub find_stored-requires-clause-well_formed : goal.find_stored-requires-clause-w
 find_stored-requires-clause-well_formed g c =
     let tree = g.S.TypeStore.tree in
     let ty = tree c.in_ok-label.label.ty in
-    subst (λ (os : List StoreOffer). AreWellFormed c.find_flows_in.new.walk.context.globals.now.outline.now.parents.now (stored_types os))
+    subst (λ (os : List StoreOffer). AreWellFormed c.find_flows_in.new.walk.context.globals.now.outline.now.parents.now
+    (stored_types os))
     (sym (ap (map (store_offer_with tree)) c.deref-3.ensures.value ∙ c.in_ok-offers.ensures.value))
     (subst (λ (f : RustBodyContext _). AreWellFormed f.globals.now.outline.now.parents.now
     (stored_types (index_stores (body_context_in g.S.TypeStore c.type_in.new.walk) ty)))
-    (sym (c.find_flows_in.ensures.goes_on.context ∙ c.type_in-2.ensures.goes_on.context)) (items_stored c.type_in.new.walk.context.globals.now.outline.now.parents.now ty
+    (sym (c.find_flows_in.ensures.goes_on.context ∙ c.type_in-2.ensures.goes_on.context))
+    (items_stored c.type_in.new.walk.context.globals.now.outline.now.parents.now ty
     c.in_ok-label.ensures.labelled.well_formed))
 
 -- what is found in a store to an item

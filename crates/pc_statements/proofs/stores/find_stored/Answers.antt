@@ -75,7 +75,8 @@ returns-clause-finds g c =
     let codes = c.in_ok-find_codes.ensures ∙ ap (λ cs. notes_of old.found.now ++ flat_map (own_at place) cs)
     (c.deref.ensures.value ∙ c.in_ok-codes.ensures tree) in
     let flows = subst (λ (f : RustBodyContext _). notes_of c.find_flows_in.new.walk.found.now ≡ notes_of mid.found.now
-    ++ flows_at c.place.result (flows_of f.globals.now.outline.now.parents.now (label_in K want e) types)) c.type_in.ensures.goes_on.context
+    ++ flows_at c.place.result (flows_of f.globals.now.outline.now.parents.now (label_in K want e) types))
+    c.type_in.ensures.goes_on.context
     (c.in_ok-find_flows_in.ensures.found (label_in K want e) c.in_ok-label.ensures.labelled.label.is) in
     let told = record old { found = record old.found { now = c.find_codes.new.found } } in
     let first : GoesOn S old told = grown (λ ty h. h) in
@@ -83,7 +84,8 @@ returns-clause-finds g c =
     c.find_flows_in.ensures.goes_on
     (found_then S old told mid env env coded typed both first c.type_in.ensures.goes_on
     (found_by S old told env coded c.requires.stands first refl codes) c.in_ok-label.ensures.finds refl)
-    (found_by S mid _ env flowed c.in_ok-label.ensures.finds.stands c.find_flows_in.ensures.goes_on c.find_flows_in.ensures.declared
+    (found_by S mid _ env flowed c.in_ok-label.ensures.finds.stands c.find_flows_in.ensures.goes_on
+    c.find_flows_in.ensures.declared
     flows)
     (stored_as F K offers place c.place.result e want types
     (c.in_ok-want.ensures.value ∙ ap (λ ts. only_type offers (map tree ts)) (sym same))

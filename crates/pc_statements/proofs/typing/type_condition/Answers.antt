@@ -23,7 +23,8 @@ type_condition-requires g c =
       constants = h.context.constants;
       declared = h.declared.given;
       env = h.current.given;
-      declared_well_formed = declared_well_formed g.S.TypeStore.tree w.context.globals.now.outline.now.parents.now w.declared.now
+      declared_well_formed = declared_well_formed g.S.TypeStore.tree w.context.globals.now.outline.now.parents.now
+          w.declared.now
           h.declared.well_formed;
       env_well_formed = h.current.well_formed;
     }
@@ -35,9 +36,11 @@ returns-clause-where_true g c =
     let w = c.args.walk.now in
     let ways = c.in_ok-typed.ensures.ways in
     let f = w.context in
-    subst (λ (ds : List Tree). GivesTypes S.has tree f.globals.now.outline.now.parents.now c.type_condition.new.checker.store.now
+    subst (λ (ds : List Tree). GivesTypes S.has tree f.globals.now.outline.now.parents.now
+    c.type_condition.new.checker.store.now
     c.in_ok-typed.typed.ways.where_true
-    (narrow f.globals.now.outline.now.parents.now ds (meanings f.names.now) true (expr_of c.args.condition.now) (env_of tree c.args.env.now)))
+    (narrow f.globals.now.outline.now.parents.now ds (meanings f.names.now) true (expr_of c.args.condition.now)
+    (env_of tree c.args.env.now)))
     (declared_is tree w.declared.now) (record {
       holds = record { given = ways.given_true.env; well_formed = ways.given_true.env_well_formed };
       is = ways.where_true;
@@ -50,9 +53,11 @@ returns-clause-where_false g c =
     let w = c.args.walk.now in
     let ways = c.in_ok-typed.ensures.ways in
     let f = w.context in
-    subst (λ (ds : List Tree). GivesTypes S.has tree f.globals.now.outline.now.parents.now c.type_condition.new.checker.store.now
+    subst (λ (ds : List Tree). GivesTypes S.has tree f.globals.now.outline.now.parents.now
+    c.type_condition.new.checker.store.now
     c.in_ok-typed.typed.ways.where_false
-    (narrow f.globals.now.outline.now.parents.now ds (meanings f.names.now) false (expr_of c.args.condition.now) (env_of tree c.args.env.now)))
+    (narrow f.globals.now.outline.now.parents.now ds (meanings f.names.now) false (expr_of c.args.condition.now)
+    (env_of tree c.args.env.now)))
     (declared_is tree w.declared.now) (record {
       holds = record { given = ways.given_false.env; well_formed = ways.given_false.env_well_formed };
       is = ways.where_false;

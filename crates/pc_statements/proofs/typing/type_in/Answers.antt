@@ -22,13 +22,15 @@ type_expr-requires-clause-given g c =
       constants = h.context.constants;
       declared = h.declared.given;
       env = h.current.given;
-      declared_well_formed = declared_well_formed g.S.TypeStore.tree w.context.globals.now.outline.now.parents.now w.declared.now
+      declared_well_formed = declared_well_formed g.S.TypeStore.tree w.context.globals.now.outline.now.parents.now
+          w.declared.now
           h.declared.well_formed;
       env_well_formed = h.current.well_formed;
     }
 
 pub type_expr-requires-clause-want : goal.type_expr-requires-clause-want
-type_expr-requires-clause-want g c = want_given _ g.S.TypeStore.tree c.args.walk.now.context.globals.now.outline.now.parents.now c.args.want.now
+type_expr-requires-clause-want g c = want_given _ g.S.TypeStore.tree
+    c.args.walk.now.context.globals.now.outline.now.parents.now c.args.want.now
     c.requires.want
 
 pub returns-clause-labelled : goal.returns-clause-labelled
@@ -47,7 +49,8 @@ returns-clause-labelled g c =
     let label = subst (λ (ds : List Tree). MeansLabel S.has tree store l (label_in
     (record { context = context_in tree w.context; declared = ds; env = env_of tree c.args.env.now })
     want e)) (declared_is tree w.declared.now) c.in_ok-label.ensures.labelled in
-    let labelled : IsLabel S new l (label_in k want e) = gives_label S.has tree bases store l k want e refl h.context.context
+    let labelled : IsLabel S new l (label_in k want e) = gives_label S.has tree bases store l k want e refl
+    h.context.context
     (table_well_formed bases (env_of tree w.declared.now) h.declared.well_formed) h.current.well_formed
     (want_well_formed S.has tree bases w.store.now c.args.want.now c.requires.want) label in
     search (rules, labelled)

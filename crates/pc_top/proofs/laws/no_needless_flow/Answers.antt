@@ -13,5 +13,6 @@ returns c = λ bytes m spelled p s t is.
     record {
       assignable = dynamic.0;
       not_static = dynamic.1;
-      needed = λ never. is_needed (bases_of m) (smaller m) (classes_of m) (module_fields_without m spelled.tokens spelled.spelled.spelled) s t formed.0.0 formed.1.0 never dynamic.1;
+      needed = λ never. is_needed (bases_of m) (smaller m) (classes_of m)
+          (module_fields_without m spelled.tokens spelled.spelled.spelled) s t formed.0.0 formed.1.0 never dynamic.1;
     }

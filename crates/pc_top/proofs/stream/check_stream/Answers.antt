@@ -11,24 +11,30 @@ returns-in_err-report-clause-refused g c =
     let read = c.in_ok-bytes.ensures.read in
     let told = g.R.Read.remaining c.args.reader.now.device in
     rw (p.1, p.2) (refused_stream told _ c.in_ok-bytes.bytes.items read.given read.whole c.in_err-report.field-0.0
-    (subst (λ (l : List ℕ). OnCheckFault (IsRefusalOf l) c.in_err-report.field-0.0) c.as_slice.ensures.value c.in_err-report.ensures.refused))
+    (subst (λ (l : List ℕ). OnCheckFault (IsRefusalOf l) c.in_err-report.field-0.0) c.as_slice.ensures.value
+    c.in_err-report.ensures.refused))
 
 pub returns-in_err-report-clause-within : goal.returns-in_err-report-clause-within
 returns-in_err-report-clause-within g c =
     let p = err_from_is_err_and c.from_residual-in_err-report.result c.from_residual-in_err-report.ensures.1 in
     let read = c.in_ok-bytes.ensures.read in
     let told = g.R.Read.remaining c.args.reader.now.device in
-    rw (p.1, p.2) (within_stream told _ c.in_ok-bytes.bytes.items read.given read.whole read.short c.in_err-report.field-0.0
-    (subst (λ (l : List ℕ). OnCheckFault (λ r. r.byte ≤ length l) c.in_err-report.field-0.0) c.as_slice.ensures.value c.in_err-report.ensures.within))
+    rw (p.1, p.2) (within_stream told _ c.in_ok-bytes.bytes.items read.given read.whole read.short
+    c.in_err-report.field-0.0
+    (subst (λ (l : List ℕ). OnCheckFault (λ r. r.byte ≤ length l) c.in_err-report.field-0.0) c.as_slice.ensures.value
+    c.in_err-report.ensures.within))
 
 pub returns-in_err-write_report-clause-begun : goal.returns-in_err-write_report-clause-begun
 returns-in_err-write_report-clause-begun g c =
-    let p = err_from_is_err_and c.from_residual-in_err-write_report.result c.from_residual-in_err-write_report.ensures.1 in
+    let p = err_from_is_err_and c.from_residual-in_err-write_report.result
+    c.from_residual-in_err-write_report.ensures.1 in
     let read = c.in_ok-bytes.ensures.read in
     let told = g.R.Read.remaining c.args.reader.now.device in
     let rows = c.in_ok-report.report in
-    let headline : Headline c.in_ok-bytes.bytes.items rows = subst (λ (l : List ℕ). Headline l rows) c.as_slice.ensures.value c.in_ok-report.ensures.headline in
-    rw (p.1, p.2) (begun_stream told _ c.in_ok-bytes.bytes.items read.given read.whole g.W.Write.contents c.args.json c.args.format c.args.writer.now c.write_report.new.writer rows headline
+    let headline : Headline c.in_ok-bytes.bytes.items rows = subst (λ (l : List ℕ). Headline l rows)
+    c.as_slice.ensures.value c.in_ok-report.ensures.headline in
+    rw (p.1, p.2) (begun_stream told _ c.in_ok-bytes.bytes.items read.given read.whole g.W.Write.contents c.args.json
+    c.args.format c.args.writer.now c.write_report.new.writer rows headline
     c.in_err-write_report.field-0.0 c.in_err-write_report.ensures)
 
 pub returns-clause-reported : goal.returns-clause-reported
@@ -36,6 +42,8 @@ returns-clause-reported g c =
     let read = c.in_ok-bytes.ensures.read in
     let told = g.R.Read.remaining c.args.reader.now.device in
     let rows = c.in_ok-report.report in
-    let headline : Headline c.in_ok-bytes.bytes.items rows = subst (λ (l : List ℕ). Headline l rows) c.as_slice.ensures.value c.in_ok-report.ensures.headline in
-    reported_stream told _ c.in_ok-bytes.bytes.items read.given read.whole g.W.Write.contents c.args.json c.args.format c.args.writer.now c.write_report.new.writer rows headline
+    let headline : Headline c.in_ok-bytes.bytes.items rows = subst (λ (l : List ℕ). Headline l rows)
+    c.as_slice.ensures.value c.in_ok-report.ensures.headline in
+    reported_stream told _ c.in_ok-bytes.bytes.items read.given read.whole g.W.Write.contents c.args.json c.args.format
+    c.args.writer.now c.write_report.new.writer rows headline
     _ _ c.errors.ensures c.dynamic.ensures c.in_ok-write_report.ensures

@@ -16,7 +16,9 @@ use Rattle.pc_top.proofs.top.check.Goals as goal
 pub returns-in_err-module-clause-refused : goal.returns-in_err-module-clause-refused
 returns-in_err-module-clause-refused c =
     let p = err_from_is_err_and c.from_residual-in_err-module.result c.from_residual-in_err-module.ensures.1 in
-    rw (p.1, p.2) (refused_bytes c.args.bytes.now c.in_err-module.field-0.0 (subst (λ (l : List ℕ). OnRefusal (IsRefusalOf l) c.in_err-module.field-0.0) c.in_ok-source.ensures.text c.in_err-module.ensures.refused))
+    rw (p.1, p.2) (refused_bytes c.args.bytes.now c.in_err-module.field-0.0
+    (subst (λ (l : List ℕ). OnRefusal (IsRefusalOf l) c.in_err-module.field-0.0) c.in_ok-source.ensures.text
+    c.in_err-module.ensures.refused))
 
 pub returns-clause-headline : goal.returns-clause-headline
 returns-clause-headline c =
@@ -24,11 +26,18 @@ returns-clause-headline c =
     let notes = notes_of c.in_ok-notes.notes in
     let found : List Finding = c.in_ok-found.found.items in
     let rows = c.in_ok-report.report in
-    let exactly : (f : Finding) → Contains found f ↔ IsFinding m f = λ f. subst (λ (l : List Finding). Contains l f ↔ IsFinding m f) (sym c.in_ok-found.ensures) (c.in_ok-notes.ensures.found f) in
-    let lists : Lists c.args.bytes.now (Contains found) rows = subst (λ (l : List ℕ). Lists l (Contains found) rows) c.in_ok-source.ensures.text (subst (λ (l : List Finding). Lists c.in_ok-source.source (Contains l) rows) c.deref.ensures.value c.in_ok-report.ensures.lists) in
-    let explains : ExplainsRows c.in_ok-flows.flows.items rows = subst (λ (l : List FlowEntry). ExplainsRows l rows) c.deref-2.ensures.value c.in_ok-report.ensures.explains in
-    headline_from c.args.bytes.now m (subst (λ (l : List ℕ). IsModuleOf l m) c.in_ok-source.ensures.text c.in_ok-module.ensures.read) found rows exactly lists
-    (λ given. rows_explained m notes c.in_ok-flows.flows.items c.in_ok-flows.ensures c.in_ok-notes.ensures.flows rows given explains)
+    let exactly : (f : Finding) → Contains found f ↔ IsFinding m f =
+    λ f. subst (λ (l : List Finding). Contains l f ↔ IsFinding m f) (sym c.in_ok-found.ensures)
+    (c.in_ok-notes.ensures.found f) in
+    let lists : Lists c.args.bytes.now (Contains found) rows = subst (λ (l : List ℕ). Lists l (Contains found) rows)
+    c.in_ok-source.ensures.text (subst (λ (l : List Finding). Lists c.in_ok-source.source (Contains l) rows)
+    c.deref.ensures.value c.in_ok-report.ensures.lists) in
+    let explains : ExplainsRows c.in_ok-flows.flows.items rows = subst (λ (l : List FlowEntry). ExplainsRows l rows)
+    c.deref-2.ensures.value c.in_ok-report.ensures.explains in
+    headline_from c.args.bytes.now m (subst (λ (l : List ℕ). IsModuleOf l m) c.in_ok-source.ensures.text
+    c.in_ok-module.ensures.read) found rows exactly lists
+    (λ given. rows_explained m notes c.in_ok-flows.flows.items c.in_ok-flows.ensures c.in_ok-notes.ensures.flows rows
+    given explains)
 
 pub returns-in_err-module-clause-within : goal.returns-in_err-module-clause-within
 returns-in_err-module-clause-within c = answer_within c.args.bytes.now _ (returns-in_err-module-clause-refused c)

@@ -36,7 +36,8 @@ returns-clause-typed g c =
     let context = body_context_in g.S.TypeStore w in
     let bases = w.context.globals.now.outline.now.parents.now in
     let bound = bound_name context (env_of tree w.declared.now) c.args.meaning in
-    let read = read_ann_well_formed (module_of w.context.globals.now.outline.now.tree.now) bases c.requires.context.smaller
+    let read = read_ann_well_formed (module_of w.context.globals.now.outline.now.tree.now) bases
+    c.requires.context.smaller
     (ann_of c.args.annotation.now) in
     let t = c.in_ok-ty.ensures.typed in (
       record { given = t.0; well_formed = subst (IsWellFormed bases) (sym t.1) read },
@@ -51,9 +52,11 @@ returns-clause-pushed g c =
     let annotation = ann_of c.args.annotation.now in
     let bound = bound_name context (env_of tree w.declared.now) c.args.meaning in
     let before = notes_of w.found.now in
-    let inside = ann_findings (module_of w.context.globals.now.outline.now.tree.now) w.context.globals.now.outline.now.parents.now annotation in
+    let inside = ann_findings (module_of w.context.globals.now.outline.now.tree.now)
+    w.context.globals.now.outline.now.parents.now annotation in
     let listed : c.deref.result.now ≡ inside =
-    c.deref.ensures.value ∙ c.in_ok-ty.ensures.pushed ∙ ap (λ (l : List Finding). l ++ inside) c.new-in_it.ensures.items in
+    c.deref.ensures.value ∙ c.in_ok-ty.ensures.pushed ∙ ap (λ (l : List Finding). l ++ inside)
+    c.new-in_it.ensures.items in
     c.in_ok-put_all.ensures ∙ ap (λ (fs : List Finding). before ++ map plain_note fs) listed
     ∙ ap (λ (ns : List Note). before ++ ns) (sym (first_finds context bound (name_of c.args.name.now) annotation
     (sym (c.is_bound.ensures context tree) ∙ c.if-is_bound.false)))

@@ -14,10 +14,12 @@ use Rattle.pc_walk.proofs.binding.bind_label.Goals as goal
 
 -- types that the context of a walk holds, the context of a later one holds
 types_there : {Store Ty : Type 0} (S : StoreOf Store Ty) (old new : Walk Store Ty) (store : Store)
-    {types : List (Option Ty)} → GoesOn S old new → HoldsTypes (S.has store) S.tree old.context.globals.now.outline.now.parents.now types
+    {types : List (Option Ty)} → GoesOn S old new → HoldsTypes (S.has store) S.tree
+    old.context.globals.now.outline.now.parents.now types
     → HoldsTypes (S.has store) S.tree new.context.globals.now.outline.now.parents.now types
 types_there S old new store {types = types} g h =
-    in_body_context S old new (λ (f : RustBodyContext _). HoldsTypes (S.has store) S.tree f.globals.now.outline.now.parents.now types) g h
+    in_body_context S old new (λ (f : RustBodyContext _). HoldsTypes (S.has store) S.tree
+    f.globals.now.outline.now.parents.now types) g h
 
 pub returns-clause-bound : goal.returns-clause-bound
 returns-clause-bound g c = λ m e.
@@ -41,7 +43,11 @@ returns-clause-bound g c = λ m e.
     (want_well_formed has tree bases w.store.now c.args.want c.requires.want) c.requires.label.well_formed in
     let bound = label_bound has tree bases store (body_context_in g.S.TypeStore w) refl w.declared.now c.args.env
     c.args.local want c.args.place l m before after ty c.in_ok-current.current c.in_ok-code.code e
-    (record { given = k _ c.in_ok-ty.ensures.0; well_formed = subst (IsWellFormed bases) (sym c.in_ok-ty.ensures.1) known })
+    (record {
+      given = k _ c.in_ok-ty.ensures.0;
+      well_formed = subst (IsWellFormed bases) (sym c.in_ok-ty.ensures.1)
+          known;
+    })
     c.in_ok-ty.ensures.1 code.value c.in_ok-current.ensures.0 c.in_ok-current.ensures.1 c.requires.label.well_formed
     (flow_found tree bases c.args.place l m ty c.in_ok-code.code before after e code.value code.found)
     (types_kept has tree bases _ _ k w.declared.now h.declared)

@@ -6,4 +6,5 @@ use Rattle.pc_walk.specs.Touched.{numbers_of}
 use Rattle.pc_walk.proofs.locals.locals_of.Given as goal
 
 abbrev pub invariant-loop-name : goal.invariant-loop-name
-invariant-loop-name l = l.locals.items ++ numbers_of (meanings l.names) (map name_seen (drop l.name-index l.bound)) ≡ numbers_of (meanings l.names) (map name_seen l.bound)
+invariant-loop-name l = l.locals.items ++ numbers_of (meanings l.names) (map name_seen (drop l.name-index l.bound))
+    ≡ numbers_of (meanings l.names) (map name_seen l.bound)

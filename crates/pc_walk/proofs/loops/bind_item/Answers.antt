@@ -16,7 +16,8 @@ pub bind_label-requires-clause-want : goal.bind_label-requires-clause-want
 bind_label-requires-clause-want g c =
     let S = g.S.TypeStore in
     let w = c.args.walk.now in
-    known_holds S.has S.tree w.context.globals.now.outline.now.parents.now w.store.now w.declared.now c.in-Local.local None
+    known_holds S.has S.tree w.context.globals.now.outline.now.parents.now w.store.now w.declared.now c.in-Local.local
+    None
     c.in_ok-want-in-Local.want c.requires.stands.declared tt c.in_ok-want-in-Local.ensures
 
 pub returns-in_ok-inside-in-Local-clause-bound : goal.returns-in_ok-inside-in-Local-clause-bound
@@ -33,7 +34,8 @@ returns-in_ok-inside-in-Local-clause-bound g c =
     c.in_ok-want-in-Local.ensures.is ∙ known_bound (bound_type table x) in
     let local : context.context.resolve (name_of c.args.target.now).text ≡ res.Local x =
     sym (c.resolve.ensures ∙ ap context.context.resolve c.as_str.ensures.value) ∙ c.in-Local.is in
-    let bound = c.in_ok-inside-in-Local.ensures.bound (clean item) (λ i. record { type = item; codes = c.new.ensures.items i }) in
+    let bound = c.in_ok-inside-in-Local.ensures.bound (clean item)
+    (λ i. record { type = item; codes = c.new.ensures.items i }) in
     record {
       is = bound.is
           ∙ ap (λ (o : Option Tree). bind_label context table head x o c.args.place (clean item) found) want
@@ -52,7 +54,8 @@ returns-in_default-clause-bound g c =
     let found = notes_of w.found.now in
     let meaning = c.resolve.ensures ∙ ap context.context.resolve c.as_str.ensures.value in
     record {
-      is = sym (item_elsewhere context table head c.resolve.result c.args.place item found (λ x i. c.in_default.not-Local x i))
+      is = sym (item_elsewhere context table head c.resolve.result c.args.place item found
+          (λ x i. c.in_default.not-Local x i))
           ∙ ap (λ (r : Res). bind_item context table head r c.args.place item found) meaning;
       stands = c.requires.stands;
     }

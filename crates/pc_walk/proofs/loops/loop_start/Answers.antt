@@ -16,7 +16,8 @@ returns-clause-head g c = λ names e.
     let w = c.args.walk.now in
     let resolve = meanings w.context.names.now in
     let among : ℕ → Test = λ x. is_among c.args.locals.now x in
-    let alike : among ≡ binds_number resolve names = λ i x. (ap (λ ns. is_among ns x) e ∙ numbers_bind resolve names x) i in
+    let alike : among ≡ binds_number resolve names = λ i x. (ap (λ ns. is_among ns x) e ∙ numbers_bind resolve names x)
+    i in
     let declared = type_table (env_of S.tree w.declared.now) in
     subst (λ (bound : ℕ → Test). IsEnv S c.head_in.new.walk c.in_ok-head.head
     (loop_head bound declared (env_of S.tree c.args.env.now))) alike c.in_ok-head.ensures.head

@@ -20,7 +20,8 @@ returns-clause-head g c =
     let types = c.in_ok-head.head in
     let well_formed = heads_well_formed bases (λ x. is_among c.args.bound.now x) declared env
     (declared_well_formed tree bases w.declared.now c.requires.declared.well_formed) c.requires.env.well_formed in
-    subst (λ (ds : List Tree). GivesTypes has tree bases store types (loop_head (λ x. is_among c.args.bound.now x) ds env))
+    subst (λ (ds : List Tree). GivesTypes has tree bases store types
+    (loop_head (λ x. is_among c.args.bound.now x) ds env))
     (declared_is tree w.declared.now)
     (gives_types has tree bases store types (loop_head (λ x. is_among c.args.bound.now x) declared env)
     c.in_ok-head.ensures.value well_formed)

@@ -20,14 +20,25 @@ returns c x =
     let resolve = meanings c.args.names.now in
     let bs = branches_of_list c.args.branches.now in
     let o = stmts_of_list c.args.otherwise.now in
-    let seen : map name_seen c.add_bound.new.names.items ≡ bound_by_branches bs ++ bound_by o = c.in_ok-add_bound.ensures ∙ ap (λ ns. ns ++ bound_by o) (c.in_ok-add_bound_in.ensures ∙ ap (λ ns. map name_seen ns ++ bound_by_branches bs) c.new-bound.ensures.items) in
-    let names : c.in_ok-locals.locals.items ≡ numbers_of resolve (bound_by_branches bs) ++ numbers_of resolve (bound_by o) = c.in_ok-locals.ensures ∙ ap (λ ns. numbers_of resolve (map name_seen ns)) c.deref.ensures.value ∙ ap (numbers_of resolve) seen ∙ filter_map-append (λ (n : Name). as_local (resolve n.text)) (bound_by_branches bs) (bound_by o) in
-    let all : c.add_tested_in.new.tested.items ≡ (numbers_of resolve (bound_by_branches bs) ++ numbers_of resolve (bound_by o)) ++ (tested_in_branches resolve bs ++ tested_in resolve o) =
+    let seen : map name_seen c.add_bound.new.names.items ≡ bound_by_branches bs ++ bound_by o =
+    c.in_ok-add_bound.ensures ∙ ap (λ ns. ns ++ bound_by o) (c.in_ok-add_bound_in.ensures
+    ∙ ap (λ ns. map name_seen ns ++ bound_by_branches bs) c.new-bound.ensures.items) in
+    let names : c.in_ok-locals.locals.items ≡ numbers_of resolve (bound_by_branches bs) ++ numbers_of resolve
+    (bound_by o) = c.in_ok-locals.ensures ∙ ap (λ ns. numbers_of resolve (map name_seen ns)) c.deref.ensures.value
+    ∙ ap (numbers_of resolve) seen ∙ filter_map-append (λ (n : Name). as_local (resolve n.text))
+    (bound_by_branches bs) (bound_by o) in
+    let all : c.add_tested_in.new.tested.items ≡ (numbers_of resolve (bound_by_branches bs) ++ numbers_of resolve
+    (bound_by o)) ++ (tested_in_branches resolve bs ++ tested_in resolve o) =
     c.in_ok-add_tested_in.ensures
-    ∙ ap (λ (xs : List ℕ). xs ++ tested_in resolve o) (c.in_ok-add_tested_in_branches.ensures ∙ ap (λ (xs : List ℕ). xs ++ tested_in_branches resolve bs) names)
-    ∙ append_assoc (numbers_of resolve (bound_by_branches bs) ++ numbers_of resolve (bound_by o)) (tested_in_branches resolve bs) (tested_in resolve o) in
-    ap (λ (xs : List ℕ). is_among xs x) (dedup_is eqb c.sort_unstable.new.self.items c.dedup.new.self.items c.dedup.ensures.filtered)
+    ∙ ap (λ (xs : List ℕ). xs ++ tested_in resolve o) (c.in_ok-add_tested_in_branches.ensures
+    ∙ ap (λ (xs : List ℕ). xs ++ tested_in_branches resolve bs) names)
+    ∙ append_assoc (numbers_of resolve (bound_by_branches bs) ++ numbers_of resolve (bound_by o))
+    (tested_in_branches resolve bs) (tested_in resolve o) in
+    ap (λ (xs : List ℕ). is_among xs x) (dedup_is eqb c.sort_unstable.new.self.items c.dedup.new.self.items
+    c.dedup.ensures.filtered)
     ∙ among_dedup x c.sort_unstable.new.self.items
-    ∙ sym (list_any-IsPermutation (nat_eq x) c.add_tested_in.new.tested.items c.sort_unstable.new.self.items c.sort_unstable.ensures.permutation)
+    ∙ sym (list_any-IsPermutation (nat_eq x) c.add_tested_in.new.tested.items c.sort_unstable.new.self.items
+    c.sort_unstable.ensures.permutation)
     ∙ ap (λ (xs : List ℕ). is_among xs x) all
-    ∙ among_four x (numbers_of resolve (bound_by_branches bs)) (numbers_of resolve (bound_by o)) (tested_in_branches resolve bs) (tested_in resolve o)
+    ∙ among_four x (numbers_of resolve (bound_by_branches bs)) (numbers_of resolve (bound_by o))
+    (tested_in_branches resolve bs) (tested_in resolve o)

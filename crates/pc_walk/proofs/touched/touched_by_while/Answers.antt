@@ -17,13 +17,18 @@ returns c x =
     let resolve = meanings c.args.names.now in
     let b = stmts_of_list c.args.body.now in
     let tests = tested_locals resolve (expr_of c.args.condition.now) in
-    let seen : map name_seen c.add_bound.new.names.items ≡ bound_by b = c.in_ok-add_bound.ensures ∙ ap (λ ns. map name_seen ns ++ bound_by b) c.new-bound.ensures.items in
-    let names : c.in_ok-locals.locals.items ≡ numbers_of resolve (bound_by b) = c.in_ok-locals.ensures ∙ ap (λ ns. numbers_of resolve (map name_seen ns)) c.deref.ensures.value ∙ ap (numbers_of resolve) seen in
+    let seen : map name_seen c.add_bound.new.names.items ≡ bound_by b = c.in_ok-add_bound.ensures
+    ∙ ap (λ ns. map name_seen ns ++ bound_by b) c.new-bound.ensures.items in
+    let names : c.in_ok-locals.locals.items ≡ numbers_of resolve (bound_by b) = c.in_ok-locals.ensures
+    ∙ ap (λ ns. numbers_of resolve (map name_seen ns)) c.deref.ensures.value ∙ ap (numbers_of resolve) seen in
     let all : c.add_tested_in.new.tested.items ≡ numbers_of resolve (bound_by b) ++ (tests ++ tested_in resolve b) =
     c.in_ok-add_tested_in.ensures
-    ∙ ap (λ (xs : List ℕ). xs ++ tested_in resolve b) (c.in_ok-add_tested.ensures ∙ ap (λ (xs : List ℕ). xs ++ tests) names)
+    ∙ ap (λ (xs : List ℕ). xs ++ tested_in resolve b) (c.in_ok-add_tested.ensures
+    ∙ ap (λ (xs : List ℕ). xs ++ tests) names)
     ∙ append_assoc (numbers_of resolve (bound_by b)) tests (tested_in resolve b) in
-    ap (λ (xs : List ℕ). is_among xs x) (dedup_is eqb c.sort_unstable.new.self.items c.dedup.new.self.items c.dedup.ensures.filtered)
+    ap (λ (xs : List ℕ). is_among xs x) (dedup_is eqb c.sort_unstable.new.self.items c.dedup.new.self.items
+    c.dedup.ensures.filtered)
     ∙ among_dedup x c.sort_unstable.new.self.items
-    ∙ sym (list_any-IsPermutation (nat_eq x) c.add_tested_in.new.tested.items c.sort_unstable.new.self.items c.sort_unstable.ensures.permutation)
+    ∙ sym (list_any-IsPermutation (nat_eq x) c.add_tested_in.new.tested.items c.sort_unstable.new.self.items
+    c.sort_unstable.ensures.permutation)
     ∙ ap (λ (xs : List ℕ). is_among xs x) all
