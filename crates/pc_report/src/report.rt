@@ -151,7 +151,7 @@ impl Report {
     }
 
     /// The rows.
-    pub(crate) fn rows(&self) -> &[Row]
+    pub fn rows(&self) -> &[Row]
         ensures { result.now ≡ self.now }
     {
         &self.rows

@@ -100,7 +100,22 @@ fn written(alloc: Global, report: &Report, format: Format) -> Result<String, Fau
     Ok(String::from_str(alloc, "written otherwise\n")?)
 }
 
-/// A report as a text in both formats, and as JSON in both, then its counts and the numbers of the formats.
+/// The rows of a report, each on a line: `12:7 187 188 A1: list[int] -> list[Any]`.
+fn rows_text(alloc: Global, report: &Report) -> Result<String, Fault> {
+    let mut text = String::new(alloc);
+    for row in report.rows() {
+        let (line, column, place) = (row.line, row.column, row.finding.place);
+        let (start, end, code) = (place.start, place.end, row.finding.code.text());
+        write!(text, "\n{line}:{column} {start} {end} {code}")?;
+        if let Some(flow) = &row.flow {
+            let (from, to) = (flow.from.as_str(), flow.to.as_str());
+            write!(text, ": {from} -> {to}")?;
+        }
+    }
+    Ok(text)
+}
+
+/// A report as a text in both formats, and as JSON in both, then its counts, the numbers of the formats, and its rows.
 fn forms(alloc: Global, report: &Report) -> Result<String, Fault> {
     let mut forms = written(alloc, report, Format::One)?;
     forms.push_str(written(alloc, report, Format::Two)?.as_str())?;
@@ -109,6 +124,7 @@ fn forms(alloc: Global, report: &Report) -> Result<String, Fault> {
     let (errors, dynamic) = (report.errors(), report.dynamic());
     let (one, two) = (Format::One.number(), Format::Two.number());
     write!(forms, "{errors} {dynamic} {one} {two}")?;
+    forms.push_str(rows_text(alloc, report)?.as_str())?;
     Ok(forms)
 }
 
