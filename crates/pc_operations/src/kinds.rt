@@ -41,7 +41,7 @@ fn kind_of<S: TypeStore>(store: &S, ty: &S::Ty) -> Option<Kind>
 }
 
 /// The kind that two have in common, if they have one.
-fn meet(first: Option<Kind>, second: Option<Kind>) -> Option<Kind>
+pub(crate) fn meet(first: Option<Kind>, second: Option<Kind>) -> Option<Kind>
     ensures { option_map kind_with result ≡ meet (option_map kind_with first) (option_map kind_with second) }
 {
     match (first, second) {

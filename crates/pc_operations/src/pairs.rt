@@ -16,7 +16,8 @@ ghost use Rattle.pc_operations.specs.Internal.OperandPairs.{operator_label, dyna
 ghost use Rattle.pc_rules.specs.Computed.Standing.{HasOffer, offer_with, MeansLabel};
 
 use crate::kinds::{
-    Kind, Operator, common_kind, dynamic_type, given_type, is_any, is_never, may_suit_all, takes,
+    Kind, Operator, common_kind, dynamic_type, given_type, is_any, is_never, may_suit_all, meet,
+    takes,
 };
 use crate::members::contain_offer;
 use crate::offers::{offers_label, operand_types};
