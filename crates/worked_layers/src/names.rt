@@ -1,4 +1,4 @@
-//! What names mean in a module, by `pc_scope`; sets and maps of names, by `pc_names`.
+//! What names mean in a module, by `pc_scope`; sets and maps of names, by `pc_tree`.
 use indexmap::{IndexMap, IndexSet};
 use pc_front::read_module;
 use pc_scope::{Owner, scopes};
