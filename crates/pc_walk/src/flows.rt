@@ -38,18 +38,13 @@ pub fn find_flow_in<S: TypeStore>(
     ensures declared { walk.new.declared.now ≡ walk.old.declared.now }
     ensures goes_on { GoesOn S.TypeStore walk.old walk.new }
 {
+    let parents = walk.context.globals.outline.parents;
     let mut checker = Checker {
         store: walk.store,
         alloc: walk.alloc,
         found: walk.found,
     };
-    let code = find_flow(
-        &mut checker,
-        walk.context.globals.outline.parents,
-        place,
-        label,
-        into,
-    )?;
+    let code = find_flow(&mut checker, parents, place, label, into)?;
     Ok(code)
 }
 
@@ -68,17 +63,12 @@ pub fn find_flows_in<S: TypeStore>(
     ensures declared { walk.new.declared.now ≡ walk.old.declared.now }
     ensures goes_on { GoesOn S.TypeStore walk.old walk.new }
 {
+    let parents = walk.context.globals.outline.parents;
     let mut checker = Checker {
         store: walk.store,
         alloc: walk.alloc,
         found: walk.found,
     };
-    find_flows(
-        &mut checker,
-        walk.context.globals.outline.parents,
-        place,
-        label,
-        into,
-    )?;
+    find_flows(&mut checker, parents, place, label, into)?;
     Ok(())
 }

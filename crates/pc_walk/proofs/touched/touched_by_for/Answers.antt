@@ -17,8 +17,8 @@ returns c x =
     let b = stmts_of_list c.args.body.now in
     let target = name_of c.args.target.now in
     let seen : map name_seen c.add_bound.new.names.items ≡ target ∷ bound_by b = c.in_ok-add_bound.ensures
-    ∙ ap (λ ns. ns ++ bound_by b) (c.in_ok-add_name.ensures ∙ ap (λ ns. map name_seen ns ++ (target ∷ []))
-    c.new-bound.ensures.items) in
+    ∙ ap (λ ns. ns ++ bound_by b) (ap (map name_seen) c.in_ok-push.ensures.items
+    ∙ ap (λ ns. map name_seen (ns ++ (c.args.target ∷ []))) c.new-bound.ensures.items) in
     let names : c.in_ok-locals.locals.items ≡ numbers_of resolve (target ∷ bound_by b) = c.in_ok-locals.ensures
     ∙ ap (λ ns. numbers_of resolve (map name_seen ns)) c.deref.ensures.value ∙ ap (numbers_of resolve) seen in
     let all : c.add_tested_in.new.tested.items ≡ numbers_of resolve (target ∷ bound_by b) ++ tested_in resolve b =
