@@ -135,7 +135,7 @@ module _ (m : Module) where
         ∙ signatures_mean owner ∙ ap (option_map (signature_of m)) of in
         absurd (grind (arith, e))
 
-  -- ---- frames
+  -- ---- contexts of bodies
 
   -- what a context stands in, part by part
   pub context_is : (owner : Owner) (f : FuncDef) (bases : Bases) (classes : List ClassFacts)
