@@ -14,7 +14,7 @@ ghost use Rattle.pc_rules.specs.Operations.{Label as LabelOf};
 ghost use Rattle.pc_rules.specs.Labels.{second_place};
 ghost use Rattle.pc_rules.specs.Lawful.{whole_call_label};
 ghost use Rattle.pc_rules.specs.Computed.Findings.{brief, notes_of_code};
-ghost use Rattle.pc_rules.specs.Computed.Standing.{label_with, context_with, HasGivenAll};
+ghost use Rattle.pc_rules.specs.Computed.Standing.{label_with, context_with};
 ghost use Rattle.pc_calls.specs.JudgedCalls.{offer_called, rule_of, second_code_of, HasCallOffer, IsCallee};
 ghost use Rattle.pc_expr.specs.Typing.{unnamed_callee};
 ghost use Rattle.pc_rules.specs.Computed.Checkers.{Finds, GoesOn, IsLabel};
@@ -22,7 +22,7 @@ ghost use Rattle.pc_flow.specs.Naming.{meanings};
 
 use crate::items::Typed;
 use crate::whole::call_label;
-use pc_calls::{CallOffer, Callee, callee_in_error, callee_of_value, second_code};
+use pc_calls::{Callee, callee_in_error, callee_of_value, second_code};
 use pc_flow::Env;
 use pc_notes::Notes;
 use pc_rules::{Checker, Label, Setting, find_codes};
@@ -110,17 +110,3 @@ pub(crate) fn is_test(callee: &Expr, arguments: &[Expr], by_name: &[KeywordArgum
 {
     is_instance_test(callee, arguments, by_name)
 }
-
-/// Does nothing: it says again that a setting, an environment and offers hold types of the store, for a call that needs
-/// it next.
-pub(crate) fn still_called<S: TypeStore>(
-    _store: &S,
-    _setting: &Setting<'_, S::Ty>,
-    _env: &Env<S::Ty>,
-    _offers: &[CallOffer<'_, S::Ty>],
-)
-    requires given { HasGivenAll (S.has _store.now) S.tree _setting.now _env.now }
-    requires offers { All (HasCallOffer (S.has _store.now)) _offers.now }
-    ensures given { HasGivenAll (S.has _store.now) S.tree _setting.now _env.now }
-    ensures offers { All (HasCallOffer (S.has _store.now)) _offers.now }
-{}

@@ -13,7 +13,7 @@ ghost use Rattle.pc_expr.specs.Internal.Seats.{AreTyped};
 ghost use Rattle.pc_expr.specs.Internal.Forms.{IsCall};
 ghost use Rattle.pc_rules.specs.Computed.Checkers.{Finds, GoesOn, IsLabel, Stands};
 
-use crate::call_labels::{callee_of_other, is_test, label_call, still_called};
+use crate::call_labels::{callee_of_other, is_test, label_call};
 use crate::items::{Typed, early_at};
 use crate::typing::{label_expr, type_expr, type_seated};
 use indexmap::IndexSet;
@@ -23,7 +23,6 @@ use pc_calls::{
 };
 use pc_flow::Env;
 use pc_notes::Notes;
-use pc_operations::still_stands;
 use pc_rules::{Checker, Label, Setting, find_codes, is_early};
 use pc_source::OutOfMemory;
 use pc_tree::{Expr, KeywordArgument};
@@ -52,9 +51,7 @@ pub(crate) fn label_called<S: TypeStore>(
             let called = label_callee(checker, setting, env, &given, callee)?;
             find_codes(callee.place(), &called.label.codes, checker.found)?;
             let is_test = is_test(callee, arguments, by_name);
-            still_called(checker.store, setting, env, &called.offers);
             let typed = type_arguments(checker, setting, env, is_test, &called.offers, arguments)?;
-            still_called(checker.store, setting, env, &called.offers);
             type_keywords(checker, setting, env, &called.offers, by_name)?;
             label_call(checker, setting, env, *place, &called, arguments, &typed)
         }
@@ -146,7 +143,6 @@ fn type_tested<S: TypeStore>(
     let tested = type_expr(checker, setting, env, &seat.want, &arguments[0])?;
     let seat = positional_seat(checker.store, checker.alloc, offers, 1)?;
     let mut unseen = Notes::new(checker.alloc);
-    still_stands(checker.store, setting, env);
     let mut apart = Checker {
         store: checker.store,
         alloc: checker.alloc,

@@ -15,7 +15,7 @@ use crate::entries::{EntrySeats, EntryTypes, dict_seats, label_dict};
 use crate::items::{Seats, label_list, list_seats, seat_at, tuple_seats};
 use crate::typing::type_seated;
 use pc_flow::Env;
-use pc_operations::{still_stands, tuple_label};
+use pc_operations::tuple_label;
 use pc_rules::{Checker, Label, Setting};
 use pc_source::OutOfMemory;
 use pc_tree::{Entry, Expr};
@@ -119,7 +119,6 @@ fn type_entries<S: TypeStore>(
     let mut values = Vec::new(checker.alloc);
     for entry in entries {
         let key = type_seated(checker, setting, env, &seats.key, &entry.key)?;
-        still_stands(checker.store, setting, env);
         let value = type_seated(checker, setting, env, &seats.value, &entry.value)?;
         keys.push(key.ty)?;
         values.push(value.ty)?;

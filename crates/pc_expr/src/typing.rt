@@ -19,7 +19,7 @@ use pc_calls::Seat;
 use pc_flow::Env;
 use pc_operations::{
     binary_label, label_attribute, label_bool, label_comparison, label_index, label_int,
-    label_junction, label_negative, label_none, label_str, still_stands,
+    label_junction, label_negative, label_none, label_str,
 };
 use pc_rules::{Checker, Label, Setting, find_codes, find_flows, name_label};
 use pc_source::OutOfMemory;
@@ -187,7 +187,6 @@ fn label_binary<S: TypeStore>(
     match e {
         Expr::Binary(_, operator, left, right) => {
             let first = type_expr(checker, setting, env, &None, left)?;
-            still_stands(checker.store, setting, env);
             let second = type_expr(checker, setting, env, &None, right)?;
             binary_label(
                 checker.store,
@@ -200,7 +199,6 @@ fn label_binary<S: TypeStore>(
         }
         Expr::Compare(_, operator, left, right) => {
             let first = type_expr(checker, setting, env, &None, left)?;
-            still_stands(checker.store, setting, env);
             let second = type_expr(checker, setting, env, &None, right)?;
             label_comparison(
                 checker,
@@ -213,7 +211,6 @@ fn label_binary<S: TypeStore>(
         }
         Expr::Index(_, object, key) => {
             let object = type_expr(checker, setting, env, &None, object)?;
-            still_stands(checker.store, setting, env);
             let index = type_expr(checker, setting, env, &None, key)?;
             label_index(checker, setting, &object.ty, key, &index)
         }

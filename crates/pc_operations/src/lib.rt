@@ -19,7 +19,7 @@ pub use iterating::item_label;
 pub use offers::{Operation, member_offers, offers_label};
 pub use operating::{
     label_attribute, label_bool, label_index, label_int, label_junction, label_negative,
-    label_none, label_str, still_stands,
+    label_none, label_str,
 };
 pub use pairs::binary_label;
 pub use stores::{

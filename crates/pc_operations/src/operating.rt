@@ -1,7 +1,7 @@
 //! Labels of the forms of expressions over the labels of their operands.
 #![tactic(auto, using(pc_rules::proofs::Checkers::goes_further))]
 
-ghost use Rattle.std.specs.Prelude.{◌≡◌, map, All, IfOk, OnOk};
+ghost use Rattle.std.specs.Prelude.{◌≡◌, map, IfOk, OnOk};
 ghost use Rattle.pc_tree.specs.Tree.{name_of, expr_of};
 ghost use Rattle.pc_tree.specs.Depth.{place_of};
 ghost use Rattle.pc_types.specs.Tree.{Int, Bool, Str, NoneType};
@@ -16,10 +16,10 @@ ghost use Rattle.pc_rules.specs.Operations.{index_member};
 ghost use Rattle.pc_rules.specs.Lawful.{int_literal};
 ghost use Rattle.pc_rules.specs.Computed.Expressions.{flows_of};
 ghost use Rattle.pc_rules.specs.Computed.Findings.{brief, flows_at};
-ghost use Rattle.pc_rules.specs.Computed.Standing.{label_with, HasGivenAll, MeansLabel};
+ghost use Rattle.pc_rules.specs.Computed.Standing.{label_with, MeansLabel};
 
 use crate::offers::{Operation, literal_index, member_offers, offers_label, operand_types};
-use pc_flow::{Env, join_or_object};
+use pc_flow::join_or_object;
 use pc_rules::{Checker, Label, Setting, find_flows};
 use pc_source::OutOfMemory;
 use pc_tree::{Expr, Name};
@@ -182,10 +182,3 @@ pub fn label_junction<S: TypeStore>(
     let codes = Vec::new(alloc);
     Ok(Label { ty, codes })
 }
-
-/// Does nothing: it says again that a setting and an environment hold types of the store, for a call that needs it
-/// next.
-pub fn still_stands<S: TypeStore>(_store: &S, _setting: &Setting<'_, S::Ty>, _env: &Env<S::Ty>)
-    requires { HasGivenAll (S.has _store.now) S.tree _setting.now _env.now }
-    ensures { HasGivenAll (S.has _store.now) S.tree _setting.now _env.now }
-{}

@@ -122,8 +122,8 @@ typing::label_expr-returns-in-False-clause-found g t c =
     (sym (parts_truth (standing_of g.S.TypeStore.tree c.args.setting.now c.args.env.now)
     (option_map g.S.TypeStore.tree c.args.want.now) c.in-False.field-0 false))))
 
-pub
-    typing::label_expr-returns-in-NoneValue-clause-labelled : goal.typing::label_expr-returns-in-NoneValue-clause-labelled
+pub typing::label_expr-returns-in-NoneValue-clause-labelled :
+    goal.typing::label_expr-returns-in-NoneValue-clause-labelled
 typing::label_expr-returns-in-NoneValue-clause-labelled g t c =
     rw c.in-NoneValue.is (labelled_by g.S.TypeStore.has g.S.TypeStore.tree _ c.label_none.result _ _
     (sym (label_nothing (standing_of g.S.TypeStore.tree c.args.setting.now c.args.env.now)
@@ -136,8 +136,8 @@ typing::label_expr-returns-in-NoneValue-clause-found g t c =
     (sym (parts_nothing (standing_of g.S.TypeStore.tree c.args.setting.now c.args.env.now)
     (option_map g.S.TypeStore.tree c.args.want.now) c.in-NoneValue.field-0))))
 
-pub
-    typing::label_unary-returns-in_ok-operand-in-Negative-clause-found : goal.typing::label_unary-returns-in_ok-operand-in-Negative-clause-found
+pub typing::label_unary-returns-in_ok-operand-in-Negative-clause-found :
+    goal.typing::label_unary-returns-in_ok-operand-in-Negative-clause-found
 typing::label_unary-returns-in_ok-operand-in-Negative-clause-found g t c expected =
     rw c.in-Negative.is
     (on_ok c.label_negative.result ((rw c.deref.ensures at c.in_ok-operand-in-Negative.ensures.found)
@@ -145,31 +145,31 @@ typing::label_unary-returns-in_ok-operand-in-Negative-clause-found g t c expecte
     (sym (parts_negative (standing_of g.S.TypeStore.tree c.args.setting.now c.args.env.now) expected
     c.in-Negative.field-0 (expr_of c.in-Negative.operand.value)))))
 
-pub
-    typing::label_unary-returns-in_ok-operand-in-Negative-clause-labelled : goal.typing::label_unary-returns-in_ok-operand-in-Negative-clause-labelled
+pub typing::label_unary-returns-in_ok-operand-in-Negative-clause-labelled :
+    goal.typing::label_unary-returns-in_ok-operand-in-Negative-clause-labelled
 typing::label_unary-returns-in_ok-operand-in-Negative-clause-labelled g t c expected =
     rw c.in-Negative.is (labelled_by g.S.TypeStore.has g.S.TypeStore.tree _ c.label_negative.result _ _
     (negative_is g.S.TypeStore.tree (standing_of g.S.TypeStore.tree c.args.setting.now c.args.env.now) expected
     c.in-Negative.field-0 (expr_of c.in-Negative.operand.value) c.in_ok-operand-in-Negative.operand
     (rw c.deref.ensures at c.in_ok-operand-in-Negative.ensures.labelled.is)) c.label_negative.ensures.value)
 
-pub
-    typing::label_unary-returns-in_ok-type_expr-in-Not-clause-found : goal.typing::label_unary-returns-in_ok-type_expr-in-Not-clause-found
+pub typing::label_unary-returns-in_ok-type_expr-in-Not-clause-found :
+    goal.typing::label_unary-returns-in_ok-type_expr-in-Not-clause-found
 typing::label_unary-returns-in_ok-type_expr-in-Not-clause-found g t c expected =
     rw c.in-Not.is (on_ok c.label_bool.result ((rw c.deref-in-Not.ensures at c.in_ok-type_expr-in-Not.ensures.found)
     ∙ ap (λ fs. (notes_of c.args.checker.now.found.now) ++ fs)
     (sym (parts_negation (standing_of g.S.TypeStore.tree c.args.setting.now c.args.env.now) expected
     c.in-Not.field-0 (expr_of c.in-Not.operand.value)))))
 
-pub
-    typing::label_unary-returns-in_ok-type_expr-in-Not-clause-labelled : goal.typing::label_unary-returns-in_ok-type_expr-in-Not-clause-labelled
+pub typing::label_unary-returns-in_ok-type_expr-in-Not-clause-labelled :
+    goal.typing::label_unary-returns-in_ok-type_expr-in-Not-clause-labelled
 typing::label_unary-returns-in_ok-type_expr-in-Not-clause-labelled g t c expected =
     rw c.in-Not.is (labelled_by g.S.TypeStore.has g.S.TypeStore.tree _ c.label_bool.result _ _
     (sym (label_negation (standing_of g.S.TypeStore.tree c.args.setting.now c.args.env.now) expected
     c.in-Not.field-0 (expr_of c.in-Not.operand.value))) c.label_bool.ensures.value)
 
-pub
-    typing::label_unary-returns-in_ok-type_expr-in-IsNone-clause-found : goal.typing::label_unary-returns-in_ok-type_expr-in-IsNone-clause-found
+pub typing::label_unary-returns-in_ok-type_expr-in-IsNone-clause-found :
+    goal.typing::label_unary-returns-in_ok-type_expr-in-IsNone-clause-found
 typing::label_unary-returns-in_ok-type_expr-in-IsNone-clause-found g t c expected =
     rw c.in-IsNone.is (on_ok c.label_bool-in-IsNone.result
     ((rw c.deref-in-IsNone.ensures at c.in_ok-type_expr-in-IsNone.ensures.found)
@@ -177,15 +177,15 @@ typing::label_unary-returns-in_ok-type_expr-in-IsNone-clause-found g t c expecte
     (sym (parts_is_none (standing_of g.S.TypeStore.tree c.args.setting.now c.args.env.now) expected
     c.in-IsNone.field-0 (expr_of c.in-IsNone.operand.value)))))
 
-pub
-    typing::label_unary-returns-in_ok-type_expr-in-IsNone-clause-labelled : goal.typing::label_unary-returns-in_ok-type_expr-in-IsNone-clause-labelled
+pub typing::label_unary-returns-in_ok-type_expr-in-IsNone-clause-labelled :
+    goal.typing::label_unary-returns-in_ok-type_expr-in-IsNone-clause-labelled
 typing::label_unary-returns-in_ok-type_expr-in-IsNone-clause-labelled g t c expected =
     rw c.in-IsNone.is (labelled_by g.S.TypeStore.has g.S.TypeStore.tree _ c.label_bool-in-IsNone.result _ _
     (sym (label_is_none (standing_of g.S.TypeStore.tree c.args.setting.now c.args.env.now) expected
     c.in-IsNone.field-0 (expr_of c.in-IsNone.operand.value))) c.label_bool-in-IsNone.ensures.value)
 
-pub
-    typing::label_unary-returns-in_ok-type_expr-in-IsNotNone-clause-found : goal.typing::label_unary-returns-in_ok-type_expr-in-IsNotNone-clause-found
+pub typing::label_unary-returns-in_ok-type_expr-in-IsNotNone-clause-found :
+    goal.typing::label_unary-returns-in_ok-type_expr-in-IsNotNone-clause-found
 typing::label_unary-returns-in_ok-type_expr-in-IsNotNone-clause-found g t c expected =
     rw c.in-IsNotNone.is (on_ok c.label_bool-in-IsNotNone.result
     ((rw c.deref-in-IsNotNone.ensures at c.in_ok-type_expr-in-IsNotNone.ensures.found)
@@ -193,15 +193,15 @@ typing::label_unary-returns-in_ok-type_expr-in-IsNotNone-clause-found g t c expe
     (sym (parts_is_not_none (standing_of g.S.TypeStore.tree c.args.setting.now c.args.env.now) expected
     c.in-IsNotNone.field-0 (expr_of c.in-IsNotNone.operand.value)))))
 
-pub
-    typing::label_unary-returns-in_ok-type_expr-in-IsNotNone-clause-labelled : goal.typing::label_unary-returns-in_ok-type_expr-in-IsNotNone-clause-labelled
+pub typing::label_unary-returns-in_ok-type_expr-in-IsNotNone-clause-labelled :
+    goal.typing::label_unary-returns-in_ok-type_expr-in-IsNotNone-clause-labelled
 typing::label_unary-returns-in_ok-type_expr-in-IsNotNone-clause-labelled g t c expected =
     rw c.in-IsNotNone.is (labelled_by g.S.TypeStore.has g.S.TypeStore.tree _ c.label_bool-in-IsNotNone.result _ _
     (sym (label_is_not_none (standing_of g.S.TypeStore.tree c.args.setting.now c.args.env.now) expected
     c.in-IsNotNone.field-0 (expr_of c.in-IsNotNone.operand.value))) c.label_bool-in-IsNotNone.ensures.value)
 
-pub
-    typing::label_unary-returns-in_ok-object-in-Attribute-clause-labelled : goal.typing::label_unary-returns-in_ok-object-in-Attribute-clause-labelled
+pub typing::label_unary-returns-in_ok-object-in-Attribute-clause-labelled :
+    goal.typing::label_unary-returns-in_ok-object-in-Attribute-clause-labelled
 typing::label_unary-returns-in_ok-object-in-Attribute-clause-labelled g t c expected =
     rw c.in-Attribute.is (labelled_by g.S.TypeStore.has g.S.TypeStore.tree _ c.label_attribute.result _ _
     (attribute_is g.S.TypeStore.tree (standing_of g.S.TypeStore.tree c.args.setting.now c.args.env.now) expected
@@ -209,8 +209,8 @@ typing::label_unary-returns-in_ok-object-in-Attribute-clause-labelled g t c expe
     c.in_ok-object-in-Attribute.object (rw c.deref-in-Attribute.ensures at
     c.in_ok-object-in-Attribute.ensures.labelled.is)) c.label_attribute.ensures.value)
 
-pub
-    typing::label_unary-returns-in_ok-object-in-Attribute-clause-found : goal.typing::label_unary-returns-in_ok-object-in-Attribute-clause-found
+pub typing::label_unary-returns-in_ok-object-in-Attribute-clause-found :
+    goal.typing::label_unary-returns-in_ok-object-in-Attribute-clause-found
 typing::label_unary-returns-in_ok-object-in-Attribute-clause-found g t c expected =
     rw c.in-Attribute.is
     (on_ok c.label_attribute.result ((rw c.deref-in-Attribute.ensures at c.in_ok-object-in-Attribute.ensures.found)
@@ -218,8 +218,8 @@ typing::label_unary-returns-in_ok-object-in-Attribute-clause-found g t c expecte
     (sym (parts_attribute (standing_of g.S.TypeStore.tree c.args.setting.now c.args.env.now) expected
     c.in-Attribute.field-0 (expr_of c.in-Attribute.object.value) (name_of c.in-Attribute.field)))))
 
-pub
-    typing::label_binary-returns-in_ok-second-in-Binary-clause-labelled : goal.typing::label_binary-returns-in_ok-second-in-Binary-clause-labelled
+pub typing::label_binary-returns-in_ok-second-in-Binary-clause-labelled :
+    goal.typing::label_binary-returns-in_ok-second-in-Binary-clause-labelled
 typing::label_binary-returns-in_ok-second-in-Binary-clause-labelled g t c expected =
     rw c.in-Binary.is (labelled_by g.S.TypeStore.has g.S.TypeStore.tree _ c.binary_label.result _ _
     (binary_is g.S.TypeStore.tree (standing_of g.S.TypeStore.tree c.args.setting.now c.args.env.now) expected
@@ -228,8 +228,8 @@ typing::label_binary-returns-in_ok-second-in-Binary-clause-labelled g t c expect
     (rw c.deref.ensures at c.in_ok-first-in-Binary.ensures.labelled.is) c.in-Binary.operator
     (rw c.deref-in-Binary.ensures at c.in_ok-second-in-Binary.ensures.labelled.is)) c.binary_label.ensures.value)
 
-pub
-    typing::label_binary-returns-in_ok-second-in-Binary-clause-found : goal.typing::label_binary-returns-in_ok-second-in-Binary-clause-found
+pub typing::label_binary-returns-in_ok-second-in-Binary-clause-found :
+    goal.typing::label_binary-returns-in_ok-second-in-Binary-clause-found
 typing::label_binary-returns-in_ok-second-in-Binary-clause-found g t c expected =
     rw c.in-Binary.is (on_ok c.binary_label.result (binary_found g.S.TypeStore.tree
     (standing_of g.S.TypeStore.tree c.args.setting.now c.args.env.now) expected c.in-Binary.field-0
@@ -237,8 +237,8 @@ typing::label_binary-returns-in_ok-second-in-Binary-clause-found g t c expected 
     (rw c.deref.ensures at c.in_ok-first-in-Binary.ensures.found)
     (rw c.deref-in-Binary.ensures at c.in_ok-second-in-Binary.ensures.found)))
 
-pub
-    typing::label_binary-returns-in_ok-second-in-Compare-clause-labelled : goal.typing::label_binary-returns-in_ok-second-in-Compare-clause-labelled
+pub typing::label_binary-returns-in_ok-second-in-Compare-clause-labelled :
+    goal.typing::label_binary-returns-in_ok-second-in-Compare-clause-labelled
 typing::label_binary-returns-in_ok-second-in-Compare-clause-labelled g t c expected =
     rw c.in-Compare.is (labelled_by g.S.TypeStore.has g.S.TypeStore.tree _ c.label_comparison.result _ _
     (compare_is g.S.TypeStore.tree (standing_of g.S.TypeStore.tree c.args.setting.now c.args.env.now) expected
@@ -248,8 +248,8 @@ typing::label_binary-returns-in_ok-second-in-Compare-clause-labelled g t c expec
     (rw c.deref-in-Compare-2.ensures at c.in_ok-second-in-Compare.ensures.labelled.is))
     c.label_comparison.ensures.value)
 
-pub
-    typing::label_binary-returns-in_ok-second-in-Compare-clause-found : goal.typing::label_binary-returns-in_ok-second-in-Compare-clause-found
+pub typing::label_binary-returns-in_ok-second-in-Compare-clause-found :
+    goal.typing::label_binary-returns-in_ok-second-in-Compare-clause-found
 typing::label_binary-returns-in_ok-second-in-Compare-clause-found g t c expected =
     rw c.in-Compare.is (if_ok c.label_comparison.result (λ i. compare_found g.S.TypeStore.tree
     (standing_of g.S.TypeStore.tree c.args.setting.now c.args.env.now) expected c.in-Compare.field-0
@@ -263,8 +263,8 @@ typing::label_binary-returns-in_ok-second-in-Compare-clause-found g t c expected
     (expr_of c.in-Compare.left.value)) (rw c.deref-in-Compare.ensures at
     c.in_ok-first-in-Compare.ensures.labelled.is))))
 
-pub
-    typing::label_binary-returns-in_ok-index-in-Index-clause-labelled : goal.typing::label_binary-returns-in_ok-index-in-Index-clause-labelled
+pub typing::label_binary-returns-in_ok-index-in-Index-clause-labelled :
+    goal.typing::label_binary-returns-in_ok-index-in-Index-clause-labelled
 typing::label_binary-returns-in_ok-index-in-Index-clause-labelled g t c expected =
     rw c.in-Index.is (labelled_by g.S.TypeStore.has g.S.TypeStore.tree _ c.label_index.result _ _
     (index_is g.S.TypeStore.tree (standing_of g.S.TypeStore.tree c.args.setting.now c.args.env.now) expected
@@ -273,8 +273,8 @@ typing::label_binary-returns-in_ok-index-in-Index-clause-labelled g t c expected
     (rw c.deref-in-Index.ensures at c.in_ok-object-in-Index.ensures.labelled.is))
     (rw c.deref-in-Index-3.ensures at c.label_index.ensures.value))
 
-pub
-    typing::label_binary-returns-in_ok-index-in-Index-clause-found : goal.typing::label_binary-returns-in_ok-index-in-Index-clause-found
+pub typing::label_binary-returns-in_ok-index-in-Index-clause-found :
+    goal.typing::label_binary-returns-in_ok-index-in-Index-clause-found
 typing::label_binary-returns-in_ok-index-in-Index-clause-found g t c expected =
     rw c.in-Index.is (if_ok c.label_index.result (λ i. index_found g.S.TypeStore.tree
     (standing_of g.S.TypeStore.tree c.args.setting.now c.args.env.now) expected c.in-Index.field-0
@@ -286,8 +286,8 @@ typing::label_binary-returns-in_ok-index-in-Index-clause-found g t c expected =
     (label_in (standing_of g.S.TypeStore.tree c.args.setting.now c.args.env.now) None
     (expr_of c.in-Index.key.value)) (rw c.deref-in-Index-2.ensures at c.in_ok-index-in-Index.ensures.labelled.is))))
 
-pub
-    typing::label_connective-returns-in_ok-second-in-And-clause-labelled : goal.typing::label_connective-returns-in_ok-second-in-And-clause-labelled
+pub typing::label_connective-returns-in_ok-second-in-And-clause-labelled :
+    goal.typing::label_connective-returns-in_ok-second-in-And-clause-labelled
 typing::label_connective-returns-in_ok-second-in-And-clause-labelled g t c expected =
     rw c.in-And.is (labelled_by g.S.TypeStore.has g.S.TypeStore.tree _ c.label_junction.result _ _
     (and_is g.S.TypeStore.tree (standing_of g.S.TypeStore.tree c.args.setting.now c.args.env.now) expected
@@ -299,8 +299,8 @@ typing::label_connective-returns-in_ok-second-in-And-clause-labelled g t c expec
     (expr_of c.in-And.left.value) (rw c.deref.ensures at c.in_ok-first-in-And.ensures.ways.where_true)))
     c.label_junction.ensures.value)
 
-pub
-    typing::label_connective-returns-in_ok-second-in-And-clause-found : goal.typing::label_connective-returns-in_ok-second-in-And-clause-found
+pub typing::label_connective-returns-in_ok-second-in-And-clause-found :
+    goal.typing::label_connective-returns-in_ok-second-in-And-clause-found
 typing::label_connective-returns-in_ok-second-in-And-clause-found g t c expected =
     rw c.in-And.is (on_ok c.label_junction.result (and_found g.S.TypeStore.tree
     (standing_of g.S.TypeStore.tree c.args.setting.now c.args.env.now) expected c.in-And.field-0
@@ -311,8 +311,8 @@ typing::label_connective-returns-in_ok-second-in-And-clause-found g t c expected
     (rw c.deref.ensures at c.in_ok-first-in-And.ensures.found)
     (rw c.deref-in-And.ensures at c.in_ok-second-in-And.ensures.found)))
 
-pub
-    typing::label_connective-returns-in_ok-second-in-Or-clause-labelled : goal.typing::label_connective-returns-in_ok-second-in-Or-clause-labelled
+pub typing::label_connective-returns-in_ok-second-in-Or-clause-labelled :
+    goal.typing::label_connective-returns-in_ok-second-in-Or-clause-labelled
 typing::label_connective-returns-in_ok-second-in-Or-clause-labelled g t c expected =
     rw c.in-Or.is (labelled_by g.S.TypeStore.has g.S.TypeStore.tree _ c.label_junction-in-Or.result _ _
     (or_is g.S.TypeStore.tree (standing_of g.S.TypeStore.tree c.args.setting.now c.args.env.now) expected
@@ -324,8 +324,8 @@ typing::label_connective-returns-in_ok-second-in-Or-clause-labelled g t c expect
     (expr_of c.in-Or.left.value) (rw c.deref-in-Or.ensures at c.in_ok-first-in-Or.ensures.ways.where_false)))
     c.label_junction-in-Or.ensures.value)
 
-pub
-    typing::label_connective-returns-in_ok-second-in-Or-clause-found : goal.typing::label_connective-returns-in_ok-second-in-Or-clause-found
+pub typing::label_connective-returns-in_ok-second-in-Or-clause-found :
+    goal.typing::label_connective-returns-in_ok-second-in-Or-clause-found
 typing::label_connective-returns-in_ok-second-in-Or-clause-found g t c expected =
     rw c.in-Or.is (on_ok c.label_junction-in-Or.result (or_found g.S.TypeStore.tree
     (standing_of g.S.TypeStore.tree c.args.setting.now c.args.env.now) expected c.in-Or.field-0
@@ -336,41 +336,21 @@ typing::label_connective-returns-in_ok-second-in-Or-clause-found g t c expected 
     (rw c.deref-in-Or.ensures at c.in_ok-first-in-Or.ensures.found)
     (rw c.deref-in-Or-2.ensures at c.in_ok-second-in-Or.ensures.found)))
 
-pub
-    typing::label_unary-label_attribute-requires-clause-classes : goal.typing::label_unary-label_attribute-requires-clause-classes
+pub typing::label_unary-label_attribute-requires-clause-classes :
+    goal.typing::label_unary-label_attribute-requires-clause-classes
 typing::label_unary-label_attribute-requires-clause-classes g t c =
     entries_kept (g.S.TypeStore.has _) (g.S.TypeStore.has _) c.type_expr-in-Attribute.ensures.goes_on.kept
     c.args.setting.now.globals.now.classes.now c.requires.given.classes
 
-pub
-    typing::label_binary-label_index-requires-clause-classes : goal.typing::label_binary-label_index-requires-clause-classes
+pub typing::label_binary-label_index-requires-clause-classes :
+    goal.typing::label_binary-label_index-requires-clause-classes
 typing::label_binary-label_index-requires-clause-classes g t c =
     entries_kept (g.S.TypeStore.has _) (g.S.TypeStore.has _) (keeps_both g.S.TypeStore.has _ _ _
     c.type_expr-in-Index.ensures.goes_on.kept c.type_expr-in-Index-2.ensures.goes_on.kept)
     c.args.setting.now.globals.now.classes.now c.requires.given.classes
 
-pub typing::label_binary-still_stands-requires : goal.typing::label_binary-still_stands-requires
-typing::label_binary-still_stands-requires g t c =
-    stands_kept (g.S.TypeStore.has _) (g.S.TypeStore.has _) c.type_expr.ensures.goes_on.kept g.S.TypeStore.tree
-    c.args.setting.now c.args.env.now c.requires.given
-
-pub typing::label_binary-still_stands-requires-in-Compare : goal.typing::label_binary-still_stands-requires-in-Compare
-typing::label_binary-still_stands-requires-in-Compare g t c =
-    stands_kept (g.S.TypeStore.has _) (g.S.TypeStore.has _) c.type_expr-in-Compare.ensures.goes_on.kept
-    g.S.TypeStore.tree c.args.setting.now c.args.env.now c.requires.given
-
-pub typing::label_binary-still_stands-requires-in-Index : goal.typing::label_binary-still_stands-requires-in-Index
-typing::label_binary-still_stands-requires-in-Index g t c =
-    stands_kept (g.S.TypeStore.has _) (g.S.TypeStore.has _) c.type_expr-in-Index.ensures.goes_on.kept g.S.TypeStore.tree
-    c.args.setting.now c.args.env.now c.requires.given
-
-pub displays::type_entries-still_stands-requires : goal.displays::type_entries-still_stands-requires
-displays::type_entries-still_stands-requires g t c =
-    stands_kept (g.S.TypeStore.has _) (g.S.TypeStore.has _) c.type_seated.ensures.goes_on.kept g.S.TypeStore.tree
-    c.args.setting.now c.args.env.now c.loop-entry.invariant.given
-
-pub
-    displays::label_display-returns-in_ok-types-in-List-clause-labelled : goal.displays::label_display-returns-in_ok-types-in-List-clause-labelled
+pub displays::label_display-returns-in_ok-types-in-List-clause-labelled :
+    goal.displays::label_display-returns-in_ok-types-in-List-clause-labelled
 displays::label_display-returns-in_ok-types-in-List-clause-labelled g t c =
     rw c.in-List.is (labelled_by g.S.TypeStore.has g.S.TypeStore.tree _ c.label_list.result _ _
     (list_is (standing_of g.S.TypeStore.tree c.args.setting.now c.args.env.now)
@@ -378,16 +358,16 @@ displays::label_display-returns-in_ok-types-in-List-clause-labelled g t c =
     c.in_ok-seats-in-List.ensures.value (rw c.deref-in-List.ensures.value at c.in_ok-types-in-List.ensures.typed))
     (rw c.deref-in-List-2.ensures.value at c.label_list.ensures.value))
 
-pub
-    displays::label_display-returns-in_ok-types-in-List-clause-found : goal.displays::label_display-returns-in_ok-types-in-List-clause-found
+pub displays::label_display-returns-in_ok-types-in-List-clause-found :
+    goal.displays::label_display-returns-in_ok-types-in-List-clause-found
 displays::label_display-returns-in_ok-types-in-List-clause-found g t c =
     rw c.in-List.is
     (on_ok c.label_list.result (list_found (standing_of g.S.TypeStore.tree c.args.setting.now c.args.env.now)
     (option_map g.S.TypeStore.tree c.args.want.now) c.in-List.field-0 c.in-List.items _ _ _
     c.in_ok-seats-in-List.ensures.value (rw c.deref-in-List.ensures.value at c.in_ok-types-in-List.ensures.found)))
 
-pub
-    displays::label_display-returns-in_ok-types-in-Tuple-clause-labelled : goal.displays::label_display-returns-in_ok-types-in-Tuple-clause-labelled
+pub displays::label_display-returns-in_ok-types-in-Tuple-clause-labelled :
+    goal.displays::label_display-returns-in_ok-types-in-Tuple-clause-labelled
 displays::label_display-returns-in_ok-types-in-Tuple-clause-labelled g t c =
     rw c.in-Tuple.is (labelled_by g.S.TypeStore.has g.S.TypeStore.tree _ c.tuple_label.result _ _
     (tuple_is (standing_of g.S.TypeStore.tree c.args.setting.now c.args.env.now)
@@ -397,8 +377,8 @@ displays::label_display-returns-in_ok-types-in-Tuple-clause-labelled g t c =
     (rw c.deref.ensures.value at c.in_ok-types-in-Tuple.ensures.typed))
     (rw c.deref-in-Tuple.ensures.value at c.tuple_label.ensures.value))
 
-pub
-    displays::label_display-returns-in_ok-types-in-Tuple-clause-found : goal.displays::label_display-returns-in_ok-types-in-Tuple-clause-found
+pub displays::label_display-returns-in_ok-types-in-Tuple-clause-found :
+    goal.displays::label_display-returns-in_ok-types-in-Tuple-clause-found
 displays::label_display-returns-in_ok-types-in-Tuple-clause-found g t c =
     rw c.in-Tuple.is
     (on_ok c.tuple_label.result (tuple_found (standing_of g.S.TypeStore.tree c.args.setting.now c.args.env.now)
@@ -407,8 +387,8 @@ displays::label_display-returns-in_ok-types-in-Tuple-clause-found g t c =
     ∙ counted c.in-Tuple.items.items) c.in_ok-seats-in-Tuple.ensures.value _ _
     (rw c.deref.ensures.value at c.in_ok-types-in-Tuple.ensures.found)))
 
-pub
-    displays::label_display-returns-in_ok-types-in-Dict-clause-labelled : goal.displays::label_display-returns-in_ok-types-in-Dict-clause-labelled
+pub displays::label_display-returns-in_ok-types-in-Dict-clause-labelled :
+    goal.displays::label_display-returns-in_ok-types-in-Dict-clause-labelled
 displays::label_display-returns-in_ok-types-in-Dict-clause-labelled g t c =
     rw c.in-Dict.is (labelled_by g.S.TypeStore.has g.S.TypeStore.tree _ c.label_dict.result _ _
     (dict_is (standing_of g.S.TypeStore.tree c.args.setting.now c.args.env.now)
@@ -417,8 +397,8 @@ displays::label_display-returns-in_ok-types-in-Dict-clause-labelled g t c =
     (rw c.deref-in-Dict.ensures.value at c.in_ok-types-in-Dict.ensures.typed.keys)
     (rw c.deref-in-Dict.ensures.value at c.in_ok-types-in-Dict.ensures.typed.values)) c.label_dict.ensures.value)
 
-pub
-    displays::label_display-returns-in_ok-types-in-Dict-clause-found : goal.displays::label_display-returns-in_ok-types-in-Dict-clause-found
+pub displays::label_display-returns-in_ok-types-in-Dict-clause-found :
+    goal.displays::label_display-returns-in_ok-types-in-Dict-clause-found
 displays::label_display-returns-in_ok-types-in-Dict-clause-found g t c =
     rw c.in-Dict.is
     (on_ok c.label_dict.result (dict_found (standing_of g.S.TypeStore.tree c.args.setting.now c.args.env.now)
@@ -515,8 +495,8 @@ displays::type_items-returns-clause-found g t c =
     (seats_of g.S.TypeStore.tree c.args.seats.now) c.args.items.now c.loop-item.item-index (omega arith) _ _
     c.loop-item.invariant.found
 
-pub
-    calls::label_callee-callee_of_method-requires-clause-classes : goal.calls::label_callee-callee_of_method-requires-clause-classes
+pub calls::label_callee-callee_of_method-requires-clause-classes :
+    goal.calls::label_callee-callee_of_method-requires-clause-classes
 calls::label_callee-callee_of_method-requires-clause-classes g t c = entries_kept (g.S.TypeStore.has _)
     (g.S.TypeStore.has _) c.type_expr.ensures.goes_on.kept c.args.setting.now.globals.now.classes.now
     c.requires.given.classes
@@ -554,8 +534,8 @@ calls::label_callee-returns-in-Name-clause-found g t c = rw c.in-Name.is
     (sym (parts_name (standing_of g.S.TypeStore.tree c.args.setting.now c.args.env.now) None
     (name_of c.in-Name.name)))))
 
-pub
-    calls::label_callee-returns-in_ok-label-in-Attribute-2-clause-called : goal.calls::label_callee-returns-in_ok-label-in-Attribute-2-clause-called
+pub calls::label_callee-returns-in_ok-label-in-Attribute-2-clause-called :
+    goal.calls::label_callee-returns-in_ok-label-in-Attribute-2-clause-called
 calls::label_callee-returns-in_ok-label-in-Attribute-2-clause-called g t c =
     callee_as g.S.TypeStore.has g.S.TypeStore.tree _ c.callee_of_other.result _ _
     (sym (rw c.in-Attribute.is (callee_early (standing_of g.S.TypeStore.tree c.args.setting.now c.args.env.now)
@@ -564,8 +544,8 @@ calls::label_callee-returns-in_ok-label-in-Attribute-2-clause-called g t c =
     (label_in (standing_of g.S.TypeStore.tree c.args.setting.now c.args.env.now) None (expr_of c.args.callee.now))
     c.in_ok-label-in-Attribute-2.ensures.labelled.is)
 
-pub
-    calls::label_callee-returns-in_ok-label-in-Int-clause-called : goal.calls::label_callee-returns-in_ok-label-in-Int-clause-called
+pub calls::label_callee-returns-in_ok-label-in-Int-clause-called :
+    goal.calls::label_callee-returns-in_ok-label-in-Int-clause-called
 calls::label_callee-returns-in_ok-label-in-Int-clause-called g t c =
     let other : is_other (expr_of c.args.callee.now) ≡ true =
     (⊎_elim (λ t. ap (λ (x : RustExpr). is_other (expr_of x)) t.2)
@@ -594,18 +574,6 @@ calls::label_callee-returns-in_ok-label-in-Int-clause-called g t c =
     (label_in (standing_of g.S.TypeStore.tree c.args.setting.now c.args.env.now) None (expr_of c.args.callee.now))
     c.in_ok-label-in-Int.ensures.labelled.is)
 
-pub calls::label_called-still_called-requires-clause-given : goal.calls::label_called-still_called-requires-clause-given
-calls::label_called-still_called-requires-clause-given g t c =
-    stands_kept (g.S.TypeStore.has _) (g.S.TypeStore.has _) c.label_callee.ensures.goes_on.kept g.S.TypeStore.tree
-    c.args.setting.now c.args.env.now c.requires.given
-
-pub
-    calls::label_called-still_called-requires-in-Call-clause-given : goal.calls::label_called-still_called-requires-in-Call-clause-given
-calls::label_called-still_called-requires-in-Call-clause-given g t c =
-    stands_kept (g.S.TypeStore.has _) (g.S.TypeStore.has _) (keeps_both g.S.TypeStore.has _ _ _
-    c.label_callee.ensures.goes_on.kept c.type_arguments.ensures.goes_on.kept) g.S.TypeStore.tree c.args.setting.now
-    c.args.env.now c.requires.given
-
 pub calls::label_called-label_call-requires-clause-classes : goal.calls::label_called-label_call-requires-clause-classes
 calls::label_called-label_call-requires-clause-classes g t c =
     entries_kept (g.S.TypeStore.has _) (g.S.TypeStore.has _) (keeps_both g.S.TypeStore.has _ _ _
@@ -623,11 +591,11 @@ calls::label_called-returns-clause-labelled g t c expected =
     c.in_ok-called-in-Call.called.offers.items) (rw c.deref-in-Call-2.ensures at
     c.in_ok-called-in-Call.ensures.called.rule) (rw c.deref-in-Call-2.ensures at
     c.in_ok-called-in-Call.ensures.called.offers) _
-    (rw (c.deref-in-Call-9.ensures.value, c.deref-in-Call-10.ensures.value) at
+    (rw (c.deref-in-Call-8.ensures.value, c.deref-in-Call-9.ensures.value) at
     c.in_ok-typed-in-Call.ensures.typed.types)
     ∙ ap (label_in (standing_of g.S.TypeStore.tree c.args.setting.now c.args.env.now) expected)
     (sym (call_tree c.in-Call.place c.in-Call.callee c.in-Call.arguments c.in-Call.by_name)))
-    (rw c.deref-in-Call-14.ensures.value at c.label_call.ensures.value))
+    (rw c.deref-in-Call-12.ensures.value at c.label_call.ensures.value))
 
 pub calls::label_called-returns-clause-found : goal.calls::label_called-returns-clause-found
 calls::label_called-returns-clause-found g t c expected =
@@ -645,19 +613,19 @@ calls::label_called-returns-clause-found g t c expected =
     (given_with c.in_ok-given-in-Call.given) (expr_of c.in-Call.callee.value)).label
     (rw c.deref-in-Call-2.ensures at c.in_ok-called-in-Call.ensures.called.label))
     (rw (c.deref-in-Call-5.ensures, c.deref-in-Call-6.ensures.value, c.deref-in-Call-7.ensures.value) at
-    c.is_test-is_test.ensures.value) (rw (c.deref-in-Call-9.ensures.value, c.deref-in-Call-10.ensures.value) at
+    c.is_test-is_test.ensures.value) (rw (c.deref-in-Call-8.ensures.value, c.deref-in-Call-9.ensures.value) at
     c.in_ok-typed-in-Call.ensures.typed.early) (rw c.deref-in-Call-2.ensures at
     c.in_ok-called-in-Call.ensures.found) (rw (
       c.place.ensures,
       c.deref-in-Call-3.ensures,
       c.deref-in-Call-4.ensures.value,
     ) at c.in_ok-find_codes-in-Call.ensures)
-    (rw (c.deref-in-Call-9.ensures.value, c.deref-in-Call-10.ensures.value) at c.in_ok-typed-in-Call.ensures.found)
-    (rw (c.deref-in-Call-12.ensures.value, c.deref-in-Call-13.ensures.value) at
+    (rw (c.deref-in-Call-8.ensures.value, c.deref-in-Call-9.ensures.value) at c.in_ok-typed-in-Call.ensures.found)
+    (rw (c.deref-in-Call-10.ensures.value, c.deref-in-Call-11.ensures.value) at
     c.in_ok-type_keywords-in-Call.ensures.found) i ∙ ap (λ x. (notes_of c.args.checker.now.found.now) ++ parts_find
     (standing_of g.S.TypeStore.tree c.args.setting.now c.args.env.now) expected x)
     (sym (call_tree c.in-Call.place c.in-Call.callee c.in-Call.arguments c.in-Call.by_name)))
-    (rw c.deref-in-Call-14.ensures.value at c.label_call.ensures.found))
+    (rw c.deref-in-Call-12.ensures.value at c.label_call.ensures.found))
 
 pub calls::type_arguments-loop-argument-preserved : goal.calls::type_arguments-loop-argument-preserved
 calls::type_arguments-loop-argument-preserved g t c =
@@ -744,10 +712,6 @@ calls::type_keywords-returns-clause-found g t c = keywords_end
     (named_seat (map (offer_called g.S.TypeStore.tree) c.args.offers.now)) c.args.by_name.now
     c.loop-argument.argument-index (omega arith) (names_in c.loop-argument.before) _ _ c.loop-argument.invariant.found
 
-pub calls::type_tested-still_stands-requires : goal.calls::type_tested-still_stands-requires
-calls::type_tested-still_stands-requires g t c = stands_kept (g.S.TypeStore.has _) (g.S.TypeStore.has _)
-    c.type_expr.ensures.goes_on.kept g.S.TypeStore.tree c.args.setting.now c.args.env.now c.requires.given
-
 pub calls::type_tested-returns-clause-typed : goal.calls::type_tested-returns-clause-typed
 calls::type_tested-returns-clause-typed g t c = record {
   given = rw (c.in_ok-push-2.ensures.items, c.in_ok-push.ensures.items, c.new-types.ensures.items)
@@ -784,49 +748,11 @@ calls::type_tested-returns-clause-found g t c = first_found (standing_of g.S.Typ
     c.index-arguments-1.result c.requires.two c.index-arguments-0.is c.index-arguments-1.is) _
     c.in_ok-seat.ensures.wants _ _ c.in_ok-tested.ensures.found
 
-pub calls::label_called-type_arguments-requires : goal.calls::label_called-type_arguments-requires
-calls::label_called-type_arguments-requires g t c κs within =
-    let offers : All (HasCallOffer (g.S.TypeStore.has c.label_callee.new.checker.store.now))
-    c.deref-in-Call-9.result.now =
-    subst (All (HasCallOffer (g.S.TypeStore.has c.label_callee.new.checker.store.now)))
-    (c.deref-in-Call-8.ensures.value ∙ sym c.deref-in-Call-9.ensures.value) c.still_called.ensures.offers in
-    let two : c.is_test-is_test.result ≡ true → length c.deref-in-Call-10.result.now ≡ 2 =
-    λ h. ap length (c.deref-in-Call-10.ensures.value ∙ sym c.deref-in-Call-6.ensures.value)
-    ∙ c.is_test-is_test.ensures.two h in (
-      first_of (search (rules, the_lemmas), grind (the_lemmas, arith)),
-      (within.0, (within.1, (c.still_called.ensures.given, (offers, two)))),
-    )
-
-pub calls::label_called-type_keywords-requires : goal.calls::label_called-type_keywords-requires
-calls::label_called-type_keywords-requires g t c κs within =
-    let offers : All (HasCallOffer (g.S.TypeStore.has c.type_arguments.new.checker.store.now))
-    c.deref-in-Call-12.result.now =
-    subst (All (HasCallOffer (g.S.TypeStore.has c.type_arguments.new.checker.store.now)))
-    (c.deref-in-Call-11.ensures.value ∙ sym c.deref-in-Call-12.ensures.value)
-    c.still_called-in-Call.ensures.offers in (
-      first_of (search (rules, the_lemmas), grind (the_lemmas, arith)),
-      (within.0, (within.1, (c.still_called-in-Call.ensures.given, offers))),
-    )
-
-pub
-    typing::label_unary-label_negative-requires-clause-classes : goal.typing::label_unary-label_negative-requires-clause-classes
+pub typing::label_unary-label_negative-requires-clause-classes :
+    goal.typing::label_unary-label_negative-requires-clause-classes
 typing::label_unary-label_negative-requires-clause-classes g t c =
     entries_kept (g.S.TypeStore.has _) (g.S.TypeStore.has _) c.type_expr.ensures.goes_on.kept
     c.args.setting.now.globals.now.classes.now c.requires.given.classes
-
-pub
-    calls::label_called-still_called-requires-in-Call-clause-offers : goal.calls::label_called-still_called-requires-in-Call-clause-offers
-calls::label_called-still_called-requires-in-Call-clause-offers g t c =
-    subst (All (HasCallOffer (g.S.TypeStore.has c.type_arguments.new.checker.store.now)))
-    (c.deref-in-Call-8.ensures.value ∙ sym c.deref-in-Call-11.ensures.value)
-    (offers_kept g.S.TypeStore.has _ _ c.type_arguments.ensures.goes_on.kept c.deref-in-Call-8.result.now
-    c.still_called.ensures.offers)
-
-pub calls::label_called-label_call-requires-clause-offers : goal.calls::label_called-label_call-requires-clause-offers
-calls::label_called-label_call-requires-clause-offers g t c =
-    subst (All (HasCallOffer (g.S.TypeStore.has c.type_keywords.new.checker.store.now)))
-    c.deref-in-Call-11.ensures.value (offers_kept g.S.TypeStore.has _ _ c.type_keywords.ensures.goes_on.kept
-    c.deref-in-Call-11.result.now c.still_called-in-Call.ensures.offers)
 
 pub typing::type_seated-returns-clause-labelled : goal.typing::type_seated-returns-clause-labelled
 typing::type_seated-returns-clause-labelled g t c = record {
@@ -871,8 +797,8 @@ typing::label_expr-returns-in-Call-clause-labelled g t c = c.label_called.ensure
 pub typing::label_expr-returns-in-Call-clause-found : goal.typing::label_expr-returns-in-Call-clause-found
 typing::label_expr-returns-in-Call-clause-found g t c = c.label_called.ensures.found _
 
-pub
-    conditions::type_condition-returns-in_ok-label-in-Not-clause-labelled : goal.conditions::type_condition-returns-in_ok-label-in-Not-clause-labelled
+pub conditions::type_condition-returns-in_ok-label-in-Not-clause-labelled :
+    goal.conditions::type_condition-returns-in_ok-label-in-Not-clause-labelled
 conditions::type_condition-returns-in_ok-label-in-Not-clause-labelled g t c =
     rw c.in-Not.is (record {
       given = c.in_ok-label-in-Not.ensures.value.given;
@@ -882,8 +808,8 @@ conditions::type_condition-returns-in_ok-label-in-Not-clause-labelled g t c =
           c.in-Not.field-0 (expr_of c.in-Not.operand.value)));
     })
 
-pub
-    conditions::type_condition-returns-in_ok-label-in-Not-clause-ways : goal.conditions::type_condition-returns-in_ok-label-in-Not-clause-ways
+pub conditions::type_condition-returns-in_ok-label-in-Not-clause-ways :
+    goal.conditions::type_condition-returns-in_ok-label-in-Not-clause-ways
 conditions::type_condition-returns-in_ok-label-in-Not-clause-ways g t c =
     let has = g.S.TypeStore.has in
     let tree = g.S.TypeStore.tree in
@@ -893,15 +819,15 @@ conditions::type_condition-returns-in_ok-label-in-Not-clause-ways g t c =
     c.in_ok-condition-in-Not.condition.ways w c.swapped-ways.result c.swapped-ways.ensures.where_true
     c.swapped-ways.ensures.where_false)
 
-pub
-    conditions::type_condition-returns-in_ok-label-in-Not-clause-found : goal.conditions::type_condition-returns-in_ok-label-in-Not-clause-found
+pub conditions::type_condition-returns-in_ok-label-in-Not-clause-found :
+    goal.conditions::type_condition-returns-in_ok-label-in-Not-clause-found
 conditions::type_condition-returns-in_ok-label-in-Not-clause-found g t c =
     rw c.in-Not.is (negation_found g.S.TypeStore.tree (standing_of g.S.TypeStore.tree c.args.setting.now c.args.env.now)
     c.in-Not.field-0 (expr_of c.in-Not.operand.value) _ _ (rw c.deref.ensures at
     c.in_ok-condition-in-Not.ensures.found))
 
-pub
-    conditions::type_condition-returns-in_ok-ways-in_default-clause-ways : goal.conditions::type_condition-returns-in_ok-ways-in_default-clause-ways
+pub conditions::type_condition-returns-in_ok-ways-in_default-clause-ways :
+    goal.conditions::type_condition-returns-in_ok-ways-in_default-clause-ways
 conditions::type_condition-returns-in_ok-ways-in_default-clause-ways g t c =
     let has = g.S.TypeStore.has in
     let tree = g.S.TypeStore.tree in
@@ -918,8 +844,8 @@ conditions::type_condition-returns-in_ok-ways-in_default-clause-ways g t c =
     c.ordered.ensures c.requires.declared_well_formed _ e (env_of tree copy.copy) well _
     c.in_ok-ways-in_default.ensures.value)
 
-pub
-    conditions::type_condition-returns-in_ok-whole-in-And-clause-labelled : goal.conditions::type_condition-returns-in_ok-whole-in-And-clause-labelled
+pub conditions::type_condition-returns-in_ok-whole-in-And-clause-labelled :
+    goal.conditions::type_condition-returns-in_ok-whole-in-And-clause-labelled
 conditions::type_condition-returns-in_ok-whole-in-And-clause-labelled g t c =
     let tree = g.S.TypeStore.tree in
     let k = standing_of tree c.args.setting.now c.args.env.now in
@@ -936,8 +862,8 @@ conditions::type_condition-returns-in_ok-whole-in-And-clause-labelled g t c =
           first.ensures.ways.where_true)));
     })
 
-pub
-    conditions::type_condition-returns-in_ok-whole-in-And-clause-ways : goal.conditions::type_condition-returns-in_ok-whole-in-And-clause-ways
+pub conditions::type_condition-returns-in_ok-whole-in-And-clause-ways :
+    goal.conditions::type_condition-returns-in_ok-whole-in-And-clause-ways
 conditions::type_condition-returns-in_ok-whole-in-And-clause-ways g t c =
     let has = g.S.TypeStore.has in
     let tree = g.S.TypeStore.tree in
@@ -950,8 +876,8 @@ conditions::type_condition-returns-in_ok-whole-in-And-clause-ways g t c =
     (keeps_both has _ _ _ first.ensures.goes_on.kept c.in_ok-second-in-And.ensures.goes_on.kept) c.in-And.field-0 _
     w.whole.ways w.ensures.goes_on.kept w.ensures.asked w.ensures.met)
 
-pub
-    conditions::type_condition-returns-in_ok-whole-in-And-clause-found : goal.conditions::type_condition-returns-in_ok-whole-in-And-clause-found
+pub conditions::type_condition-returns-in_ok-whole-in-And-clause-found :
+    goal.conditions::type_condition-returns-in_ok-whole-in-And-clause-found
 conditions::type_condition-returns-in_ok-whole-in-And-clause-found g t c =
     let tree = g.S.TypeStore.tree in
     let k = standing_of tree c.args.setting.now c.args.env.now in
@@ -963,8 +889,8 @@ conditions::type_condition-returns-in_ok-whole-in-And-clause-found g t c =
     first.ensures.ways.where_true)) (rw c.deref-in-And-3.ensures at first.ensures.found)
     (rw c.deref-in-And-4.ensures at c.in_ok-second-in-And.ensures.found))
 
-pub
-    conditions::type_condition-junction_condition-requires-clause-agree : goal.conditions::type_condition-junction_condition-requires-clause-agree
+pub conditions::type_condition-junction_condition-requires-clause-agree :
+    goal.conditions::type_condition-junction_condition-requires-clause-agree
 conditions::type_condition-junction_condition-requires-clause-agree g t c =
     let has = g.S.TypeStore.has in
     let tree = g.S.TypeStore.tree in
@@ -975,8 +901,8 @@ conditions::type_condition-junction_condition-requires-clause-agree g t c =
     (rw c.deref-in-And-3.ensures at first.ensures.ways) c.in_ok-second-in-And.second.ways
     (rw c.deref-in-And-4.ensures at c.in_ok-second-in-And.ensures.ways))
 
-pub
-    conditions::type_condition-returns-in_ok-whole-in-Or-clause-labelled : goal.conditions::type_condition-returns-in_ok-whole-in-Or-clause-labelled
+pub conditions::type_condition-returns-in_ok-whole-in-Or-clause-labelled :
+    goal.conditions::type_condition-returns-in_ok-whole-in-Or-clause-labelled
 conditions::type_condition-returns-in_ok-whole-in-Or-clause-labelled g t c =
     let tree = g.S.TypeStore.tree in
     let k = standing_of tree c.args.setting.now c.args.env.now in
@@ -993,8 +919,8 @@ conditions::type_condition-returns-in_ok-whole-in-Or-clause-labelled g t c =
           first.ensures.ways.where_false)));
     })
 
-pub
-    conditions::type_condition-returns-in_ok-whole-in-Or-clause-ways : goal.conditions::type_condition-returns-in_ok-whole-in-Or-clause-ways
+pub conditions::type_condition-returns-in_ok-whole-in-Or-clause-ways :
+    goal.conditions::type_condition-returns-in_ok-whole-in-Or-clause-ways
 conditions::type_condition-returns-in_ok-whole-in-Or-clause-ways g t c =
     let has = g.S.TypeStore.has in
     let tree = g.S.TypeStore.tree in
@@ -1007,8 +933,8 @@ conditions::type_condition-returns-in_ok-whole-in-Or-clause-ways g t c =
     (keeps_both has _ _ _ first.ensures.goes_on.kept c.in_ok-second-in-Or.ensures.goes_on.kept) c.in-Or.field-0 _
     w.whole.ways w.ensures.goes_on.kept w.ensures.asked w.ensures.met)
 
-pub
-    conditions::type_condition-returns-in_ok-whole-in-Or-clause-found : goal.conditions::type_condition-returns-in_ok-whole-in-Or-clause-found
+pub conditions::type_condition-returns-in_ok-whole-in-Or-clause-found :
+    goal.conditions::type_condition-returns-in_ok-whole-in-Or-clause-found
 conditions::type_condition-returns-in_ok-whole-in-Or-clause-found g t c =
     let tree = g.S.TypeStore.tree in
     let k = standing_of tree c.args.setting.now c.args.env.now in
@@ -1020,8 +946,8 @@ conditions::type_condition-returns-in_ok-whole-in-Or-clause-found g t c =
     first.ensures.ways.where_false)) (rw c.deref-in-Or-3.ensures at first.ensures.found)
     (rw c.deref-in-Or-4.ensures at c.in_ok-second-in-Or.ensures.found))
 
-pub
-    conditions::type_condition-junction_condition-requires-in-Or-clause-agree : goal.conditions::type_condition-junction_condition-requires-in-Or-clause-agree
+pub conditions::type_condition-junction_condition-requires-in-Or-clause-agree :
+    goal.conditions::type_condition-junction_condition-requires-in-Or-clause-agree
 conditions::type_condition-junction_condition-requires-in-Or-clause-agree g t c =
     let has = g.S.TypeStore.has in
     let tree = g.S.TypeStore.tree in
@@ -1031,3 +957,137 @@ conditions::type_condition-junction_condition-requires-in-Or-clause-agree g t c 
     (expr_of c.in-Or.left.value) (expr_of c.in-Or.right.value) first.first.ways
     (rw c.deref-in-Or-3.ensures at first.ensures.ways) c.in_ok-second-in-Or.second.ways
     (rw c.deref-in-Or-4.ensures at c.in_ok-second-in-Or.ensures.ways))
+
+pub typing::label_binary-type_expr-requires-in-Binary :
+    goal.typing::label_binary-type_expr-requires-in-Binary
+typing::label_binary-type_expr-requires-in-Binary g t c κs within = (
+  first_of (search (rules, the_lemmas), grind (the_lemmas, arith)),
+  (
+    within.0,
+    (
+      within.1,
+      (
+        stands_kept (g.S.TypeStore.has _) (g.S.TypeStore.has _) c.type_expr.ensures.goes_on.kept g.S.TypeStore.tree c.args.setting.now
+            c.args.env.now c.requires.given,
+        search rules,
+      ),
+    ),
+  ),
+)
+
+pub typing::label_binary-type_expr-requires-in-Compare-2 :
+    goal.typing::label_binary-type_expr-requires-in-Compare-2
+typing::label_binary-type_expr-requires-in-Compare-2 g t c κs within = (
+  first_of (search (rules, the_lemmas), grind (the_lemmas, arith)),
+  (
+    within.0,
+    (
+      within.1,
+      (
+        stands_kept (g.S.TypeStore.has _) (g.S.TypeStore.has _) c.type_expr-in-Compare.ensures.goes_on.kept g.S.TypeStore.tree c.args.setting.now
+            c.args.env.now c.requires.given,
+        search rules,
+      ),
+    ),
+  ),
+)
+
+pub typing::label_binary-type_expr-requires-in-Index-2 :
+    goal.typing::label_binary-type_expr-requires-in-Index-2
+typing::label_binary-type_expr-requires-in-Index-2 g t c κs within = (
+  first_of (search (rules, the_lemmas), grind (the_lemmas, arith)),
+  (
+    within.0,
+    (
+      within.1,
+      (
+        stands_kept (g.S.TypeStore.has _) (g.S.TypeStore.has _) c.type_expr-in-Index.ensures.goes_on.kept g.S.TypeStore.tree c.args.setting.now
+            c.args.env.now c.requires.given,
+        search rules,
+      ),
+    ),
+  ),
+)
+
+pub displays::type_entries-type_seated-requires-in-loop-entry :
+    goal.displays::type_entries-type_seated-requires-in-loop-entry
+displays::type_entries-type_seated-requires-in-loop-entry g t c κs within = (
+  first_of (search (rules, the_lemmas), grind (the_lemmas, arith)),
+  (
+    within.0,
+    (
+      within.1,
+      (
+        stands_kept (g.S.TypeStore.has _) (g.S.TypeStore.has _) c.type_seated.ensures.goes_on.kept g.S.TypeStore.tree c.args.setting.now
+            c.args.env.now c.loop-entry.invariant.given,
+        search rules,
+      ),
+    ),
+  ),
+)
+
+pub calls::type_tested-type_expr-requires-2 :
+    goal.calls::type_tested-type_expr-requires-2
+calls::type_tested-type_expr-requires-2 g t c κs within = (
+  first_of (search (rules, the_lemmas), grind (the_lemmas, arith)),
+  (
+    within.0,
+    (
+      within.1,
+      (
+        stands_kept (g.S.TypeStore.has _) (g.S.TypeStore.has _) c.type_expr.ensures.goes_on.kept g.S.TypeStore.tree c.args.setting.now
+            c.args.env.now c.requires.given,
+        search rules,
+      ),
+    ),
+  ),
+)
+
+pub calls::label_called-type_arguments-requires : goal.calls::label_called-type_arguments-requires
+calls::label_called-type_arguments-requires g t c κs within =
+    let offers : All (HasCallOffer (g.S.TypeStore.has c.label_callee.new.checker.store.now)) c.deref-in-Call-8.result.now =
+    subst (All (HasCallOffer (g.S.TypeStore.has c.label_callee.new.checker.store.now))) (sym c.deref-in-Call-8.ensures.value)
+    c.in_ok-called-in-Call.ensures.called.held in
+    let two : c.is_test-is_test.result ≡ true → length c.deref-in-Call-9.result.now ≡ 2 =
+    λ h. ap length (c.deref-in-Call-9.ensures.value ∙ sym c.deref-in-Call-6.ensures.value)
+    ∙ c.is_test-is_test.ensures.two h in (
+      first_of (search (rules, the_lemmas), grind (the_lemmas, arith)),
+      (
+        within.0,
+        (
+          within.1,
+          (
+            stands_kept (g.S.TypeStore.has _) (g.S.TypeStore.has _) c.label_callee.ensures.goes_on.kept g.S.TypeStore.tree
+                c.args.setting.now c.args.env.now c.requires.given,
+            (offers, two),
+          ),
+        ),
+      ),
+    )
+
+pub calls::label_called-type_keywords-requires : goal.calls::label_called-type_keywords-requires
+calls::label_called-type_keywords-requires g t c κs within =
+    let offers : All (HasCallOffer (g.S.TypeStore.has c.type_arguments.new.checker.store.now)) c.deref-in-Call-10.result.now =
+    subst (All (HasCallOffer (g.S.TypeStore.has c.type_arguments.new.checker.store.now))) (sym c.deref-in-Call-10.ensures.value)
+    (offers_kept g.S.TypeStore.has _ _ c.type_arguments.ensures.goes_on.kept c.in_ok-called-in-Call.called.offers.items
+    c.in_ok-called-in-Call.ensures.called.held) in (
+      first_of (search (rules, the_lemmas), grind (the_lemmas, arith)),
+      (
+        within.0,
+        (
+          within.1,
+          (
+            stands_kept (g.S.TypeStore.has _) (g.S.TypeStore.has _) (keeps_both g.S.TypeStore.has _ _ _ c.label_callee.ensures.goes_on.kept
+                c.type_arguments.ensures.goes_on.kept) g.S.TypeStore.tree c.args.setting.now c.args.env.now
+                c.requires.given,
+            offers,
+          ),
+        ),
+      ),
+    )
+
+pub calls::label_called-label_call-requires-clause-offers : goal.calls::label_called-label_call-requires-clause-offers
+calls::label_called-label_call-requires-clause-offers g t c =
+    offers_kept g.S.TypeStore.has _ _ (keeps_both g.S.TypeStore.has _ _ _ c.type_arguments.ensures.goes_on.kept
+    c.type_keywords.ensures.goes_on.kept) c.in_ok-called-in-Call.called.offers.items
+    c.in_ok-called-in-Call.ensures.called.held

@@ -40,8 +40,8 @@ add_tested_by-returns-in-For t c p =
     (sym (for_tree p c.in-For.field-0 c.in-For.field-1 c.in-For.body))
     (rw c.deref-in-For.ensures.value at c.add_tested_in-in-For.ensures))
 
-pub
-    add_tested_by-returns-in_ok-add_tested_in_branches-in-If : goal.add_tested_by-returns-in_ok-add_tested_in_branches-in-If
+pub add_tested_by-returns-in_ok-add_tested_in_branches-in-If :
+    goal.add_tested_by-returns-in_ok-add_tested_in_branches-in-If
 add_tested_by-returns-in_ok-add_tested_in_branches-in-If t c p =
     let resolve = meanings c.args.names.now in
     let first = tested_in_branches resolve (branches_of_list c.in-If.branches.items) in
