@@ -176,8 +176,8 @@ pub(crate) fn check_function<S: TypeStore>(
     requires params { parameters_with S.tree params.now
         ≡ parameters_of (module_of context.globals.now.outline.now.tree.now) (func_of def.now).params }
     ensures found { OnOk result
-        (notes_of checker.new.found.now ≡ function_finds (module_of context.entry.tree.now)
-        (map S.tree context.entry.constants.now) owner
+        (notes_of checker.new.found.now ≡ function_finds (module_of context.entry.globals.now.outline.now.tree.now)
+        (map S.tree context.entry.globals.now.constants.now) owner
         (func_of def.now) (notes_of checker.old.found.now)) }
     ensures goes_on { CheckerGoesOn S.TypeStore checker.old checker.new }
 {

@@ -751,7 +751,8 @@ check_otherwise-returns-clause-walked g t c =
     let ways = option_map (env_of S.tree) c.args.fork.ways in
     let out = reached S mid c.in_ok-out.out broken in
     let met : option_map (env_of S.tree) joined ≡ with_way context.context.bases out.table ways out.env =
-    j.joined.is ∙ (λ i. with_way (c.check_suite.ensures.goes_on.context i).parents.now out.table ways out.env) in
+    j.joined.is ∙ (λ i. with_way (c.check_suite.ensures.goes_on.context i).globals.now.outline.now.parents.now out.table
+    ways out.env) in
     let stood = quiet_stands S mid new c.meet.ensures.goes_on j.quiet None broken
     (record { context = s.stands.context; declared = s.stands.declared; current = tt; out = s.stands.out }) in
     record {
@@ -1011,7 +1012,7 @@ check_branch-returns-clause-walked g t c =
     ∙ ap (λ ss. walk_suite context (reached S mid (Some ways.where_true) c.args.broken.now) (stmts_of_list ss))
     c.deref.ensures.value in
     let ways_met : met ≡ with_way context.context.bases out.table fork.ways out.env =
-    j.joined.is ∙ (λ i. with_way (g2.context i).parents.now out.table fork.ways out.env) in
+    j.joined.is ∙ (λ i. with_way (g2.context i).globals.now.outline.now.parents.now out.table fork.ways out.env) in
     let start : reached S mid (Some ways.where_true) c.args.broken.now ≡ record {
       table = fork.table;
       env = Some (narrowed_at context fork.table true condition fork.last);
