@@ -112,12 +112,10 @@ fn find_end<S: TypeStore>(
     if out.is_none() {
         return Ok(());
     }
+    let parents = walk.context.globals.outline.parents;
     let returned = walk.context.returned;
     let none = walk.store.none(walk.alloc)?;
-    if walk
-        .store
-        .is_static(walk.context.globals.outline.parents, &none, returned)
-    {
+    if walk.store.is_static(parents, &none, returned) {
         return Ok(());
     }
     walk.found.put(name, Code::E21)?;
