@@ -6,6 +6,6 @@ pub mod Heap
 pub mod Expressions
 pub mod Calls
 pub mod Statements
-pub mod Keyed
+pub mod Settled
 pub mod Modules
 pub mod Examples

@@ -19,3 +19,4 @@ pub mod StoppedModules
 pub mod Premises
 pub mod WholeModule
 pub mod Soundness
+pub mod NeededFlows

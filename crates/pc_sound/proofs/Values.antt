@@ -9,5 +9,6 @@ pub mod InstanceTests
 pub mod TupleMembers
 pub mod Differences
 pub mod Requirements
+pub mod RequiredClasses
 pub mod Inhabitants
 pub mod ReadTypes

@@ -1,12 +1,12 @@
 -- Which flows are needed: those between types of which the first has a value that is not of the second.
 -- Own rule of the profile.
-use Rattle.std.specs.Prelude.{List, [], ◌∷◌}
+use Rattle.std.specs.Prelude.{◌≡◌, ◌<◌, ℕ, List, [], ◌∷◌, length, Some, slice_get}
 use Rattle.pc_types.specs.Tree.{Tree, Trees, Never, ListOf, DictOf, TupleOf, Union, end, more}
 use Rattle.pc_types.specs.Below.{Bases}
 use Rattle.pc_class.specs.Facts as facts
 use Rattle.pc_class.specs.Facts.{TypedParameter}
 use Rattle.pc_value.specs.Value.{Value, Heap}
-use Rattle.pc_sound.specs.Values.{HeapTyping, HasType, IsWell}
+use Rattle.pc_sound.specs.Values.{HeapTyping, a_class, HasType, IsWell}
 
 -- the type holds no Never, at whatever depth
 abbrev mutual
@@ -41,3 +41,12 @@ pub record IsNeeded (bases : Bases) (classes : List facts.ClassFacts) (s t : Tre
   pub well : IsWell bases classes typing heap
   pub of_first : HasType bases typing s value
   pub not_second : ¬ (HasType bases typing t value)
+
+-- each class that the heap typing records is one of these
+abbrev pub HasClassesOf : List facts.ClassFacts → HeapTyping → Type 0
+HasClassesOf classes typing = (l c : ℕ) → slice_get typing l ≡ Some (a_class c) → c < length classes
+
+-- so under some well-typed heap with instances of these classes only
+pub record IsNeededWithin (bases : Bases) (classes : List facts.ClassFacts) (s t : Tree) : Type 0 where
+  pub needed : IsNeeded bases classes s t
+  pub only : HasClassesOf classes needed.typing

@@ -1,6 +1,7 @@
 //! The soundness law, and the laws that it rests on.
 
 ghost use Rattle.std.specs.Prelude.{◌≡◌, ◌⊎◌, List, Some};
+ghost use Rattle.pc_source.specs.declared.place.Place.{Place};
 ghost use Rattle.pc_token.specs.Lexeme.{Lexeme};
 ghost use Rattle.pc_tree.specs.Grammar.Annotations.{Annotation};
 ghost use Rattle.pc_tree.specs.Grammar.Modules.{SpellsModule};
@@ -14,10 +15,11 @@ ghost use Rattle.pc_types.specs.Shape.{members};
 ghost use Rattle.pc_types.specs.Join.{join};
 ghost use Rattle.pc_class.specs.Facts.{ClassFacts, classes_of};
 ghost use Rattle.pc_flow.specs.Narrowing.{Tested, type_where_true, type_where_false};
+ghost use Rattle.pc_module_rules.specs.Laws.Flows.{FlowsDynamically};
 ghost use Rattle.pc_value.specs.Value.{Heap, Value, seen};
 ghost use Rattle.pc_value.specs.Containers.{append_outcome, store_outcome};
 ghost use Rattle.pc_sound.specs.Values.{HeapTyping, HasType, IsWell};
-ghost use Rattle.pc_sound.specs.Needed.{FieldsHaveNoNever, HasNoNever, IsNeeded};
+ghost use Rattle.pc_sound.specs.Needed.{FieldsHaveNoNever, HasNoNever, IsNeeded, IsNeededWithin};
 ghost use Rattle.pc_sound.specs.Sound.{Sound};
 ghost use Rattle.pc_sound.specs.KeptHeaps.{ActsWell, CanFollowAll, Passes};
 
@@ -58,7 +60,8 @@ pub fn joins_keep_values()
 
 /// The law that no flow is dynamic without need: where a type that holds no `Never` is not static to another one, both
 /// in normal form, some well-typed heap of the classes has a value of the first that is not of the second. So it is of
-/// the classes of each module that tokens spell. Nothing is claimed of the heaps that its runs come by.
+/// the classes of each module that tokens spell; and where a type flows dynamically into another one in the module, the
+/// heap has instances of the module's classes only. Nothing is claimed of the heaps that its runs come by.
 pub fn dynamic_flows_are_needed()
     ensures classes { (bases : Bases) → AreSmaller bases → (classes : List ClassFacts) → FieldsHaveNoNever classes
         → (s t : Tree) → IsNormal s → IsNormal t → HasNoNever s → ¬ (Static bases s t)
@@ -66,6 +69,8 @@ pub fn dynamic_flows_are_needed()
     ensures modules { (m : Module) (ts : List Lexeme) → SpellsModule m ts
         → (s t : Tree) → IsNormal s → IsNormal t → HasNoNever s → ¬ (Static (bases_of m) s t)
         → IsNeeded (bases_of m) (classes_of m) s t }
+    ensures flows { (m : Module) (ts : List Lexeme) → SpellsModule m ts → (p : Place) (s t : Tree)
+        → FlowsDynamically m p s t → HasNoNever s → IsNeededWithin (bases_of m) (classes_of m) s t }
 {}
 
 /// The law that the type that an annotation of a text is read as holds no `Never`, and that no field's type does in the

@@ -9,15 +9,15 @@ use Rattle.pc_types.specs.Below.{Static}
 use Rattle.pc_types.specs.Assignable.{Assignable}
 use Rattle.pc_class.specs.Facts.{classes_of}
 use Rattle.pc_module_rules.specs.Laws.Flows.{FlowsDynamically}
-use Rattle.pc_sound.specs.Needed.{HasNoNever, IsNeeded}
+use Rattle.pc_sound.specs.Needed.{HasNoNever, IsNeededWithin}
 use Rattle.pc_front.specs.Bytes.{IsModuleOf}
 
 -- The first type is assignable to the second, and is not static to it; and where the first holds no Never, some
--- well-typed heap of the module's classes has a value of the first that is not of the second.
+-- well-typed heap with instances of the module's classes only has a value of the first that is not of the second.
 pub record IsNeededFlow (m : Module) (s t : Tree) : Type 0 where
   pub assignable : Assignable (bases_of m) s t
   pub not_static : ¬ (Static (bases_of m) s t)
-  pub needed : HasNoNever s → IsNeeded (bases_of m) (classes_of m) s t
+  pub needed : HasNoNever s → IsNeededWithin (bases_of m) (classes_of m) s t
 
 -- where a type flows dynamically into another in a module that bytes spell, under its lawful labelling, that is needed
 abbrev pub NoNeedlessFlow : Type 0

@@ -35,7 +35,7 @@ use Rattle.pc_machine.specs.Free.{Step, ◌>>=◌, comes, Emits, free}
 use Rattle.pc_machine.specs.Evaluation.{ordinary, eval_call, eval_node, eval_all, eval_keywords, call_callee}
 use Rattle.pc_sound.specs.Values.{HasType}
 use Rattle.pc_sound.proofs.Steps.Judgment.{Around, IsSafe, IsContextOf}
-use Rattle.pc_sound.proofs.Keyed.KeyedDicts.{Keyed}
+use Rattle.pc_sound.proofs.Settled.KeyedLabels.{Keyed}
 use Rattle.pc_sound.proofs.Expressions.SimpleExpressions.{Covered, GoodEval}
 use Rattle.pc_sound.proofs.Values.Flows.{Evaluates}
 use Rattle.pc_sound.proofs.Heap.Fields.{Inherits}
@@ -46,7 +46,7 @@ use Rattle.pc_sound.proofs.Statements.WaysOut.{GoodExec}
 use Rattle.pc_sound.proofs.Modules.MainWorld.{World, world_later, Labelled, around_of, context_of}
 use Rattle.pc_sound.proofs.Calls.EnteredFunctions.{fits_of}
 use Rattle.pc_sound.proofs.Calls.FilledParameters.{Distinct}
-use Rattle.pc_sound.proofs.Modules.ModuleNames.{function_named, class_named}
+use Rattle.pc_sound.proofs.Modules.ModuleNames.{function_named, outside_class, class_named}
 use Rattle.pc_sound.proofs.Calls.CallNodes.{function_node_safe, class_node_safe}
 use Rattle.pc_sound.proofs.Calls.MethodNodes.{method_node_safe}
 use Rattle.pc_sound.proofs.Calls.CallRules.{ordinary_label}
@@ -58,10 +58,6 @@ outside_func None r i e = e
 outside_func (Some x) r i e = absurd (grind (arith, e))
 
 -- so does one that is a class
-pub outside_class : (o : Option ℕ) (r : Res) (i : ℕ) → or_meaning (local_meaning o) r ≡ res.Class i → r ≡ res.Class i
-outside_class None r i e = e
-outside_class (Some x) r i e = absurd (grind (arith, e))
-
 signature_at : (m : Module) (i : ℕ) (d : FuncDef) → slice_get (functions_in m.items) i ≡ Some d → slice_get (signatures_of m) i ≡ Some (signature_of m d)
 unfolding signatures_of
 signature_at m i d e = slice_get-map (signature_of m) (functions_in m.items) i ∙ ap (option_map (signature_of m)) e

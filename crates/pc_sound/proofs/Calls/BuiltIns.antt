@@ -39,7 +39,7 @@ use Rattle.pc_sound.specs.Values.{HeapTyping, HasType, IsWell}
 use Rattle.pc_sound.proofs.Steps.Judgment.{Around, EndsWell, IsSafe, IsContextOf}
 use Rattle.pc_sound.proofs.Lists.{not_empty}
 use Rattle.pc_sound.proofs.Steps.SafeSteps.{Stays, bind_safe, comes_safe, looks_safe, act_safe, may_stop_safe, emits_safe, weaken}
-use Rattle.pc_sound.proofs.Keyed.KeyedDicts.{Keyed}
+use Rattle.pc_sound.proofs.Settled.KeyedLabels.{Keyed}
 use Rattle.pc_sound.proofs.Expressions.SimpleExpressions.{Covered, GoodEval, allowed}
 use Rattle.pc_sound.proofs.Values.Flows.{Evaluates}
 use Rattle.pc_sound.proofs.Values.Joins.{all_hold}

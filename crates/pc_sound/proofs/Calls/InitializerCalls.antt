@@ -27,7 +27,7 @@ use Rattle.pc_machine.specs.Free.{Step, free}
 use Rattle.pc_machine.specs.Evaluation.{ordinary, eval_call, eval_node}
 use Rattle.pc_sound.specs.Values.{HasType}
 use Rattle.pc_sound.proofs.Steps.Judgment.{Around, IsSafe, IsContextOf}
-use Rattle.pc_sound.proofs.Keyed.KeyedDicts.{Keyed}
+use Rattle.pc_sound.proofs.Settled.KeyedLabels.{Keyed}
 use Rattle.pc_sound.proofs.Expressions.SimpleExpressions.{Covered, GoodEval}
 use Rattle.pc_rules.proofs.Saying.{found_here, own_label}
 use Rattle.pc_sound.proofs.Values.Flows.{Evaluates}

@@ -34,7 +34,7 @@ use Rattle.pc_sound.proofs.Steps.Judgment.{Around, IsWellTyped, EndsWell, IsSafe
 use Rattle.pc_sound.proofs.Lists.{same_text_back}
 use Rattle.pc_sound.proofs.Values.ValuesFlow.{later}
 use Rattle.pc_sound.proofs.Steps.SafeSteps.{bind_safe, looks_safe, may_stop_safe, emits_safe, weaken}
-use Rattle.pc_sound.proofs.Keyed.KeyedDicts.{Keyed}
+use Rattle.pc_sound.proofs.Settled.KeyedLabels.{Keyed}
 use Rattle.pc_sound.proofs.Expressions.SimpleExpressions.{Covered, GoodEval, allowed, part}
 use Rattle.pc_sound.proofs.Calls.CallRules.{test_reserved, test_callee}
 use Rattle.pc_sound.proofs.Expressions.NameReads.{KnowsNames, builtin_text, means_a_class, means_a_builtin, reserved_is}

@@ -44,7 +44,7 @@ use Rattle.pc_sound.proofs.Steps.SafeSteps.{stands_after, gives_injective, gives
 use Rattle.pc_sound.proofs.Steps.LeadingSteps.{Known, Promised}
 use Rattle.pc_sound.proofs.Steps.Frames.{narrowed_holds}
 use Rattle.pc_sound.proofs.Expressions.SimpleExpressions.{Covered, GoodEval, allowed}
-use Rattle.pc_sound.proofs.Keyed.KeyedDicts.{Keyed}
+use Rattle.pc_sound.proofs.Settled.KeyedLabels.{Keyed}
 use Rattle.pc_sound.proofs.Values.Flows.{Evaluates, emit_evaluates, later_evaluates, first_evaluates}
 use Rattle.pc_sound.proofs.Calls.CallRules.{test_callee}
 use Rattle.pc_sound.proofs.Values.InstanceTests.{RightTests, IsRight, AsTold, passes_agree}

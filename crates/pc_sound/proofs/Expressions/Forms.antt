@@ -22,7 +22,7 @@ use Rattle.pc_machine.specs.Evaluation.{eval_node}
 use Rattle.pc_machine.specs.Free.{Step, free}
 use Rattle.pc_sound.specs.Values.{HasType}
 use Rattle.pc_sound.proofs.Steps.Judgment.{Around, IsSafe, IsContextOf}
-use Rattle.pc_sound.proofs.Keyed.KeyedDicts.{Keyed}
+use Rattle.pc_sound.proofs.Settled.KeyedLabels.{Keyed}
 use Rattle.pc_sound.proofs.Expressions.SimpleExpressions.{Covered, GoodEval, number_safe, text_safe, truth_safe, nothing_safe, negation_safe, is_none_safe, is_not_none_safe}
 use Rattle.pc_sound.proofs.Values.Flows.{Evaluates}
 use Rattle.pc_sound.proofs.Heap.Fields.{Inherits, attribute_safe}

@@ -6,7 +6,7 @@ use Rattle.std.proofs.lemmas.Option.{same_Some}
 use Rattle.pc_source.specs.declared.place.Place.{Place}
 use Rattle.pc_tree.specs.Tree.{Expr, number, index}
 use Rattle.pc_tree.specs.Depth.{place_of}
-use Rattle.pc_types.specs.Tree.{Tree, Trees, Any, Object, Never, Int, Bool, Str, NoneType, Class, ListOf, DictOf, TupleOf, Union, end, more}
+use Rattle.pc_types.specs.Tree.{Tree, Trees, Int, Str, ListOf, DictOf, TupleOf, end, more}
 use Rattle.pc_types.specs.Below.{Bases, AreSmaller}
 use Rattle.pc_types.specs.Shape.{members, list_of_trees}
 use Rattle.pc_class.specs.Facts as facts
@@ -30,7 +30,7 @@ use Rattle.pc_sound.proofs.Steps.Judgment.{HasListed, EndsWell, Around, IsWellTy
 use Rattle.pc_sound.proofs.Lists.{not_empty}
 use Rattle.pc_sound.proofs.Values.ValuesFlow.{later, of_static}
 use Rattle.pc_sound.proofs.Steps.SafeSteps.{bind_safe, emits_safe, act_safe, gives_injective, gives_not_stops}
-use Rattle.pc_sound.proofs.Keyed.KeyedDicts.{IsKeyed, Keyed, keyed_type}
+use Rattle.pc_sound.proofs.Settled.KeyedLabels.{IsKeyed, Keyed, keyed_type, keyed_members}
 use Rattle.pc_sound.proofs.Expressions.SimpleExpressions.{Covered, GoodEval, allowed, part}
 use Rattle.pc_sound.proofs.Values.Flows.{Evaluates}
 use Rattle.pc_sound.proofs.Values.Narrowing.{HasSome}
@@ -38,7 +38,7 @@ use Rattle.pc_sound.proofs.Values.Joins.{all_hold}
 use Rattle.pc_sound.proofs.Heap.Dicts.{dict_item_has}
 use Rattle.pc_sound.proofs.Heap.SeenValues.{sees_list}
 use Rattle.pc_sound.proofs.Heap.HeapActions.{outcome_ends}
-use Rattle.pc_sound.proofs.Values.UnionMembers.{ends_more, HasEach, each_later, AllOf, offers_end_where}
+use Rattle.pc_sound.proofs.Values.UnionMembers.{ends_more, HasEach, each_later, offers_end_where}
 use Rattle.pc_sound.proofs.Values.SeveralFlows.{flows_safe}
 
 -- ---- steps of which more is known
@@ -79,20 +79,6 @@ literal_value eval reads (number p digits) s s' events v r i is = reads.number p
 literal_value eval reads _ s s' events v r i is = absurd (grind (arith, is))
 
 -- ---- items
-
-pub keyed_members : (t : Tree) → IsKeyed t → AllOf IsKeyed (members t)
-keyed_members Never h = tt
-keyed_members (Union a b) h = (h.0, keyed_members b h.1)
-keyed_members Any h = (h, tt)
-keyed_members Object h = (h, tt)
-keyed_members Int h = (h, tt)
-keyed_members Bool h = (h, tt)
-keyed_members Str h = (h, tt)
-keyed_members NoneType h = (h, tt)
-keyed_members (Class c) h = (h, tt)
-keyed_members (ListOf t) h = (h, tt)
-keyed_members (DictOf s t) h = (h, tt)
-keyed_members (TupleOf ts) h = (h, tt)
 
 module _ (bases : Bases) (k : HeapTyping) where
   list_item : (t : Tree) (items : List Value) (i : ℕ) → AllHave bases k t items → EndsWell (λ w. HasType bases k t w) (value_out (gives_item (slice_get items i)))

@@ -1,6 +1,6 @@
 -- A well-typed heap that has what values of a type and of the fields of all classes refer to; and so each flow that is
 -- not static is needed.
-use Rattle.std.proofs.Common.{List, [], ◌∷◌, ◌++◌, map, refl, sym, ap, ◌∙◌}
+use Rattle.std.proofs.Common.{List, [], ◌∷◌, ◌++◌, length, map, refl, sym, ap, ◌∙◌}
 use Rattle.std.specs.Option.{option_map}
 use Rattle.std.proofs.lemmas.List.{length-map}
 use Rattle.std.proofs.lemmas.Option.{slice_get-map}
@@ -10,8 +10,9 @@ use Rattle.pc_types.specs.Normal.{IsNormal}
 use Rattle.pc_class.specs.Facts.{ClassFacts, TypedParameter, class_facts_at}
 use Rattle.pc_value.specs.Value.{Slot, Cell, list_cell, dict_cell, instance_cell, Heap}
 use Rattle.pc_sound.specs.Values.{HeapTyping, Recorded, a_list, a_dict, a_class, SlotsHave, CellHas, IsWell}
-use Rattle.pc_sound.specs.Needed.{HasNoNever, NoneHasNever, FieldsHaveNoNever, IsNeeded}
+use Rattle.pc_sound.specs.Needed.{HasNoNever, NoneHasNever, FieldsHaveNoNever, IsNeeded, IsNeededWithin}
 use Rattle.pc_sound.proofs.Values.Requirements.{required, required_by_fields, required_by_classes, Records, records_itself, records_first, records_second, records_fields, fields_without}
+use Rattle.pc_sound.proofs.Values.RequiredClasses.{AllBelow, below_at}
 use Rattle.pc_sound.proofs.Values.Inhabitants.{any_value}
 use Rattle.pc_sound.proofs.Values.Differences.{difference}
 
@@ -77,3 +78,14 @@ is_needed bases ordered classes without s t ns nt n dynamic =
       of_first = v.of_first;
       not_second = v.not_second;
     }
+
+-- so with instances of the classes only, where the values refer to no others
+pub is_needed_within :
+    (bases : Bases) → AreSmaller bases → (classes : List ClassFacts) → FieldsHaveNoNever classes → (s t : Tree) → IsNormal s
+    → IsNormal t → HasNoNever s → ¬ (Static bases s t)
+    → AllBelow (length classes) (required s ++ required_by_classes classes) → IsNeededWithin bases classes s t
+unfolding is_needed
+is_needed_within bases ordered classes without s t ns nt n dynamic below = record {
+  needed = is_needed bases ordered classes without s t ns nt n dynamic;
+  only = λ l c e. below_at (length classes) (required s ++ required_by_classes classes) l c below e;
+}

@@ -26,9 +26,10 @@ use Rattle.pc_rules.specs.Signatures.{initializer_context}
 use Rattle.pc_module_rules.specs.Modules.{Labelling, IsLawful, ItemsLabels, BeforeItem, before_next, nothing_before}
 use Rattle.pc_sound.specs.Sound.{HasNoError}
 use Rattle.pc_sound.proofs.Lists.{get_at_end, one_longer}
-use Rattle.pc_sound.proofs.Keyed.KeyedLabels.{SecondTimely, Timely, ItemsTimely, EntriesTimely, KeywordsTimely}
+use Rattle.pc_sound.proofs.Settled.SettledParts.{tests_in_time}
+use Rattle.pc_sound.proofs.Settled.SettledLabels.{SecondTimely, Timely, ItemsTimely, EntriesTimely, KeywordsTimely}
 use Rattle.pc_sound.proofs.Modules.TimelyBodies.{own_timely}
-use Rattle.pc_sound.proofs.Keyed.KeyedInitializers.{InitializersTimely}
+use Rattle.pc_sound.proofs.Settled.SettledInitializers.{InitializersTimely}
 use Rattle.pc_sound.proofs.Modules.ModuleNames.{constants_append, classes_append}
 
 -- ---- names among expressions
@@ -59,13 +60,13 @@ module _ (ctx : Context) (declared : List Tree) where
   own : (e : Expr) → NamesInTime (parts_in false e) → (n : Name) → e ≡ name n → InTime n
   own e h n is = h n (subst (λ x. Contains (filter_map name_of_tree (parts_in false x)) n) (sym is) (0, omega arith, refl))
 
-  second : (args : Exprs) → NamesInTime (parts_in_all false args) → SecondTimely ctx declared args
+  second : (args : Exprs) → NamesInTime (parts_in_all false args) → SecondTimely tests_in_time ctx declared args
   second no_exprs h = tt
   second (more_exprs e no_exprs) h = tt
   second (more_exprs e (more_exprs f rest)) h = λ env want m law. own_timely ctx declared f (own f (left_of (parts_in false f) (parts_in_all false rest) (right_of (parts_in false e) (parts_in_all false (more_exprs f rest)) h))) env want m law
 
   mutual
-    pub timely_of : (e : Expr) → NamesInTime (parts_in false e) → Timely ctx declared e
+    pub timely_of : (e : Expr) → NamesInTime (parts_in false e) → Timely tests_in_time ctx declared e
     timely_of (name n) h = tt
     timely_of (number p d) h = tt
     timely_of (text p d) h = tt
@@ -89,17 +90,17 @@ module _ (ctx : Context) (declared : List Tree) where
         let among = left_of (parts_in_all false args) (parts_in_keywords false kws) others in
         ((λ is. second args among), (timely_of c (left_of (parts_in false c) (parts_in_all false args ++ parts_in_keywords false kws) h), (items_of args among, keywords_of kws (right_of (parts_in_all false args) (parts_in_keywords false kws) others))))
 
-    items_of : (es : Exprs) → NamesInTime (parts_in_all false es) → ItemsTimely ctx declared es
+    items_of : (es : Exprs) → NamesInTime (parts_in_all false es) → ItemsTimely tests_in_time ctx declared es
     items_of no_exprs h = tt
     items_of (more_exprs e rest) h = (timely_of e (left_of (parts_in false e) (parts_in_all false rest) h), items_of rest (right_of (parts_in false e) (parts_in_all false rest) h))
 
-    entries_of : (es : Entries) → NamesInTime (parts_in_entries false es) → EntriesTimely ctx declared es
+    entries_of : (es : Entries) → NamesInTime (parts_in_entries false es) → EntriesTimely tests_in_time ctx declared es
     entries_of no_entries h = tt
     entries_of (more_entries a b rest) h =
         let others = right_of (parts_in false a) (parts_in false b ++ parts_in_entries false rest) h in
         (timely_of a (left_of (parts_in false a) (parts_in false b ++ parts_in_entries false rest) h), (timely_of b (left_of (parts_in false b) (parts_in_entries false rest) others), entries_of rest (right_of (parts_in false b) (parts_in_entries false rest) others)))
 
-    keywords_of : (es : Keywords) → NamesInTime (parts_in_keywords false es) → KeywordsTimely ctx declared es
+    keywords_of : (es : Keywords) → NamesInTime (parts_in_keywords false es) → KeywordsTimely tests_in_time ctx declared es
     keywords_of no_keywords h = tt
     keywords_of (more_keywords w e rest) h = (timely_of e (left_of (parts_in false e) (parts_in_keywords false rest) h), keywords_of rest (right_of (parts_in false e) (parts_in_keywords false rest) h))
 
@@ -149,7 +150,7 @@ module _ (m : Module) (labels : Labelling m) (lawful : IsLawful m labels) (clean
       taken : take (length done) m.items ≡ done
       taken = ap (take (length done)) (sym whole) ∙ take-append_seam done (constant_item p c ∷ rest)
 
-  timely_items : (done : List Item) (b : BeforeItem) (items : List Item) (labels : ItemsLabels items) → done ++ items ≡ m.items → length b.constants ≡ length (constants_in done) → b.classes ≡ length (classes_in done) → InitializersTimely m b items labels
+  timely_items : (done : List Item) (b : BeforeItem) (items : List Item) (labels : ItemsLabels items) → done ++ items ≡ m.items → length b.constants ≡ length (constants_in done) → b.classes ≡ length (classes_in done) → InitializersTimely tests_in_time m b items labels
   timely_items done b [] labels whole constants classes = tt
   timely_items done b (constant_item p c ∷ rest) labels whole constants classes = (
     timely_of (initializer_context m b.constants b.classes) [] c.value
@@ -168,5 +169,5 @@ module _ (m : Module) (labels : Labelling m) (lawful : IsLawful m labels) (clean
       (constants ∙ ap length (sym (constants_append done (def_item p f ∷ []) ∙ append-nil (constants_in done))))
       (classes ∙ ap length (sym (classes_append done (def_item p f ∷ []) ∙ append-nil (classes_in done))))
 
-  pub initializers_timely : InitializersTimely m nothing_before m.items labels
+  pub initializers_timely : InitializersTimely tests_in_time m nothing_before m.items labels
   initializers_timely = timely_items [] nothing_before m.items labels refl refl refl

@@ -27,7 +27,7 @@ use Rattle.pc_module_rules.proofs.Functions.{function_labels}
 use Rattle.pc_module_rules.proofs.Scopes.{said_is_found}
 use Rattle.pc_sound.specs.Sound.{HasNoError}
 use Rattle.pc_sound.proofs.TruthValues.{not_both}
-use Rattle.pc_sound.proofs.Keyed.KeyedStatements.{SuiteKeyed}
+use Rattle.pc_sound.proofs.Settled.KeyedLabels.{SuiteKeyed}
 use Rattle.pc_sound.proofs.Modules.MainWorld.{Labelled}
 use Rattle.pc_sound.proofs.Modules.ModuleItems.{last_of}
 use Rattle.pc_sound.proofs.Modules.WholeModule.{IsListedPlace}

@@ -29,7 +29,7 @@ use Rattle.pc_machine.specs.Calls.{is_ancestor}
 use Rattle.pc_sound.specs.Values.{HeapTyping, HasType, Extends}
 use Rattle.pc_sound.proofs.Steps.Judgment.{Around}
 use Rattle.pc_sound.proofs.Values.ValuesFlow.{later}
-use Rattle.pc_sound.proofs.Keyed.KeyedStatements.{SuiteKeyed}
+use Rattle.pc_sound.proofs.Settled.KeyedLabels.{SuiteKeyed}
 
 -- ---- what was made of defs and classes
 

@@ -35,7 +35,7 @@ use Rattle.pc_sound.proofs.Lists.{get_at_end, one_longer, within}
 use Rattle.pc_sound.proofs.Steps.SafeSteps.{bind_safe, looks_safe, weaken}
 use Rattle.pc_sound.proofs.Expressions.SimpleExpressions.{GoodEval}
 use Rattle.pc_sound.proofs.Values.Flows.{Evaluates}
-use Rattle.pc_sound.proofs.Keyed.KeyedDicts.{Keyed}
+use Rattle.pc_sound.proofs.Settled.KeyedLabels.{Keyed}
 use Rattle.pc_sound.proofs.Heap.Fields.{Inherits}
 use Rattle.pc_sound.proofs.Calls.OrdinaryCalls.{impossible_safe}
 use Rattle.pc_sound.proofs.Statements.WaysOut.{GoodExec}

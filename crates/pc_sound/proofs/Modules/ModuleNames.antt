@@ -8,7 +8,7 @@ use Rattle.pc_scope.specs.declared.resolution.Res.{Res}
 use Rattle.pc_scope.specs.declared.resolution.Res.TheVariants as res
 use Rattle.pc_scope.specs.Reserved.{builtin_of}
 use Rattle.pc_scope.specs.Bindings.{constants_in, classes_in, functions_in}
-use Rattle.pc_scope.specs.Resolution.{bound_first, or_meaning, builtin_meaning, resolve_in_module}
+use Rattle.pc_scope.specs.Resolution.{bound_first, or_meaning, local_meaning, builtin_meaning, resolve_in_module}
 use Rattle.pc_value.specs.Texts.{same_text}
 use Rattle.pc_machine.specs.State.{Global, Globals, GlobalBinding}
 use Rattle.pc_machine.specs.Names.{global_by_name}
@@ -145,6 +145,11 @@ class_first k f c (class_item p x ∷ rest) word i e = go (bytes_eq x.name.text 
     go : (b : Test) → bytes_eq x.name.text word ≡ b → (if b then Some (res.Class c) else bound_first k f (suc c) rest word) ≡ Some (res.Class i) → (bound_first k f (suc c) rest word ≡ Some (res.Class i) → ClassNamed k f (suc c) rest word i) → ClassNamed k f c (class_item p x ∷ rest) word i
     go true t e others = record { at = 0; class = x; behind = let h = class_inj c i e in omega arith; is = refl; named = (bytes_eq-Decides x.name.text word).0 t }
     go false t e others = let h = others e in let b = h.behind in record { at = suc h.at; class = h.class; behind = omega arith; is = h.is; named = h.named }
+
+-- what a name means as a class where there are locals is what it means in the module
+pub outside_class : (o : Option ℕ) (r : Res) (i : ℕ) → or_meaning (local_meaning o) r ≡ res.Class i → r ≡ res.Class i
+outside_class None r i e = e
+outside_class (Some x) r i e = absurd (grind (arith, e))
 
 -- what a module binds is bound first by an item
 bound_so : (m : Module) (word : List ℕ) (r : Res) → ((b : Builtin) → r ≡ res.Builtin b → ⊥) → (r ≡ res.None → ⊥) → resolve_in_module m word ≡ r → bound_first 0 0 0 m.items word ≡ Some r

@@ -44,7 +44,7 @@ use Rattle.pc_sound.proofs.Values.ValuesFlow.{later, of_static}
 use Rattle.pc_sound.proofs.Steps.LeadingSteps.{Known, Promised, ends_as}
 use Rattle.pc_sound.proofs.Expressions.SimpleExpressions.{Covered, GoodEval}
 use Rattle.pc_sound.proofs.Values.Flows.{Evaluates, flow_safe}
-use Rattle.pc_sound.proofs.Keyed.KeyedDicts.{Keyed}
+use Rattle.pc_sound.proofs.Settled.KeyedLabels.{Keyed}
 use Rattle.pc_sound.proofs.Statements.LocalBinding.{IsAtom, atom_flow, one_flow}
 use Rattle.pc_sound.proofs.Modules.MainWorld.{DefaultHas, DefaultsHave, MadeOf, made_later, ClassIs, class_later, ConstantIs, FunctionIs}
 use Rattle.pc_sound.proofs.Steps.ModuleSteps.{Arrives, Proceeds, proceeds_bind, proceeds_comes, proceeds_changes, proceeds_charge}

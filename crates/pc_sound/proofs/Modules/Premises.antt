@@ -25,28 +25,29 @@ use Rattle.pc_class.specs.Findings.{base_class, member_texts}
 use Rattle.pc_class.proofs.Judged.{judged_once}
 use Rattle.pc_class.specs.Overrides.{Judges, dynamic, wrong, overridden}
 use Rattle.pc_rules.specs.Signatures.{body_context}
-use Rattle.pc_module_rules.specs.Modules.{ItemsLabels, BeforeItem, before_next, nothing_before, constant_types, Labelling, IsLawful, IsFinding}
+use Rattle.pc_module_rules.specs.Modules.{FunctionLabels, LawfulFunction, ItemsLabels, BeforeItem, before_next, nothing_before, constant_types, Labelling, IsLawful, IsFinding}
 use Rattle.pc_machine.specs.Free.{Step, free}
 use Rattle.pc_machine.specs.Evaluation.{steps}
 use Rattle.pc_machine.specs.Runs.{Run, End, IsFaultyEnd}
 use Rattle.pc_sound.specs.Sound.{HasNoError, HasEvaluated}
 use Rattle.pc_sound.proofs.Lists.{get_at_end, one_longer, within}
 use Rattle.pc_sound.proofs.Modules.ClassPremises.{names_behind, names_last, among_behind}
-use Rattle.pc_sound.proofs.Keyed.KeyedDicts.{IsKeyed, Keyed}
+use Rattle.pc_sound.proofs.Settled.SettledParts.{tests_in_time}
+use Rattle.pc_sound.proofs.Settled.KeyedLabels.{IsKeyed, SuiteKeyed, InitializersKeyed}
 use Rattle.pc_sound.proofs.Modules.TimelyBodies.{NamesTimely}
-use Rattle.pc_sound.proofs.Keyed.KeyedFunctions.{function_keyed}
+use Rattle.pc_sound.proofs.Settled.SettledFunctions.{OwnerAsked, function_settled}
 use Rattle.pc_sound.proofs.Modules.Inheritance.{inherits}
 use Rattle.pc_sound.proofs.Calls.OverridesFit.{IsAllowedOverride, AreJudged, dispatched, owner_above}
 use Rattle.pc_sound.proofs.Calls.KnownTests.{right_tests}
 use Rattle.pc_sound.proofs.Modules.KnownNames.{initializer_names, initializer_ancestors, body_names, body_ancestors}
 use Rattle.pc_sound.proofs.Modules.MainWorld.{Labelled}
 use Rattle.pc_sound.proofs.Calls.FilledParameters.{Distinct}
-use Rattle.pc_sound.proofs.Modules.ModuleNames.{functions_append, constant_named, class_named}
+use Rattle.pc_sound.proofs.Modules.ModuleNames.{functions_append, outside_class, constant_named, class_named}
 use Rattle.pc_sound.proofs.Expressions.NameReads.{KnowsNames}
 use Rattle.pc_sound.proofs.Values.InstanceTests.{RightTests}
 use Rattle.pc_sound.proofs.Modules.ModuleItems.{ItemsReady}
 use Rattle.pc_sound.proofs.Modules.MadeClasses.{ClassesReady, classes_good}
-use Rattle.pc_sound.proofs.Calls.BodyCalls.{Facts, outside_class}
+use Rattle.pc_sound.proofs.Calls.BodyCalls.{Facts}
 use Rattle.pc_sound.proofs.Modules.WholeModule.{IsListedPlace, BodyOf, of_function, of_items, body_around, body_ctx, body_fits, Premises, sound_of}
 use Rattle.pc_sound.proofs.Modules.AllForms.{forms_of}
 use Rattle.pc_sound.proofs.Modules.LabelledBodies.{last_types_are, last_classes_are, main_plain, labelled_of}
@@ -74,13 +75,6 @@ constant_at m (constant_item p x ∷ rest) labels zero c e = (_, refl)
 constant_at m (constant_item p x ∷ rest) labels (suc i) c e = constant_at m rest labels.rest i c e
 constant_at m (class_item p x ∷ rest) labels i c e = constant_at m rest labels.rest i c e
 constant_at m (def_item p x ∷ rest) labels i c e = constant_at m rest labels.rest i c e
-
--- the labels of initializers have types whose dicts have int or str as key
-abbrev pub InitializersKeyed : (items : List Item) → ItemsLabels items → Type 0
-InitializersKeyed [] labels = Unit {0}
-InitializersKeyed (constant_item p c ∷ rest) labels = Keyed c.value labels.first.value × InitializersKeyed rest labels.rest
-InitializersKeyed (class_item p c ∷ rest) labels = InitializersKeyed rest labels.rest
-InitializersKeyed (def_item p f ∷ rest) labels = InitializersKeyed rest labels.rest
 
 module _ (m : Module) (labels : Labelling m) (lawful : IsLawful m labels) (clean : HasNoError m) where
   abbrev Constants : List Tree
@@ -156,8 +150,16 @@ module _ (m : Module) (labels : Labelling m) (lawful : IsLawful m labels) (clean
     pub initializers_keyed : InitializersKeyed m.items labels
 
   module _ (left : Left) where
+    none_asked : (owner : Owner) → OwnerAsked tests_in_time owner
+    none_asked owners.Module = tt
+    none_asked (owners.Func i) = tt
+    none_asked (owners.Method c i) = tt
+
+    body_keyed : (owner : Owner) (d : FuncDef) (fm : FunctionLabels d) → LawfulFunction m (constant_types m m.items labels) owner d fm → SuiteKeyed d.body fm.body
+    body_keyed owner d fm law = function_settled tests_in_time m (λ word c e. tt) (constant_types m m.items labels) left.constants_keyed owner (none_asked owner) d (names_timely owner d) fm law
+
     labelled : (owner : Owner) (d : FuncDef) → function_of m owner ≡ Some d → Labelled m (constant_types m m.items labels) (IsListedPlace m) owner d
-    labelled = labelled_of m labels lawful clean (λ owner d fm law. function_keyed m (constant_types m m.items labels) left.constants_keyed owner d (names_timely owner d) fm law)
+    labelled = labelled_of m labels lawful clean body_keyed
 
     facts : Facts m (constant_types m m.items labels) (IsListedPlace m)
     facts = record {

@@ -9,18 +9,19 @@ use Rattle.pc_sound.specs.Sound.{HasNoError, HasEvaluated, Sound}
 use Rattle.pc_sound.proofs.Modules.WholeModule.{IsListedPlace}
 use Rattle.pc_sound.proofs.Modules.ClassesAreReady.{classes_ready}
 use Rattle.pc_sound.proofs.Modules.DistinctMembers.{fields_distinct, methods_distinct}
-use Rattle.pc_sound.proofs.Keyed.KeyedInitializers.{InitializersTimely, initializers_are_keyed, constants_are_keyed}
+use Rattle.pc_sound.proofs.Settled.SettledParts.{tests_in_time}
+use Rattle.pc_sound.proofs.Settled.SettledInitializers.{InitializersTimely, initializers_are_settled, constants_are_settled}
 use Rattle.pc_sound.proofs.Modules.EarlyNames.{initializers_timely}
 use Rattle.pc_sound.proofs.Modules.Premises.{sound_but_for}
 
 -- where no test of an instance in an initializer names too early
-pub sound_where_timely : (m : Module) (labels : Labelling m) → IsLawful m labels → HasNoError m → InitializersTimely m nothing_before m.items labels → (events : List Place) (end : End) → Run m events end → IsFaultyEnd end → HasEvaluated m events
+pub sound_where_timely : (m : Module) (labels : Labelling m) → IsLawful m labels → HasNoError m → InitializersTimely tests_in_time m nothing_before m.items labels → (events : List Place) (end : End) → Run m events end → IsFaultyEnd end → HasEvaluated m events
 sound_where_timely m labels lawful clean timely = sound_but_for m labels lawful clean (record {
   classes = classes_ready m labels lawful clean (constant_types m m.items labels) (IsListedPlace m);
   distinct_fields = fields_distinct m labels lawful clean;
   distinct_methods = methods_distinct m labels lawful clean;
-  constants_keyed = constants_are_keyed m labels lawful timely;
-  initializers_keyed = initializers_are_keyed m labels lawful timely;
+  constants_keyed = constants_are_settled tests_in_time m (λ word c e. tt) labels lawful timely;
+  initializers_keyed = initializers_are_settled tests_in_time m (λ word c e. tt) labels lawful timely;
 })
 
 -- the law

@@ -21,7 +21,7 @@ use Rattle.pc_sound.proofs.Steps.BoundLocals.{HasLocals}
 use Rattle.pc_sound.proofs.Steps.Judgment.{Around, IsWellTyped, IsContextOf, Leads, IsWellTypedAnd, Ways, Reaches, FlowEnds, Lasts}
 use Rattle.pc_sound.proofs.Lists.{among_first, none_among}
 use Rattle.pc_sound.proofs.Expressions.SimpleExpressions.{Covered}
-use Rattle.pc_sound.proofs.Keyed.KeyedStatements.{StmtKeyed, SuiteKeyed, BranchesKeyed}
+use Rattle.pc_sound.proofs.Settled.KeyedLabels.{StmtKeyed, SuiteKeyed, BranchesKeyed}
 use Rattle.pc_sound.proofs.Expressions.Conditions.{Decides}
 use Rattle.pc_sound.proofs.Steps.JoinedLocals.{SomeHolds, ways_hold}
 use Rattle.pc_sound.proofs.Steps.LeadingSteps.{leads_from, leads_to}

@@ -31,8 +31,7 @@ use Rattle.pc_sound.proofs.Lists.{first_among, not_empty}
 use Rattle.pc_sound.proofs.Values.ValuesFlow.{of_static}
 use Rattle.pc_sound.proofs.Expressions.SimpleExpressions.{Covered}
 use Rattle.pc_sound.proofs.Values.Flows.{Evaluates}
-use Rattle.pc_sound.proofs.Keyed.KeyedDicts.{Keyed}
-use Rattle.pc_sound.proofs.Keyed.KeyedStatements.{StmtKeyed, SuiteKeyed}
+use Rattle.pc_sound.proofs.Settled.KeyedLabels.{Keyed, StmtKeyed, SuiteKeyed}
 use Rattle.pc_sound.proofs.Statements.LoopHeads.{into_head}
 use Rattle.pc_sound.proofs.Steps.LeadingSteps.{ends_as, leads_bind, leads_comes, leads_binds, leads_act, leads_from, leads_to, leads_each, leads_safe}
 use Rattle.pc_sound.proofs.Statements.LocalBinding.{one_flow, evaluated_safe, assigned_has}
@@ -131,7 +130,7 @@ module _ (around : Around) (ctx : Context) (fits : IsContextOf around ctx) (m : 
           (leads_safe around env (λ k. Unit {0}) (eval_iterable Step free parts e (iterable_form e)) (λ k over. GoesOver around.bases k t over × (codes_of f.0.code ≡ [])) more lasts.grow
           (evaluated_safe around env (λ k. Unit {0}) (place_of e) (eval_iterable Step free parts e (iterable_form e)) (λ k over. GoesOver around.bases k t over) (codes_of f.0.code)
           (flow_allowed around (place_of e) f.0 (subst (λ c. Covered around (IsFlowAt (place_of e) c)) f.1 (λ g h. covered g (inr (inl h))))) (iterables.place e)
-          (iterables.safe env e labels.iterable labels.item law.iterable (λ g h. covered g (inr (inr (inl h)))) (λ g h. covered g (inl h)) keyed.0))))
+          (iterables.safe env e labels.iterable labels.item law.iterable (λ g h. covered g (inr (inr (inl h)))) (λ g h. covered g (inl h)) keyed.0.0))))
           λ over. leads_each around _ _ _ λ k s h.
           leads_from around _ (λ j q. IsWellTypedAnd around labels.head more j q × GoesOver around.bases j t over) _ _
           (λ j q is. subst (λ y. IsWellTypedAnd around labels.head more y q × GoesOver around.bases y t over) (sym is.0) (subst (λ y. IsWellTypedAnd around labels.head more k y × GoesOver around.bases k t over) (sym is.1)

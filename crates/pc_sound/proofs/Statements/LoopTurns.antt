@@ -32,8 +32,7 @@ use Rattle.pc_sound.proofs.TruthValues.{not_both}
 use Rattle.pc_sound.proofs.Lists.{among_first, none_among}
 use Rattle.pc_sound.proofs.Values.ValuesFlow.{later, extends_refl, extends_through}
 use Rattle.pc_sound.proofs.Expressions.SimpleExpressions.{Covered}
-use Rattle.pc_sound.proofs.Keyed.KeyedDicts.{Keyed}
-use Rattle.pc_sound.proofs.Keyed.KeyedStatements.{SuiteKeyed}
+use Rattle.pc_sound.proofs.Settled.KeyedLabels.{Keyed, SuiteKeyed}
 use Rattle.pc_sound.proofs.Expressions.Conditions.{Decides}
 use Rattle.pc_sound.proofs.Steps.JoinedLocals.{onto_hold}
 use Rattle.pc_sound.proofs.Statements.LoopHeads.{into_head, IsKept, again_at_head}

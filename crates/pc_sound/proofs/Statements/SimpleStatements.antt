@@ -28,8 +28,7 @@ use Rattle.pc_sound.proofs.Steps.Judgment.{Around, IsWellTyped, IsSafe, IsContex
 use Rattle.pc_sound.proofs.Lists.{first_among}
 use Rattle.pc_sound.proofs.Values.ValuesFlow.{of_static}
 use Rattle.pc_sound.proofs.Expressions.SimpleExpressions.{Covered, GoodEval}
-use Rattle.pc_sound.proofs.Keyed.KeyedDicts.{Keyed}
-use Rattle.pc_sound.proofs.Keyed.KeyedStatements.{OptionKeyed, TargetKeyed, StmtKeyed}
+use Rattle.pc_sound.proofs.Settled.KeyedLabels.{Keyed, OptionKeyed, TargetKeyed, StmtKeyed}
 use Rattle.pc_sound.proofs.Expressions.Conditions.{Decides}
 use Rattle.pc_sound.proofs.Values.Flows.{Evaluates, flow_safe}
 use Rattle.pc_sound.proofs.Steps.LeadingSteps.{ends_as, leads_bind, leads_comes, leads_looks, leads_binds, leads_from, leads_to, leads_safe, Promised}

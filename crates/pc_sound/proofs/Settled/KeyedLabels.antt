@@ -1,0 +1,56 @@
+-- What the soundness law needs of labels: each dict in a type has int or str as its key, and each test of an instance
+-- comes in time.
+use Rattle.std.specs.Prelude.{List, Option}
+use Rattle.pc_tree.specs.Tree.{Expr, Exprs, Entries, Keywords, Target, Stmt, Stmts, Branches, Item}
+use Rattle.pc_types.specs.Tree.{Tree}
+use Rattle.pc_types.specs.Shape.{members}
+use Rattle.pc_rules.specs.Labels.{Labels, ItemsLabels, EntriesLabels, KeywordsLabels, type_of}
+use Rattle.pc_module_rules.specs.StatementLabels.{OptionLabels, TargetLabels, StmtLabels, SuiteLabels, BranchesLabels}
+use Rattle.pc_module_rules.specs.Modules as modules
+use Rattle.pc_sound.proofs.Values.UnionMembers.{AllOf}
+use Rattle.pc_sound.proofs.Settled.SettledParts.{tests_in_time, IsSettled, Settled, ItemsSettled, EntriesSettled}
+use Rattle.pc_sound.proofs.Settled.SettledParts.{KeywordsSettled, settled_type, settled_members}
+use Rattle.pc_sound.proofs.Settled.SettledStatements.{OptionalSettled, TargetSettled, StmtSettled, SuiteSettled}
+use Rattle.pc_sound.proofs.Settled.SettledStatements.{BranchesSettled, InitializersSettled}
+
+-- each dict, anywhere in a type, has int or str as its key
+abbrev pub IsKeyed : Tree → Type 0
+IsKeyed = IsSettled tests_in_time
+
+abbrev pub Keyed : (e : Expr) → Labels e → Type 0
+Keyed = Settled tests_in_time
+
+abbrev pub ItemsKeyed : (es : Exprs) → ItemsLabels es → Type 0
+ItemsKeyed = ItemsSettled tests_in_time
+
+abbrev pub EntriesKeyed : (es : Entries) → EntriesLabels es → Type 0
+EntriesKeyed = EntriesSettled tests_in_time
+
+abbrev pub KeywordsKeyed : (es : Keywords) → KeywordsLabels es → Type 0
+KeywordsKeyed = KeywordsSettled tests_in_time
+
+abbrev pub OptionKeyed : (e : Option Expr) → OptionLabels e → Type 0
+OptionKeyed = OptionalSettled tests_in_time
+
+abbrev pub TargetKeyed : (t : Target) → TargetLabels t → Type 0
+TargetKeyed = TargetSettled tests_in_time
+
+abbrev pub StmtKeyed : (s : Stmt) → StmtLabels s → Type 0
+StmtKeyed = StmtSettled tests_in_time
+
+abbrev pub SuiteKeyed : (b : Stmts) → SuiteLabels b → Type 0
+SuiteKeyed = SuiteSettled tests_in_time
+
+abbrev pub BranchesKeyed : (bs : Branches) → BranchesLabels bs → Type 0
+BranchesKeyed = BranchesSettled tests_in_time
+
+abbrev pub InitializersKeyed : (items : List Item) → modules.ItemsLabels items → Type 0
+InitializersKeyed = InitializersSettled tests_in_time
+
+-- the type of an expression
+pub keyed_type : (e : Expr) (m : Labels e) → Keyed e m → IsKeyed (type_of e m)
+keyed_type e m h = settled_type tests_in_time e m h
+
+-- the members of a type
+pub keyed_members : (t : Tree) → IsKeyed t → AllOf IsKeyed (members t)
+keyed_members t h = settled_members tests_in_time t h
