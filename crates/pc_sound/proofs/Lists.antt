@@ -1,5 +1,6 @@
 -- Lists: which are empty, what stands at a number, and what is among the elements.
-use Rattle.std.proofs.Common.{◌≡◌, ℕ, zero, suc, List, [], ◌∷◌, ◌++◌, length, refl, sym, ap, ◌∙◌, inl, inr, arith, Contains, lt-ltb}
+use Rattle.std.proofs.Common.{◌≡◌, ℕ, zero, suc, List, [], ◌∷◌, ◌++◌, length, refl, sym, ap, ◌∙◌, inl, inr, arith}
+use Rattle.std.proofs.Common.{Contains, lt-ltb}
 use Rattle.std.specs.Prelude.{◌⊎◌, Bool as Test, true, false, Some, nat_lt, slice_get, bytes_eq}
 use Rattle.std.proofs.lemmas.List.Elements.{Contains-append_right, Contains-append_cases, Contains-push_cases}
 use Rattle.std.proofs.lemmas.Option.{same_Some, slice_get_within}
@@ -44,7 +45,8 @@ get_at_end [] y ys = refl
 get_at_end (x ∷ xs) y ys = get_at_end xs y ys
 
 -- of a list with one more, an element is an old one or the new one
-pub get_one_more : {A : Type 0} (xs : List A) (y : A) (i : ℕ) (z : A) → slice_get (xs ++ y ∷ []) i ≡ Some z → (slice_get xs i ≡ Some z) ⊎ ((i ≡ length xs) × (y ≡ z))
+pub get_one_more : {A : Type 0} (xs : List A) (y : A) (i : ℕ) (z : A) → slice_get (xs ++ y ∷ []) i ≡ Some z
+    → (slice_get xs i ≡ Some z) ⊎ ((i ≡ length xs) × (y ≡ z))
 get_one_more [] y zero z e = inr (refl, same_Some _ _ e)
 get_one_more [] y (suc i) z e = inl e
 get_one_more (x ∷ xs) y zero z e = inl e

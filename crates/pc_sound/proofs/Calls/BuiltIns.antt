@@ -6,7 +6,8 @@ use Rattle.pc_source.specs.declared.place.Place.{Place}
 use Rattle.pc_tree.specs.declared.code.Code.{Code}
 use Rattle.pc_tree.specs.declared.code.Code.TheVariants.{E14, E20, E27}
 use Rattle.pc_tree.specs.Code.{IsError}
-use Rattle.pc_tree.specs.Tree.{Expr, Exprs, Keywords, Name, name, call, no_exprs, more_exprs, no_keywords, more_keywords}
+use Rattle.pc_tree.specs.Tree.{Expr, Exprs, Keywords, Name, name, call, no_exprs, more_exprs, no_keywords}
+use Rattle.pc_tree.specs.Tree.{more_keywords}
 use Rattle.pc_tree.specs.Depth.{place_of}
 use Rattle.pc_tree.specs.Stopping.{has_none}
 use Rattle.pc_scope.specs.declared.resolution.Builtin.{Builtin}
@@ -20,8 +21,11 @@ use Rattle.pc_class.specs.Facts as facts
 use Rattle.pc_flow.specs.Environment.{Env}
 use Rattle.pc_rules.specs.Operations.{Label, in_error, offers_label, length_member}
 use Rattle.pc_rules.specs.Context.{Context}
-use Rattle.pc_rules.specs.Calls.{GivenArguments, arguments_given, count_exprs, is_one, is_two, CallOffer, plain_call, fails_at_call, Seat, length_rule, test_rule, own_callee, builtin_callee, good_callee, value_callee, name_callee, call_label, length_label, positional_seat, named_seat}
-use Rattle.pc_rules.specs.Labels.{Labels, type_of, item_types, ItemsLabels, KeywordsLabels, Finds, ItemsFind, ArgumentsFind, IsFoundAt}
+use Rattle.pc_rules.specs.Calls.{GivenArguments, arguments_given, count_exprs, is_one, is_two, CallOffer, plain_call}
+use Rattle.pc_rules.specs.Calls.{fails_at_call, Seat, length_rule, test_rule, own_callee, builtin_callee, good_callee}
+use Rattle.pc_rules.specs.Calls.{value_callee, name_callee, call_label, length_label, positional_seat, named_seat}
+use Rattle.pc_rules.specs.Labels.{Labels, type_of, item_types, ItemsLabels, KeywordsLabels, Finds, ItemsFind}
+use Rattle.pc_rules.specs.Labels.{ArgumentsFind, IsFoundAt}
 use Rattle.pc_rules.specs.Lawful.{Lawful, callee_of, whole_call_label}
 use Rattle.pc_rules.proofs.SaidInLabels.{as_arguments}
 use Rattle.pc_value.specs.Value as value
@@ -31,14 +35,17 @@ use Rattle.pc_value.specs.Actions.{Free}
 use Rattle.pc_value.specs.Containers.{length_outcome}
 use Rattle.pc_value.specs.Operators.{text_outcome}
 use Rattle.pc_value.specs.Texts.{same_text}
-use Rattle.pc_machine.specs.Calls.{calls_reserved, callee_of_meaning, NamedValue, ReservedCall, prints, performs, reserved_call}
+use Rattle.pc_machine.specs.Calls.{calls_reserved, callee_of_meaning, NamedValue, ReservedCall, prints, performs}
+use Rattle.pc_machine.specs.Calls.{reserved_call}
 use Rattle.pc_machine.specs.Steps.{Parts, value_out}
-use Rattle.pc_machine.specs.Evaluation.{instance_test, ordinary, call_form, eval_callee, eval_node, eval_call, call_callee, do_reserved}
+use Rattle.pc_machine.specs.Evaluation.{instance_test, ordinary, call_form, eval_callee, eval_node, eval_call}
+use Rattle.pc_machine.specs.Evaluation.{call_callee, do_reserved}
 use Rattle.pc_machine.specs.Free.{Step, free}
 use Rattle.pc_sound.specs.Values.{HeapTyping, HasType, IsWell}
 use Rattle.pc_sound.proofs.Steps.Judgment.{Around, EndsWell, IsSafe, IsContextOf}
 use Rattle.pc_sound.proofs.Lists.{not_empty}
-use Rattle.pc_sound.proofs.Steps.SafeSteps.{Stays, bind_safe, comes_safe, looks_safe, act_safe, may_stop_safe, emits_safe, weaken}
+use Rattle.pc_sound.proofs.Steps.SafeSteps.{Stays, bind_safe, comes_safe, looks_safe, act_safe, may_stop_safe}
+use Rattle.pc_sound.proofs.Steps.SafeSteps.{emits_safe, weaken}
 use Rattle.pc_sound.proofs.Settled.KeyedLabels.{Keyed}
 use Rattle.pc_sound.proofs.Expressions.SimpleExpressions.{Covered, GoodEval, allowed}
 use Rattle.pc_sound.proofs.Values.Flows.{Evaluates}
@@ -53,10 +60,16 @@ use Rattle.pc_sound.proofs.Calls.OrdinaryCalls.{equal_safe, impossible_safe, ord
 -- ---- lengths and texts
 
 module _ (bases : Bases) (k : HeapTyping) (heap : Heap) where
-  length_ends : (classes : List facts.ClassFacts) → IsWell bases classes k heap → (n : Tree) (v : Value) → HasType bases k n v → (length_member n).found ≡ [] → EndsWell (λ w. HasType bases k (length_member n).gives w) (value_out (length_outcome (seen heap v)))
+  length_ends : (classes : List facts.ClassFacts) → IsWell bases classes k heap → (n : Tree) (v : Value)
+      → HasType bases k n v → (length_member n).found ≡ [] → EndsWell (λ w. HasType bases k (length_member n).gives w)
+      (value_out (length_outcome (seen heap v)))
   length_ends classes well Str (string cs) h e = tt
-  length_ends classes well (ListOf t) (location l) h e = subst (λ s. EndsWell (λ w. HasType bases k Int w) (value_out (length_outcome s))) (sym (sees_list bases classes k heap well l t h).seen_as) tt
-  length_ends classes well (DictOf s t) (location l) h e = subst (λ x. EndsWell (λ w. HasType bases k Int w) (value_out (length_outcome x))) (sym (sees_dict bases classes k heap well l s t h).seen_as) tt
+  length_ends classes well (ListOf t) (location l) h e = subst
+      (λ s. EndsWell (λ w. HasType bases k Int w) (value_out (length_outcome s)))
+      (sym (sees_list bases classes k heap well l t h).seen_as) tt
+  length_ends classes well (DictOf s t) (location l) h e = subst
+      (λ x. EndsWell (λ w. HasType bases k Int w) (value_out (length_outcome x)))
+      (sym (sees_dict bases classes k heap well l s t h).seen_as) tt
   length_ends classes well (TupleOf ts) (tuple_of vs) h e = tt
   length_ends classes well Str _ h e = absurd h
   length_ends classes well (ListOf t) _ h e = absurd h
@@ -73,16 +86,20 @@ module _ (bases : Bases) (k : HeapTyping) (heap : Heap) where
   text_ends answers (location l) = tt
 
 -- a call that is no test of an instance by its text is an ordinary one
-ordinary_form : (n : Name) (args : Exprs) (kws : Keywords) → same_text n.text (codes "isinstance") ≡ false → call_form (name n) args kws ≡ ordinary
+ordinary_form : (n : Name) (args : Exprs) (kws : Keywords) → same_text n.text (codes "isinstance") ≡ false
+    → call_form (name n) args kws ≡ ordinary
 ordinary_form n no_exprs kws e = refl
 ordinary_form n (more_exprs a no_exprs) kws e = refl
-ordinary_form n (more_exprs a (more_exprs b no_exprs)) no_keywords e = ap (λ x. if x then instance_test n a b else ordinary) e
+ordinary_form n (more_exprs a (more_exprs b no_exprs)) no_keywords e =
+    ap (λ x. if x then instance_test n a b else ordinary) e
 ordinary_form n (more_exprs a (more_exprs b no_exprs)) (more_keywords w c rest) e = refl
 ordinary_form n (more_exprs a (more_exprs b (more_exprs c rest))) kws e = refl
 
 -- two arguments or more are not one
-two_are_not_one : (a b : Expr) (rest : Exprs) (kws : Keywords) → is_one (arguments_given (more_exprs a (more_exprs b rest)) kws) ≡ false
-two_are_not_one a b rest kws = ap (λ x. x && has_none (arguments_given (more_exprs a (more_exprs b rest)) kws).named) (go (count_exprs rest))
+two_are_not_one : (a b : Expr) (rest : Exprs) (kws : Keywords)
+    → is_one (arguments_given (more_exprs a (more_exprs b rest)) kws) ≡ false
+two_are_not_one a b rest kws = ap (λ x. x && has_none (arguments_given (more_exprs a (more_exprs b rest)) kws).named)
+    (go (count_exprs rest))
   where
     go : (c : ℕ) → nat_eq (suc (suc c)) 1 ≡ false
     go c = grind (arith, nat_tests)
@@ -109,13 +126,19 @@ no_test builtin.Len o x = refl
 no_test builtin.Range o x = refl
 no_test _ o x = absurd o
 
-module _ (around : Around) (ctx : Context) (fits : IsContextOf around ctx) (knows : KnowsNames around ctx) (parts : Parts Step) (good : GoodEval around ctx parts.eval) (evaluates : (e : Expr) → Evaluates (place_of e) (parts.eval e)) (env : Env) where
+module _ (around : Around) (ctx : Context) (fits : IsContextOf around ctx) (knows : KnowsNames around ctx)
+    (parts : Parts Step) (good : GoodEval around ctx parts.eval) (evaluates : (e : Expr)
+    → Evaluates (place_of e) (parts.eval e)) (env : Env) where
   -- a reserved name as a callee
-  reserved_callee_safe : (n : Name) (b : Builtin) → ctx.resolve n.text ≡ res.Builtin b → (callee : Label) → Covered around (IsFoundAt n.place callee.codes) → IsSafe around env (λ k. Unit {0}) (eval_callee Step free parts (name n)) (λ k c. c ≡ calls_reserved n.text)
+  reserved_callee_safe : (n : Name) (b : Builtin) → ctx.resolve n.text ≡ res.Builtin b → (callee : Label)
+      → Covered around (IsFoundAt n.place callee.codes) → IsSafe around env (λ k. Unit {0})
+      (eval_callee Step free parts (name n)) (λ k c. c ≡ calls_reserved n.text)
   reserved_callee_safe n b is callee covered =
       bind_safe around env _ _ _ (λ k u. Unit {0}) _ (λ k k' x h. tt) (may_stop_safe around env _)
-      λ u. bind_safe around env _ _ _ (λ k w. callee.codes ≡ []) _ (λ k k' x h. (tt, tt)) (emits_safe around env _ n.place callee.codes (allowed around n.place callee.codes covered))
-      λ w. looks_safe around env _ _ _ λ k s h st. subst (λ m. EndsWell (λ c. c ≡ calls_reserved n.text) (callee_of_meaning n.text m)) (sym (means_a_builtin around ctx fits knows env n.text b is k s st)) refl
+      λ u. bind_safe around env _ _ _ (λ k w. callee.codes ≡ []) _ (λ k k' x h. (tt, tt))
+      (emits_safe around env _ n.place callee.codes (allowed around n.place callee.codes covered))
+      λ w. looks_safe around env _ _ _ λ k s h st. subst (λ m. EndsWell (λ c. c ≡ calls_reserved n.text)
+      (callee_of_meaning n.text m)) (sym (means_a_builtin around ctx fits knows env n.text b is k s st)) refl
 
   module _ (p : Place) (n : Name) (b : Builtin) (is : ctx.resolve n.text ≡ res.Builtin b) (o : IsOrdinary b) where
     text : n.text ≡ builtin_text b
@@ -128,50 +151,98 @@ module _ (around : Around) (ctx : Context) (fits : IsContextOf around ctx) (know
     offered g = ap (name_callee ctx env g) is
 
     -- the label of the call, by what it comes to
-    pub plain_label : (args : Exprs) (kws : Keywords) (types : List Tree) (here : Label) (offers : List CallOffer) → builtin_callee (arguments_given args kws) b ≡ good_callee offers → here ≡ whole_call_label ctx env (name_callee ctx env (arguments_given args kws) (ctx.resolve n.text)).rule (name_callee ctx env (arguments_given args kws) (ctx.resolve n.text)).offers args types → here ≡ call_label around.bases offers
-    plain_label args kws types here offers plain law = law ∙ ap (λ c. whole_call_label ctx env c.rule c.offers args types) (offered (arguments_given args kws) ∙ plain) ∙ ap (λ x. call_label x offers) (sym fits.bases)
+    pub plain_label : (args : Exprs) (kws : Keywords) (types : List Tree) (here : Label) (offers : List CallOffer)
+        → builtin_callee (arguments_given args kws) b ≡ good_callee offers
+        → here ≡ whole_call_label ctx env (name_callee ctx env (arguments_given args kws) (ctx.resolve n.text)).rule
+        (name_callee ctx env (arguments_given args kws) (ctx.resolve n.text)).offers args types
+        → here ≡ call_label around.bases offers
+    plain_label args kws types here offers plain law = law ∙ ap (λ c. whole_call_label ctx env c.rule c.offers args
+        types) (offered (arguments_given args kws) ∙ plain) ∙ ap (λ x. call_label x offers) (sym fits.bases)
 
     -- the label of `len` of one argument
-    length_here : (args : Exprs) (kws : Keywords) (types : List Tree) (here : Label) → builtin_callee (arguments_given args kws) b ≡ own_callee length_rule → here ≡ whole_call_label ctx env (name_callee ctx env (arguments_given args kws) (ctx.resolve n.text)).rule (name_callee ctx env (arguments_given args kws) (ctx.resolve n.text)).offers args types → here ≡ length_label around.bases types
-    length_here args kws types here one law = law ∙ ap (λ c. whole_call_label ctx env c.rule c.offers args types) (offered (arguments_given args kws) ∙ one) ∙ ap (λ x. length_label x types) (sym fits.bases)
+    length_here : (args : Exprs) (kws : Keywords) (types : List Tree) (here : Label)
+        → builtin_callee (arguments_given args kws) b ≡ own_callee length_rule
+        → here ≡ whole_call_label ctx env (name_callee ctx env (arguments_given args kws) (ctx.resolve n.text)).rule
+        (name_callee ctx env (arguments_given args kws) (ctx.resolve n.text)).offers args types
+        → here ≡ length_label around.bases types
+    length_here args kws types here one law = law ∙ ap (λ c. whole_call_label ctx env c.rule c.offers args types)
+        (offered (arguments_given args kws) ∙ one) ∙ ap (λ x. length_label x types) (sym fits.bases)
 
     -- the call, where what the reserved name does with its arguments is safe
     reserved_safe :
-        (want : Option Tree) (args : Exprs) (kws : Keywords) (m : Labels (call p (name n) args kws)) (law : Lawful ctx around.declared env want (call p (name n) args kws) m) → Covered around (Finds (call p (name n) args kws) m) → Keyed (call p (name n) args kws) m
-        → ((values : List Value) (more : List NamedValue) → IsSafe around env (λ k. (ArgumentsHave around.bases k (positional_seat (callee_of ctx env (arguments_given args kws) (name n) law.value).offers) args m.arguments values × KeywordsHave around.bases k (named_seat (callee_of ctx env (arguments_given args kws) (name n) law.value).offers) [] kws m.keywords more) × (m.here.codes ≡ [])) (call_callee Step free parts (calls_reserved (builtin_text b)) values more) (λ k v. HasType around.bases k m.here.type v))
-        → IsSafe around env (λ k. Unit {0}) (eval_node Step free parts (call p (name n) args kws)) (λ k v. HasType around.bases k m.here.type v)
+        (want : Option Tree) (args : Exprs) (kws : Keywords) (m : Labels (call p (name n) args kws))
+        (law : Lawful ctx around.declared env want (call p (name n) args kws) m)
+        → Covered around (Finds (call p (name n) args kws) m) → Keyed (call p (name n) args kws) m
+        → ((values : List Value) (more : List NamedValue) → IsSafe around env
+        (λ k.
+        (ArgumentsHave around.bases k (positional_seat (callee_of ctx env (arguments_given args kws) (name n)
+        law.value).offers) args m.arguments values × KeywordsHave around.bases k
+        (named_seat (callee_of ctx env (arguments_given args kws) (name n) law.value).offers) [] kws m.keywords
+        more) × (m.here.codes ≡ [])) (call_callee Step free parts (calls_reserved (builtin_text b)) values more)
+        (λ k v. HasType around.bases k m.here.type v))
+        → IsSafe around env (λ k. Unit {0}) (eval_node Step free parts (call p (name n) args kws))
+        (λ k v. HasType around.bases k m.here.type v)
     reserved_safe want args kws m law covered keyed calls =
         let offers = (callee_of ctx env (arguments_given args kws) (name n) law.value).offers in
-        let found : Covered around (ItemsFind args m.arguments) = λ f h. covered f (inr (inr (inr (inl (subst (λ x. ArgumentsFind x args m.arguments f) (sym (ap (λ w. bytes_eq (codes "isinstance") w && are_two args kws) text ∙ no_test b o (are_two args kws))) (as_arguments args m.arguments f h)))))) in
-        subst (λ form. IsSafe around env (λ k. Unit {0}) (eval_call Step free parts p (name n) args kws form) (λ k v. HasType around.bases k m.here.type v)) (sym (as_ordinary args kws))
-        (ordinary_safe around ctx fits parts good evaluates env p (eval_callee Step free parts (name n)) (λ k c. c ≡ calls_reserved n.text) (λ c k k' x h. h)
+        let found : Covered around (ItemsFind args m.arguments) =
+        λ f h. covered f
+        (inr
+        (inr
+        (inr (inl (subst (λ x. ArgumentsFind x args m.arguments f)
+        (sym (ap (λ w. bytes_eq (codes "isinstance") w && are_two args kws) text ∙ no_test b o (are_two args kws)))
+        (as_arguments args m.arguments f h)))))) in
+        subst (λ form. IsSafe around env (λ k. Unit {0}) (eval_call Step free parts p (name n) args kws form)
+        (λ k v. HasType around.bases k m.here.type v)) (sym (as_ordinary args kws))
+        (ordinary_safe around ctx fits parts good evaluates env p (eval_callee Step free parts (name n))
+        (λ k c. c ≡ calls_reserved n.text) (λ c k k' x h. h)
         (reserved_callee_safe n b is m.callee (λ f h. covered f (inr (inl h))))
-        (positional_seat offers) (named_seat offers) args m.arguments kws m.keywords m.here law.arguments law.keywords found (λ f h. covered f (inr (inr (inr (inr h))))) (λ f h. covered f (inl h)) keyed.1.1.0 keyed.1.1.1
+        (positional_seat offers) (named_seat offers) args m.arguments kws m.keywords m.here law.arguments law.keywords
+        found (λ f h. covered f (inr (inr (inr (inr h))))) (λ f h. covered f (inl h)) keyed.1.1.0 keyed.1.1.1
         (λ k v. HasType around.bases k m.here.type v)
-        λ c values more. equal_safe around env _ (λ x. call_callee Step free parts x values more) c (calls_reserved (builtin_text b)) (λ k v. HasType around.bases k m.here.type v) (λ k h. h.0.0.0.1 ∙ ap calls_reserved text)
-        (weaken around env _ _ _ (λ k v. HasType around.bases k m.here.type v) (λ k v. HasType around.bases k m.here.type v) (λ k h. ((h.0.0.1, h.0.1), h.1)) (λ k v h. h) (calls values more)))
+        λ c values more. equal_safe around env _ (λ x. call_callee Step free parts x values more) c
+        (calls_reserved (builtin_text b)) (λ k v. HasType around.bases k m.here.type v)
+        (λ k h. h.0.0.0.1 ∙ ap calls_reserved text)
+        (weaken around env _ _ _ (λ k v. HasType around.bases k m.here.type v)
+        (λ k v. HasType around.bases k m.here.type v) (λ k h. ((h.0.0.1, h.0.1), h.1)) (λ k v h. h)
+        (calls values more)))
 
   -- ---- labels of calls
 
-  pub wrong_call : (p : Place) (here : Label) (code : Code) → here ≡ call_label around.bases (fails_at_call code ∷ []) → IsError code → Covered around (IsFoundAt p here.codes) → ⊥
-  wrong_call p here code e err covered = no_error_at around ctx fits knows env p here code [] (ap (λ x. x.codes) e) err covered
+  pub wrong_call : (p : Place) (here : Label) (code : Code) → here ≡ call_label around.bases (fails_at_call code ∷ [])
+      → IsError code → Covered around (IsFoundAt p here.codes) → ⊥
+  wrong_call p here code e err covered = no_error_at around ctx fits knows env p here code [] (ap (λ x. x.codes) e) err
+      covered
 
-  of_plain : (k : HeapTyping) (here : Label) (t : Tree) → here ≡ call_label around.bases (plain_call t ∷ []) → (w : Value) → HasType around.bases k t w → HasType around.bases k here.type w
-  of_plain k here t e w h = subst (λ u. HasType around.bases k u w) (ap (λ x. x.type) (sym e)) (all_hold around.bases fits.smaller k (t ∷ []) w (inl h))
+  of_plain : (k : HeapTyping) (here : Label) (t : Tree) → here ≡ call_label around.bases (plain_call t ∷ [])
+      → (w : Value) → HasType around.bases k t w → HasType around.bases k here.type w
+  of_plain k here t e w h = subst (λ u. HasType around.bases k u w) (ap (λ x. x.type) (sym e))
+      (all_hold around.bases fits.smaller k (t ∷ []) w (inl h))
 
-  no_more : (k : HeapTyping) (seat : List ℕ → Seat) (labels : KeywordsLabels no_keywords) (more : List NamedValue) → KeywordsHave around.bases k seat [] no_keywords labels more → more ≡ []
+  no_more : (k : HeapTyping) (seat : List ℕ → Seat) (labels : KeywordsLabels no_keywords) (more : List NamedValue)
+      → KeywordsHave around.bases k seat [] no_keywords labels more → more ≡ []
   no_more k seat labels [] h = refl
   no_more k seat labels (a ∷ rest) h = absurd h
 
-  module _ (seat : ℕ → Seat) (named : List ℕ → Seat) (args : Exprs) (labels : ItemsLabels args) (kws : Keywords) (klabels : KeywordsLabels kws) (here : Label) where
+  module _ (seat : ℕ → Seat) (named : List ℕ → Seat) (args : Exprs) (labels : ItemsLabels args) (kws : Keywords)
+      (klabels : KeywordsLabels kws) (here : Label) where
     abbrev Known : List Value → List NamedValue → HeapTyping → Type 0
-    Known values more k = (ArgumentsHave around.bases k seat args labels values × KeywordsHave around.bases k named [] kws klabels more) × (here.codes ≡ [])
+    Known values more k = (ArgumentsHave around.bases k seat args labels values
+        × KeywordsHave around.bases k named [] kws klabels more) × (here.codes ≡ [])
 
     known_stays : (values : List Value) (more : List NamedValue) → Stays (Known values more)
-    known_stays values more k k' x h = ((arguments_later around.bases x seat args labels values h.0.0, keywords_later around.bases x named [] kws klabels more h.0.1), h.1)
+    known_stays values more k k' x h = (
+      (
+        arguments_later around.bases x seat args labels values h.0.0,
+        keywords_later around.bases x named [] kws klabels more h.0.1,
+      ),
+      h.1,
+    )
 
     -- what a reserved name does, where it is known to do this
-    does_safe : (w : List ℕ) (values : List Value) (more : List NamedValue) (r : ReservedCall) (P : HeapTyping → Value → Type 0) → ((k : HeapTyping) → Known values more k → reserved_call w values more ≡ Gives r) → IsSafe around env (Known values more) (do_reserved Step free r) P → IsSafe around env (Known values more) (call_callee Step free parts (calls_reserved w) values more) P
+    does_safe : (w : List ℕ) (values : List Value) (more : List NamedValue) (r : ReservedCall) (P : HeapTyping → Value
+        → Type 0) → ((k : HeapTyping) → Known values more k → reserved_call w values more ≡ Gives r)
+        → IsSafe around env (Known values more) (do_reserved Step free r) P
+        → IsSafe around env (Known values more) (call_callee Step free parts (calls_reserved w) values more) P
     does_safe w values more r P is safe = bind_safe around env _ _ _ (λ k c. c ≡ r) _ (known_stays values more)
         (looks_safe around env _ _ _ λ k s h st. subst (λ o. EndsWell (λ c. c ≡ r) o) (sym (is k h)) refl)
         λ c. equal_safe around env _ (do_reserved Step free) c r P (λ k h. h.1)
@@ -179,13 +250,21 @@ module _ (around : Around) (ctx : Context) (fits : IsContextOf around ctx) (know
 
   -- ---- `print`
 
-  pub print_safe : (want : Option Tree) (p : Place) (n : Name) → ctx.resolve n.text ≡ res.Builtin builtin.Print → (args : Exprs) (kws : Keywords) (m : Labels (call p (name n) args kws)) → Lawful ctx around.declared env want (call p (name n) args kws) m → Covered around (Finds (call p (name n) args kws) m) → Keyed (call p (name n) args kws) m → IsSafe around env (λ k. Unit {0}) (eval_node Step free parts (call p (name n) args kws)) (λ k v. HasType around.bases k m.here.type v)
+  pub print_safe : (want : Option Tree) (p : Place) (n : Name) → ctx.resolve n.text ≡ res.Builtin builtin.Print
+      → (args : Exprs) (kws : Keywords) (m : Labels (call p (name n) args kws))
+      → Lawful ctx around.declared env want (call p (name n) args kws) m
+      → Covered around (Finds (call p (name n) args kws) m) → Keyed (call p (name n) args kws) m
+      → IsSafe around env (λ k. Unit {0}) (eval_node Step free parts (call p (name n) args kws))
+      (λ k v. HasType around.bases k m.here.type v)
   print_safe want p n is args (more_keywords w e rest) m law covered keyed =
-      absurd (wrong_call p m.here E14 (plain_label p n builtin.Print is tt args (more_keywords w e rest) (item_types args m.arguments) m.here (fails_at_call E14 ∷ []) refl law.here) refl (λ f h. covered f (inl h)))
-  print_safe want p n is args no_keywords m law covered keyed = reserved_safe p n builtin.Print is tt want args no_keywords m law covered keyed each
+      absurd (wrong_call p m.here E14 (plain_label p n builtin.Print is tt args (more_keywords w e rest)
+      (item_types args m.arguments) m.here (fails_at_call E14 ∷ []) refl law.here) refl (λ f h. covered f (inl h)))
+  print_safe want p n is args no_keywords m law covered keyed = reserved_safe p n builtin.Print is tt want args
+      no_keywords m law covered keyed each
     where
       here : m.here ≡ call_label around.bases (plain_call NoneType ∷ [])
-      here = plain_label p n builtin.Print is tt args no_keywords (item_types args m.arguments) m.here (plain_call NoneType ∷ []) refl law.here
+      here = plain_label p n builtin.Print is tt args no_keywords (item_types args m.arguments) m.here
+          (plain_call NoneType ∷ []) refl law.here
 
       seat : ℕ → Seat
       seat = positional_seat (callee_of ctx env (arguments_given args no_keywords) (name n) law.value).offers
@@ -193,93 +272,159 @@ module _ (around : Around) (ctx : Context) (fits : IsContextOf around ctx) (know
       named : List ℕ → Seat
       named = named_seat (callee_of ctx env (arguments_given args no_keywords) (name n) law.value).offers
 
-      each : (values : List Value) (more : List NamedValue) → IsSafe around env (Known seat named args m.arguments no_keywords m.keywords m.here values more) (call_callee Step free parts (calls_reserved (codes "print")) values more) (λ k v. HasType around.bases k m.here.type v)
-      each values more = does_safe seat named args m.arguments no_keywords m.keywords m.here (codes "print") values more prints _
+      each : (values : List Value) (more : List NamedValue) → IsSafe around env
+          (Known seat named args m.arguments no_keywords m.keywords m.here values more)
+          (call_callee Step free parts (calls_reserved (codes "print")) values more)
+          (λ k v. HasType around.bases k m.here.type v)
+      each values more = does_safe seat named args m.arguments no_keywords m.keywords m.here (codes "print") values more
+          prints _
           (λ k h. ap (reserved_call (codes "print") values) (no_more k named m.keywords more h.0.1))
           (comes_safe around env _ (Gives value.none) _ λ k h. of_plain k m.here NoneType here value.none tt)
 
   -- ---- `str`
 
-  pub str_safe : (want : Option Tree) (p : Place) (n : Name) → ctx.resolve n.text ≡ res.Builtin builtin.Str → (args : Exprs) (kws : Keywords) (m : Labels (call p (name n) args kws)) → Lawful ctx around.declared env want (call p (name n) args kws) m → Covered around (Finds (call p (name n) args kws) m) → Keyed (call p (name n) args kws) m → IsSafe around env (λ k. Unit {0}) (eval_node Step free parts (call p (name n) args kws)) (λ k v. HasType around.bases k m.here.type v)
+  pub str_safe : (want : Option Tree) (p : Place) (n : Name) → ctx.resolve n.text ≡ res.Builtin builtin.Str
+      → (args : Exprs) (kws : Keywords) (m : Labels (call p (name n) args kws))
+      → Lawful ctx around.declared env want (call p (name n) args kws) m
+      → Covered around (Finds (call p (name n) args kws) m) → Keyed (call p (name n) args kws) m
+      → IsSafe around env (λ k. Unit {0}) (eval_node Step free parts (call p (name n) args kws))
+      (λ k v. HasType around.bases k m.here.type v)
   str_safe want p n is no_exprs kws m law covered keyed =
-      absurd (wrong_call p m.here E14 (plain_label p n builtin.Str is tt no_exprs kws (item_types no_exprs m.arguments) m.here (fails_at_call E14 ∷ []) refl law.here) refl (λ f h. covered f (inl h)))
+      absurd (wrong_call p m.here E14 (plain_label p n builtin.Str is tt no_exprs kws (item_types no_exprs m.arguments)
+      m.here (fails_at_call E14 ∷ []) refl law.here) refl (λ f h. covered f (inl h)))
   str_safe want p n is (more_exprs a (more_exprs c rest)) kws m law covered keyed =
-      absurd (wrong_call p m.here E14 (plain_label p n builtin.Str is tt (more_exprs a (more_exprs c rest)) kws (item_types (more_exprs a (more_exprs c rest)) m.arguments) m.here (fails_at_call E14 ∷ []) (ap (λ x. good_callee ((if x then plain_call Str else fails_at_call E14) ∷ [])) (two_are_not_one a c rest kws)) law.here) refl (λ f h. covered f (inl h)))
+      absurd (wrong_call p m.here E14 (plain_label p n builtin.Str is tt (more_exprs a (more_exprs c rest)) kws
+      (item_types (more_exprs a (more_exprs c rest)) m.arguments) m.here (fails_at_call E14 ∷ [])
+      (ap (λ x. good_callee ((if x then plain_call Str else fails_at_call E14) ∷ []))
+      (two_are_not_one a c rest kws)) law.here) refl (λ f h. covered f (inl h)))
   str_safe want p n is (more_exprs a no_exprs) (more_keywords w e rest) m law covered keyed =
-      absurd (wrong_call p m.here E14 (plain_label p n builtin.Str is tt (more_exprs a no_exprs) (more_keywords w e rest) (item_types (more_exprs a no_exprs) m.arguments) m.here (fails_at_call E14 ∷ []) refl law.here) refl (λ f h. covered f (inl h)))
-  str_safe want p n is (more_exprs a no_exprs) no_keywords m law covered keyed = reserved_safe p n builtin.Str is tt want (more_exprs a no_exprs) no_keywords m law covered keyed each
+      absurd (wrong_call p m.here E14 (plain_label p n builtin.Str is tt (more_exprs a no_exprs)
+      (more_keywords w e rest) (item_types (more_exprs a no_exprs) m.arguments) m.here (fails_at_call E14 ∷ []) refl
+      law.here) refl (λ f h. covered f (inl h)))
+  str_safe want p n is (more_exprs a no_exprs) no_keywords m law covered keyed = reserved_safe p n builtin.Str is tt
+      want (more_exprs a no_exprs) no_keywords m law covered keyed each
     where
       here : m.here ≡ call_label around.bases (plain_call Str ∷ [])
-      here = plain_label p n builtin.Str is tt (more_exprs a no_exprs) no_keywords (item_types (more_exprs a no_exprs) m.arguments) m.here (plain_call Str ∷ []) refl law.here
+      here = plain_label p n builtin.Str is tt (more_exprs a no_exprs) no_keywords
+          (item_types (more_exprs a no_exprs) m.arguments) m.here (plain_call Str ∷ []) refl law.here
 
       seat : ℕ → Seat
-      seat = positional_seat (callee_of ctx env (arguments_given (more_exprs a no_exprs) no_keywords) (name n) law.value).offers
+      seat = positional_seat (callee_of ctx env (arguments_given (more_exprs a no_exprs) no_keywords) (name n)
+          law.value).offers
 
       named : List ℕ → Seat
-      named = named_seat (callee_of ctx env (arguments_given (more_exprs a no_exprs) no_keywords) (name n) law.value).offers
+      named = named_seat (callee_of ctx env (arguments_given (more_exprs a no_exprs) no_keywords) (name n)
+          law.value).offers
 
-      each : (values : List Value) (more : List NamedValue) → IsSafe around env (Known seat named (more_exprs a no_exprs) m.arguments no_keywords m.keywords m.here values more) (call_callee Step free parts (calls_reserved (codes "str")) values more) (λ k v. HasType around.bases k m.here.type v)
+      each : (values : List Value) (more : List NamedValue) → IsSafe around env
+          (Known seat named (more_exprs a no_exprs) m.arguments no_keywords m.keywords m.here values more)
+          (call_callee Step free parts (calls_reserved (codes "str")) values more)
+          (λ k v. HasType around.bases k m.here.type v)
       each [] more = impossible_safe around env _ _ _ λ k h. h.0.0
       each (v ∷ w ∷ rest) more = impossible_safe around env _ _ _ λ k h. h.0.0.1
-      each (v ∷ []) more = does_safe seat named (more_exprs a no_exprs) m.arguments no_keywords m.keywords m.here (codes "str") (v ∷ []) more (performs (action.text_of v)) _
+      each (v ∷ []) more = does_safe seat named (more_exprs a no_exprs) m.arguments no_keywords m.keywords m.here
+          (codes "str") (v ∷ []) more (performs (action.text_of v)) _
           (λ k h. ap (reserved_call (codes "str") (v ∷ [])) (no_more k named m.keywords more h.0.1))
-          (act_safe around env _ value_out (action.text_of v) _ λ f k s h st.
-          (refl, ends_more (λ w. HasType around.bases k Str w) (λ w. HasType around.bases k m.here.type w) (λ w x. of_plain k m.here Str here w x) (value_out (text_outcome f v)) (text_ends around.bases k s.heap f v)))
+          (act_safe around env _ value_out (action.text_of v) _ λ f k s h st. (
+            refl,
+            ends_more (λ w. HasType around.bases k Str w) (λ w. HasType around.bases k m.here.type w)
+                (λ w x. of_plain k m.here Str here w x) (value_out (text_outcome f v))
+                (text_ends around.bases k s.heap f v),
+          ))
 
   -- ---- `len`
 
-  pub len_safe : (want : Option Tree) (p : Place) (n : Name) → ctx.resolve n.text ≡ res.Builtin builtin.Len → (args : Exprs) (kws : Keywords) (m : Labels (call p (name n) args kws)) → Lawful ctx around.declared env want (call p (name n) args kws) m → Covered around (Finds (call p (name n) args kws) m) → Keyed (call p (name n) args kws) m → IsSafe around env (λ k. Unit {0}) (eval_node Step free parts (call p (name n) args kws)) (λ k v. HasType around.bases k m.here.type v)
+  pub len_safe : (want : Option Tree) (p : Place) (n : Name) → ctx.resolve n.text ≡ res.Builtin builtin.Len
+      → (args : Exprs) (kws : Keywords) (m : Labels (call p (name n) args kws))
+      → Lawful ctx around.declared env want (call p (name n) args kws) m
+      → Covered around (Finds (call p (name n) args kws) m) → Keyed (call p (name n) args kws) m
+      → IsSafe around env (λ k. Unit {0}) (eval_node Step free parts (call p (name n) args kws))
+      (λ k v. HasType around.bases k m.here.type v)
   len_safe want p n is no_exprs kws m law covered keyed =
-      absurd (wrong_call p m.here E14 (plain_label p n builtin.Len is tt no_exprs kws (item_types no_exprs m.arguments) m.here (fails_at_call E14 ∷ []) refl law.here) refl (λ f h. covered f (inl h)))
+      absurd (wrong_call p m.here E14 (plain_label p n builtin.Len is tt no_exprs kws (item_types no_exprs m.arguments)
+      m.here (fails_at_call E14 ∷ []) refl law.here) refl (λ f h. covered f (inl h)))
   len_safe want p n is (more_exprs a (more_exprs c rest)) kws m law covered keyed =
-      absurd (wrong_call p m.here E14 (plain_label p n builtin.Len is tt (more_exprs a (more_exprs c rest)) kws (item_types (more_exprs a (more_exprs c rest)) m.arguments) m.here (fails_at_call E14 ∷ []) (ap (λ x. if x then own_callee length_rule else good_callee (fails_at_call E14 ∷ [])) (two_are_not_one a c rest kws)) law.here) refl (λ f h. covered f (inl h)))
+      absurd (wrong_call p m.here E14 (plain_label p n builtin.Len is tt (more_exprs a (more_exprs c rest)) kws
+      (item_types (more_exprs a (more_exprs c rest)) m.arguments) m.here (fails_at_call E14 ∷ [])
+      (ap (λ x. if x then own_callee length_rule else good_callee (fails_at_call E14 ∷ []))
+      (two_are_not_one a c rest kws)) law.here) refl (λ f h. covered f (inl h)))
   len_safe want p n is (more_exprs a no_exprs) (more_keywords w e rest) m law covered keyed =
-      absurd (wrong_call p m.here E14 (plain_label p n builtin.Len is tt (more_exprs a no_exprs) (more_keywords w e rest) (item_types (more_exprs a no_exprs) m.arguments) m.here (fails_at_call E14 ∷ []) refl law.here) refl (λ f h. covered f (inl h)))
-  len_safe want p n is (more_exprs a no_exprs) no_keywords m law covered keyed = reserved_safe p n builtin.Len is tt want (more_exprs a no_exprs) no_keywords m law covered keyed each
+      absurd (wrong_call p m.here E14 (plain_label p n builtin.Len is tt (more_exprs a no_exprs)
+      (more_keywords w e rest) (item_types (more_exprs a no_exprs) m.arguments) m.here (fails_at_call E14 ∷ []) refl
+      law.here) refl (λ f h. covered f (inl h)))
+  len_safe want p n is (more_exprs a no_exprs) no_keywords m law covered keyed = reserved_safe p n builtin.Len is tt
+      want (more_exprs a no_exprs) no_keywords m law covered keyed each
     where
       object : Tree
       object = type_of a m.arguments.first
 
       here : m.here ≡ offers_label around.bases (map length_member (members object))
-      here = length_here p n builtin.Len is tt (more_exprs a no_exprs) no_keywords (item_types (more_exprs a no_exprs) m.arguments) m.here refl law.here
+      here = length_here p n builtin.Len is tt (more_exprs a no_exprs) no_keywords
+          (item_types (more_exprs a no_exprs) m.arguments) m.here refl law.here
 
       seat : ℕ → Seat
-      seat = positional_seat (callee_of ctx env (arguments_given (more_exprs a no_exprs) no_keywords) (name n) law.value).offers
+      seat = positional_seat (callee_of ctx env (arguments_given (more_exprs a no_exprs) no_keywords) (name n)
+          law.value).offers
 
       named : List ℕ → Seat
-      named = named_seat (callee_of ctx env (arguments_given (more_exprs a no_exprs) no_keywords) (name n) law.value).offers
+      named = named_seat (callee_of ctx env (arguments_given (more_exprs a no_exprs) no_keywords) (name n)
+          law.value).offers
 
-      each : (values : List Value) (more : List NamedValue) → IsSafe around env (Known seat named (more_exprs a no_exprs) m.arguments no_keywords m.keywords m.here values more) (call_callee Step free parts (calls_reserved (codes "len")) values more) (λ k v. HasType around.bases k m.here.type v)
+      each : (values : List Value) (more : List NamedValue) → IsSafe around env
+          (Known seat named (more_exprs a no_exprs) m.arguments no_keywords m.keywords m.here values more)
+          (call_callee Step free parts (calls_reserved (codes "len")) values more)
+          (λ k v. HasType around.bases k m.here.type v)
       each [] more = impossible_safe around env _ _ _ λ k h. h.0.0
       each (v ∷ w ∷ rest) more = impossible_safe around env _ _ _ λ k h. h.0.0.1
-      each (v ∷ []) more = does_safe seat named (more_exprs a no_exprs) m.arguments no_keywords m.keywords m.here (codes "len") (v ∷ []) more (performs (action.length_of v)) _
+      each (v ∷ []) more = does_safe seat named (more_exprs a no_exprs) m.arguments no_keywords m.keywords m.here
+          (codes "len") (v ∷ []) more (performs (action.length_of v)) _
           (λ k h. ap (reserved_call (codes "len") (v ∷ [])) (no_more k named m.keywords more h.0.1))
-          (act_safe around env _ value_out (action.length_of v) _ λ f k s h st.
-          (refl, offers_end around.bases k fits.smaller m.here length_member object v here h.1 h.0.0.0.0 (value_out (length_outcome (seen s.heap v))) λ t x found takes. length_ends around.bases k s.heap around.classes st.well t v x found))
+          (act_safe around env _ value_out (action.length_of v) _ λ f k s h st. (
+            refl,
+            offers_end around.bases k fits.smaller m.here length_member object v here h.1 h.0.0.0.0
+                (value_out (length_outcome (seen s.heap v))) λ t x found takes. length_ends around.bases k s.heap
+                around.classes st.well t v x found,
+          ))
 
   -- ---- `range` outside a `for`, and reserved names that are not called
 
-  pub range_error : (p : Place) (n : Name) → ctx.resolve n.text ≡ res.Builtin builtin.Range → (want : Option Tree) (args : Exprs) (kws : Keywords) (m : Labels (call p (name n) args kws)) → Lawful ctx around.declared env want (call p (name n) args kws) m → Covered around (Finds (call p (name n) args kws) m) → ⊥
-  range_error p n is want args kws m law covered = go (is_one (arguments_given args kws)) (plain_label p n builtin.Range is tt args kws (item_types args m.arguments) m.here _ refl law.here)
+  pub range_error : (p : Place) (n : Name) → ctx.resolve n.text ≡ res.Builtin builtin.Range
+      → (want : Option Tree) (args : Exprs) (kws : Keywords) (m : Labels (call p (name n) args kws))
+      → Lawful ctx around.declared env want (call p (name n) args kws) m
+      → Covered around (Finds (call p (name n) args kws) m) → ⊥
+  range_error p n is want args kws m law covered = go (is_one (arguments_given args kws))
+      (plain_label p n builtin.Range is tt args kws (item_types args m.arguments) m.here _ refl law.here)
     where
       go : (x : Test) → m.here ≡ call_label around.bases ((if x then fails_at_call E27 else fails_at_call E14) ∷ []) → ⊥
       go true e = wrong_call p m.here E27 e refl (λ f h. covered f (inl h))
       go false e = wrong_call p m.here E14 e refl (λ f h. covered f (inl h))
 
-  pub not_callable : (b : Builtin) → ((g : GivenArguments) → builtin_callee g b ≡ value_callee (in_error E20)) → (p : Place) (n : Name) → ctx.resolve n.text ≡ res.Builtin b → (want : Option Tree) (args : Exprs) (kws : Keywords) (m : Labels (call p (name n) args kws)) → Lawful ctx around.declared env want (call p (name n) args kws) m → Covered around (Finds (call p (name n) args kws) m) → ⊥
+  pub not_callable : (b : Builtin) → ((g : GivenArguments) → builtin_callee g b ≡ value_callee (in_error E20))
+      → (p : Place) (n : Name) → ctx.resolve n.text ≡ res.Builtin b
+      → (want : Option Tree) (args : Exprs) (kws : Keywords) (m : Labels (call p (name n) args kws))
+      → Lawful ctx around.declared env want (call p (name n) args kws) m
+      → Covered around (Finds (call p (name n) args kws) m) → ⊥
   not_callable b other p n is want args kws m law covered =
       no_error_at around ctx fits knows env n.place m.callee E20 []
-      (ap (λ x. x.codes) (law.callee ∙ ap (λ r. (name_callee ctx env (arguments_given args kws) r).label) is ∙ ap (λ x. x.label) (other (arguments_given args kws))))
+      (ap (λ x. x.codes) (law.callee ∙ ap (λ r. (name_callee ctx env (arguments_given args kws) r).label) is
+      ∙ ap (λ x. x.label) (other (arguments_given args kws))))
       refl (λ f h. covered f (inr (inl h)))
 
   -- `isinstance` on other arguments than two by position
-  pub test_error : (p : Place) (n : Name) → ctx.resolve n.text ≡ res.Builtin builtin.IsInstance → (want : Option Tree) (args : Exprs) (kws : Keywords) (m : Labels (call p (name n) args kws)) → is_instance_test (name n) args kws ≡ false → Lawful ctx around.declared env want (call p (name n) args kws) m → Covered around (Finds (call p (name n) args kws) m) → ⊥
+  pub test_error : (p : Place) (n : Name) → ctx.resolve n.text ≡ res.Builtin builtin.IsInstance
+      → (want : Option Tree) (args : Exprs) (kws : Keywords) (m : Labels (call p (name n) args kws))
+      → is_instance_test (name n) args kws ≡ false → Lawful ctx around.declared env want (call p (name n) args kws) m
+      → Covered around (Finds (call p (name n) args kws) m) → ⊥
   test_error p n is want args kws m no_test_here law covered =
       let g = arguments_given args kws in
-      let named : is_instance_test (name n) args kws ≡ are_two args kws = ap (λ w. bytes_eq (codes "isinstance") w && are_two args kws) (reserved_is around ctx fits knows env n.text builtin.IsInstance is) in
+      let named : is_instance_test (name n) args kws ≡ are_two args kws =
+      ap (λ w. bytes_eq (codes "isinstance") w && are_two args kws)
+      (reserved_is around ctx fits knows env n.text builtin.IsInstance is) in
       let other : is_two g ≡ false = two_are_two args kws ∙ sym named ∙ no_test_here in
       wrong_call p m.here E14 (
       law.here
-      ∙ ap (λ c. whole_call_label ctx env c.rule c.offers args (item_types args m.arguments)) (ap (name_callee ctx env g) is ∙ ap (λ x. if x then own_callee test_rule else good_callee (fails_at_call E14 ∷ [])) other)
+      ∙ ap (λ c. whole_call_label ctx env c.rule c.offers args (item_types args m.arguments))
+      (ap (name_callee ctx env g) is ∙ ap (λ x. if x then own_callee test_rule else good_callee
+      (fails_at_call E14 ∷ [])) other)
       ∙ ap (λ x. call_label x (fails_at_call E14 ∷ [])) (sym fits.bases)
       ) refl (λ f h. covered f (inl h))

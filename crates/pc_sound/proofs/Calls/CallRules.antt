@@ -14,7 +14,8 @@ use Rattle.pc_scope.specs.Expressions.{is_instance_test, are_two}
 use Rattle.pc_flow.specs.Environment.{Env}
 use Rattle.pc_rules.specs.Operations.{Label}
 use Rattle.pc_rules.specs.Context.{Context}
-use Rattle.pc_rules.specs.Calls.{arguments_given, count_exprs, is_two, member_rule, test_rule, CalleeLabel, own_callee, good_callee, fails_at_call, name_callee, call_label}
+use Rattle.pc_rules.specs.Calls.{arguments_given, count_exprs, is_two, member_rule, test_rule, CalleeLabel, own_callee}
+use Rattle.pc_rules.specs.Calls.{good_callee, fails_at_call, name_callee, call_label}
 use Rattle.pc_rules.specs.Labels.{Labels}
 use Rattle.pc_rules.specs.Lawful.{callee_of, whole_call_label}
 use Rattle.pc_types.specs.Tree.{Tree}
@@ -33,19 +34,28 @@ two_are_two no_exprs kws = refl
 two_are_two (more_exprs a no_exprs) kws = refl
 two_are_two (more_exprs a (more_exprs b no_exprs)) no_keywords = refl
 two_are_two (more_exprs a (more_exprs b no_exprs)) (more_keywords n c rest) = refl
-two_are_two (more_exprs a (more_exprs b (more_exprs c rest))) kws = ap (λ x. x && has_none (arguments_given (more_exprs a (more_exprs b (more_exprs c rest))) kws).named) (go (count_exprs rest))
+two_are_two (more_exprs a (more_exprs b (more_exprs c rest))) kws =
+    ap (λ x. x && has_none (arguments_given (more_exprs a (more_exprs b (more_exprs c rest))) kws).named)
+    (go (count_exprs rest))
   where
     go : (n : ℕ) → nat_eq (suc (suc (suc n))) 2 ≡ false
     go n = grind (arith, nat_tests)
 
 -- a test of an instance has the rule of tests
-pub test_callee : (ctx : Context) → MeansTest ctx → (env : Env) (c : Expr) (args : Exprs) (kws : Keywords) (m : Labels c) → is_instance_test c args kws ≡ true → callee_of ctx env (arguments_given args kws) c m ≡ own_callee test_rule
+pub test_callee : (ctx : Context) → MeansTest ctx → (env : Env) (c : Expr) (args : Exprs) (kws : Keywords)
+    (m : Labels c) → is_instance_test c args kws ≡ true → callee_of ctx env (arguments_given args kws) c m
+    ≡ own_callee test_rule
 test_callee ctx means env (name n) args kws m is =
     let parts = and_parts (bytes_eq (codes "isinstance") n.text) (are_two args kws) is in
-    ap (name_callee ctx env (arguments_given args kws)) (ap ctx.resolve (sym ((bytes_eq-Decides (codes "isinstance") n.text).0 parts.0)) ∙ means)
-    ∙ ap (λ x. if x then own_callee test_rule else good_callee (fails_at_call E14 ∷ [])) (two_are_two args kws ∙ parts.1)
+    ap (name_callee ctx env (arguments_given args kws)) (ap ctx.resolve
+    (sym ((bytes_eq-Decides (codes "isinstance") n.text).0 parts.0)) ∙ means)
+    ∙ ap (λ x. if x then own_callee test_rule else good_callee (fails_at_call E14 ∷ []))
+    (two_are_two args kws ∙ parts.1)
 test_callee ctx means env _ args kws m is = absurd (false≢true is)
 
 -- the label of a call by the members of what is called
-pub ordinary_label : (ctx : Context) (env : Env) (callee : CalleeLabel) (args : Exprs) (types : List Tree) (here : Label) → callee.rule ≡ member_rule → here ≡ whole_call_label ctx env callee.rule callee.offers args types → here ≡ call_label ctx.bases callee.offers
-ordinary_label ctx env callee args types here is law = law ∙ ap (λ r. whole_call_label ctx env r callee.offers args types) is
+pub ordinary_label : (ctx : Context) (env : Env) (callee : CalleeLabel) (args : Exprs) (types : List Tree)
+    (here : Label) → callee.rule ≡ member_rule → here ≡ whole_call_label ctx env callee.rule callee.offers args types
+    → here ≡ call_label ctx.bases callee.offers
+ordinary_label ctx env callee args types here is law = law ∙ ap (λ r. whole_call_label ctx env r callee.offers args
+    types) is

@@ -35,7 +35,13 @@ not_static_to_any bases h = go (sub_of h)
     go (s_list to fro) = no_object_is_int fro
 
 assignable_to_any : (bases : Bases) → Assignable bases (ListOf Int) (ListOf Any)
-assignable_to_any bases = record { filled_left = ListOf Int; filled_right = ListOf Int; fills_left = list int; fills_right = list (any tt); is_below = same }
+assignable_to_any bases = record {
+  filled_left = ListOf Int;
+  filled_right = ListOf Int;
+  fills_left = list int;
+  fills_right = list (any tt);
+  is_below = same;
+}
 
 wider_items : (bases : Bases) (s t : Tree) → Fills (ListOf Int) s → Fills (ListOf (Union Int Str)) t → Sub bases s t → ⊥
 wider_items bases _ _ (list int) (list (union int str)) (s_list to (s_both whole other)) = no_text_is_int other
@@ -119,7 +125,11 @@ labels = record {
                           here = clean Any;
                           callee = clean Any;
                           second = None;
-                          arguments = record { first = clean (ListOf Int); flows = quiet_flow (ListOf Int) Any ∷ []; rest = tt };
+                          arguments = record {
+                            first = clean (ListOf Int);
+                            flows = quiet_flow (ListOf Int) Any ∷ [];
+                            rest = tt;
+                          };
                           keywords = tt;
                         };
                         behind = record { env = held; rest = tt };
@@ -142,11 +152,30 @@ labels = record {
 lawful : IsLawful program labels
 unfolding labels builtin_of bases_of classes_of signatures_of
 lawful = (
-  record { params = record { default = refl; rest = tt }; each_local = refl; entry = (refl, tt); body = (refl, refl); completing = may_complete object },
+  record {
+    params = record { default = refl; rest = tt };
+    each_local = refl;
+    entry = (refl, tt);
+    body = (refl, refl);
+    completing = may_complete object;
+  },
   (
-    record { params = record { default = refl; rest = tt }; each_local = refl; entry = (refl, tt); body = (refl, refl); completing = may_complete object },
+    record {
+      params = record { default = refl; rest = tt };
+      each_local = refl;
+      entry = (refl, tt);
+      body = (refl, refl);
+      completing = may_complete object;
+    },
     (
-      record { params = record { default = refl; rest = tt }; each_local = refl; entry = (refl, tt); body = (refl, refl); completing = may_complete object },
+      record {
+        params = record { default = refl; rest = tt };
+        each_local = refl;
+        entry = (refl, tt);
+        body =
+            (refl, refl);
+        completing = may_complete object;
+      },
       (
         record {
           params = tt;
@@ -155,15 +184,68 @@ lawful = (
           body = (
             record {
               after = held;
-              assignment = record { value = record { items = record { first = refl; flows = tt; rest = tt }; here = refl }; at_first = refl; flow = (with_types (static same), tt); after_is = refl };
+              assignment = record {
+                value = record {
+                  items = record { first = refl; flows = tt; rest = tt };
+                  here =
+                      refl;
+                };
+                at_first = refl;
+                flow = (with_types (static same), tt);
+                after_is = refl;
+              };
               is = refl;
             },
             (
-              (record { value = in_error E20; lawful = refl; callee = refl; arguments = record { first = refl; flows = (with_types (wrong (not_assignable [])), tt); rest = tt }; keywords = tt; here = refl; second = refl }, refl),
               (
-                (record { value = in_error E20; lawful = refl; callee = refl; arguments = record { first = refl; flows = (with_types (dynamic (not_static_to_any []) (assignable_to_any [])), tt); rest = tt }; keywords = tt; here = refl; second = refl }, refl),
+                record {
+                  value = in_error E20;
+                  lawful = refl;
+                  callee = refl;
+                  arguments =
+                      record { first = refl; flows = (with_types (wrong (not_assignable [])), tt); rest = tt };
+                  keywords =
+                      tt;
+                  here = refl;
+                  second = refl;
+                },
+                refl,
+              ),
+              (
                 (
-                  (record { value = in_error E20; lawful = refl; callee = refl; arguments = record { first = refl; flows = (with_types (static object), tt); rest = tt }; keywords = tt; here = refl; second = refl }, refl),
+                  record {
+                    value = in_error E20;
+                    lawful = refl;
+                    callee = refl;
+                    arguments =
+                        record {
+                          first = refl;
+                          flows = (
+                            with_types (dynamic (not_static_to_any []) (assignable_to_any [])),
+                            tt,
+                          );
+                          rest = tt;
+                        };
+                    keywords = tt;
+                    here = refl;
+                    second = refl;
+                  },
+                  refl,
+                ),
+                (
+                  (
+                    record {
+                      value = in_error E20;
+                      lawful = refl;
+                      callee = refl;
+                      arguments =
+                          record { first = refl; flows = (with_types (static object), tt); rest = tt };
+                      keywords = tt;
+                      here = refl;
+                      second = refl;
+                    },
+                    refl,
+                  ),
                   refl,
                 ),
               ),

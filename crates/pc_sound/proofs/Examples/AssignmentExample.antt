@@ -32,7 +32,11 @@ labels = record {
     params = tt;
     declared = ListOf Int ∷ Int ∷ [];
     body = record {
-      first = record { value = record { here = clean (ListOf Int); items = tt }; flows = quiet_flow (ListOf Int) (ListOf Int) ∷ [] };
+      first = record {
+        value = record { here = clean (ListOf Int); items = tt };
+        flows =
+            quiet_flow (ListOf Int) (ListOf Int) ∷ [];
+      };
       behind = record {
         env = outside;
         rest = record {
@@ -76,7 +80,13 @@ lawful = (
     body = (
       record {
         after = outside;
-        binding = record { value = record { items = tt; here = refl }; at_first = refl; flow = (with_types (static same), tt); after_is = refl };
+        binding = record {
+          value = record { items = tt; here = refl };
+          at_first = refl;
+          flow =
+              (with_types (static same), tt);
+          after_is = refl;
+        };
         is = refl;
       },
       (

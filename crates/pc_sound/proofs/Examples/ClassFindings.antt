@@ -1,8 +1,10 @@
 -- The findings of the classes of a module as a list, from those of its overrides; and a list of findings told once.
-use Rattle.std.proofs.Common.{◌≡◌, ℕ, zero, suc, ◌+◌, List, [], ◌∷◌, ◌++◌, All, Contains, refl, sym, ap, subst, inl, inr, arith}
+use Rattle.std.proofs.Common.{◌≡◌, ℕ, zero, suc, ◌+◌, List, [], ◌∷◌, ◌++◌, All, Contains, refl, sym, ap, subst, inl}
+use Rattle.std.proofs.Common.{inr, arith}
 use Rattle.std.specs.Prelude.{◌⊎◌, Bool as Test, true, false, ◌&&◌, not, take, Option, Some, None, is_some, slice_get}
 use Rattle.std.specs.List.{AllByRecursion}
-use Rattle.std.proofs.lemmas.List.Elements.{All-contains, All-from_recursion, Contains-append_left, Contains-append_right}
+use Rattle.std.proofs.lemmas.List.Elements.{All-contains, All-from_recursion, Contains-append_left}
+use Rattle.std.proofs.lemmas.List.Elements.{Contains-append_right}
 use Rattle.std.proofs.lemmas.Option.{same_Some}
 use Rattle.pc_tree.specs.declared.code.Code.{Code}
 use Rattle.pc_tree.specs.declared.code.Code.TheVariants.{A8, E06, E07, E08}
@@ -15,7 +17,8 @@ use Rattle.pc_types.specs.Below.{Bases}
 use Rattle.pc_class.specs.Bases.{base_named}
 use Rattle.pc_class.specs.Facts.{Method, binds_field}
 use Rattle.pc_class.specs.Overrides.{Judges, IsGood, IsStatic, dynamic, wrong}
-use Rattle.pc_class.specs.Findings.{HasNoBase, IsFieldBehind, IsOverride, ClassFinds, base_class, member_texts, has_default_before}
+use Rattle.pc_class.specs.Findings.{HasNoBase, IsFieldBehind, IsOverride, ClassFinds, base_class, member_texts}
+use Rattle.pc_class.specs.Findings.{has_default_before}
 use Rattle.pc_class.specs.Findings as class
 use Rattle.pc_types.proofs.Consistent.{static_assignable}
 use Rattle.pc_sound.specs.Examples.{FindsJust}
@@ -29,18 +32,22 @@ abbrev pub each_from : {A : Type 0} → (ℕ → A → List Finding) → ℕ →
 each_from g n [] = []
 each_from g n (x ∷ xs) = g n x ++ each_from g (suc n) xs
 
-among_each : {A : Type 0} (g : ℕ → A → List Finding) (n : ℕ) (xs : List A) (i : ℕ) (x : A) (f : Finding) → slice_get xs i ≡ Some x → Contains (g (n + i) x) f → Contains (each_from g n xs) f
+among_each : {A : Type 0} (g : ℕ → A → List Finding) (n : ℕ) (xs : List A) (i : ℕ) (x : A) (f : Finding)
+    → slice_get xs i ≡ Some x → Contains (g (n + i) x) f → Contains (each_from g n xs) f
 among_each g n [] i x f e c = absurd (grind (arith, e))
-among_each g n (y ∷ ys) zero x f e c = Contains-append_left (g n y) (each_from g (suc n) ys) f (subst (λ k. Contains (g k y) f) none_more (subst (λ z. Contains (g (n + 0) z) f) (sym (same_Some _ _ e)) c))
+among_each g n (y ∷ ys) zero x f e c = Contains-append_left (g n y) (each_from g (suc n) ys) f
+    (subst (λ k. Contains (g k y) f) none_more (subst (λ z. Contains (g (n + 0) z) f) (sym (same_Some _ _ e)) c))
   where
     none_more : n + 0 ≡ n
     none_more = omega arith
-among_each g n (y ∷ ys) (suc i) x f e c = Contains-append_right (g n y) (each_from g (suc n) ys) f (among_each g (suc n) ys i x f e (subst (λ k. Contains (g k x) f) one_more c))
+among_each g n (y ∷ ys) (suc i) x f e c = Contains-append_right (g n y) (each_from g (suc n) ys) f
+    (among_each g (suc n) ys i x f e (subst (λ k. Contains (g k x) f) one_more c))
   where
     one_more : n + suc i ≡ suc n + i
     one_more = omega arith
 
-in_each : {A : Type 0} (g : ℕ → A → List Finding) (xs : List A) (i : ℕ) (x : A) (f : Finding) → slice_get xs i ≡ Some x → Contains (g i x) f → Contains (each_from g 0 xs) f
+in_each : {A : Type 0} (g : ℕ → A → List Finding) (xs : List A) (i : ℕ) (x : A) (f : Finding) → slice_get xs i ≡ Some x
+    → Contains (g i x) f → Contains (each_from g 0 xs) f
 in_each g xs i x f e c = among_each g 0 xs i x f e (subst (λ k. Contains (g k x) f) from_none c)
   where
     from_none : i ≡ 0 + i
@@ -67,7 +74,8 @@ module _ (m : Module) where
   -- a field without default after one with default
   abbrev pub behind_default : (c : ℕ) → ClassDef → ℕ → Member → List Finding
   behind_default c d at (field_member f) =
-      if_true (binds_field (base_class m c d) (member_texts (take at d.members)) f.name.text && (not (is_some f.default) && has_default_before m (base_class m c d) (take at d.members)))
+      if_true (binds_field (base_class m c d) (member_texts (take at d.members)) f.name.text
+      && (not (is_some f.default) && has_default_before m (base_class m c d) (take at d.members)))
       (finding f.name.place E08)
   behind_default c d at (method_member f) = []
 
@@ -80,7 +88,8 @@ module _ (m : Module) where
 
   base_listed : (c : ℕ) (d : ClassDef) (f : Finding) → HasNoBase m d c f → Contains (base_of c d) f
   base_listed c d f h =
-      subst (λ o. Contains (without_base c o) f) (sym h.base) (true_listed (not (is_some (base_named m c (Some h.named)))) _ f (ap (λ o. not (is_some o)) h.none) h.is)
+      subst (λ o. Contains (without_base c o) f) (sym h.base) (true_listed
+      (not (is_some (base_named m c (Some h.named)))) _ f (ap (λ o. not (is_some o)) h.none) h.is)
 
   all_three : (a b c : Test) → a ≡ true → b ≡ false → c ≡ true → (a && (not b && c)) ≡ true
   all_three true false true x y z = refl
@@ -92,7 +101,9 @@ module _ (m : Module) where
   order_listed c d f h =
       in_each (behind_default c d) d.members h.at (field_member h.field) f h.here
       (true_listed _ _ f
-      (all_three (binds_field (base_class m c d) (member_texts (take h.at d.members)) h.field.name.text) (is_some h.field.default) (has_default_before m (base_class m c d) (take h.at d.members)) h.binds h.none h.behind)
+      (all_three (binds_field (base_class m c d) (member_texts (take h.at d.members)) h.field.name.text)
+      (is_some h.field.default) (has_default_before m (base_class m c d) (take h.at d.members)) h.binds h.none
+      h.behind)
       h.is)
 
   -- an override that is found, of some class
@@ -104,20 +115,29 @@ module _ (m : Module) where
 
   module _ (runs : is_runnable m ≡ true) where
     class_found : (f : Finding) → ClassFinds m f → Overrides f ⊎ Contains of_classes f
-    class_found f (class.base c d numbered h) = inr (Contains-append_left (each_from base_of 0 (classes_in m.items)) _ f (in_each base_of (classes_in m.items) c d f numbered.is (base_listed c d f h)))
+    class_found f (class.base c d numbered h) = inr (Contains-append_left (each_from base_of 0 (classes_in m.items)) _ f
+        (in_each base_of (classes_in m.items) c d f numbered.is (base_listed c d f h)))
     class_found f (class.member h) = absurd (none_stops m runs f.place E06 h.stops)
     class_found f (class.order c d numbered h) =
-        inr (Contains-append_right (each_from base_of 0 (classes_in m.items)) (each_from order_of 0 (classes_in m.items)) f (in_each order_of (classes_in m.items) c d f numbered.is (order_listed c d f h)))
-    class_found f (class.override c d numbered h) = inl (record { number = c; class = d; is = numbered.is; override = h })
+        inr (Contains-append_right (each_from base_of 0 (classes_in m.items))
+        (each_from order_of 0 (classes_in m.items)) f (in_each order_of (classes_in m.items) c d f numbered.is
+        (order_listed c d f h)))
+    class_found f (class.override c d numbered h) =
+        inl (record { number = c; class = d; is = numbered.is; override = h })
 
     pub only_overrides : of_classes ≡ [] → (f : Finding) → ClassFinds m f → Overrides f
-    only_overrides none f h = elim (class_found f h) [ inl o ↦ o | inr c ↦ absurd (none_among f (subst (λ fs. Contains fs f) none c)) ]
+    only_overrides none f h = elim (class_found f h) [
+      | inl o ↦ o
+      | inr c ↦
+          absurd (none_among f (subst (λ fs. Contains fs f) none c))
+    ]
 
     pub override_found : (f : Finding) → Overrides f → ClassFinds m f
     override_found f h = class.override h.number h.class (record { is = h.is }) h.override
 
     -- where nothing else is found of classes, the findings of classes are those of overrides
-    abbrev pub classes_listed : of_classes ≡ [] → (fs : List Finding) → ((f : Finding) → Overrides f → Contains fs f) → AllByRecursion Overrides fs → Listing (ClassFinds m)
+    abbrev pub classes_listed : of_classes ≡ [] → (fs : List Finding) → ((f : Finding) → Overrides f → Contains fs f)
+        → AllByRecursion Overrides fs → Listing (ClassFinds m)
     classes_listed none fs into each = record {
       all = fs;
       into = λ f h. into f (only_overrides none f h);
@@ -126,23 +146,31 @@ module _ (m : Module) where
 
 -- ---- overrides
 
-statics_good : (bases : Bases) (new : Method) (olds : List Method) → All (IsStatic bases new) olds → All (IsGood bases new) olds
-statics_good bases new olds h = λ k d b. let x = h k d b in record { shape = x.shape; flows = λ j e l. static_assignable bases _ _ (x.flows j e l) }
+statics_good : (bases : Bases) (new : Method) (olds : List Method) → All (IsStatic bases new) olds
+    → All (IsGood bases new) olds
+statics_good bases new olds h = λ k d b. let x = h k d b in record {
+  shape = x.shape;
+  flows =
+      λ j e l. static_assignable bases _ _ (x.flows j e l);
+}
 
 -- a method that is static to each that it overrides has no code
-pub judged_static : {bases : Bases} {olds : List Method} {new : Method} {code : Code} → All (IsStatic bases new) olds → ¬ (Judges bases olds new (Some code))
+pub judged_static : {bases : Bases} {olds : List Method} {new : Method} {code : Code} → All (IsStatic bases new) olds
+    → ¬ (Judges bases olds new (Some code))
 judged_static statics (dynamic goods not_static) = not_static statics
 judged_static {bases} {olds} {new} statics (wrong not_good) = not_good (statics_good bases new olds statics)
 
 -- one that is good against each has no other code than A8
-pub judged_dynamic : {bases : Bases} {olds : List Method} {new : Method} {code : Code} → All (IsGood bases new) olds → Judges bases olds new (Some code) → code ≡ A8
+pub judged_dynamic : {bases : Bases} {olds : List Method} {new : Method} {code : Code} → All (IsGood bases new) olds
+    → Judges bases olds new (Some code) → code ≡ A8
 judged_dynamic goods (dynamic g n) = refl
 judged_dynamic goods (wrong n) = absurd (n goods)
 
 -- ---- findings told once
 
 -- the findings of a module told once, where a list has some more than once
-pub just_these : (m : Module) (all fs : List Finding) → FindsJust m all → AllByRecursion (Contains fs) all → AllByRecursion (Contains all) fs → FindsJust m fs
+pub just_these : (m : Module) (all fs : List Finding) → FindsJust m all → AllByRecursion (Contains fs) all
+    → AllByRecursion (Contains all) fs → FindsJust m fs
 just_these m all fs just within back f = (
   λ h. All-contains (Contains fs) all f (All-from_recursion (Contains fs) all within) ((just f).0 h),
   λ c. (just f).1 (All-contains (Contains all) fs f (All-from_recursion (Contains all) fs back) c),

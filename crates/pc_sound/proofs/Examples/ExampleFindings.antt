@@ -1,6 +1,8 @@
 -- The findings of a module with a given lawful labelling, as a list: what the examples compute.
-use Rattle.std.proofs.Common.{◌≡◌, ℕ, zero, suc, ◌+◌, ◌<◌, ◌≤◌, List, [], ◌∷◌, ◌++◌, length, refl, sym, ap, ◌∙◌, subst, inl, inr, arith, true≢false, Contains, eq-or-lt_of_le}
-use Rattle.std.specs.Prelude.{◌⊎◌, Bool as Test, true, false, nat_le, take, filter_map, flat_map, Option, Some, None, slice_get}
+use Rattle.std.proofs.Common.{◌≡◌, ℕ, zero, suc, ◌+◌, ◌<◌, ◌≤◌, List, [], ◌∷◌, ◌++◌, length, refl, sym, ap, ◌∙◌, subst}
+use Rattle.std.proofs.Common.{inl, inr, arith, true≢false, Contains, eq-or-lt_of_le}
+use Rattle.std.specs.Prelude.{◌⊎◌, Bool as Test, true, false, nat_le, take, filter_map, flat_map, Option, Some, None}
+use Rattle.std.specs.Prelude.{slice_get}
 use Rattle.std.proofs.lemmas.List.Elements.{Contains-append_left, Contains-append_right, Contains-append_cases}
 use Rattle.std.proofs.lemmas.Bool.Decides.{nat_tests}
 use Rattle.std.proofs.lemmas.Option.{slice_get_within}
@@ -9,7 +11,8 @@ use Rattle.pc_tree.specs.declared.code.Code.{Code}
 use Rattle.pc_tree.specs.declared.code.Code.TheVariants.{E01, E02, E03, E05, E06, E28, E29, E30, E31}
 use Rattle.pc_tree.specs.declared.code.Finding.{Finding}
 use Rattle.pc_tree.specs.Code.{finding}
-use Rattle.pc_tree.specs.Stopping.{has_none, twice, outside_loop, clashing_members, no_main, reserved_bound, default_order, IsStopping, is_runnable}
+use Rattle.pc_tree.specs.Stopping.{has_none, twice, outside_loop, clashing_members, no_main, reserved_bound}
+use Rattle.pc_tree.specs.Stopping.{default_order, IsStopping, is_runnable}
 use Rattle.pc_tree.specs.Tree.{Expr, ClassDef, Item, constant_item, class_item, def_item, Module}
 use Rattle.pc_tree.specs.Machine.Finishing.{name_of_tree}
 use Rattle.pc_scope.specs.declared.resolution.Owner.{Owner}
@@ -21,19 +24,22 @@ use Rattle.pc_scope.specs.Resolution.{resolve, resolve_in_module}
 use Rattle.pc_scope_findings.specs.Unreached.{unreached_places}
 use Rattle.pc_scope.specs.Expressions.{parts_in, other_callee, exprs_in_all}
 use Rattle.pc_scope_findings.specs.Findings as scope
-use Rattle.pc_scope_findings.specs.Findings.{IsUnknownIn, IsUnknown, IsEarlyMeaning, IsEarlyName, IsEarlyCallee, IsEarly, IsUnreachable, ScopeFinds}
+use Rattle.pc_scope_findings.specs.Findings.{IsUnknownIn, IsUnknown, IsEarlyMeaning, IsEarlyName, IsEarlyCallee}
+use Rattle.pc_scope_findings.specs.Findings.{IsEarly, IsUnreachable, ScopeFinds}
 use Rattle.pc_types.specs.Tree.{Tree}
 use Rattle.pc_types.specs.Below.{Bases}
 use Rattle.pc_class.specs.Findings as class
 use Rattle.pc_class.specs.Findings.{ClassFinds}
 use Rattle.pc_rules.specs.Operations.{Label, FlowLabel}
 use Rattle.pc_rules.specs.Context.{FlowUnless, FlowAt, is_early}
-use Rattle.pc_module_rules.specs.Modules.{Labelling, IsLawful, LabelsSay, LabelsFind, IsFinding, constant_types, nothing_before}
+use Rattle.pc_module_rules.specs.Modules.{Labelling, IsLawful, LabelsSay, LabelsFind, IsFinding, constant_types}
+use Rattle.pc_module_rules.specs.Modules.{nothing_before}
 use Rattle.pc_module_rules.proofs.Scopes.{said_is_found}
 use Rattle.pc_module_rules.proofs.OneModule.{one_labelling}
 use Rattle.pc_sound.specs.Examples.{FindsJust}
 use Rattle.pc_sound.proofs.Lists.{among_first, first_among, later_among, none_among}
-use Rattle.pc_sound.proofs.Examples.FindingLists.{Listing, none_listed, nothing_listed, equal_listed, both_listed, like, all_items_listed}
+use Rattle.pc_sound.proofs.Examples.FindingLists.{Listing, none_listed, nothing_listed, equal_listed, both_listed, like}
+use Rattle.pc_sound.proofs.Examples.FindingLists.{all_items_listed}
 
 -- ---- flows in labels
 
@@ -42,15 +48,19 @@ abbrev pub quiet_flow : Tree → Tree → FlowLabel
 quiet_flow s t = record { from = s; into = t; code = None }
 
 -- the label of a flow with its types
-pub with_types : {bases : Bases} {m : Label} {t : Tree} {code : Option Code} → FlowUnless (is_early m.codes) bases m.type t code → FlowAt bases m t (record { from = m.type; into = t; code = code })
+pub with_types : {bases : Bases} {m : Label} {t : Tree} {code : Option Code}
+    → FlowUnless (is_early m.codes) bases m.type t code → FlowAt bases m t
+    (record { from = m.type; into = t; code = code })
 with_types h = record { from = refl; into = refl; code = h }
 
 -- ---- of each element of a list
 
-pub among_into : {A : Type 0} {P : A → Finding → Type 0} (xs : List A) (each : (x : A) → Listing (P x)) (f : Finding) (x : A) → Contains xs x → P x f → Contains (flat_map (λ y. (each y).all) xs) f
+pub among_into : {A : Type 0} {P : A → Finding → Type 0} (xs : List A) (each : (x : A) → Listing (P x)) (f : Finding)
+    (x : A) → Contains xs x → P x f → Contains (flat_map (λ y. (each y).all) xs) f
 among_into [] each f x c h = absurd (none_among x c)
 among_into {A} {P} (y ∷ ys) each f x c h = elim (among_first y ys x c) [
-  | inl a ↦ Contains-append_left (each y).all (flat_map (λ z. (each z).all) ys) f ((each y).into f (subst (λ z. P z f) (sym a) h))
+  | inl a ↦ Contains-append_left (each y).all (flat_map (λ z. (each z).all) ys) f
+      ((each y).into f (subst (λ z. P z f) (sym a) h))
   | inr b ↦ Contains-append_right (each y).all (flat_map (λ z. (each z).all) ys) f (among_into ys each f x b h)
 ]
 
@@ -60,15 +70,26 @@ pub record OfElement {A : Type 0} (xs : List A) (P : A → Finding → Type 0) (
   pub among : Contains xs element
   pub found : P element f
 
-pub among_from : {A : Type 0} {P : A → Finding → Type 0} (xs : List A) (each : (x : A) → Listing (P x)) (f : Finding) → Contains (flat_map (λ y. (each y).all) xs) f → OfElement xs P f
+pub among_from : {A : Type 0} {P : A → Finding → Type 0} (xs : List A) (each : (x : A) → Listing (P x)) (f : Finding)
+    → Contains (flat_map (λ y. (each y).all) xs) f → OfElement xs P f
 among_from [] each f c = absurd (none_among f c)
 among_from (y ∷ ys) each f c = elim (Contains-append_cases (each y).all (flat_map (λ z. (each z).all) ys) f c) [
   | inl a ↦ record { element = y; among = first_among y ys; found = (each y).from f a }
-  | inr b ↦ let r = among_from ys each f b in record { element = r.element; among = later_among y ys r.element r.among; found = r.found }
+  | inr b ↦ let r = among_from ys each f b in record {
+    element = r.element;
+    among = later_among y ys r.element r.among;
+    found = r.found;
+  }
 ]
 
-abbrev pub among_listed : {A : Type 0} {P : A → Finding → Type 0} (xs : List A) → ((x : A) → Listing (P x)) → Listing (OfElement xs P)
-among_listed xs each = record { all = flat_map (λ y. (each y).all) xs; into = λ f h. among_into xs each f h.element h.among h.found; from = λ f c. among_from xs each f c }
+abbrev pub among_listed : {A : Type 0} {P : A → Finding → Type 0} (xs : List A) → ((x : A) → Listing (P x))
+    → Listing (OfElement xs P)
+among_listed xs each = record {
+  all = flat_map (λ y. (each y).all) xs;
+  into = λ f h. among_into xs each f h.element
+      h.among h.found;
+  from = λ f c. among_from xs each f c;
+}
 
 -- the numbers below another one
 abbrev pub numbers_behind : ℕ → ℕ → List ℕ
@@ -81,8 +102,10 @@ numbers_below n = numbers_behind 0 n
 numbered_behind : (first n k : ℕ) → first ≤ k → k < first + n → Contains (numbers_behind first n) k
 numbered_behind first zero k above below = absurd (omega (arith, above, below))
 numbered_behind first (suc n) k above below = elim (eq-or-lt_of_le above) [
-  | inl is ↦ subst (λ x. Contains (first ∷ numbers_behind (suc first) n) x) is (first_among first (numbers_behind (suc first) n))
-  | inr is ↦ later_among first (numbers_behind (suc first) n) k (numbered_behind (suc first) n k (omega (arith, above, is)) (omega (arith, below)))
+  | inl is ↦ subst (λ x. Contains (first ∷ numbers_behind (suc first) n) x) is
+      (first_among first (numbers_behind (suc first) n))
+  | inr is ↦ later_among first (numbers_behind (suc first) n) k
+      (numbered_behind (suc first) n k (omega (arith, above, is)) (omega (arith, below)))
 ]
 
 pub numbered : (n k : ℕ) → k < n → Contains (numbers_below n) k
@@ -126,7 +149,8 @@ nothing_meant (res.Builtin b) g = none_listed (λ f h. known (res.Builtin b) ref
 
 module _ (m : Module) where
   abbrev pub unknown_in : (owner : Owner) (e : Expr) → Listing (IsUnknownIn m owner e)
-  unknown_in owner e = like (among_listed (filter_map name_of_tree (parts_in true e)) (λ n. nothing_meant (resolve m owner n.text) (finding n.place E02)))
+  unknown_in owner e = like (among_listed (filter_map name_of_tree (parts_in true e))
+      (λ n. nothing_meant (resolve m owner n.text) (finding n.place E02)))
       (λ f h. record { n = h.element; named = h.among; unknown = h.found.0; is = h.found.1 })
       (λ f h. record { element = h.n; among = h.named; found = (h.unknown, h.is) })
 
@@ -136,12 +160,14 @@ module _ (m : Module) where
 
   abbrev pub bare_listed : (imported : Test) → Listing (IsBare imported)
   bare_listed true = none_listed (λ f h. true≢false h.0)
-  bare_listed false = like (among_listed (classes_in m.items) (λ c. equal_listed (finding c.decorator E02))) (λ f h. (refl, h)) (λ f h. h.1)
+  bare_listed false = like (among_listed (classes_in m.items) (λ c. equal_listed (finding c.decorator E02)))
+      (λ f h. (refl, h)) (λ f h. h.1)
 
   abbrev pub UnknownCases : Finding → Type 0
   UnknownCases f =
       OfElement (constants_in m.items) (λ c. IsUnknownIn m owners.Module c.value) f
-      ⊎ (OfElement (bodies m) (λ b. OfElement (exprs_in_all true b.function.body) (λ e. IsUnknownIn m b.owner e)) f ⊎ IsBare m.imports_dataclass f)
+      ⊎ (OfElement (bodies m) (λ b. OfElement (exprs_in_all true b.function.body) (λ e. IsUnknownIn m b.owner e)) f
+      ⊎ IsBare m.imports_dataclass f)
 
   pub unknown_to : (f : Finding) → UnknownCases f → IsUnknown m f
   unknown_to f (inl h) = scope.in_constant h.element h.among h.found
@@ -150,13 +176,16 @@ module _ (m : Module) where
 
   pub unknown_back : (f : Finding) → IsUnknown m f → UnknownCases f
   unknown_back f (scope.in_constant c among h) = inl (record { element = c; among = among; found = h })
-  unknown_back f (scope.in_body b e body among h) = inr (inl (record { element = b; among = body; found = record { element = e; among = among; found = h } }))
-  unknown_back f (scope.decorator c header among is) = inr (inr (header, record { element = c; among = among; found = is }))
+  unknown_back f (scope.in_body b e body among h) =
+      inr (inl (record { element = b; among = body; found = record { element = e; among = among; found = h } }))
+  unknown_back f (scope.decorator c header among is) =
+      inr (inr (header, record { element = c; among = among; found = is }))
 
   abbrev pub unknown_listed : Listing (IsUnknown m)
   unknown_listed = like
       (both_listed (among_listed (constants_in m.items) (λ c. unknown_in owners.Module c.value))
-      (both_listed (among_listed (bodies m) (λ b. among_listed (exprs_in_all true b.function.body) (λ e. unknown_in b.owner e))) (bare_listed m.imports_dataclass)))
+      (both_listed (among_listed (bodies m) (λ b. among_listed (exprs_in_all true b.function.body)
+      (λ e. unknown_in b.owner e))) (bare_listed m.imports_dataclass)))
       unknown_to unknown_back
 
   -- ---- what an initializer may not name
@@ -184,7 +213,8 @@ module _ (m : Module) where
   early_meaning_at k c g res.None = none_listed (λ f h. h.0)
 
   abbrev pub early_names : (k c : ℕ) (e : Expr) → Listing (IsEarlyName m k c e)
-  early_names k c e = like (among_listed (filter_map name_of_tree (parts_in false e)) (λ n. early_meaning_at k c (finding n.place E03) (resolve_in_module m n.text)))
+  early_names k c e = like (among_listed (filter_map name_of_tree (parts_in false e))
+      (λ n. early_meaning_at k c (finding n.place E03) (resolve_in_module m n.text)))
       (λ f h. record { n = h.element; named = h.among; early = h.found.0; is = h.found.1 })
       (λ f h. record { element = h.n; among = h.named; found = (h.early, h.is) })
 
@@ -196,17 +226,20 @@ module _ (m : Module) where
   -- what is found at an item
   abbrev pub EarlyAt : ℕ → Option Item → Finding → Type 0
   EarlyAt at None f = ⊥
-  EarlyAt at (Some (constant_item p c)) f = IsEarlyName m (length (constants_in (take at m.items))) (length (classes_in (take at m.items))) c.value f ⊎ IsEarlyCallee c.value f
+  EarlyAt at (Some (constant_item p c)) f = IsEarlyName m (length (constants_in (take at m.items)))
+      (length (classes_in (take at m.items))) c.value f ⊎ IsEarlyCallee c.value f
   EarlyAt at (Some (class_item p c)) f = ⊥
   EarlyAt at (Some (def_item p d)) f = ⊥
 
   abbrev pub early_at : (at : ℕ) (i : Option Item) → Listing (EarlyAt at i)
   early_at at None = nothing_listed
-  early_at at (Some (constant_item p c)) = both_listed (early_names (length (constants_in (take at m.items))) (length (classes_in (take at m.items))) c.value) (early_callees c.value)
+  early_at at (Some (constant_item p c)) = both_listed (early_names (length (constants_in (take at m.items)))
+      (length (classes_in (take at m.items))) c.value) (early_callees c.value)
   early_at at (Some (class_item p c)) = nothing_listed
   early_at at (Some (def_item p d)) = nothing_listed
 
-  pub early_to : (f : Finding) → OfElement (numbers_below (length m.items)) (λ at. EarlyAt at (slice_get m.items at)) f → IsEarly m f
+  pub early_to : (f : Finding) → OfElement (numbers_below (length m.items)) (λ at. EarlyAt at (slice_get m.items at)) f
+      → IsEarly m f
   early_to f h = go h.element (slice_get m.items h.element) refl h.found
     where
       go : (at : ℕ) (i : Option Item) → slice_get m.items at ≡ i → EarlyAt at i f → IsEarly m f
@@ -215,18 +248,43 @@ module _ (m : Module) where
       go at (Some (class_item p c)) e found = absurd found
       go at (Some (def_item p d)) e found = absurd found
 
-  pub early_back : (f : Finding) → IsEarly m f → OfElement (numbers_below (length m.items)) (λ at. EarlyAt at (slice_get m.items at)) f
-  early_back f h = record { element = h.at; among = numbered (length m.items) h.at (slice_get_within m.items h.at (constant_item h.first h.constant) h.item); found = subst (λ i. EarlyAt h.at i f) (sym h.item) h.found }
+  pub early_back : (f : Finding) → IsEarly m f → OfElement (numbers_below (length m.items))
+      (λ at. EarlyAt at (slice_get m.items at)) f
+  early_back f h = record {
+    element = h.at;
+    among = numbered (length m.items) h.at
+        (slice_get_within m.items h.at (constant_item h.first h.constant) h.item);
+    found = subst (λ i. EarlyAt h.at i f)
+        (sym h.item) h.found;
+  }
 
   abbrev pub early_listed : Listing (IsEarly m)
-  early_listed = like (among_listed (numbers_below (length m.items)) (λ at. early_at at (slice_get m.items at))) early_to early_back
+  early_listed = like (among_listed (numbers_below (length m.items)) (λ at. early_at at (slice_get m.items at)))
+      early_to early_back
 
   -- ---- what no run reaches
 
   abbrev pub unreachable_listed : Listing (IsUnreachable m)
-  unreachable_listed = like (among_listed (bodies m) (λ b. among_listed (unreached_places b.function.body) (λ p. equal_listed (finding p E30))))
-      (λ f h. record { body = h.element; of = h.among; place = h.found.element; first = h.found.among; is = h.found.found })
-      (λ f h. record { element = h.body; among = h.of; found = record { element = h.place; among = h.first; found = h.is } })
+  unreachable_listed = like (among_listed (bodies m) (λ b. among_listed (unreached_places b.function.body)
+      (λ p. equal_listed (finding p E30))))
+      (λ f h. record {
+        body = h.element;
+        of = h.among;
+        place = h.found.element;
+        first = h.found.among;
+        is =
+            h.found.found;
+      })
+      (λ f h. record {
+        element = h.body;
+        among = h.of;
+        found = record {
+          element = h.place;
+          among = h.first;
+          found =
+              h.is;
+        };
+      })
 
   -- ---- a module that no code stops
 
@@ -234,10 +292,16 @@ module _ (m : Module) where
     pub none_stops : (p : Place) (code : Code) → IsStopping m p code → ⊥
     none_stops p E01 c = none_of (twice m) c (front_none (twice m) _ runs)
     none_stops p E05 c = none_of (outside_loop m) c (front_none (outside_loop m) _ (rest_none (twice m) _ runs))
-    none_stops p E06 c = none_of (clashing_members m) c (front_none (clashing_members m) _ (rest_none (outside_loop m) _ (rest_none (twice m) _ runs)))
-    none_stops p E28 c = none_of (no_main m) c (front_none (no_main m) _ (rest_none (clashing_members m) _ (rest_none (outside_loop m) _ (rest_none (twice m) _ runs))))
-    none_stops p E29 c = none_of (reserved_bound m) c (front_none (reserved_bound m) _ (rest_none (no_main m) _ (rest_none (clashing_members m) _ (rest_none (outside_loop m) _ (rest_none (twice m) _ runs)))))
-    none_stops p E31 c = none_of (default_order m) c (rest_none (reserved_bound m) _ (rest_none (no_main m) _ (rest_none (clashing_members m) _ (rest_none (outside_loop m) _ (rest_none (twice m) _ runs)))))
+    none_stops p E06 c = none_of (clashing_members m) c (front_none (clashing_members m) _
+        (rest_none (outside_loop m) _ (rest_none (twice m) _ runs)))
+    none_stops p E28 c = none_of (no_main m) c (front_none (no_main m) _
+        (rest_none (clashing_members m) _ (rest_none (outside_loop m) _ (rest_none (twice m) _ runs))))
+    none_stops p E29 c = none_of (reserved_bound m) c (front_none (reserved_bound m) _
+        (rest_none (no_main m) _ (rest_none (clashing_members m) _
+        (rest_none (outside_loop m) _ (rest_none (twice m) _ runs)))))
+    none_stops p E31 c = none_of (default_order m) c (rest_none (reserved_bound m) _
+        (rest_none (no_main m) _ (rest_none (clashing_members m) _
+        (rest_none (outside_loop m) _ (rest_none (twice m) _ runs)))))
     none_stops p _ c = none_among p c
 
     abbrev pub ScopeCases : Finding → Type 0
@@ -274,7 +338,8 @@ module _ (m : Module) where
       Found f = ScopeFinds m f ⊎ (ClassFinds m f ⊎ LabelsSay m labels f)
 
       abbrev pub module_listed : Listing Found
-      module_listed = both_listed scope_listed (both_listed classes (all_items_listed m (constant_types m m.items labels) nothing_before m.items labels))
+      module_listed = both_listed scope_listed (both_listed classes
+          (all_items_listed m (constant_types m m.items labels) nothing_before m.items labels))
 
       -- what is found under one lawful labelling is found of the module
       pub found_of_one : IsLawful m labels → (f : Finding) → Found f → IsFinding m f
@@ -284,11 +349,15 @@ module _ (m : Module) where
 
       -- and nothing else, since there is no other lawful labelling
       pub found_under_one : IsLawful m labels → (f : Finding) → IsFinding m f → Found f
-      found_under_one lawful f h = elim (subst (λ ms. ScopeFinds m f ⊎ (ClassFinds m f ⊎ LabelsFind m ms f)) (one_labelling m h.labels labels h.lawful lawful) h.found) [
-        | inl a ↦ inl a
-        | inr b ↦ elim b [ inl c ↦ inr (inl c) | inr d ↦ inr (inr d.said) ]
-      ]
+      found_under_one lawful f h = elim (subst (λ ms. ScopeFinds m f ⊎ (ClassFinds m f ⊎ LabelsFind m ms f))
+          (one_labelling m h.labels labels h.lawful lawful) h.found) [
+            | inl a ↦ inl a
+            | inr b ↦ elim b [ inl c ↦ inr (inl c) | inr d ↦ inr (inr d.said) ]
+          ]
 
       -- the findings of a module with this lawful labelling are just those of the list
       pub finds_just : IsLawful m labels → FindsJust m module_listed.all
-      finds_just lawful f = ((λ h. module_listed.into f (found_under_one lawful f h)), (λ c. found_of_one lawful f (module_listed.from f c)))
+      finds_just lawful f = (
+        (λ h. module_listed.into f (found_under_one lawful f h)),
+        (λ c. found_of_one lawful f (module_listed.from f c)),
+      )

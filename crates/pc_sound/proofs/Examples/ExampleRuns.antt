@@ -23,5 +23,13 @@ over (suc least) zero h = absurd (omega (arith, h))
 over (suc least) (suc n) h = let o = over least n (omega (arith, h)) in record { rest = o.rest; is = ap suc o.is }
 
 -- a module runs as it does plainly, without choices, for some fuel
-pub runs_plainly : (m : Module) (fuel : ℕ) (events : List Place) (end : End) → is_runnable m ≡ true → ((rest : ℕ) → Leaves (plain_module (sucs (suc fuel) rest) m (begin fuel [])) events end) → Run m events end
-runs_plainly m fuel events end runnable leaves = plain_is_run m fuel [] events end (inr (runnable, record { leaves = λ bound room. let o = over (suc fuel) bound (omega (arith, room)) in subst (λ n. Leaves (plain_module n m (begin fuel [])) events end) o.is (leaves o.rest) }))
+pub runs_plainly : (m : Module) (fuel : ℕ) (events : List Place) (end : End) → is_runnable m ≡ true
+    → ((rest : ℕ) → Leaves (plain_module (sucs (suc fuel) rest) m (begin fuel [])) events end) → Run m events end
+runs_plainly m fuel events end runnable leaves = plain_is_run m fuel [] events end
+    (inr (
+      runnable,
+      record {
+        leaves = λ bound room. let o = over (suc fuel) bound (omega (arith, room)) in
+            subst (λ n. Leaves (plain_module n m (begin fuel [])) events end) o.is (leaves o.rest);
+      },
+    ))

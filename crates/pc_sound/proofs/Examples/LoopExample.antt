@@ -49,7 +49,12 @@ labels = record {
               behind = record {
                 env = wide;
                 rest = record {
-                  first = record { value = clean NoneType; target = tt; flows = quiet_flow NoneType (Union Int NoneType) ∷ [] };
+                  first = record {
+                    value = clean NoneType;
+                    target = tt;
+                    flows = quiet_flow NoneType (Union Int NoneType)
+                        ∷ [];
+                  };
                   behind = record { env = Some NoneType ∷ []; rest = tt };
                 };
               };
@@ -107,7 +112,20 @@ lawful = (
           condition = refl;
           body = (
             (record { left = refl; right = refl; here = refl }, refl),
-            (record { after = Some NoneType ∷ []; assignment = record { value = refl; at_first = tt; flow = (with_types (static right), tt); after_is = refl }; is = refl }, refl),
+            (
+              record {
+                after = Some NoneType ∷ [];
+                assignment = record {
+                  value = refl;
+                  at_first = tt;
+                  flow =
+                      (with_types (static right), tt);
+                  after_is = refl;
+                };
+                is = refl;
+              },
+              refl,
+            ),
           );
           after = refl;
         },

@@ -41,7 +41,12 @@ labels = record {
             here = test_of_any;
             callee = clean Any;
             second = None;
-            arguments = record { first = clean Any; flows = []; rest = record { first = in_error E20; flows = []; rest = tt } };
+            arguments = record {
+              first = clean Any;
+              flows = [];
+              rest =
+                  record { first = in_error E20; flows = []; rest = tt };
+            };
             keywords = tt;
           };
           body = record {
@@ -70,7 +75,12 @@ labels = record {
                 here = clean Bool;
                 callee = clean Any;
                 second = None;
-                arguments = record { first = clean list_or_none; flows = []; rest = record { first = in_error E20; flows = []; rest = tt } };
+                arguments = record {
+                  first = clean list_or_none;
+                  flows = [];
+                  rest =
+                      record { first = in_error E20; flows = []; rest = tt };
+                };
                 keywords = tt;
               };
               body = record {

@@ -16,7 +16,8 @@ use Rattle.pc_machine.specs.Runs.{Run}
 use Rattle.pc_sound.specs.Examples.{FindsJust}
 use Rattle.pc_sound.specs.OrderExample.{program, findings, events, end}
 use Rattle.pc_sound.proofs.Examples.ClassFindings.{just_these}
-use Rattle.pc_sound.proofs.Examples.ExampleFindings.{quiet_flow, with_types, no_classes_listed, finds_just, module_listed}
+use Rattle.pc_sound.proofs.Examples.ExampleFindings.{quiet_flow, with_types, no_classes_listed, finds_just}
+use Rattle.pc_sound.proofs.Examples.ExampleFindings.{module_listed}
 use Rattle.pc_sound.proofs.Examples.ExampleRuns.{runs_plainly}
 
 labels : Labelling program
@@ -88,7 +89,8 @@ all_found = (module_listed program refl labels (no_classes_listed program refl r
 -- the finding of scopes and that of the label are one
 pub found : FindsJust program findings
 unfolding labels builtin_of bases_of classes_of signatures_of
-found = just_these program all_found findings (finds_just program refl labels (no_classes_listed program refl refl) lawful) ((0, omega arith, refl), ((0, omega arith, refl), tt)) ((0, omega arith, refl), tt)
+found = just_these program all_found findings (finds_just program refl labels (no_classes_listed program refl refl)
+    lawful) ((0, omega arith, refl), ((0, omega arith, refl), tt)) ((0, omega arith, refl), tt)
 
 pub runs : Run program events end
 runs = runs_plainly program 2 events end refl (λ rest. (refl, refl))

@@ -1,6 +1,8 @@
--- Names as values: locals, and constants of the module; a function, a class, a reserved name and an unknown one is an error.
+-- Names as values: locals, and constants of the module; a function, a class, a reserved name and an unknown one is an
+-- error.
 use Rattle.std.proofs.Common.{◌≡◌, ℕ, List, [], ◌∷◌, refl, sym, ap, ◌∙◌, subst, arith, Contains}
-use Rattle.std.specs.Prelude.{Bool as Test, true, false, if◌then◌else◌, nat_lt, Option, Some, None, slice_get, codes, bytes_eq}
+use Rattle.std.specs.Prelude.{Bool as Test, true, false, if◌then◌else◌, nat_lt, Option, Some, None, slice_get, codes}
+use Rattle.std.specs.Prelude.{bytes_eq}
 use Rattle.std.proofs.lemmas.Slice.Eq.{bytes_eq-Decides}
 use Rattle.std.proofs.lemmas.Option.{same_Some}
 use Rattle.pc_source.specs.declared.place.Place.{Place}
@@ -23,7 +25,8 @@ use Rattle.pc_rules.specs.Context.{Context, name_label, constant_label}
 use Rattle.pc_rules.specs.Labels.{IsFoundAt}
 use Rattle.pc_value.specs.Value.{Value}
 use Rattle.pc_machine.specs.State.{State, Class, Globals, a_value, a_class}
-use Rattle.pc_machine.specs.Names.{means_class, means_reserved, meaning_in_run, meaning_of_local, meaning_of_global, local_by_name, global_by_name}
+use Rattle.pc_machine.specs.Names.{means_class, means_reserved, meaning_in_run, meaning_of_local, meaning_of_global}
+use Rattle.pc_machine.specs.Names.{local_by_name, global_by_name}
 use Rattle.pc_machine.specs.Calls.{value_of_meaning}
 use Rattle.pc_machine.specs.Steps.{Parts}
 use Rattle.pc_machine.specs.Evaluation.{eval_node}
@@ -42,11 +45,17 @@ pub record BoundValue (bases : Bases) (k : HeapTyping) (word : List ℕ) (global
 
 -- what is known outside of a body of the names that it may name
 pub record KnowsNames (around : Around) (ctx : Context) : Type 0 where
-  pub constant : (word : List ℕ) (i : ℕ) (t : Tree) → ctx.resolve word ≡ res.Const i → slice_get ctx.constants i ≡ Some t → (k : HeapTyping) (made : List Class) (globals : Globals) → around.outside k made globals → BoundValue around.bases k word globals t
-  pub class : (word : List ℕ) (c : ℕ) → ctx.resolve word ≡ res.Class c → nat_lt c ctx.known ≡ true → (k : HeapTyping) (made : List Class) (globals : Globals) → around.outside k made globals → global_by_name word globals ≡ Some (a_class c)
+  pub constant : (word : List ℕ) (i : ℕ) (t : Tree) → ctx.resolve word ≡ res.Const i
+      → slice_get ctx.constants i ≡ Some t → (k : HeapTyping) (made : List Class) (globals : Globals)
+      → around.outside k made globals → BoundValue around.bases k word globals t
+  pub class : (word : List ℕ) (c : ℕ) → ctx.resolve word ≡ res.Class c → nat_lt c ctx.known ≡ true
+      → (k : HeapTyping) (made : List Class) (globals : Globals) → around.outside k made globals
+      → global_by_name word globals ≡ Some (a_class c)
   pub builtin : (word : List ℕ) (b : Builtin) → ctx.resolve word ≡ res.Builtin b → builtin_of word ≡ Some b
   pub reserved : (word : List ℕ) (b : Builtin) → builtin_of word ≡ Some b → ctx.resolve word ≡ res.Builtin b
-  pub unbound : (word : List ℕ) (b : Builtin) → ctx.resolve word ≡ res.Builtin b → (k : HeapTyping) (made : List Class) (globals : Globals) → around.outside k made globals → global_by_name word globals ≡ None
+  pub unbound : (word : List ℕ) (b : Builtin) → ctx.resolve word ≡ res.Builtin b
+      → (k : HeapTyping) (made : List Class) (globals : Globals) → around.outside k made globals
+      → global_by_name word globals ≡ None
 
 -- ---- reserved names
 
@@ -71,17 +80,22 @@ abbrev AreTexts : List (List ℕ × Builtin) → Type 0
 AreTexts [] = Unit {0}
 AreTexts (e ∷ es) = (e.0 ≡ builtin_text e.1) × AreTexts es
 
-beside_text : (es : List (List ℕ × Builtin)) → AreTexts es → (word : List ℕ) (b : Builtin) → beside es word ≡ Some b → word ≡ builtin_text b
+beside_text : (es : List (List ℕ × Builtin)) → AreTexts es → (word : List ℕ) (b : Builtin) → beside es word ≡ Some b
+    → word ≡ builtin_text b
 beside_text [] all word b e = absurd (grind (arith, e))
 beside_text (x ∷ es) all word b e = go (bytes_eq x.0 word) refl e (λ e'. beside_text es all.1 word b e')
   where
-    go : (t : Test) → bytes_eq x.0 word ≡ t → (if t then Some x.1 else beside es word) ≡ Some b → (beside es word ≡ Some b → word ≡ builtin_text b) → word ≡ builtin_text b
+    go : (t : Test) → bytes_eq x.0 word ≡ t → (if t then Some x.1 else beside es word) ≡ Some b
+        → (beside es word ≡ Some b → word ≡ builtin_text b) → word ≡ builtin_text b
     go true is e rest = sym ((bytes_eq-Decides x.0 word).0 is) ∙ all.0 ∙ ap builtin_text (same_Some _ _ e)
     go false is e rest = rest e
 
 pub text_of_builtin : (word : List ℕ) (b : Builtin) → builtin_of word ≡ Some b → word ≡ builtin_text b
 unfolding builtin_of
-text_of_builtin word b e = beside_text reserved_builtins (refl, (refl, (refl, (refl, (refl, (refl, (refl, (refl, (refl, (refl, (refl, (refl, (refl, (refl, tt)))))))))))))) word b e
+text_of_builtin word b e = beside_text reserved_builtins (
+  refl,
+  (refl, (refl, (refl, (refl, (refl, (refl, (refl, (refl, (refl, (refl, (refl, (refl, (refl, tt))))))))))))),
+) word b e
 
 reserved_text : (b : Builtin) → is_reserved (builtin_text b) ≡ true
 reserved_text builtin.Any = refl
@@ -103,7 +117,8 @@ reserved_text builtin.Tuple = refl
 
 module _ (around : Around) (ctx : Context) (fits : IsContextOf around ctx) where
   -- a name that means no local is none in the frame
-  pub no_local : (word : List ℕ) → ((x : ℕ) → ctx.resolve word ≡ res.Local x → ⊥) → (env : Env) (k : HeapTyping) (s : State) → IsWellTyped around env k s → local_by_name word s.frame ≡ None
+  pub no_local : (word : List ℕ) → ((x : ℕ) → ctx.resolve word ≡ res.Local x → ⊥)
+      → (env : Env) (k : HeapTyping) (s : State) → IsWellTyped around env k s → local_by_name word s.frame ≡ None
   no_local word other env k s st = go (index_of word around.names) refl
     where
       go : (o : Option ℕ) → index_of word around.names ≡ o → local_by_name word s.frame ≡ None
@@ -111,31 +126,45 @@ module _ (around : Around) (ctx : Context) (fits : IsContextOf around ctx) where
       go (Some x) e = absurd (other x (fits.named word x e))
 
   -- what a name of the module means
-  pub meaning_outside : (word : List ℕ) → ((x : ℕ) → ctx.resolve word ≡ res.Local x → ⊥) → (env : Env) (k : HeapTyping) (s : State) → IsWellTyped around env k s → meaning_in_run word s ≡ meaning_of_global (is_reserved word) (global_by_name word s.globals)
-  meaning_outside word other env k s st = ap (meaning_of_local (meaning_of_global (is_reserved word) (global_by_name word s.globals))) (no_local word other env k s st)
+  pub meaning_outside : (word : List ℕ) → ((x : ℕ) → ctx.resolve word ≡ res.Local x → ⊥)
+      → (env : Env) (k : HeapTyping) (s : State) → IsWellTyped around env k s
+      → meaning_in_run word s ≡ meaning_of_global (is_reserved word) (global_by_name word s.globals)
+  meaning_outside word other env k s st =
+      ap (meaning_of_local (meaning_of_global (is_reserved word) (global_by_name word s.globals)))
+      (no_local word other env k s st)
 
   module _ (knows : KnowsNames around ctx) (env : Env) where
-    const_no_local : (word : List ℕ) (i : ℕ) → ctx.resolve word ≡ res.Const i → (x : ℕ) → ctx.resolve word ≡ res.Local x → ⊥
+    const_no_local : (word : List ℕ) (i : ℕ) → ctx.resolve word ≡ res.Const i → (x : ℕ) → ctx.resolve word ≡ res.Local x
+        → ⊥
     const_no_local word i e x e' = absurd (grind (arith, sym e ∙ e'))
 
-    class_no_local : (word : List ℕ) (i : ℕ) → ctx.resolve word ≡ res.Class i → (x : ℕ) → ctx.resolve word ≡ res.Local x → ⊥
+    class_no_local : (word : List ℕ) (i : ℕ) → ctx.resolve word ≡ res.Class i → (x : ℕ) → ctx.resolve word ≡ res.Local x
+        → ⊥
     class_no_local word i e x e' = absurd (grind (arith, sym e ∙ e'))
 
-    builtin_no_local : (word : List ℕ) (b : Builtin) → ctx.resolve word ≡ res.Builtin b → (x : ℕ) → ctx.resolve word ≡ res.Local x → ⊥
+    builtin_no_local : (word : List ℕ) (b : Builtin) → ctx.resolve word ≡ res.Builtin b → (x : ℕ)
+        → ctx.resolve word ≡ res.Local x → ⊥
     builtin_no_local word b e x e' = absurd (grind (arith, sym e ∙ e'))
 
-    pub means_constant : (word : List ℕ) (i : ℕ) (t : Tree) → ctx.resolve word ≡ res.Const i → slice_get ctx.constants i ≡ Some t → (k : HeapTyping) (s : State) → IsWellTyped around env k s → EndsWell (λ v. HasType around.bases k t v) (value_of_meaning (meaning_in_run word s))
+    pub means_constant : (word : List ℕ) (i : ℕ) (t : Tree) → ctx.resolve word ≡ res.Const i → slice_get ctx.constants i
+        ≡ Some t → (k : HeapTyping) (s : State) → IsWellTyped around env k s
+        → EndsWell (λ v. HasType around.bases k t v) (value_of_meaning (meaning_in_run word s))
     means_constant word i t e known k s st =
         let b = knows.constant word i t e known k s.classes s.globals st.outside in
-        subst (λ m. EndsWell (λ v. HasType around.bases k t v) (value_of_meaning m)) (sym (meaning_outside word (const_no_local word i e) env k s st ∙ ap (meaning_of_global (is_reserved word)) b.is)) b.has
+        subst (λ m. EndsWell (λ v. HasType around.bases k t v) (value_of_meaning m))
+        (sym (meaning_outside word (const_no_local word i e) env k s st ∙ ap (meaning_of_global (is_reserved word))
+        b.is)) b.has
 
-    pub means_a_class : (word : List ℕ) (c : ℕ) → ctx.resolve word ≡ res.Class c → nat_lt c ctx.known ≡ true → (k : HeapTyping) (s : State) → IsWellTyped around env k s → meaning_in_run word s ≡ means_class c
-    means_a_class word c e known k s st = meaning_outside word (class_no_local word c e) env k s st ∙ ap (meaning_of_global (is_reserved word)) (knows.class word c e known k s.classes s.globals st.outside)
+    pub means_a_class : (word : List ℕ) (c : ℕ) → ctx.resolve word ≡ res.Class c → nat_lt c ctx.known ≡ true
+        → (k : HeapTyping) (s : State) → IsWellTyped around env k s → meaning_in_run word s ≡ means_class c
+    means_a_class word c e known k s st = meaning_outside word (class_no_local word c e) env k s st
+        ∙ ap (meaning_of_global (is_reserved word)) (knows.class word c e known k s.classes s.globals st.outside)
 
     pub reserved_is : (word : List ℕ) (b : Builtin) → ctx.resolve word ≡ res.Builtin b → word ≡ builtin_text b
     reserved_is word b e = text_of_builtin word b (knows.builtin word b e)
 
-    pub means_a_builtin : (word : List ℕ) (b : Builtin) → ctx.resolve word ≡ res.Builtin b → (k : HeapTyping) (s : State) → IsWellTyped around env k s → meaning_in_run word s ≡ means_reserved
+    pub means_a_builtin : (word : List ℕ) (b : Builtin) → ctx.resolve word ≡ res.Builtin b
+        → (k : HeapTyping) (s : State) → IsWellTyped around env k s → meaning_in_run word s ≡ means_reserved
     means_a_builtin word b e k s st =
         meaning_outside word (builtin_no_local word b e) env k s st
         ∙ ap (meaning_of_global (is_reserved word)) (knows.unbound word b e k s.classes s.globals st.outside)
@@ -144,25 +173,43 @@ module _ (around : Around) (ctx : Context) (fits : IsContextOf around ctx) where
     -- ---- reads of names
 
     -- an error at a place is not allowed
-    pub no_error_at : (p : Place) (m : Label) (code : Code) (rest : List Code) → m.codes ≡ code ∷ rest → IsError code → Covered around (IsFoundAt p m.codes) → ⊥
-    no_error_at p m code rest is err covered = (covered (finding p code) (record { code = code; among = subst (λ l. Contains l code) (sym is) (0, omega arith, refl); is = refl })).1 err
+    pub no_error_at : (p : Place) (m : Label) (code : Code) (rest : List Code) → m.codes ≡ code ∷ rest → IsError code
+        → Covered around (IsFoundAt p m.codes) → ⊥
+    no_error_at p m code rest is err covered =
+        (covered (finding p code) (record {
+          code = code;
+          among = subst (λ l. Contains l code) (sym is)
+              (0, omega arith, refl);
+          is = refl;
+        })).1 err
 
-    constant_safe : (parts : Parts Step) (n : Name) (i : ℕ) (m : Label) (o : Option Tree) → ctx.resolve n.text ≡ res.Const i → slice_get ctx.constants i ≡ o → m ≡ constant_label o → Covered around (IsFoundAt n.place m.codes) → IsSafe around env (λ k. Unit {0}) (eval_node Step free parts (name n)) (λ k v. HasType around.bases k m.type v)
-    constant_safe parts n i m None is known law covered = absurd (no_error_at n.place m E03 [] (ap (λ x. x.codes) law) refl covered)
-    constant_safe parts n i m (Some t) is known law covered = bind_safe around env _ _ _ (λ k u. m.codes ≡ []) _ (λ k k' grows h. tt)
+    constant_safe : (parts : Parts Step) (n : Name) (i : ℕ) (m : Label) (o : Option Tree)
+        → ctx.resolve n.text ≡ res.Const i → slice_get ctx.constants i ≡ o → m ≡ constant_label o
+        → Covered around (IsFoundAt n.place m.codes) → IsSafe around env (λ k. Unit {0})
+        (eval_node Step free parts (name n)) (λ k v. HasType around.bases k m.type v)
+    constant_safe parts n i m None is known law covered = absurd
+        (no_error_at n.place m E03 [] (ap (λ x. x.codes) law) refl covered)
+    constant_safe parts n i m (Some t) is known law covered = bind_safe around env _ _ _ (λ k u. m.codes ≡ []) _
+        (λ k k' grows h. tt)
         (emits_safe around env _ n.place m.codes (allowed around n.place m.codes covered))
         λ u. looks_safe around env _ (λ s. value_of_meaning (meaning_in_run n.text s)) _ λ k s h st.
-        subst (λ u. EndsWell (λ v. HasType around.bases k u v) (value_of_meaning (meaning_in_run n.text s))) (ap (λ x. x.type) (sym law)) (means_constant n.text i t is known k s st)
+        subst (λ u. EndsWell (λ v. HasType around.bases k u v) (value_of_meaning (meaning_in_run n.text s)))
+        (ap (λ x. x.type) (sym law)) (means_constant n.text i t is known k s st)
 
-    pub name_safe : (parts : Parts Step) (n : Name) (m : Label) → m ≡ name_label ctx env (ctx.resolve n.text) → Covered around (IsFoundAt n.place m.codes) → IsSafe around env (λ k. Unit {0}) (eval_node Step free parts (name n)) (λ k v. HasType around.bases k m.type v)
+    pub name_safe : (parts : Parts Step) (n : Name) (m : Label) → m ≡ name_label ctx env (ctx.resolve n.text)
+        → Covered around (IsFoundAt n.place m.codes) → IsSafe around env (λ k. Unit {0})
+        (eval_node Step free parts (name n)) (λ k v. HasType around.bases k m.type v)
     name_safe parts n m law covered = go (ctx.resolve n.text) refl law
       where
         late_or : (b : Test) (code : Code) → IsError code → m ≡ (if b then in_error code else in_error E03) → ⊥
         late_or true code err is = no_error_at n.place m code [] (ap (λ x. x.codes) is) err covered
         late_or false code err is = no_error_at n.place m E03 [] (ap (λ x. x.codes) is) refl covered
 
-        go : (r : Res) → ctx.resolve n.text ≡ r → m ≡ name_label ctx env r → IsSafe around env (λ k. Unit {0}) (eval_node Step free parts (name n)) (λ k v. HasType around.bases k m.type v)
-        go (res.Local x) is law' = local_safe around ctx parts env n x m is (fits.local n.text x is) law (allowed around n.place m.codes covered)
+        go : (r : Res) → ctx.resolve n.text ≡ r → m ≡ name_label ctx env r
+            → IsSafe around env (λ k. Unit {0}) (eval_node Step free parts (name n))
+            (λ k v. HasType around.bases k m.type v)
+        go (res.Local x) is law' = local_safe around ctx parts env n x m is (fits.local n.text x is) law
+            (allowed around n.place m.codes covered)
         go (res.Const i) is law' = constant_safe parts n i m (slice_get ctx.constants i) is refl law' covered
         go (res.Func i) is law' = absurd (late_or ctx.in_body E20 refl law')
         go (res.Class c) is law' = absurd (late_or (nat_lt c ctx.known) E20 refl law')

@@ -7,7 +7,8 @@ use Rattle.pc_source.specs.declared.place.Place.{Place}
 use Rattle.pc_tree.specs.declared.tree.BinaryOperator.{BinaryOperator}
 use Rattle.pc_tree.specs.declared.tree.BinaryOperator.TheVariants.{Add, Sub, Mul, FloorDiv, Mod}
 use Rattle.pc_tree.specs.declared.tree.ComparisonOperator.{ComparisonOperator}
-use Rattle.pc_tree.specs.declared.tree.ComparisonOperator.TheVariants.{Equal, NotEqual, Less, LessEqual, Greater, GreaterEqual, In, NotIn}
+use Rattle.pc_tree.specs.declared.tree.ComparisonOperator.TheVariants.{Equal, NotEqual, Less, LessEqual, Greater}
+use Rattle.pc_tree.specs.declared.tree.ComparisonOperator.TheVariants.{GreaterEqual, In, NotIn}
 use Rattle.pc_tree.specs.declared.code.Code.TheVariants.{A2, E13}
 use Rattle.pc_tree.specs.Tree.{Expr, negative, binary, compare}
 use Rattle.pc_tree.specs.Depth.{place_of}
@@ -16,12 +17,16 @@ use Rattle.pc_types.specs.Below.{Bases, AreSmaller}
 use Rattle.pc_types.specs.Shape.{members}
 use Rattle.pc_class.specs.Facts.{ClassFacts}
 use Rattle.pc_flow.specs.Environment.{Env}
-use Rattle.pc_rules.specs.Operations.{Label, Offer, clean, in_error, found_of, offers_label, negative_member, Kind, whole_kind, text_kind, kind_of, kind_type, takes_kind, row_of_kinds, pair_found, pair_offers, pairs_label, is_never, is_any, is_dynamic, binary_label, contain_member}
+use Rattle.pc_rules.specs.Operations.{Label, Offer, clean, in_error, found_of, offers_label, negative_member, Kind}
+use Rattle.pc_rules.specs.Operations.{whole_kind, text_kind, kind_of, kind_type, takes_kind, row_of_kinds, pair_found}
+use Rattle.pc_rules.specs.Operations.{pair_offers, pairs_label, is_never, is_any, is_dynamic, binary_label}
+use Rattle.pc_rules.specs.Operations.{contain_member}
 use Rattle.pc_rules.specs.Context.{Context, FlowsInto}
 use Rattle.pc_rules.specs.Labels.{Labels, whole_label, type_of, Finds}
 use Rattle.pc_rules.specs.Lawful.{Lawful, compare_label, compare_types}
 use Rattle.pc_value.specs.Value as value
-use Rattle.pc_value.specs.Value.{Value, Out, whole, boolean, string, Values, tuple_of, location, Entry, Seen, a_number, a_text, Heap, seen}
+use Rattle.pc_value.specs.Value.{Value, Out, whole, boolean, string, Values, tuple_of, location, Entry, Seen, a_number}
+use Rattle.pc_value.specs.Value.{a_text, Heap, seen}
 use Rattle.pc_value.specs.Actions as action
 use Rattle.pc_value.specs.Actions.{Outcome, Free}
 use Rattle.pc_value.specs.Numbers.{is_zero}
@@ -77,7 +82,8 @@ module _ (bases : Bases) (k : HeapTyping) (heap : Heap) where
 
   -- ---- unary minus
 
-  negative_ends : (m : Tree) (v : Value) → HasType bases k m v → (negative_member m).found ≡ [] → EndsWell (λ w. HasType bases k (negative_member m).gives w) (value_out (negative_of (seen heap v)))
+  negative_ends : (m : Tree) (v : Value) → HasType bases k m v → (negative_member m).found ≡ []
+      → EndsWell (λ w. HasType bases k (negative_member m).gives w) (value_out (negative_of (seen heap v)))
   negative_ends Int (whole n) h e = tt
   negative_ends Int (boolean b) h e = tt
   negative_ends Int _ h e = absurd h
@@ -87,11 +93,13 @@ module _ (bases : Bases) (k : HeapTyping) (heap : Heap) where
 
   -- ---- binary operators
 
-  by_zero : (z : Test) (n : ℤ) → EndsWell (λ w. HasType bases k Int w) (value_out (if z then action.stops value.Other else action.gives (whole n)))
+  by_zero : (z : Test) (n : ℤ) → EndsWell (λ w. HasType bases k Int w)
+      (value_out (if z then action.stops value.Other else action.gives (whole n)))
   by_zero true n = tt
   by_zero false n = tt
 
-  whole_ends : (o : BinaryOperator) (s t : Seen) → IsSeen whole_kind s → IsSeen whole_kind t → EndsWell (λ w. HasType bases k Int w) (value_out (binary_outcome o s t))
+  whole_ends : (o : BinaryOperator) (s t : Seen) → IsSeen whole_kind s → IsSeen whole_kind t
+      → EndsWell (λ w. HasType bases k Int w) (value_out (binary_outcome o s t))
   whole_ends Add (a_number x) (a_number y) a b = tt
   whole_ends Sub (a_number x) (a_number y) a b = tt
   whole_ends Mul (a_number x) (a_number y) a b = tt
@@ -100,7 +108,10 @@ module _ (bases : Bases) (k : HeapTyping) (heap : Heap) where
   whole_ends o (a_number x) _ a b = absurd b
   whole_ends o _ t a b = absurd a
 
-  text_ends : (o : BinaryOperator) (s t : Seen) → IsSeen text_kind s → IsSeen text_kind t → (pair_found (if takes_kind o text_kind then Some (kind_type text_kind) else None)).found ≡ [] → EndsWell (λ w. HasType bases k (pair_found (if takes_kind o text_kind then Some (kind_type text_kind) else None)).gives w) (value_out (binary_outcome o s t))
+  text_ends : (o : BinaryOperator) (s t : Seen) → IsSeen text_kind s → IsSeen text_kind t
+      → (pair_found (if takes_kind o text_kind then Some (kind_type text_kind) else None)).found ≡ []
+      → EndsWell (λ w. HasType bases k (pair_found (if takes_kind o text_kind then Some (kind_type text_kind)
+      else None)).gives w) (value_out (binary_outcome o s t))
   text_ends Add (a_text x) (a_text y) a b e = tt
   text_ends Add (a_text x) _ a b e = absurd b
   text_ends Add _ t a b e = absurd a
@@ -109,12 +120,20 @@ module _ (bases : Bases) (k : HeapTyping) (heap : Heap) where
   text_ends FloorDiv s t a b e = absurd (not_empty e)
   text_ends Mod s t a b e = absurd (not_empty e)
 
-  binary_ends : (o : BinaryOperator) (m n : Tree) (v w : Value) → HasType bases k m v → HasType bases k n w → (Pair (takes_kind o) kind_type m n).found ≡ [] → EndsWell (λ x. HasType bases k (Pair (takes_kind o) kind_type m n).gives x) (value_out (binary_outcome o (seen heap v) (seen heap w)))
+  binary_ends : (o : BinaryOperator) (m n : Tree) (v w : Value) → HasType bases k m v → HasType bases k n w
+      → (Pair (takes_kind o) kind_type m n).found ≡ [] → EndsWell
+      (λ x. HasType bases k (Pair (takes_kind o) kind_type m n).gives x)
+      (value_out (binary_outcome o (seen heap v) (seen heap w)))
   binary_ends o m n v w h g = go (kind_of m) (kind_of n) refl refl
     where
-      go : (c d : Option Kind) → kind_of m ≡ c → kind_of n ≡ d → (pair_found (row_of_kinds (takes_kind o) kind_type c d)).found ≡ [] → EndsWell (λ x. HasType bases k (pair_found (row_of_kinds (takes_kind o) kind_type c d)).gives x) (value_out (binary_outcome o (seen heap v) (seen heap w)))
-      go (Some whole_kind) (Some whole_kind) a b e = whole_ends o (seen heap v) (seen heap w) (kind_seen m whole_kind a v h) (kind_seen n whole_kind b w g)
-      go (Some text_kind) (Some text_kind) a b e = text_ends o (seen heap v) (seen heap w) (kind_seen m text_kind a v h) (kind_seen n text_kind b w g) e
+      go : (c d : Option Kind) → kind_of m ≡ c → kind_of n ≡ d
+          → (pair_found (row_of_kinds (takes_kind o) kind_type c d)).found ≡ []
+          → EndsWell (λ x. HasType bases k (pair_found (row_of_kinds (takes_kind o) kind_type c d)).gives x)
+          (value_out (binary_outcome o (seen heap v) (seen heap w)))
+      go (Some whole_kind) (Some whole_kind) a b e = whole_ends o (seen heap v) (seen heap w)
+          (kind_seen m whole_kind a v h) (kind_seen n whole_kind b w g)
+      go (Some text_kind) (Some text_kind) a b e = text_ends o (seen heap v) (seen heap w) (kind_seen m text_kind a v h)
+          (kind_seen n text_kind b w g) e
       go _ _ a b e = absurd (not_empty e)
 
   -- ---- comparisons by order
@@ -127,7 +146,8 @@ module _ (bases : Bases) (k : HeapTyping) (heap : Heap) where
   IsOrder GreaterEqual = Unit {0}
   IsOrder _ = ⊥
 
-  numbers_ordered : (answers : Free) (o : ComparisonOperator) → IsOrder o → (s t : Seen) → IsSeen whole_kind s → IsSeen whole_kind t → EndsWell (λ w. HasType bases k Bool w) (value_out (compare_outcome answers o s t))
+  numbers_ordered : (answers : Free) (o : ComparisonOperator) → IsOrder o → (s t : Seen) → IsSeen whole_kind s
+      → IsSeen whole_kind t → EndsWell (λ w. HasType bases k Bool w) (value_out (compare_outcome answers o s t))
   numbers_ordered answers Less i (a_number x) (a_number y) a b = tt
   numbers_ordered answers LessEqual i (a_number x) (a_number y) a b = tt
   numbers_ordered answers Greater i (a_number x) (a_number y) a b = tt
@@ -139,7 +159,8 @@ module _ (bases : Bases) (k : HeapTyping) (heap : Heap) where
   numbers_ordered answers o i (a_number x) _ a b = absurd b
   numbers_ordered answers o i _ t a b = absurd a
 
-  texts_ordered : (answers : Free) (o : ComparisonOperator) → IsOrder o → (s t : Seen) → IsSeen text_kind s → IsSeen text_kind t → EndsWell (λ w. HasType bases k Bool w) (value_out (compare_outcome answers o s t))
+  texts_ordered : (answers : Free) (o : ComparisonOperator) → IsOrder o → (s t : Seen) → IsSeen text_kind s
+      → IsSeen text_kind t → EndsWell (λ w. HasType bases k Bool w) (value_out (compare_outcome answers o s t))
   texts_ordered answers Less i (a_text x) (a_text y) a b = tt
   texts_ordered answers LessEqual i (a_text x) (a_text y) a b = tt
   texts_ordered answers Greater i (a_text x) (a_text y) a b = tt
@@ -151,21 +172,31 @@ module _ (bases : Bases) (k : HeapTyping) (heap : Heap) where
   texts_ordered answers o i (a_text x) _ a b = absurd b
   texts_ordered answers o i _ t a b = absurd a
 
-  order_ends : (answers : Free) (o : ComparisonOperator) → IsOrder o → (m n : Tree) (v w : Value) → HasType bases k m v → HasType bases k n w → (Pair (λ c. true) (λ c. Bool) m n).found ≡ [] → EndsWell (λ x. HasType bases k (Pair (λ c. true) (λ c. Bool) m n).gives x) (value_out (compare_outcome answers o (seen heap v) (seen heap w)))
+  order_ends : (answers : Free) (o : ComparisonOperator) → IsOrder o → (m n : Tree) (v w : Value) → HasType bases k m v
+      → HasType bases k n w → (Pair (λ c. true) (λ c. Bool) m n).found ≡ []
+      → EndsWell (λ x. HasType bases k (Pair (λ c. true) (λ c. Bool) m n).gives x)
+      (value_out (compare_outcome answers o (seen heap v) (seen heap w)))
   order_ends answers o i m n v w h g = go (kind_of m) (kind_of n) refl refl
     where
-      go : (c d : Option Kind) → kind_of m ≡ c → kind_of n ≡ d → (pair_found (row_of_kinds (λ c. true) (λ c. Bool) c d)).found ≡ [] → EndsWell (λ x. HasType bases k (pair_found (row_of_kinds (λ c. true) (λ c. Bool) c d)).gives x) (value_out (compare_outcome answers o (seen heap v) (seen heap w)))
-      go (Some whole_kind) (Some whole_kind) a b e = numbers_ordered answers o i (seen heap v) (seen heap w) (kind_seen m whole_kind a v h) (kind_seen n whole_kind b w g)
-      go (Some text_kind) (Some text_kind) a b e = texts_ordered answers o i (seen heap v) (seen heap w) (kind_seen m text_kind a v h) (kind_seen n text_kind b w g)
+      go : (c d : Option Kind) → kind_of m ≡ c → kind_of n ≡ d
+          → (pair_found (row_of_kinds (λ c. true) (λ c. Bool) c d)).found ≡ []
+          → EndsWell (λ x. HasType bases k (pair_found (row_of_kinds (λ c. true) (λ c. Bool) c d)).gives x)
+          (value_out (compare_outcome answers o (seen heap v) (seen heap w)))
+      go (Some whole_kind) (Some whole_kind) a b e = numbers_ordered answers o i (seen heap v) (seen heap w)
+          (kind_seen m whole_kind a v h) (kind_seen n whole_kind b w g)
+      go (Some text_kind) (Some text_kind) a b e = texts_ordered answers o i (seen heap v) (seen heap w)
+          (kind_seen m text_kind a v h) (kind_seen n text_kind b w g)
       go _ _ a b e = absurd (not_empty e)
 
   -- ---- pairs of members
 
-  given_left : (os ps : List Offer) (w : Value) → HasSome bases k (map (λ o. o.gives) os) w → HasSome bases k (map (λ o. o.gives) (os ++ ps)) w
+  given_left : (os ps : List Offer) (w : Value) → HasSome bases k (map (λ o. o.gives) os) w
+      → HasSome bases k (map (λ o. o.gives) (os ++ ps)) w
   given_left [] ps w h = absurd h
   given_left (o ∷ os) ps w h = elim h [ inl x ↦ inl x | inr y ↦ inr (given_left os ps w y) ]
 
-  given_right : (os ps : List Offer) (w : Value) → HasSome bases k (map (λ o. o.gives) ps) w → HasSome bases k (map (λ o. o.gives) (os ++ ps)) w
+  given_right : (os ps : List Offer) (w : Value) → HasSome bases k (map (λ o. o.gives) ps) w
+      → HasSome bases k (map (λ o. o.gives) (os ++ ps)) w
   given_right [] ps w h = h
   given_right (o ∷ os) ps w h = inr (given_right os ps w h)
 
@@ -176,9 +207,11 @@ module _ (bases : Bases) (k : HeapTyping) (heap : Heap) where
     has_left : HasType bases k left v
     has_right : HasType bases k right w
     none : (Pair takes result left right).found ≡ []
-    among : (x : Value) → HasType bases k (Pair takes result left right).gives x → HasSome bases k (map (λ o. o.gives) (pair_offers takes result ms ns)) x
+    among : (x : Value) → HasType bases k (Pair takes result left right).gives x
+        → HasSome bases k (map (λ o. o.gives) (pair_offers takes result ms ns)) x
 
-  chosen_pair : (takes : Kind → Test) (result : Kind → Tree) (ms ns : List Tree) (v w : Value) → HasSome bases k ms v → HasSome bases k ns w → found_of (pair_offers takes result ms ns) ≡ [] → ChosenPair takes result ms ns v w
+  chosen_pair : (takes : Kind → Test) (result : Kind → Tree) (ms ns : List Tree) (v w : Value) → HasSome bases k ms v
+      → HasSome bases k ns w → found_of (pair_offers takes result ms ns) ≡ [] → ChosenPair takes result ms ns v w
   chosen_pair takes result [] ns v w h g e = absurd h
   chosen_pair takes result (m ∷ ms) ns v w h g e =
       let front = map (Pair takes result m) ns in
@@ -206,7 +239,8 @@ module _ (bases : Bases) (k : HeapTyping) (heap : Heap) where
   not_never Never v e h = h
   not_never _ v e h = absurd (false≢true e)
 
-  either_never : (s t : Tree) (v w : Value) → (is_never s || is_never t) ≡ true → HasType bases k s v → HasType bases k t w → ⊥
+  either_never : (s t : Tree) (v w : Value) → (is_never s || is_never t) ≡ true → HasType bases k s v
+      → HasType bases k t w → ⊥
   either_never s t v w e h g = go (is_never s) refl e
     where
       go : (x : Test) → is_never s ≡ x → (x || is_never t) ≡ true → ⊥
@@ -214,32 +248,53 @@ module _ (bases : Bases) (k : HeapTyping) (heap : Heap) where
       go false is e = not_never t w e g
 
   -- an operator that ends well on each pair of members on which nothing is found ends well on the types
-  pub pairs_end : (ordered : AreSmaller bases) (m : Label) (takes : Kind → Test) (result : Kind → Tree) (dynamic s t : Tree) (v w : Value) → m ≡ pairs_label bases takes result dynamic s t → m.codes ≡ [] → HasType bases k s v → HasType bases k t w → (out : Out Value) → ((a b : Tree) → HasType bases k a v → HasType bases k b w → (Pair takes result a b).found ≡ [] → EndsWell (λ x. HasType bases k (Pair takes result a b).gives x) out) → EndsWell (λ x. HasType bases k m.type x) out
-  pairs_end ordered m takes result dynamic s t v w is none h g out ends = go (is_never s || is_never t) (is_dynamic takes s t) (is_any s || is_any t) refl is
+  pub pairs_end : (ordered : AreSmaller bases) (m : Label) (takes : Kind → Test) (result : Kind → Tree)
+      (dynamic s t : Tree) (v w : Value) → m ≡ pairs_label bases takes result dynamic s t → m.codes ≡ []
+      → HasType bases k s v → HasType bases k t w → (out : Out Value)
+      → ((a b : Tree) → HasType bases k a v → HasType bases k b w → (Pair takes result a b).found ≡ []
+      → EndsWell (λ x. HasType bases k (Pair takes result a b).gives x) out) → EndsWell (λ x. HasType bases k m.type x)
+      out
+  pairs_end ordered m takes result dynamic s t v w is none h g out ends = go (is_never s || is_never t)
+      (is_dynamic takes s t) (is_any s || is_any t) refl is
     where
-      go : (x y z : Test) → (is_never s || is_never t) ≡ x → m ≡ (if x then clean Never else (if y then record { type = dynamic; codes = A2 ∷ [] } else (if z then in_error E13 else offers_label bases (pair_offers takes result (members s) (members t))))) → EndsWell (λ x. HasType bases k m.type x) out
+      go : (x y z : Test) → (is_never s || is_never t) ≡ x
+          → m ≡ (if x then clean Never else (if y then record { type = dynamic; codes = A2 ∷ [] }
+          else (if z then in_error E13 else offers_label bases (pair_offers takes result (members s) (members t)))))
+          → EndsWell (λ x. HasType bases k m.type x) out
       go true y z never is = absurd (either_never s t v w never h g)
       go false true z never is = absurd (not_empty (ap (λ x. x.codes) (sym is) ∙ none))
       go false false true never is = absurd (not_empty (ap (λ x. x.codes) (sym is) ∙ none))
       go false false false never is =
           let offers = pair_offers takes result (members s) (members t) in
-          let c = chosen_pair takes result (members s) (members t) v w (to_members bases k s v h) (to_members bases k t w g) (ap (λ x. x.codes) (sym is) ∙ none) in
-          one_offer_ends bases k ordered m offers is none (Pair takes result c.left c.right).gives c.among out (ends c.left c.right c.has_left c.has_right c.none)
+          let c = chosen_pair takes result (members s) (members t) v w (to_members bases k s v h)
+          (to_members bases k t w g) (ap (λ x. x.codes) (sym is) ∙ none) in
+          one_offer_ends bases k ordered m offers is none (Pair takes result c.left c.right).gives c.among out
+          (ends c.left c.right c.has_left c.has_right c.none)
 
   -- ---- `in`
 
   module _ (classes : List ClassFacts) (well : IsWell bases classes k heap) (answers : Free) where
     -- an outcome is a truth value, and so is its opposite
     abbrev HoldsTruth : Outcome → Type 0
-    HoldsTruth o = EndsWell (λ x. HasType bases k Bool x) (value_out o) × EndsWell (λ x. HasType bases k Bool x) (value_out (opposite o))
+    HoldsTruth o = EndsWell (λ x. HasType bases k Bool x) (value_out o)
+        × EndsWell (λ x. HasType bases k Bool x) (value_out (opposite o))
 
-    key_contained : (v : Value) (entries : List Entry) → HasType bases k (Union Int (Union Str NoneType)) v → HoldsTruth (contains_key (seen heap v) entries)
+    key_contained : (v : Value) (entries : List Entry) → HasType bases k (Union Int (Union Str NoneType)) v
+        → HoldsTruth (contains_key (seen heap v) entries)
     key_contained (whole n) entries h = (tt, tt)
     key_contained (boolean b) entries h = (tt, tt)
     key_contained (string cs) entries h = (tt, tt)
     key_contained value.none entries h = (tt, tt)
-    key_contained (tuple_of vs) entries h = elim h [ inl a ↦ absurd a | inr b ↦ elim b [ inl c ↦ absurd c | inr d ↦ absurd d ] ]
-    key_contained (location l) entries h = elim h [ inl a ↦ absurd a | inr b ↦ elim b [ inl c ↦ absurd c | inr d ↦ absurd d ] ]
+    key_contained (tuple_of vs) entries h = elim h [
+      | inl a ↦ absurd a
+      | inr b ↦
+          elim b [ inl c ↦ absurd c | inr d ↦ absurd d ]
+    ]
+    key_contained (location l) entries h = elim h [
+      | inl a ↦ absurd a
+      | inr b ↦
+          elim b [ inl c ↦ absurd c | inr d ↦ absurd d ]
+    ]
 
     in_list : (s : Seen) (l : ℕ) (items : List Value) → HoldsTruth (membership_of answers s (value.a_list l items))
     in_list (a_text cs) l items = (tt, tt)
@@ -249,72 +304,148 @@ module _ (bases : Bases) (k : HeapTyping) (heap : Heap) where
     in_tuple (a_text cs) items = (tt, tt)
     in_tuple _ items = (tt, tt)
 
-    in_dict : (s : Seen) (l : ℕ) (entries : List Entry) → HoldsTruth (contains_key s entries) → HoldsTruth (membership_of answers s (value.a_dict l entries))
+    in_dict : (s : Seen) (l : ℕ) (entries : List Entry) → HoldsTruth (contains_key s entries)
+        → HoldsTruth (membership_of answers s (value.a_dict l entries))
     in_dict (a_text cs) l entries h = h
     in_dict _ l entries h = h
 
-    member_truth : (n : Tree) (v w : Value) → HasType bases k n w → (contain_member n).found ≡ [] → HasEach bases k (contain_member n).takes v → HoldsTruth (membership_of answers (seen heap v) (seen heap w)) × ((contain_member n).gives ≡ Bool)
+    member_truth : (n : Tree) (v w : Value) → HasType bases k n w → (contain_member n).found ≡ []
+        → HasEach bases k (contain_member n).takes v → HoldsTruth (membership_of answers (seen heap v) (seen heap w))
+        × ((contain_member n).gives ≡ Bool)
     member_truth Str (string ds) (string cs) h e t = ((tt, tt), refl)
     member_truth Str _ (string cs) h e t = absurd t.0
     member_truth Str v _ h e t = absurd h
-    member_truth (ListOf u) v (location l) h e t = let c = sees_list bases classes k heap well l u h in (subst (λ s. HoldsTruth (membership_of answers (seen heap v) s)) (sym c.seen_as) (in_list (seen heap v) l c.items), refl)
+    member_truth (ListOf u) v (location l) h e t = let c = sees_list bases classes k heap well l u h in (
+      subst (λ s. HoldsTruth (membership_of answers (seen heap v) s)) (sym c.seen_as)
+          (in_list (seen heap v) l c.items),
+      refl,
+    )
     member_truth (ListOf u) v _ h e t = absurd h
-    member_truth (DictOf s u) v (location l) h e t = let c = sees_dict bases classes k heap well l s u h in (subst (λ x. HoldsTruth (membership_of answers (seen heap v) x)) (sym c.seen_as) (in_dict (seen heap v) l c.entries (key_contained v c.entries t.0)), refl)
+    member_truth (DictOf s u) v (location l) h e t = let c = sees_dict bases classes k heap well l s u h in (
+      subst (λ x. HoldsTruth (membership_of answers (seen heap v) x)) (sym c.seen_as)
+          (in_dict (seen heap v) l c.entries (key_contained v c.entries t.0)),
+      refl,
+    )
     member_truth (DictOf s u) v _ h e t = absurd h
     member_truth (TupleOf us) v (tuple_of ws) h e t = (in_tuple (seen heap v) ws, refl)
     member_truth (TupleOf us) v _ h e t = absurd h
     member_truth _ v w h e t = absurd (not_empty e)
 
-    in_ends : (n : Tree) (v w : Value) → HasType bases k n w → (contain_member n).found ≡ [] → HasEach bases k (contain_member n).takes v → EndsWell (λ x. HasType bases k (contain_member n).gives x) (value_out (membership_of answers (seen heap v) (seen heap w)))
-    in_ends n v w h e t = let c = member_truth n v w h e t in subst (λ u. EndsWell (λ x. HasType bases k u x) (value_out (membership_of answers (seen heap v) (seen heap w)))) (sym c.1) c.0.0
+    in_ends : (n : Tree) (v w : Value) → HasType bases k n w → (contain_member n).found ≡ []
+        → HasEach bases k (contain_member n).takes v → EndsWell (λ x. HasType bases k (contain_member n).gives x)
+        (value_out (membership_of answers (seen heap v) (seen heap w)))
+    in_ends n v w h e t = let c = member_truth n v w h e t in subst
+        (λ u. EndsWell (λ x. HasType bases k u x) (value_out (membership_of answers (seen heap v) (seen heap w))))
+        (sym c.1) c.0.0
 
-    not_in_ends : (n : Tree) (v w : Value) → HasType bases k n w → (contain_member n).found ≡ [] → HasEach bases k (contain_member n).takes v → EndsWell (λ x. HasType bases k (contain_member n).gives x) (value_out (opposite (membership_of answers (seen heap v) (seen heap w))))
-    not_in_ends n v w h e t = let c = member_truth n v w h e t in subst (λ u. EndsWell (λ x. HasType bases k u x) (value_out (opposite (membership_of answers (seen heap v) (seen heap w))))) (sym c.1) c.0.1
+    not_in_ends : (n : Tree) (v w : Value) → HasType bases k n w → (contain_member n).found ≡ []
+        → HasEach bases k (contain_member n).takes v → EndsWell (λ x. HasType bases k (contain_member n).gives x)
+        (value_out (opposite (membership_of answers (seen heap v) (seen heap w))))
+    not_in_ends n v w h e t = let c = member_truth n v w h e t in
+        subst (λ u. EndsWell (λ x. HasType bases k u x) (value_out
+        (opposite (membership_of answers (seen heap v) (seen heap w))))) (sym c.1) c.0.1
 
     -- ---- comparisons
 
-    compare_ends : (ordered : AreSmaller bases) (o : ComparisonOperator) (m : Label) (s t : Tree) (v w : Value) → m ≡ compare_label bases o s t → m.codes ≡ [] → HasType bases k s v → HasType bases k t w → HasEach bases k (compare_types o t) v → EndsWell (λ x. HasType bases k m.type x) (value_out (compare_outcome answers o (seen heap v) (seen heap w)))
-    compare_ends ordered Equal m s t v w is none h g each = subst (λ u. HasType bases k u (boolean (is_equal answers (seen heap v) (seen heap w)))) (ap (λ x. x.type) (sym is)) tt
-    compare_ends ordered NotEqual m s t v w is none h g each = subst (λ u. HasType bases k u (boolean (not (is_equal answers (seen heap v) (seen heap w))))) (ap (λ x. x.type) (sym is)) tt
-    compare_ends ordered In m s t v w is none h g each = offers_end bases k ordered m contain_member t w is none g (value_out (membership_of answers (seen heap v) (seen heap w))) λ n x e takes. in_ends n v w x e (takes v each)
-    compare_ends ordered NotIn m s t v w is none h g each = offers_end bases k ordered m contain_member t w is none g (value_out (opposite (membership_of answers (seen heap v) (seen heap w)))) λ n x e takes. not_in_ends n v w x e (takes v each)
-    compare_ends ordered Less m s t v w is none h g each = pairs_end ordered m (λ c. true) (λ c. Bool) Bool s t v w is none h g (value_out (compare_outcome answers Less (seen heap v) (seen heap w))) λ a b x y e. order_ends answers Less tt a b v w x y e
-    compare_ends ordered LessEqual m s t v w is none h g each = pairs_end ordered m (λ c. true) (λ c. Bool) Bool s t v w is none h g (value_out (compare_outcome answers LessEqual (seen heap v) (seen heap w))) λ a b x y e. order_ends answers LessEqual tt a b v w x y e
-    compare_ends ordered Greater m s t v w is none h g each = pairs_end ordered m (λ c. true) (λ c. Bool) Bool s t v w is none h g (value_out (compare_outcome answers Greater (seen heap v) (seen heap w))) λ a b x y e. order_ends answers Greater tt a b v w x y e
-    compare_ends ordered GreaterEqual m s t v w is none h g each = pairs_end ordered m (λ c. true) (λ c. Bool) Bool s t v w is none h g (value_out (compare_outcome answers GreaterEqual (seen heap v) (seen heap w))) λ a b x y e. order_ends answers GreaterEqual tt a b v w x y e
+    compare_ends : (ordered : AreSmaller bases) (o : ComparisonOperator) (m : Label) (s t : Tree) (v w : Value)
+        → m ≡ compare_label bases o s t → m.codes ≡ [] → HasType bases k s v → HasType bases k t w
+        → HasEach bases k (compare_types o t) v → EndsWell (λ x. HasType bases k m.type x)
+        (value_out (compare_outcome answers o (seen heap v) (seen heap w)))
+    compare_ends ordered Equal m s t v w is none h g each = subst
+        (λ u. HasType bases k u (boolean (is_equal answers (seen heap v) (seen heap w)))) (ap (λ x. x.type) (sym is)) tt
+    compare_ends ordered NotEqual m s t v w is none h g each = subst
+        (λ u. HasType bases k u (boolean (not (is_equal answers (seen heap v) (seen heap w)))))
+        (ap (λ x. x.type) (sym is)) tt
+    compare_ends ordered In m s t v w is none h g each = offers_end bases k ordered m contain_member t w is none g
+        (value_out (membership_of answers (seen heap v) (seen heap w))) λ n x e takes. in_ends n v w x e (takes v each)
+    compare_ends ordered NotIn m s t v w is none h g each = offers_end bases k ordered m contain_member t w is none g
+        (value_out (opposite (membership_of answers (seen heap v) (seen heap w)))) λ n x e takes. not_in_ends n v w x e
+        (takes v each)
+    compare_ends ordered Less m s t v w is none h g each = pairs_end ordered m (λ c. true) (λ c. Bool) Bool s t v w is
+        none h g (value_out (compare_outcome answers Less (seen heap v) (seen heap w))) λ a b x y e. order_ends answers
+        Less tt a b v w x y e
+    compare_ends ordered LessEqual m s t v w is none h g each = pairs_end ordered m (λ c. true) (λ c. Bool) Bool s t v w
+        is none h g (value_out (compare_outcome answers LessEqual (seen heap v) (seen heap w))) λ a b x y e.
+        order_ends answers LessEqual tt a b v w x y e
+    compare_ends ordered Greater m s t v w is none h g each = pairs_end ordered m (λ c. true) (λ c. Bool) Bool s t v w
+        is none h g (value_out (compare_outcome answers Greater (seen heap v) (seen heap w))) λ a b x y e.
+        order_ends answers Greater tt a b v w x y e
+    compare_ends ordered GreaterEqual m s t v w is none h g each = pairs_end ordered m (λ c. true) (λ c. Bool) Bool s t
+        v w is none h g (value_out (compare_outcome answers GreaterEqual (seen heap v) (seen heap w))) λ a b x y e.
+        order_ends answers GreaterEqual tt a b v w x y e
 
-module _ (around : Around) (ctx : Context) (fits : IsContextOf around ctx) (parts : Parts Step) (good : GoodEval around ctx parts.eval) (env : Env) where
-  pub negative_safe : (want : Option Tree) (p : Place) (e : Expr) (m : Labels (negative p e)) → Lawful ctx around.declared env want (negative p e) m → Covered around (Finds (negative p e) m) → Keyed (negative p e) m → IsSafe around env (λ k. Unit {0}) (eval_node Step free parts (negative p e)) (λ k v. HasType around.bases k m.here.type v)
+module _ (around : Around) (ctx : Context) (fits : IsContextOf around ctx) (parts : Parts Step)
+    (good : GoodEval around ctx parts.eval) (env : Env) where
+  pub negative_safe : (want : Option Tree) (p : Place) (e : Expr) (m : Labels (negative p e))
+      → Lawful ctx around.declared env want (negative p e) m → Covered around (Finds (negative p e) m)
+      → Keyed (negative p e) m → IsSafe around env (λ k. Unit {0}) (eval_node Step free parts (negative p e))
+      (λ k v. HasType around.bases k m.here.type v)
   negative_safe want p e m law covered keyed =
-      let here : m.here ≡ offers_label around.bases (map negative_member (members (type_of e m.operand))) = subst (λ b. m.here ≡ offers_label b (map negative_member (members (type_of e m.operand)))) (sym fits.bases) law.here in
+      let here : m.here ≡ offers_label around.bases (map negative_member (members (type_of e m.operand))) =
+      subst (λ b. m.here ≡ offers_label b (map negative_member (members (type_of e m.operand)))) (sym fits.bases)
+      law.here in
       bind_safe around env _ _ _ (λ k v. HasType around.bases k (type_of e m.operand) v) _ (λ k k' x h. tt)
       (part around ctx parts good env _ None e m.operand law.operand (λ f h. covered f (inr h)) keyed.1)
-      λ v. bind_safe around env _ _ _ (λ k u. m.here.codes ≡ []) _ (λ k k' x h. (tt, later around.bases x (type_of e m.operand) v h.1))
+      λ v. bind_safe around env _ _ _ (λ k u. m.here.codes ≡ []) _
+      (λ k k' x h. (tt, later around.bases x (type_of e m.operand) v h.1))
       (emits_safe around env _ p m.here.codes (allowed around p m.here.codes (λ f h. covered f (inl h))))
-      λ u. act_safe around env _ value_out (action.negative v) _ λ f k s h st.
-      (refl, offers_end around.bases k fits.smaller m.here negative_member (type_of e m.operand) v here h.1 h.0.1 (value_out (negative_of (seen s.heap v))) λ n x e takes. negative_ends around.bases k s.heap n v x e)
+      λ u. act_safe around env _ value_out (action.negative v) _ λ f k s h st. (
+        refl,
+        offers_end around.bases k fits.smaller m.here negative_member (type_of e m.operand) v here h.1 h.0.1
+            (value_out (negative_of (seen s.heap v))) λ n x e takes. negative_ends around.bases k s.heap n v x e,
+      )
 
-  pub binary_safe : (want : Option Tree) (p : Place) (o : BinaryOperator) (l r : Expr) (m : Labels (binary p o l r)) → Lawful ctx around.declared env want (binary p o l r) m → Covered around (Finds (binary p o l r) m) → Keyed (binary p o l r) m → IsSafe around env (λ k. Unit {0}) (eval_node Step free parts (binary p o l r)) (λ k v. HasType around.bases k m.here.type v)
+  pub binary_safe : (want : Option Tree) (p : Place) (o : BinaryOperator) (l r : Expr) (m : Labels (binary p o l r))
+      → Lawful ctx around.declared env want (binary p o l r) m → Covered around (Finds (binary p o l r) m)
+      → Keyed (binary p o l r) m → IsSafe around env (λ k. Unit {0}) (eval_node Step free parts (binary p o l r))
+      (λ k v. HasType around.bases k m.here.type v)
   binary_safe want p o l r m law covered keyed =
-      let here : m.here ≡ binary_label around.bases o (type_of l m.left) (type_of r m.right) = subst (λ b. m.here ≡ binary_label b o (type_of l m.left) (type_of r m.right)) (sym fits.bases) law.here in
+      let here : m.here ≡ binary_label around.bases o (type_of l m.left) (type_of r m.right) =
+      subst (λ b. m.here ≡ binary_label b o (type_of l m.left) (type_of r m.right)) (sym fits.bases) law.here in
       bind_safe around env _ _ _ (λ k v. HasType around.bases k (type_of l m.left) v) _ (λ k k' x h. tt)
       (part around ctx parts good env _ None l m.left law.left (λ f h. covered f (inr (inl h))) keyed.1.0)
-      λ v. bind_safe around env _ _ _ (λ k w. HasType around.bases k (type_of r m.right) w) _ (λ k k' x h. (tt, later around.bases x (type_of l m.left) v h.1))
+      λ v. bind_safe around env _ _ _ (λ k w. HasType around.bases k (type_of r m.right) w) _
+      (λ k k' x h. (tt, later around.bases x (type_of l m.left) v h.1))
       (part around ctx parts good env _ None r m.right law.right (λ f h. covered f (inr (inr h))) keyed.1.1)
-      λ w. bind_safe around env _ _ _ (λ k u. m.here.codes ≡ []) _ (λ k k' x h. ((tt, later around.bases x (type_of l m.left) v h.0.1), later around.bases x (type_of r m.right) w h.1))
+      λ w. bind_safe around env _ _ _ (λ k u. m.here.codes ≡ []) _
+      (λ k k' x h. (
+        (tt, later around.bases x (type_of l m.left) v h.0.1),
+        later around.bases x (type_of r m.right)
+            w h.1,
+      ))
       (emits_safe around env _ p m.here.codes (allowed around p m.here.codes (λ f h. covered f (inl h))))
-      λ u. act_safe around env _ value_out (action.binary o v w) _ λ f k s h st.
-      (refl, pairs_end around.bases k s.heap fits.smaller m.here (takes_kind o) kind_type Any (type_of l m.left) (type_of r m.right) v w here h.1 h.0.0.1 h.0.1 (value_out (binary_outcome o (seen s.heap v) (seen s.heap w))) λ a b x y e. binary_ends around.bases k s.heap o a b v w x y e)
+      λ u. act_safe around env _ value_out (action.binary o v w) _ λ f k s h st. (
+        refl,
+        pairs_end around.bases k s.heap fits.smaller m.here (takes_kind o) kind_type Any (type_of l m.left)
+            (type_of r m.right) v w here h.1 h.0.0.1 h.0.1 (value_out (binary_outcome o (seen s.heap v) (seen s.heap w)))
+            λ a b x y e. binary_ends around.bases k s.heap o a b v w x y e,
+      )
 
-  pub compare_safe : (evaluates : (e : Expr) → Evaluates (place_of e) (parts.eval e)) (want : Option Tree) (p : Place) (o : ComparisonOperator) (l r : Expr) (m : Labels (compare p o l r)) → Lawful ctx around.declared env want (compare p o l r) m → Covered around (Finds (compare p o l r) m) → Keyed (compare p o l r) m → IsSafe around env (λ k. Unit {0}) (eval_node Step free parts (compare p o l r)) (λ k v. HasType around.bases k m.here.type v)
+  pub compare_safe : (evaluates : (e : Expr) → Evaluates (place_of e) (parts.eval e)) (want : Option Tree) (p : Place)
+      (o : ComparisonOperator) (l r : Expr) (m : Labels (compare p o l r))
+      → Lawful ctx around.declared env want (compare p o l r) m → Covered around (Finds (compare p o l r) m)
+      → Keyed (compare p o l r) m → IsSafe around env (λ k. Unit {0}) (eval_node Step free parts (compare p o l r))
+      (λ k v. HasType around.bases k m.here.type v)
   compare_safe evaluates want p o l r m law covered keyed =
       let types = compare_types o (type_of r m.right) in
-      let here : m.here ≡ compare_label around.bases o (type_of l m.left) (type_of r m.right) = subst (λ b. m.here ≡ compare_label b o (type_of l m.left) (type_of r m.right)) (sym fits.bases) law.here in
-      bind_safe around env _ _ _ (λ k v. HasType around.bases k (type_of l m.left) v × HasEach around.bases k types v) _ (λ k k' x h. tt)
-      (flows_safe around ctx parts.eval good evaluates env _ None l m.left types m.flows law.left (λ f h. covered f (inr (inr (inl h)))) (subst (λ b. FlowsInto b (whole_label l m.left) types m.flows) (sym fits.bases) law.flows) (λ f h. covered f (inr (inl h))) keyed.1.0)
-      λ v. bind_safe around env _ _ _ (λ k w. HasType around.bases k (type_of r m.right) w) _ (λ k k' x h. (tt, (later around.bases x (type_of l m.left) v h.1.0, each_later around.bases x types v h.1.1)))
+      let here : m.here ≡ compare_label around.bases o (type_of l m.left) (type_of r m.right) =
+      subst (λ b. m.here ≡ compare_label b o (type_of l m.left) (type_of r m.right)) (sym fits.bases) law.here in
+      bind_safe around env _ _ _ (λ k v. HasType around.bases k (type_of l m.left) v × HasEach around.bases k types v) _
+      (λ k k' x h. tt)
+      (flows_safe around ctx parts.eval good evaluates env _ None l m.left types m.flows law.left
+      (λ f h. covered f (inr (inr (inl h)))) (subst (λ b. FlowsInto b (whole_label l m.left) types m.flows)
+      (sym fits.bases) law.flows) (λ f h. covered f (inr (inl h))) keyed.1.0)
+      λ v. bind_safe around env _ _ _ (λ k w. HasType around.bases k (type_of r m.right) w) _
+      (λ k k' x h. (tt, (later around.bases x (type_of l m.left) v h.1.0, each_later around.bases x types v h.1.1)))
       (part around ctx parts good env _ None r m.right law.right (λ f h. covered f (inr (inr (inr h)))) keyed.1.1)
-      λ w. bind_safe around env _ _ _ (λ k u. m.here.codes ≡ []) _ (λ k k' x h. ((tt, (later around.bases x (type_of l m.left) v h.0.1.0, each_later around.bases x types v h.0.1.1)), later around.bases x (type_of r m.right) w h.1))
+      λ w. bind_safe around env _ _ _ (λ k u. m.here.codes ≡ []) _
+      (λ k k' x h. (
+        (tt, (later around.bases x (type_of l m.left) v h.0.1.0, each_later around.bases x types v h.0.1.1)),
+        later around.bases x (type_of r m.right) w h.1,
+      ))
       (emits_safe around env _ p m.here.codes (allowed around p m.here.codes (λ f h. covered f (inl h))))
-      λ u. act_safe around env _ value_out (action.compare o v w) _ λ f k s h st.
-      (refl, compare_ends around.bases k s.heap around.classes st.well f fits.smaller o m.here (type_of l m.left) (type_of r m.right) v w here h.1 h.0.0.1.0 h.0.1 h.0.0.1.1)
+      λ u. act_safe around env _ value_out (action.compare o v w) _ λ f k s h st. (
+        refl,
+        compare_ends around.bases k s.heap around.classes st.well f fits.smaller o m.here (type_of l m.left)
+            (type_of r m.right) v w here h.1 h.0.0.1.0 h.0.1 h.0.0.1.1,
+      )

@@ -11,7 +11,9 @@ use Rattle.pc_class.specs.Facts.{ClassFacts, TypedParameter, class_facts_at}
 use Rattle.pc_value.specs.Value.{Slot, Cell, list_cell, dict_cell, instance_cell, Heap}
 use Rattle.pc_sound.specs.Values.{HeapTyping, Recorded, a_list, a_dict, a_class, SlotsHave, CellHas, IsWell}
 use Rattle.pc_sound.specs.Needed.{HasNoNever, NoneHasNever, FieldsHaveNoNever, IsNeeded, IsNeededWithin}
-use Rattle.pc_sound.proofs.Values.Requirements.{required, required_by_fields, required_by_classes, Records, records_itself, records_first, records_second, records_fields, fields_without}
+use Rattle.pc_sound.proofs.Values.Requirements.{required, required_by_fields, required_by_classes, Records}
+use Rattle.pc_sound.proofs.Values.Requirements.{records_itself, records_first, records_second, records_fields}
+use Rattle.pc_sound.proofs.Values.Requirements.{fields_without}
 use Rattle.pc_sound.proofs.Values.RequiredClasses.{AllBelow, below_at}
 use Rattle.pc_sound.proofs.Values.Inhabitants.{any_value}
 use Rattle.pc_sound.proofs.Values.Differences.{difference}
@@ -63,7 +65,8 @@ module _ (bases : Bases) (classes : List ClassFacts) (without : FieldsHaveNoNeve
 
 -- a flow that is not static is needed
 pub is_needed :
-    (bases : Bases) → AreSmaller bases → (classes : List ClassFacts) → FieldsHaveNoNever classes → (s t : Tree) → IsNormal s
+    (bases : Bases) → AreSmaller bases → (classes : List ClassFacts) → FieldsHaveNoNever classes → (s t : Tree)
+    → IsNormal s
     → IsNormal t → HasNoNever s → ¬ (Static bases s t) → IsNeeded bases classes s t
 is_needed bases ordered classes without s t ns nt n dynamic =
     let k = required s ++ required_by_classes classes in
@@ -81,7 +84,8 @@ is_needed bases ordered classes without s t ns nt n dynamic =
 
 -- so with instances of the classes only, where the values refer to no others
 pub is_needed_within :
-    (bases : Bases) → AreSmaller bases → (classes : List ClassFacts) → FieldsHaveNoNever classes → (s t : Tree) → IsNormal s
+    (bases : Bases) → AreSmaller bases → (classes : List ClassFacts) → FieldsHaveNoNever classes → (s t : Tree)
+    → IsNormal s
     → IsNormal t → HasNoNever s → ¬ (Static bases s t)
     → AllBelow (length classes) (required s ++ required_by_classes classes) → IsNeededWithin bases classes s t
 unfolding is_needed

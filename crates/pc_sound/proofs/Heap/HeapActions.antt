@@ -18,7 +18,8 @@ use Rattle.pc_sound.proofs.Steps.Judgment.{HasListed, EndsWell, Around, IsWellTy
 use Rattle.pc_sound.proofs.Values.ValuesFlow.{extends_refl}
 
 -- an outcome of a type as an end in a value
-pub outcome_ends : (bases : Bases) (k : HeapTyping) (t : Tree) (o : Outcome) → OutcomeHas bases k t o → EndsWell (λ w. HasType bases k t w) (value_out o)
+pub outcome_ends : (bases : Bases) (k : HeapTyping) (t : Tree) (o : Outcome) → OutcomeHas bases k t o
+    → EndsWell (λ w. HasType bases k t w) (value_out o)
 outcome_ends bases k t (action.gives v) h = h
 outcome_ends bases k t (action.iterates over) h = absurd h
 outcome_ends bases k t action.finished h = absurd h
@@ -28,10 +29,15 @@ outcome_ends bases k t (action.stops Outside) h = h
 outcome_ends bases k t (action.stops (Raised e)) h = h
 
 -- an action that keeps the heap well typed, and comes to a value of a type
-pub acting_safe : (around : Around) (env : Env) (known : HeapTyping → Type 0) (a : Action) (t : Tree) → ((free : Free) (k : HeapTyping) (s : State) → known k → IsWellTyped around env k s → ActsWell around.bases around.classes k t (action_result free a s.heap)) → IsSafe around env known (act value_out a) (λ k v. HasType around.bases k t v)
+pub acting_safe : (around : Around) (env : Env) (known : HeapTyping → Type 0) (a : Action) (t : Tree)
+    → ((free : Free) (k : HeapTyping) (s : State) → known k → IsWellTyped around env k s
+    → ActsWell around.bases around.classes k t (action_result free a s.heap))
+    → IsSafe around env known (act value_out a) (λ k v. HasType around.bases k t v)
 acting_safe around env known a t acts = record { run = go }
   where
-    still : (k : HeapTyping) (s s' : State) (o : Out Value) (stop : Stop) → s' ≡ s → o ≡ Stops stop → EndsWell (λ w. HasType around.bases k t w) (Stops stop) → IsWellTyped around env k s → KeepsState around (λ k v. HasType around.bases k t v) k s o s'
+    still : (k : HeapTyping) (s s' : State) (o : Out Value) (stop : Stop) → s' ≡ s → o ≡ Stops stop
+        → EndsWell (λ w. HasType around.bases k t w) (Stops stop) → IsWellTyped around env k s
+        → KeepsState around (λ k v. HasType around.bases k t v) k s o s'
     still k s s' o stop same is well st = record {
       typing = k;
       grows = extends_refl k;
@@ -42,7 +48,9 @@ acting_safe around env known a t acts = record { run = go }
       ends = subst (λ x. EndsWell (λ w. HasType around.bases k t w) x) (sym is) well;
     }
 
-    go : (k : HeapTyping) (s s' : State) (events : List Place) (o : Out Value) → known k → IsWellTyped around env k s → act value_out a s events o s' → HasListed around.listed events ⊎ KeepsState around (λ k v. HasType around.bases k t v) k s o s'
+    go : (k : HeapTyping) (s s' : State) (events : List Place) (o : Out Value) → known k → IsWellTyped around env k s
+        → act value_out a s events o s' → HasListed around.listed events
+        ⊎ KeepsState around (λ k v. HasType around.bases k t v) k s o s'
     go k s s' events o knows st (inl r) =
         let w = acts r.free k s knows st in
         inr (record {
@@ -52,7 +60,8 @@ acting_safe around env known a t acts = record { run = go }
           same_frame = ap (λ x. x.frame) r.after;
           same_globals = ap (λ x. x.globals) r.after;
           same_classes = ap (λ x. x.classes) r.after;
-          ends = subst (λ x. EndsWell (λ v. HasType around.bases w.typing t v) x) (sym r.is) (outcome_ends around.bases w.typing t (action_result r.free a s.heap).outcome w.has);
+          ends = subst (λ x. EndsWell (λ v. HasType around.bases w.typing t v) x) (sym r.is)
+              (outcome_ends around.bases w.typing t (action_result r.free a s.heap).outcome w.has);
         })
     go k s s' events o knows st (inr (inl e)) = inr (still k s s' o Other e.same e.is tt st)
     go k s s' events o knows st (inr (inr e)) = inr (still k s s' o Cut e.same e.is tt st)

@@ -22,7 +22,8 @@ use Rattle.pc_sound.proofs.Expressions.Forms.{OtherCalls, forms_good}
 use Rattle.pc_sound.proofs.Steps.NestedSteps.{FormsGood, AllGood}
 use Rattle.pc_sound.proofs.Calls.BodyCalls.{Facts, body_calls}
 use Rattle.pc_sound.proofs.Calls.InitializerCalls.{initializer_calls}
-use Rattle.pc_sound.proofs.Modules.WholeModule.{IsListedPlace, BodyOf, of_function, of_items, body_around, body_ctx, body_fits, body_returned, bodies}
+use Rattle.pc_sound.proofs.Modules.WholeModule.{IsListedPlace, BodyOf, of_function, of_items, body_around, body_ctx}
+use Rattle.pc_sound.proofs.Modules.WholeModule.{body_fits, body_returned, bodies}
 
 -- `range` is reserved
 range_builtin : builtin_of (codes "range") ≡ Some builtin.Range
@@ -42,25 +43,46 @@ module _ (m : Module) (labels : Labelling m) where
     range_is : (b : BodyOf m labels) → (body_ctx m labels b).resolve (codes "range") ≡ res.Builtin builtin.Range
     range_is b = (means.knows b).reserved (codes "range") builtin.Range range_builtin
 
-    other_calls : (n : ℕ) → AllGood m (bodies m labels) n → (b : BodyOf m labels) → OtherCalls (body_around m labels b) (body_ctx m labels b) (steps Step free n)
-    other_calls n good (of_function owner d lab) = body_calls m (constant_types m m.items labels) (IsListedPlace m) facts owner d lab (means.knows (of_function owner d lab)) (steps Step free n) (good.eval (of_function owner d lab)) (steps_evaluate n) (λ o f l. good.exec (of_function o f l))
-    other_calls n good (of_items types defs c names) = initializer_calls m (IsListedPlace m) types defs c names facts.inherits facts.distinct_fields (means.knows (of_items types defs c names)) (steps Step free n) (good.eval (of_items types defs c names)) (steps_evaluate n)
+    other_calls : (n : ℕ) → AllGood m (bodies m labels) n → (b : BodyOf m labels)
+        → OtherCalls (body_around m labels b) (body_ctx m labels b) (steps Step free n)
+    other_calls n good (of_function owner d lab) = body_calls m (constant_types m m.items labels) (IsListedPlace m)
+        facts owner d lab (means.knows (of_function owner d lab)) (steps Step free n)
+        (good.eval (of_function owner d lab)) (steps_evaluate n) (λ o f l. good.exec (of_function o f l))
+    other_calls n good (of_items types defs c names) = initializer_calls m (IsListedPlace m) types defs c names
+        facts.inherits facts.distinct_fields (means.knows (of_items types defs c names)) (steps Step free n)
+        (good.eval (of_items types defs c names)) (steps_evaluate n)
 
-    node_good : (n : ℕ) → AllGood m (bodies m labels) n → (b : BodyOf m labels) → GoodEval (body_around m labels b) (body_ctx m labels b) (eval_node Step free (steps Step free n))
+    node_good : (n : ℕ) → AllGood m (bodies m labels) n → (b : BodyOf m labels)
+        → GoodEval (body_around m labels b) (body_ctx m labels b) (eval_node Step free (steps Step free n))
     node_good n good (of_function owner d lab) =
-        forms_good (body_around m labels (of_function owner d lab)) (body_ctx m labels (of_function owner d lab)) (body_fits m labels (of_function owner d lab)) facts.inherits (means.knows (of_function owner d lab)) (steps Step free n) (good.eval (of_function owner d lab)) (steps_evaluate n) (steps_read_numbers n) (good.decides (of_function owner d lab)) (steps_read n) (other_calls n good (of_function owner d lab))
+        forms_good (body_around m labels (of_function owner d lab)) (body_ctx m labels (of_function owner d lab))
+        (body_fits m labels (of_function owner d lab)) facts.inherits (means.knows (of_function owner d lab))
+        (steps Step free n) (good.eval (of_function owner d lab)) (steps_evaluate n) (steps_read_numbers n)
+        (good.decides (of_function owner d lab)) (steps_read n) (other_calls n good (of_function owner d lab))
     node_good n good (of_items types defs c names) =
-        forms_good (body_around m labels (of_items types defs c names)) (body_ctx m labels (of_items types defs c names)) (body_fits m labels (of_items types defs c names)) facts.inherits (means.knows (of_items types defs c names)) (steps Step free n) (good.eval (of_items types defs c names)) (steps_evaluate n) (steps_read_numbers n) (good.decides (of_items types defs c names)) (steps_read n) (other_calls n good (of_items types defs c names))
+        forms_good (body_around m labels (of_items types defs c names))
+        (body_ctx m labels (of_items types defs c names)) (body_fits m labels (of_items types defs c names))
+        facts.inherits (means.knows (of_items types defs c names)) (steps Step free n)
+        (good.eval (of_items types defs c names)) (steps_evaluate n) (steps_read_numbers n)
+        (good.decides (of_items types defs c names)) (steps_read n)
+        (other_calls n good (of_items types defs c names))
 
-    all_stores : (n : ℕ) → AllGood m (bodies m labels) n → (b : BodyOf m labels) → GoodStores (body_around m labels b) m (body_ctx m labels b) (steps Step free n)
-    all_stores n good (of_function owner d lab) = stores_good (body_around m labels (of_function owner d lab)) (body_ctx m labels (of_function owner d lab)) (body_fits m labels (of_function owner d lab)) facts.inherits m (steps Step free n) (good.eval (of_function owner d lab)) (steps_evaluate n)
-    all_stores n good (of_items types defs c names) = stores_good (body_around m labels (of_items types defs c names)) (body_ctx m labels (of_items types defs c names)) (body_fits m labels (of_items types defs c names)) facts.inherits m (steps Step free n) (good.eval (of_items types defs c names)) (steps_evaluate n)
+    all_stores : (n : ℕ) → AllGood m (bodies m labels) n → (b : BodyOf m labels)
+        → GoodStores (body_around m labels b) m (body_ctx m labels b) (steps Step free n)
+    all_stores n good (of_function owner d lab) = stores_good (body_around m labels (of_function owner d lab))
+        (body_ctx m labels (of_function owner d lab)) (body_fits m labels (of_function owner d lab)) facts.inherits m
+        (steps Step free n) (good.eval (of_function owner d lab)) (steps_evaluate n)
+    all_stores n good (of_items types defs c names) = stores_good (body_around m labels (of_items types defs c names))
+        (body_ctx m labels (of_items types defs c names)) (body_fits m labels (of_items types defs c names))
+        facts.inherits m (steps Step free n) (good.eval (of_items types defs c names)) (steps_evaluate n)
 
     -- all forms, stores and iterables in all bodies
     pub forms_of : FormsGood m (bodies m labels)
     forms_of = record {
       eval = node_good;
-      decides = λ n good b. decides_over (body_around m labels b) (body_ctx m labels b) (body_fits m labels b) (means.tests b) (steps Step free n) (good.eval b) (good.decides b) (steps_read n) (node_good n good b);
+      decides = λ n good b. decides_over (body_around m labels b) (body_ctx m labels b) (body_fits m labels b)
+          (means.tests b) (steps Step free n) (good.eval b) (good.decides b) (steps_read n) (node_good n good b);
       stores = all_stores;
-      iterables = λ n good b. iterables_good (body_around m labels b) (body_ctx m labels b) (body_fits m labels b) m (body_returned m labels b) (steps Step free n) (good.eval b) (steps_evaluate n) (means.knows b) (range_is b);
+      iterables = λ n good b. iterables_good (body_around m labels b) (body_ctx m labels b) (body_fits m labels b) m
+          (body_returned m labels b) (steps Step free n) (good.eval b) (steps_evaluate n) (means.knows b) (range_is b);
     }

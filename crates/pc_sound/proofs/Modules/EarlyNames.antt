@@ -1,6 +1,8 @@
 -- In a module without errors no test of an instance in an initializer names too early.
-use Rattle.std.proofs.Common.{◌≡◌, ℕ, zero, suc, ◌≤◌, List, [], ◌∷◌, ◌++◌, length, refl, sym, ap, ◌∙◌, subst, inl, arith, Contains, append-nil, append_assoc}
-use Rattle.std.specs.Prelude.{Bool as Test, true, false, if◌then◌else◌, nat_lt, take, filter_map, Option, Some, None, slice_get}
+use Rattle.std.proofs.Common.{◌≡◌, ℕ, zero, suc, ◌≤◌, List, [], ◌∷◌, ◌++◌, length, refl, sym, ap, ◌∙◌, subst, inl}
+use Rattle.std.proofs.Common.{arith, Contains, append-nil, append_assoc}
+use Rattle.std.specs.Prelude.{Bool as Test, true, false, if◌then◌else◌, nat_lt, take, filter_map, Option, Some, None}
+use Rattle.std.specs.Prelude.{slice_get}
 use Rattle.std.specs.List.{cons_option}
 use Rattle.std.proofs.lemmas.List.Elements.{Contains-append_left, Contains-append_right}
 use Rattle.std.proofs.lemmas.Bool.Decides.{nat_tests}
@@ -9,7 +11,10 @@ use Rattle.std.proofs.Math.Seq.{take-append_seam}
 use Rattle.pc_source.specs.declared.place.Place.{Place}
 use Rattle.pc_tree.specs.declared.code.Code.TheVariants.{E03, E20}
 use Rattle.pc_tree.specs.Code.{finding}
-use Rattle.pc_tree.specs.Tree.{Name, Expr, name, number, text, truth, nothing, tuple, list, dict, negative, negation, binary, compare, is_none, is_not_none, conjunction, disjunction, attribute, index, call, Constant, Exprs, no_exprs, more_exprs, Entries, no_entries, more_entries, Keywords, no_keywords, more_keywords, Item, constant_item, class_item, def_item, Module}
+use Rattle.pc_tree.specs.Tree.{Name, Expr, name, number, text, truth, nothing, tuple, list, dict, negative, negation}
+use Rattle.pc_tree.specs.Tree.{binary, compare, is_none, is_not_none, conjunction, disjunction, attribute, index, call}
+use Rattle.pc_tree.specs.Tree.{Constant, Exprs, no_exprs, more_exprs, Entries, no_entries, more_entries, Keywords}
+use Rattle.pc_tree.specs.Tree.{no_keywords, more_keywords, Item, constant_item, class_item, def_item, Module}
 use Rattle.pc_tree.specs.Machine.Finishing.{name_of_tree}
 use Rattle.pc_scope.specs.declared.resolution.Res.{Res}
 use Rattle.pc_scope.specs.declared.resolution.Res.TheVariants as res
@@ -38,9 +43,11 @@ cons_both : (o : Option Name) (us vs : List Name) → cons_option o (us ++ vs) �
 cons_both None us vs = refl
 cons_both (Some n) us vs = refl
 
-names_both : (xs ys : List Expr) → filter_map name_of_tree (xs ++ ys) ≡ filter_map name_of_tree xs ++ filter_map name_of_tree ys
+names_both : (xs ys : List Expr) → filter_map name_of_tree (xs ++ ys) ≡ filter_map name_of_tree xs
+    ++ filter_map name_of_tree ys
 names_both [] ys = refl
-names_both (x ∷ xs) ys = ap (cons_option (name_of_tree x)) (names_both xs ys) ∙ cons_both (name_of_tree x) (filter_map name_of_tree xs) (filter_map name_of_tree ys)
+names_both (x ∷ xs) ys = ap (cons_option (name_of_tree x)) (names_both xs ys)
+    ∙ cons_both (name_of_tree x) (filter_map name_of_tree xs) (filter_map name_of_tree ys)
 
 module _ (ctx : Context) (declared : List Tree) where
   -- a name reads in time in each environment
@@ -52,18 +59,23 @@ module _ (ctx : Context) (declared : List Tree) where
   NamesInTime xs = (n : Name) → Contains (filter_map name_of_tree xs) n → InTime n
 
   left_of : (xs ys : List Expr) → NamesInTime (xs ++ ys) → NamesInTime xs
-  left_of xs ys h n c = h n (subst (λ l. Contains l n) (sym (names_both xs ys)) (Contains-append_left (filter_map name_of_tree xs) (filter_map name_of_tree ys) n c))
+  left_of xs ys h n c = h n (subst (λ l. Contains l n) (sym (names_both xs ys))
+      (Contains-append_left (filter_map name_of_tree xs) (filter_map name_of_tree ys) n c))
 
   right_of : (xs ys : List Expr) → NamesInTime (xs ++ ys) → NamesInTime ys
-  right_of xs ys h n c = h n (subst (λ l. Contains l n) (sym (names_both xs ys)) (Contains-append_right (filter_map name_of_tree xs) (filter_map name_of_tree ys) n c))
+  right_of xs ys h n c = h n (subst (λ l. Contains l n) (sym (names_both xs ys))
+      (Contains-append_right (filter_map name_of_tree xs) (filter_map name_of_tree ys) n c))
 
   own : (e : Expr) → NamesInTime (parts_in false e) → (n : Name) → e ≡ name n → InTime n
-  own e h n is = h n (subst (λ x. Contains (filter_map name_of_tree (parts_in false x)) n) (sym is) (0, omega arith, refl))
+  own e h n is = h n (subst (λ x. Contains (filter_map name_of_tree (parts_in false x)) n) (sym is)
+      (0, omega arith, refl))
 
   second : (args : Exprs) → NamesInTime (parts_in_all false args) → SecondTimely tests_in_time ctx declared args
   second no_exprs h = tt
   second (more_exprs e no_exprs) h = tt
-  second (more_exprs e (more_exprs f rest)) h = λ env want m law. own_timely ctx declared f (own f (left_of (parts_in false f) (parts_in_all false rest) (right_of (parts_in false e) (parts_in_all false (more_exprs f rest)) h))) env want m law
+  second (more_exprs e (more_exprs f rest)) h = λ env want m law. own_timely ctx declared f
+      (own f (left_of (parts_in false f) (parts_in_all false rest)
+      (right_of (parts_in false e) (parts_in_all false (more_exprs f rest)) h))) env want m law
 
   mutual
     pub timely_of : (e : Expr) → NamesInTime (parts_in false e) → Timely tests_in_time ctx declared e
@@ -77,32 +89,68 @@ module _ (ctx : Context) (declared : List Tree) where
     timely_of (dict p es) h = entries_of es h
     timely_of (negative p e) h = timely_of e h
     timely_of (negation p e) h = timely_of e h
-    timely_of (binary p o l r) h = (timely_of l (left_of (parts_in false l) (parts_in false r) h), timely_of r (right_of (parts_in false l) (parts_in false r) h))
-    timely_of (compare p o l r) h = (timely_of l (left_of (parts_in false l) (parts_in false r) h), timely_of r (right_of (parts_in false l) (parts_in false r) h))
+    timely_of (binary p o l r) h = (
+      timely_of l (left_of (parts_in false l) (parts_in false r) h),
+      timely_of r (right_of (parts_in false l) (parts_in false r) h),
+    )
+    timely_of (compare p o l r) h = (
+      timely_of l (left_of (parts_in false l) (parts_in false r) h),
+      timely_of r (right_of (parts_in false l) (parts_in false r) h),
+    )
     timely_of (is_none p e) h = timely_of e h
     timely_of (is_not_none p e) h = timely_of e h
-    timely_of (conjunction p l r) h = (timely_of l (left_of (parts_in false l) (parts_in false r) h), timely_of r (right_of (parts_in false l) (parts_in false r) h))
-    timely_of (disjunction p l r) h = (timely_of l (left_of (parts_in false l) (parts_in false r) h), timely_of r (right_of (parts_in false l) (parts_in false r) h))
+    timely_of (conjunction p l r) h = (
+      timely_of l (left_of (parts_in false l) (parts_in false r) h),
+      timely_of r (right_of (parts_in false l) (parts_in false r) h),
+    )
+    timely_of (disjunction p l r) h = (
+      timely_of l (left_of (parts_in false l) (parts_in false r) h),
+      timely_of r (right_of (parts_in false l) (parts_in false r) h),
+    )
     timely_of (attribute p e n) h = timely_of e h
-    timely_of (index p e i) h = (timely_of e (left_of (parts_in false e) (parts_in false i) h), timely_of i (right_of (parts_in false e) (parts_in false i) h))
+    timely_of (index p e i) h = (
+      timely_of e (left_of (parts_in false e) (parts_in false i) h),
+      timely_of i (right_of (parts_in false e) (parts_in false i) h),
+    )
     timely_of (call p c args kws) h =
         let others = right_of (parts_in false c) (parts_in_all false args ++ parts_in_keywords false kws) h in
-        let among = left_of (parts_in_all false args) (parts_in_keywords false kws) others in
-        ((λ is. second args among), (timely_of c (left_of (parts_in false c) (parts_in_all false args ++ parts_in_keywords false kws) h), (items_of args among, keywords_of kws (right_of (parts_in_all false args) (parts_in_keywords false kws) others))))
+        let among = left_of (parts_in_all false args) (parts_in_keywords false kws) others in (
+          (λ is. second args among),
+          (
+            timely_of c (left_of (parts_in false c) (parts_in_all false args ++ parts_in_keywords false kws) h),
+            (
+              items_of args among,
+              keywords_of kws (right_of (parts_in_all false args) (parts_in_keywords false kws)
+                  others),
+            ),
+          ),
+        )
 
     items_of : (es : Exprs) → NamesInTime (parts_in_all false es) → ItemsTimely tests_in_time ctx declared es
     items_of no_exprs h = tt
-    items_of (more_exprs e rest) h = (timely_of e (left_of (parts_in false e) (parts_in_all false rest) h), items_of rest (right_of (parts_in false e) (parts_in_all false rest) h))
+    items_of (more_exprs e rest) h = (
+      timely_of e (left_of (parts_in false e) (parts_in_all false rest) h),
+      items_of rest (right_of (parts_in false e) (parts_in_all false rest) h),
+    )
 
     entries_of : (es : Entries) → NamesInTime (parts_in_entries false es) → EntriesTimely tests_in_time ctx declared es
     entries_of no_entries h = tt
     entries_of (more_entries a b rest) h =
-        let others = right_of (parts_in false a) (parts_in false b ++ parts_in_entries false rest) h in
-        (timely_of a (left_of (parts_in false a) (parts_in false b ++ parts_in_entries false rest) h), (timely_of b (left_of (parts_in false b) (parts_in_entries false rest) others), entries_of rest (right_of (parts_in false b) (parts_in_entries false rest) others)))
+        let others = right_of (parts_in false a) (parts_in false b ++ parts_in_entries false rest) h in (
+          timely_of a (left_of (parts_in false a) (parts_in false b ++ parts_in_entries false rest) h),
+          (
+            timely_of b (left_of (parts_in false b) (parts_in_entries false rest) others),
+            entries_of rest (right_of (parts_in false b) (parts_in_entries false rest) others),
+          ),
+        )
 
-    keywords_of : (es : Keywords) → NamesInTime (parts_in_keywords false es) → KeywordsTimely tests_in_time ctx declared es
+    keywords_of : (es : Keywords) → NamesInTime (parts_in_keywords false es) → KeywordsTimely tests_in_time ctx declared
+        es
     keywords_of no_keywords h = tt
-    keywords_of (more_keywords w e rest) h = (timely_of e (left_of (parts_in false e) (parts_in_keywords false rest) h), keywords_of rest (right_of (parts_in false e) (parts_in_keywords false rest) h))
+    keywords_of (more_keywords w e rest) h = (
+      timely_of e (left_of (parts_in false e) (parts_in_keywords false rest) h),
+      keywords_of rest (right_of (parts_in false e) (parts_in_keywords false rest) h),
+    )
 
 -- ---- no initializer of a module without errors names too early
 
@@ -112,7 +160,8 @@ past_end (x ∷ xs) zero e = absurd (none-some _ (sym e))
 past_end (x ∷ xs) (suc i) e = let h = past_end xs i e in omega (arith, h)
 
 -- a name of an initializer that is not early reads in time
-in_time : (m : Module) (constants : List Tree) (known : ℕ) (r : Res) → (IsEarlyMeaning (length constants) known r → ⊥) → (env : Env) → is_early (name_label (initializer_context m constants known) env r).codes ≡ false
+in_time : (m : Module) (constants : List Tree) (known : ℕ) (r : Res) → (IsEarlyMeaning (length constants) known r → ⊥)
+    → (env : Env) → is_early (name_label (initializer_context m constants known) env r).codes ≡ false
 in_time m constants known (res.Local x) h env = of_local (current env x)
   where
     of_local : (o : Option Tree) → is_early (local_label o).codes ≡ false
@@ -133,7 +182,9 @@ in_time m constants known (res.Builtin b) h env = refl
 in_time m constants known res.None h env = refl
 
 module _ (m : Module) (labels : Labelling m) (lawful : IsLawful m labels) (clean : HasNoError m) where
-  none_early : (done : List Item) (p : Place) (c : Constant) (rest : List Item) → done ++ constant_item p c ∷ rest ≡ m.items → (n : Name) → Contains (filter_map name_of_tree (parts_in false c.value)) n → IsEarlyMeaning (length (constants_in done)) (length (classes_in done)) (resolve_in_module m n.text) → ⊥
+  none_early : (done : List Item) (p : Place) (c : Constant) (rest : List Item) → done ++ constant_item p c ∷ rest
+      ≡ m.items → (n : Name) → Contains (filter_map name_of_tree (parts_in false c.value)) n
+      → IsEarlyMeaning (length (constants_in done)) (length (classes_in done)) (resolve_in_module m n.text) → ⊥
   none_early done p c rest whole n named early =
       clean (finding n.place E03) (record {
         labels = labels;
@@ -142,30 +193,47 @@ module _ (m : Module) (labels : Labelling m) (lawful : IsLawful m labels) (clean
           at = length done;
           first = p;
           constant = c;
-          item = subst (λ l. slice_get l (length done) ≡ Some (constant_item p c)) whole (get_at_end done (constant_item p c) rest);
-          found = inl (record { n = n; named = named; early = subst (λ l. IsEarlyMeaning (length (constants_in l)) (length (classes_in l)) (resolve_in_module m n.text)) (sym taken) early; is = refl });
+          item = subst (λ l. slice_get l (length done) ≡ Some (constant_item p c)) whole
+              (get_at_end done (constant_item p c) rest);
+          found =
+              inl (record {
+                n = n;
+                named = named;
+                early = subst (λ l. IsEarlyMeaning (length (constants_in l))
+                    (length (classes_in l)) (resolve_in_module m n.text)) (sym taken) early;
+                is = refl;
+              });
         }));
       }) refl
     where
       taken : take (length done) m.items ≡ done
       taken = ap (take (length done)) (sym whole) ∙ take-append_seam done (constant_item p c ∷ rest)
 
-  timely_items : (done : List Item) (b : BeforeItem) (items : List Item) (labels : ItemsLabels items) → done ++ items ≡ m.items → length b.constants ≡ length (constants_in done) → b.classes ≡ length (classes_in done) → InitializersTimely tests_in_time m b items labels
+  timely_items : (done : List Item) (b : BeforeItem) (items : List Item) (labels : ItemsLabels items)
+      → done ++ items ≡ m.items → length b.constants ≡ length (constants_in done) → b.classes ≡ length (classes_in done)
+      → InitializersTimely tests_in_time m b items labels
   timely_items done b [] labels whole constants classes = tt
   timely_items done b (constant_item p c ∷ rest) labels whole constants classes = (
     timely_of (initializer_context m b.constants b.classes) [] c.value
-        (λ n named. in_time m b.constants b.classes (resolve_in_module m n.text) (λ early. none_early done p c rest whole n named
-        (subst (λ k. IsEarlyMeaning k (length (classes_in done)) (resolve_in_module m n.text)) constants (subst (λ k. IsEarlyMeaning (length b.constants) k (resolve_in_module m n.text)) classes early)))),
-    timely_items (done ++ constant_item p c ∷ []) (before_next m b (constant_item p c) labels.first) rest labels.rest (append_assoc done (constant_item p c ∷ []) rest ∙ whole)
-        (one_longer b.constants _ ∙ (ap suc constants ∙ (sym (one_longer (constants_in done) c) ∙ ap length (sym (constants_append done (constant_item p c ∷ []))))))
+        (λ n named. in_time m b.constants b.classes (resolve_in_module m n.text)
+        (λ early. none_early done p c rest whole n named
+        (subst (λ k. IsEarlyMeaning k (length (classes_in done)) (resolve_in_module m n.text)) constants
+        (subst (λ k. IsEarlyMeaning (length b.constants) k (resolve_in_module m n.text)) classes early)))),
+    timely_items (done ++ constant_item p c ∷ []) (before_next m b (constant_item p c) labels.first) rest labels.rest
+        (append_assoc done (constant_item p c ∷ []) rest ∙ whole)
+        (one_longer b.constants _ ∙ (ap suc constants ∙ (sym (one_longer (constants_in done) c)
+        ∙ ap length (sym (constants_append done (constant_item p c ∷ []))))))
         (classes ∙ ap length (sym (classes_append done (constant_item p c ∷ []) ∙ append-nil (classes_in done)))),
   )
   timely_items done b (class_item p c ∷ rest) labels whole constants classes =
-      timely_items (done ++ class_item p c ∷ []) (before_next m b (class_item p c) labels.first) rest labels.rest (append_assoc done (class_item p c ∷ []) rest ∙ whole)
+      timely_items (done ++ class_item p c ∷ []) (before_next m b (class_item p c) labels.first) rest labels.rest
+      (append_assoc done (class_item p c ∷ []) rest ∙ whole)
       (constants ∙ ap length (sym (constants_append done (class_item p c ∷ []) ∙ append-nil (constants_in done))))
-      (ap suc classes ∙ (sym (one_longer (classes_in done) c) ∙ ap length (sym (classes_append done (class_item p c ∷ [])))))
+      (ap suc classes ∙ (sym (one_longer (classes_in done) c) ∙ ap length
+      (sym (classes_append done (class_item p c ∷ [])))))
   timely_items done b (def_item p f ∷ rest) labels whole constants classes =
-      timely_items (done ++ def_item p f ∷ []) (before_next m b (def_item p f) labels.first) rest labels.rest (append_assoc done (def_item p f ∷ []) rest ∙ whole)
+      timely_items (done ++ def_item p f ∷ []) (before_next m b (def_item p f) labels.first) rest labels.rest
+      (append_assoc done (def_item p f ∷ []) rest ∙ whole)
       (constants ∙ ap length (sym (constants_append done (def_item p f ∷ []) ∙ append-nil (constants_in done))))
       (classes ∙ ap length (sym (classes_append done (def_item p f ∷ []) ∙ append-nil (classes_in done))))
 

@@ -1,6 +1,7 @@
 -- What bodies and initializers know of the module's names and of the classes made.
 use Rattle.std.proofs.Common.{◌≡◌, ℕ, suc, List, [], ◌∷◌, ◌++◌, length, refl, sym, ap, ◌∙◌, subst, arith}
-use Rattle.std.specs.Prelude.{Bool as Test, true, false, if◌then◌else◌, is_some, nat_lt, bytes_eq, Option, Some, None, slice_get}
+use Rattle.std.specs.Prelude.{Bool as Test, true, false, if◌then◌else◌, is_some, nat_lt, bytes_eq, Option, Some, None}
+use Rattle.std.specs.Prelude.{slice_get}
 use Rattle.pc_source.specs.declared.place.Place.{Place}
 use Rattle.pc_tree.specs.Tree.{FuncDef, ClassDef, Item, constant_item, class_item, def_item, Module}
 use Rattle.pc_scope.specs.declared.resolution.Builtin.{Builtin}
@@ -11,7 +12,8 @@ use Rattle.pc_scope.specs.Reserved.{builtin_of}
 use Rattle.pc_tree.specs.Stopping.{bound_by}
 use Rattle.pc_scope.specs.Bindings.{texts, classes_in}
 use Rattle.pc_scope.proofs.Unbound.{is_none_of}
-use Rattle.pc_scope.specs.Resolution.{index_of, bound_first, or_meaning, local_meaning, builtin_meaning, entry_texts, locals, resolve_in_module, resolve_among}
+use Rattle.pc_scope.specs.Resolution.{index_of, bound_first, or_meaning, local_meaning, builtin_meaning, entry_texts}
+use Rattle.pc_scope.specs.Resolution.{locals, resolve_in_module, resolve_among}
 use Rattle.pc_types.specs.Tree.{Tree}
 use Rattle.pc_types.specs.Tree as tree
 use Rattle.pc_types.specs.Below.{Below}
@@ -37,21 +39,28 @@ builtin_inj : {b c : Builtin} → res.Builtin b ≡ res.Builtin c → b ≡ c
 builtin_inj e = grind arith
 
 -- what the module binds is no built-in
-no_builtin : (k f c : ℕ) (items : List Item) (word : List ℕ) (b : Builtin) → or_meaning (bound_first k f c items word) res.None ≡ res.Builtin b → ⊥
+no_builtin : (k f c : ℕ) (items : List Item) (word : List ℕ) (b : Builtin) → or_meaning (bound_first k f c items word)
+    res.None ≡ res.Builtin b → ⊥
 no_builtin k f c [] word b e = absurd (grind (arith, e))
-no_builtin k f c (constant_item p i ∷ rest) word b e = go (bytes_eq i.name.text word) e (λ e'. no_builtin (suc k) f c rest word b e')
+no_builtin k f c (constant_item p i ∷ rest) word b e = go (bytes_eq i.name.text word) e
+    (λ e'. no_builtin (suc k) f c rest word b e')
   where
-    go : (x : Test) → or_meaning (if x then Some (res.Const k) else bound_first (suc k) f c rest word) res.None ≡ res.Builtin b → (or_meaning (bound_first (suc k) f c rest word) res.None ≡ res.Builtin b → ⊥) → ⊥
+    go : (x : Test) → or_meaning (if x then Some (res.Const k) else bound_first (suc k) f c rest word) res.None
+        ≡ res.Builtin b → (or_meaning (bound_first (suc k) f c rest word) res.None ≡ res.Builtin b → ⊥) → ⊥
     go true e others = absurd (grind (arith, e))
     go false e others = others e
-no_builtin k f c (def_item p i ∷ rest) word b e = go (bytes_eq i.name.text word) e (λ e'. no_builtin k (suc f) c rest word b e')
+no_builtin k f c (def_item p i ∷ rest) word b e = go (bytes_eq i.name.text word) e
+    (λ e'. no_builtin k (suc f) c rest word b e')
   where
-    go : (x : Test) → or_meaning (if x then Some (res.Func f) else bound_first k (suc f) c rest word) res.None ≡ res.Builtin b → (or_meaning (bound_first k (suc f) c rest word) res.None ≡ res.Builtin b → ⊥) → ⊥
+    go : (x : Test) → or_meaning (if x then Some (res.Func f) else bound_first k (suc f) c rest word) res.None
+        ≡ res.Builtin b → (or_meaning (bound_first k (suc f) c rest word) res.None ≡ res.Builtin b → ⊥) → ⊥
     go true e others = absurd (grind (arith, e))
     go false e others = others e
-no_builtin k f c (class_item p i ∷ rest) word b e = go (bytes_eq i.name.text word) e (λ e'. no_builtin k f (suc c) rest word b e')
+no_builtin k f c (class_item p i ∷ rest) word b e = go (bytes_eq i.name.text word) e
+    (λ e'. no_builtin k f (suc c) rest word b e')
   where
-    go : (x : Test) → or_meaning (if x then Some (res.Class c) else bound_first k f (suc c) rest word) res.None ≡ res.Builtin b → (or_meaning (bound_first k f (suc c) rest word) res.None ≡ res.Builtin b → ⊥) → ⊥
+    go : (x : Test) → or_meaning (if x then Some (res.Class c) else bound_first k f (suc c) rest word) res.None
+        ≡ res.Builtin b → (or_meaning (bound_first k f (suc c) rest word) res.None ≡ res.Builtin b → ⊥) → ⊥
     go true e others = absurd (grind (arith, e))
     go false e others = others e
 
@@ -60,46 +69,53 @@ module _ (m : Module) where
   builtin_known : (word : List ℕ) (b : Builtin) → resolve_in_module m word ≡ res.Builtin b → builtin_of word ≡ Some b
   builtin_known word b e = go (builtin_of word) refl e
     where
-      go : (o : Option Builtin) → builtin_of word ≡ o → or_meaning (builtin_meaning o) (or_meaning (bound_first 0 0 0 m.items word) res.None) ≡ res.Builtin b → builtin_of word ≡ Some b
+      go : (o : Option Builtin) → builtin_of word ≡ o → or_meaning (builtin_meaning o)
+          (or_meaning (bound_first 0 0 0 m.items word) res.None) ≡ res.Builtin b → builtin_of word ≡ Some b
       go (Some c) is e = is ∙ ap Some (builtin_inj e)
       go None is e = absurd (no_builtin 0 0 0 m.items word b e)
 
   -- and a reserved name means its built-in
   reserved_means : (word : List ℕ) (b : Builtin) → builtin_of word ≡ Some b → resolve_in_module m word ≡ res.Builtin b
-  reserved_means word b e = ap (λ o. or_meaning (builtin_meaning o) (or_meaning (bound_first 0 0 0 m.items word) res.None)) e
+  reserved_means word b e = ap (λ o. or_meaning (builtin_meaning o)
+      (or_meaning (bound_first 0 0 0 m.items word) res.None)) e
 
   abbrev IsOuter : Res → Type 0
   IsOuter (res.Local x) = ⊥
   IsOuter _ = Unit {0}
 
   -- what is no local to a body is the module's
-  outer : (names : List (List ℕ)) (word : List ℕ) (r : Res) → IsOuter r → resolve_among m names word ≡ r → resolve_in_module m word ≡ r
+  outer : (names : List (List ℕ)) (word : List ℕ) (r : Res) → IsOuter r → resolve_among m names word ≡ r
+      → resolve_in_module m word ≡ r
   outer names word r is e = go (index_of word names) e
     where
       go : (o : Option ℕ) → or_meaning (local_meaning o) (resolve_in_module m word) ≡ r → resolve_in_module m word ≡ r
       go None e = e
       go (Some x) e = absurd (subst IsOuter (sym e) is)
 
-  class_within : (word : List ℕ) (c : ℕ) → resolve_in_module m word ≡ res.Class c → nat_lt c (length (classes_in m.items)) ≡ true
+  class_within : (word : List ℕ) (c : ℕ) → resolve_in_module m word ≡ res.Class c
+      → nat_lt c (length (classes_in m.items)) ≡ true
   class_within word c r =
       let x = class_named m word c r in
       let behind = x.behind in
       let at : c ≡ x.at = omega arith in
-      subst (λ i. nat_lt i (length (classes_in m.items)) ≡ true) (sym at) (within (classes_in m.items) x.at x.class x.is)
+      subst (λ i. nat_lt i (length (classes_in m.items)) ≡ true) (sym at)
+      (within (classes_in m.items) x.at x.class x.is)
 
   -- ---- in initializers
 
   module _ (listed : Place → Type 0) (types : List Tree) (defs : List FuncDef) (n : ℕ) (names : List (List ℕ)) where
     pub initializer_names : KnowsNames (around_items m listed types defs n names) (initializer_context m types n)
     initializer_names = record {
-      constant = λ word i t r e k made globals w. let c = w.constant word i t r e in record { value = c.value; is = c.is; has = c.has };
+      constant = λ word i t r e k made globals w. let c = w.constant word i t r e in
+          record { value = c.value; is = c.is; has = c.has };
       class = λ word c r less k made globals w. w.class word c r less;
       builtin = builtin_known;
       reserved = reserved_means;
       unbound = λ word b r k made globals w. w.fresh word (w.free word (ap is_some (builtin_known word b r)));
     }
 
-    pub initializer_ancestors : KnowsAncestors (around_items m listed types defs n names) (initializer_context m types n)
+    pub initializer_ancestors : KnowsAncestors (around_items m listed types defs n names)
+        (initializer_context m types n)
     initializer_ancestors = record {
       known = λ local x l word c r. absurd (module_local m local x l);
       descends = λ local x l word c r k made globals w. absurd (module_local m local x l);
@@ -107,22 +123,31 @@ module _ (m : Module) where
 
   -- ---- in bodies
 
-  no_class_below : (d c : ℕ) (t : ClassDef) → slice_get (classes_in m.items) c ≡ Some t → slice_get (classes_in m.items) d ≡ None → Chain (bases_of m) d c → ⊥
+  no_class_below : (d c : ℕ) (t : ClassDef) → slice_get (classes_in m.items) c ≡ Some t
+      → slice_get (classes_in m.items) d ≡ None → Chain (bases_of m) d c → ⊥
   no_class_below d c t is none here = absurd (grind (arith, sym none ∙ is))
   no_class_below d c t is none (up {b = b} e p) = let r = has_base m d b e in absurd (grind (arith, sym none ∙ r.is))
 
   module _ (constants : List Tree) where
     -- the ancestors of the classes made are those that are above them
-    pub descends : (k : HeapTyping) (made : List Class) (globals : Globals) → World m constants k made globals → (c : ℕ) (t : ClassDef) → slice_get (classes_in m.items) c ≡ Some t → Descends (bases_of m) made c
-    descends k made globals w c t is = record { below = λ d h. below d (slice_get (classes_in m.items) d) refl h; reached = λ d h. reached d (slice_get (classes_in m.items) d) refl (sub_of h) }
+    pub descends : (k : HeapTyping) (made : List Class) (globals : Globals) → World m constants k made globals
+        → (c : ℕ) (t : ClassDef) → slice_get (classes_in m.items) c ≡ Some t → Descends (bases_of m) made c
+    descends k made globals w c t is = record {
+      below = λ d h. below d (slice_get (classes_in m.items) d) refl h;
+      reached = λ d h. reached d (slice_get (classes_in m.items) d) refl (sub_of h);
+    }
       where
-        below : (d : ℕ) (o : Option ClassDef) → slice_get (classes_in m.items) d ≡ o → descends_from c (class_at made (Some d)) ≡ true → Below (bases_of m) (tree.Class d) (tree.Class c)
+        below : (d : ℕ) (o : Option ClassDef) → slice_get (classes_in m.items) d ≡ o
+            → descends_from c (class_at made (Some d)) ≡ true → Below (bases_of m) (tree.Class d) (tree.Class c)
         below d None none h = absurd (grind (arith, sym (ap (descends_from c) (w.no_more d none)) ∙ h))
-        below d (Some u) some h = let r = w.classes d u some in r.ancestors.below c (sym (ap (descends_from c) r.is) ∙ h)
+        below d (Some u) some h = let r = w.classes d u some in r.ancestors.below c (sym (ap (descends_from c) r.is)
+            ∙ h)
 
-        reached : (d : ℕ) (o : Option ClassDef) → slice_get (classes_in m.items) d ≡ o → Sub (bases_of m) (tree.Class d) (tree.Class c) → descends_from c (class_at made (Some d)) ≡ true
+        reached : (d : ℕ) (o : Option ClassDef) → slice_get (classes_in m.items) d ≡ o
+            → Sub (bases_of m) (tree.Class d) (tree.Class c) → descends_from c (class_at made (Some d)) ≡ true
         reached d None none (s_class p) = absurd (no_class_below d c t is none p)
-        reached d (Some u) some s = let r = w.classes d u some in ap (descends_from c) r.is ∙ r.ancestors.reached c (back s)
+        reached d (Some u) some s = let r = w.classes d u some in ap (descends_from c) r.is
+            ∙ r.ancestors.reached c (back s)
           where
             back : Sub (bases_of m) (tree.Class d) (tree.Class c) → Below (bases_of m) (tree.Class d) (tree.Class c)
             back (s_class p) = chain_below p
@@ -130,20 +155,28 @@ module _ (m : Module) where
     module _ (listed : Place → Type 0) (owner : Owner) (d : FuncDef) (lab : Labelled m constants listed owner d) where
       pub body_names : KnowsNames (around_of m constants listed owner d lab) (context_of m constants listed owner d)
       body_names = record {
-        constant = λ word i t r e k made globals w. let c = w.constant word i t (outer (locals owner d) word (res.Const i) tt r) e in record { value = c.value; is = c.is; has = c.has };
+        constant = λ word i t r e k made globals w. let c = w.constant word i t
+            (outer (locals owner d) word (res.Const i) tt r) e in record { value = c.value; is = c.is; has = c.has };
         class = λ word c r less k made globals w. w.class word c (outer (locals owner d) word (res.Class c) tt r);
         builtin = λ word b r. builtin_known word b (outer (locals owner d) word (res.Builtin b) tt r);
-        reserved = λ word b e. ap (λ o. or_meaning (local_meaning o) (resolve_in_module m word)) (is_none_of word (ap is_some e) [] (entry_texts owner d ++ texts (bound_by d.body))) ∙ reserved_means word b e;
-        unbound = λ word b r k made globals w. w.reserved word b (builtin_known word b (outer (locals owner d) word (res.Builtin b) tt r));
+        reserved = λ word b e. ap (λ o. or_meaning (local_meaning o) (resolve_in_module m word))
+            (is_none_of word (ap is_some e) [] (entry_texts owner d ++ texts (bound_by d.body)))
+            ∙ reserved_means word b e;
+        unbound = λ word b r k made globals w. w.reserved word b (builtin_known word b
+            (outer (locals owner d) word (res.Builtin b) tt r));
       }
 
-      pub body_ancestors : KnowsAncestors (around_of m constants listed owner d lab) (context_of m constants listed owner d)
+      pub body_ancestors : KnowsAncestors (around_of m constants listed owner d lab)
+          (context_of m constants listed owner d)
       body_ancestors = record {
         known = λ local x l word c r. class_within word c (outer (locals owner d) word (res.Class c) tt r);
-        descends = λ local x l word c r k made globals w. descended word c (outer (locals owner d) word (res.Class c) tt r) k made globals w;
+        descends = λ local x l word c r k made globals w. descended word c
+            (outer (locals owner d) word (res.Class c) tt r) k made globals w;
       }
         where
-          descended : (word : List ℕ) (c : ℕ) → resolve_in_module m word ≡ res.Class c → (k : HeapTyping) (made : List Class) (globals : Globals) → World m constants k made globals → Descends (bases_of m) made c
+          descended : (word : List ℕ) (c : ℕ) → resolve_in_module m word ≡ res.Class c
+              → (k : HeapTyping) (made : List Class) (globals : Globals) → World m constants k made globals
+              → Descends (bases_of m) made c
           descended word c r k made globals w =
               let x = class_named m word c r in
               let behind = x.behind in

@@ -46,7 +46,8 @@ DefaultHas bases k t has v = ⊥
 
 abbrev pub DefaultsHave : Bases → HeapTyping → List state.Parameter → List TypedParameter → Type 0
 DefaultsHave bases k [] [] = Unit {0}
-DefaultsHave bases k (p ∷ ps) (q ∷ qs) = (p.name ≡ q.name) × (DefaultHas bases k q.type q.has_default p.default × DefaultsHave bases k ps qs)
+DefaultsHave bases k (p ∷ ps) (q ∷ qs) = (p.name ≡ q.name) × (DefaultHas bases k q.type q.has_default p.default
+    × DefaultsHave bases k ps qs)
 DefaultsHave bases k _ _ = ⊥
 
 module _ (m : Module) where
@@ -91,9 +92,12 @@ module _ (m : Module) where
   module _ (constants : List Tree) where
     -- each name of the module is bound to what it means
     pub record World (k : HeapTyping) (made : List Class) (globals : Globals) : Type 0 where
-      pub constant : (word : List ℕ) (i : ℕ) (t : Tree) → resolve_in_module m word ≡ res.Const i → slice_get constants i ≡ Some t → ConstantIs k globals word t
-      pub function : (word : List ℕ) (i : ℕ) (d : FuncDef) → resolve_in_module m word ≡ res.Func i → slice_get (functions_in m.items) i ≡ Some d → FunctionIs k globals word d
-      pub class : (word : List ℕ) (c : ℕ) → resolve_in_module m word ≡ res.Class c → global_by_name word globals ≡ Some (a_class c)
+      pub constant : (word : List ℕ) (i : ℕ) (t : Tree) → resolve_in_module m word ≡ res.Const i
+          → slice_get constants i ≡ Some t → ConstantIs k globals word t
+      pub function : (word : List ℕ) (i : ℕ) (d : FuncDef) → resolve_in_module m word ≡ res.Func i
+          → slice_get (functions_in m.items) i ≡ Some d → FunctionIs k globals word d
+      pub class : (word : List ℕ) (c : ℕ) → resolve_in_module m word ≡ res.Class c → global_by_name word globals
+          ≡ Some (a_class c)
       pub classes : (c : ℕ) (t : ClassDef) → slice_get (classes_in m.items) c ≡ Some t → ClassIs k made c
       pub reserved : (word : List ℕ) (b : Builtin) → builtin_of word ≡ Some b → global_by_name word globals ≡ None
       pub no_more : (c : ℕ) → slice_get (classes_in m.items) c ≡ None → slice_get made c ≡ None
@@ -101,34 +105,64 @@ module _ (m : Module) where
   -- ---- under later heap typings
 
   module _ {k k' : HeapTyping} (grows : Extends k k') where
-    default_later : (t : Tree) (b : Test) (v : Option Value) → DefaultHas (bases_of m) k t b v → DefaultHas (bases_of m) k' t b v
+    default_later : (t : Tree) (b : Test) (v : Option Value) → DefaultHas (bases_of m) k t b v
+        → DefaultHas (bases_of m) k' t b v
     default_later t true (Some v) h = later (bases_of m) grows t v h
     default_later t true None h = absurd h
     default_later t false (Some v) h = absurd h
     default_later t false None h = tt
 
-    pub defaults_later : (ps : List state.Parameter) (qs : List TypedParameter) → DefaultsHave (bases_of m) k ps qs → DefaultsHave (bases_of m) k' ps qs
+    pub defaults_later : (ps : List state.Parameter) (qs : List TypedParameter) → DefaultsHave (bases_of m) k ps qs
+        → DefaultsHave (bases_of m) k' ps qs
     defaults_later [] [] h = tt
     defaults_later [] (q ∷ qs) h = absurd h
     defaults_later (p ∷ ps) [] h = absurd h
-    defaults_later (p ∷ ps) (q ∷ qs) h = (h.0, (default_later q.type q.has_default p.default h.1.0, defaults_later ps qs h.1.1))
+    defaults_later (p ∷ ps) (q ∷ qs) h =
+        (h.0, (default_later q.type q.has_default p.default h.1.0, defaults_later ps qs h.1.1))
 
     pub made_later : (f : Function) (d : FuncDef) → MadeOf k f d → MadeOf k' f d
-    made_later f d h = record { name = h.name; body = h.body; parameters = defaults_later f.parameters (parameters_of m d.params) h.parameters }
+    made_later f d h = record {
+      name = h.name;
+      body = h.body;
+      parameters = defaults_later f.parameters
+          (parameters_of m d.params) h.parameters;
+    }
 
     pub methods_later : (fs : List Function) (qs : List Method) → MethodsAre k fs qs → MethodsAre k' fs qs
     methods_later [] [] h = tt
     methods_later [] (q ∷ qs) h = absurd h
     methods_later (f ∷ fs) [] h = absurd h
-    methods_later (f ∷ fs) (q ∷ qs) h = (record { def = h.0.def; at = h.0.at; made = made_later f h.0.def h.0.made; name = h.0.name; place = h.0.place; parameters = h.0.parameters; returns = h.0.returns }, methods_later fs qs h.1)
+    methods_later (f ∷ fs) (q ∷ qs) h = (
+      record {
+        def = h.0.def;
+        at = h.0.at;
+        made = made_later f h.0.def h.0.made;
+        name = h.0.name;
+        place = h.0.place;
+        parameters = h.0.parameters;
+        returns = h.0.returns;
+      },
+      methods_later fs qs h.1,
+    )
 
     pub class_later : (made : List Class) (c : ℕ) → ClassIs k made c → ClassIs k' made c
-    class_later made c h = record { class = h.class; is = h.is; fields = defaults_later h.class.fields (class_facts_at (classes_of m) c).fields h.fields; methods = methods_later h.class.methods (class_facts_at (classes_of m) c).methods h.methods; ancestors = h.ancestors }
+    class_later made c h = record {
+      class = h.class;
+      is = h.is;
+      fields = defaults_later h.class.fields
+          (class_facts_at (classes_of m) c).fields h.fields;
+      methods = methods_later h.class.methods
+          (class_facts_at (classes_of m) c).methods h.methods;
+      ancestors = h.ancestors;
+    }
 
-  pub world_later : (constants : List Tree) (k k' : HeapTyping) (made : List Class) (globals : Globals) → Extends k k' → World constants k made globals → World constants k' made globals
+  pub world_later : (constants : List Tree) (k k' : HeapTyping) (made : List Class) (globals : Globals) → Extends k k'
+      → World constants k made globals → World constants k' made globals
   world_later constants k k' made globals grows w = record {
-    constant = λ word i t r e. let c = w.constant word i t r e in record { value = c.value; is = c.is; has = later (bases_of m) grows t c.value c.has };
-    function = λ word i d r e. let f = w.function word i d r e in record { function = f.function; is = f.is; made = made_later grows f.function d f.made };
+    constant = λ word i t r e. let c = w.constant word i t r e in
+        record { value = c.value; is = c.is; has = later (bases_of m) grows t c.value c.has };
+    function = λ word i d r e. let f = w.function word i d r e in
+        record { function = f.function; is = f.is; made = made_later grows f.function d f.made };
     class = w.class;
     classes = λ c t e. class_later grows made c (w.classes c t e);
     reserved = w.reserved;
@@ -143,7 +177,8 @@ module _ (m : Module) where
       pub covered : (f : Finding) → FunctionFinds m constants owner d labels f → listed f.place × (¬ (IsError f.code))
       pub keyed : SuiteKeyed d.body labels.body
       pub in_loops : (p : Place) → Contains (loose_in d.body) p → ⊥
-      pub free : (word : List ℕ) → is_one_of word (entry_texts owner d ++ texts (bound_by d.body)) ≡ true → is_builtin_name word ≡ false
+      pub free : (word : List ℕ) → is_one_of word (entry_texts owner d ++ texts (bound_by d.body)) ≡ true
+          → is_builtin_name word ≡ false
 
     -- what is around its body
     abbrev pub around_of : (owner : Owner) (d : FuncDef) → Labelled owner d → Around

@@ -15,27 +15,36 @@ use Rattle.pc_machine.specs.Names.{global_by_name}
 
 -- ---- what is bound
 
-pub bound_more : (word : List ℕ) (globals : Globals) (g : Global) (b : GlobalBinding) → global_by_name word globals ≡ Some b → global_by_name word (globals ++ g ∷ []) ≡ Some b
+pub bound_more : (word : List ℕ) (globals : Globals) (g : Global) (b : GlobalBinding) → global_by_name word globals
+    ≡ Some b → global_by_name word (globals ++ g ∷ []) ≡ Some b
 bound_more word [] g b e = absurd (grind (arith, e))
 bound_more word (h ∷ rest) g b e = go (same_text h.name word) e (bound_more word rest g b)
   where
-    go : (c : Test) → (if c then Some h.is else global_by_name word rest) ≡ Some b → (global_by_name word rest ≡ Some b → global_by_name word (rest ++ g ∷ []) ≡ Some b) → (if c then Some h.is else global_by_name word (rest ++ g ∷ [])) ≡ Some b
+    go : (c : Test) → (if c then Some h.is else global_by_name word rest) ≡ Some b
+        → (global_by_name word rest ≡ Some b → global_by_name word (rest ++ g ∷ []) ≡ Some b)
+        → (if c then Some h.is else global_by_name word (rest ++ g ∷ [])) ≡ Some b
     go true e others = e
     go false e others = others e
 
-pub bound_new : (word : List ℕ) (globals : Globals) (g : Global) → global_by_name word globals ≡ None → g.name ≡ word → global_by_name word (globals ++ g ∷ []) ≡ Some g.is
+pub bound_new : (word : List ℕ) (globals : Globals) (g : Global) → global_by_name word globals ≡ None → g.name ≡ word
+    → global_by_name word (globals ++ g ∷ []) ≡ Some g.is
 bound_new word [] g e is = ap (λ c. if c then Some g.is else None) ((bytes_eq-Decides g.name word).1 is)
 bound_new word (h ∷ rest) g e is = go (same_text h.name word) e (λ f. bound_new word rest g f is)
   where
-    go : (c : Test) → (if c then Some h.is else global_by_name word rest) ≡ None → (global_by_name word rest ≡ None → global_by_name word (rest ++ g ∷ []) ≡ Some g.is) → (if c then Some h.is else global_by_name word (rest ++ g ∷ [])) ≡ Some g.is
+    go : (c : Test) → (if c then Some h.is else global_by_name word rest) ≡ None
+        → (global_by_name word rest ≡ None → global_by_name word (rest ++ g ∷ []) ≡ Some g.is)
+        → (if c then Some h.is else global_by_name word (rest ++ g ∷ [])) ≡ Some g.is
     go true e others = absurd (grind (arith, e))
     go false e others = others e
 
-pub bound_other : (word : List ℕ) (globals : Globals) (g : Global) → global_by_name word globals ≡ None → bytes_eq g.name word ≡ false → global_by_name word (globals ++ g ∷ []) ≡ None
+pub bound_other : (word : List ℕ) (globals : Globals) (g : Global) → global_by_name word globals ≡ None
+    → bytes_eq g.name word ≡ false → global_by_name word (globals ++ g ∷ []) ≡ None
 bound_other word [] g e n = ap (λ c. if c then Some g.is else None) n
 bound_other word (h ∷ rest) g e n = go (same_text h.name word) e (λ f. bound_other word rest g f n)
   where
-    go : (c : Test) → (if c then Some h.is else global_by_name word rest) ≡ None → (global_by_name word rest ≡ None → global_by_name word (rest ++ g ∷ []) ≡ None) → (if c then Some h.is else global_by_name word (rest ++ g ∷ [])) ≡ None
+    go : (c : Test) → (if c then Some h.is else global_by_name word rest) ≡ None
+        → (global_by_name word rest ≡ None → global_by_name word (rest ++ g ∷ []) ≡ None)
+        → (if c then Some h.is else global_by_name word (rest ++ g ∷ [])) ≡ None
     go true e others = absurd (grind (arith, e))
     go false e others = others e
 
@@ -78,23 +87,52 @@ func_inj i j e = grind arith
 class_inj : (i j : ℕ) → Some (res.Class i) ≡ Some (res.Class j) → i ≡ j
 class_inj i j e = grind arith
 
-constant_first : (k f c : ℕ) (items : List Item) (word : List ℕ) (i : ℕ) → bound_first k f c items word ≡ Some (res.Const i) → ConstantNamed k f c items word i
+constant_first : (k f c : ℕ) (items : List Item) (word : List ℕ) (i : ℕ) → bound_first k f c items word
+    ≡ Some (res.Const i) → ConstantNamed k f c items word i
 constant_first k f c [] word i e = absurd (grind (arith, e))
-constant_first k f c (constant_item p x ∷ rest) word i e = go (bytes_eq x.name.text word) refl e (constant_first (suc k) f c rest word i)
+constant_first k f c (constant_item p x ∷ rest) word i e = go (bytes_eq x.name.text word) refl e
+    (constant_first (suc k) f c rest word i)
   where
-    go : (b : Test) → bytes_eq x.name.text word ≡ b → (if b then Some (res.Const k) else bound_first (suc k) f c rest word) ≡ Some (res.Const i) → (bound_first (suc k) f c rest word ≡ Some (res.Const i) → ConstantNamed (suc k) f c rest word i) → ConstantNamed k f c (constant_item p x ∷ rest) word i
-    go true t e others = record { at = 0; constant = x; behind = let h = const_inj k i e in omega arith; is = refl; named = (bytes_eq-Decides x.name.text word).0 t }
-    go false t e others = let h = others e in let b = h.behind in record { at = suc h.at; constant = h.constant; behind = omega arith; is = h.is; named = h.named }
-constant_first k f c (def_item p x ∷ rest) word i e = go (bytes_eq x.name.text word) e (constant_first k (suc f) c rest word i)
+    go : (b : Test) → bytes_eq x.name.text word ≡ b → (if b then Some (res.Const k) else bound_first (suc k) f c rest
+        word) ≡ Some (res.Const i) → (bound_first (suc k) f c rest word ≡ Some (res.Const i)
+        → ConstantNamed (suc k) f c rest word i) → ConstantNamed k f c (constant_item p x ∷ rest) word i
+    go true t e others = record {
+      at = 0;
+      constant = x;
+      behind = let h = const_inj k i e in omega arith;
+      is = refl;
+      named = (bytes_eq-Decides x.name.text word).0 t;
+    }
+    go false t e others = let h = others e in let b = h.behind in
+        record { at = suc h.at; constant = h.constant; behind = omega arith; is = h.is; named = h.named }
+constant_first k f c (def_item p x ∷ rest) word i e = go (bytes_eq x.name.text word) e
+    (constant_first k (suc f) c rest word i)
   where
-    go : (b : Test) → (if b then Some (res.Func f) else bound_first k (suc f) c rest word) ≡ Some (res.Const i) → (bound_first k (suc f) c rest word ≡ Some (res.Const i) → ConstantNamed k (suc f) c rest word i) → ConstantNamed k f c (def_item p x ∷ rest) word i
+    go : (b : Test) → (if b then Some (res.Func f) else bound_first k (suc f) c rest word) ≡ Some (res.Const i)
+        → (bound_first k (suc f) c rest word ≡ Some (res.Const i) → ConstantNamed k (suc f) c rest word i)
+        → ConstantNamed k f c (def_item p x ∷ rest) word i
     go true e others = absurd (grind (arith, e))
-    go false e others = let h = others e in record { at = h.at; constant = h.constant; behind = h.behind; is = h.is; named = h.named }
-constant_first k f c (class_item p x ∷ rest) word i e = go (bytes_eq x.name.text word) e (constant_first k f (suc c) rest word i)
+    go false e others = let h = others e in record {
+      at = h.at;
+      constant = h.constant;
+      behind = h.behind;
+      is = h.is;
+      named = h.named;
+    }
+constant_first k f c (class_item p x ∷ rest) word i e = go (bytes_eq x.name.text word) e
+    (constant_first k f (suc c) rest word i)
   where
-    go : (b : Test) → (if b then Some (res.Class c) else bound_first k f (suc c) rest word) ≡ Some (res.Const i) → (bound_first k f (suc c) rest word ≡ Some (res.Const i) → ConstantNamed k f (suc c) rest word i) → ConstantNamed k f c (class_item p x ∷ rest) word i
+    go : (b : Test) → (if b then Some (res.Class c) else bound_first k f (suc c) rest word) ≡ Some (res.Const i)
+        → (bound_first k f (suc c) rest word ≡ Some (res.Const i) → ConstantNamed k f (suc c) rest word i)
+        → ConstantNamed k f c (class_item p x ∷ rest) word i
     go true e others = absurd (grind (arith, e))
-    go false e others = let h = others e in record { at = h.at; constant = h.constant; behind = h.behind; is = h.is; named = h.named }
+    go false e others = let h = others e in record {
+      at = h.at;
+      constant = h.constant;
+      behind = h.behind;
+      is = h.is;
+      named = h.named;
+    }
 
 pub record FunctionNamed (k f c : ℕ) (items : List Item) (word : List ℕ) (i : ℕ) : Type 0 where
   pub at : ℕ
@@ -103,23 +141,52 @@ pub record FunctionNamed (k f c : ℕ) (items : List Item) (word : List ℕ) (i 
   pub is : slice_get (functions_in items) at ≡ Some function
   pub named : function.name.text ≡ word
 
-function_first : (k f c : ℕ) (items : List Item) (word : List ℕ) (i : ℕ) → bound_first k f c items word ≡ Some (res.Func i) → FunctionNamed k f c items word i
+function_first : (k f c : ℕ) (items : List Item) (word : List ℕ) (i : ℕ) → bound_first k f c items word
+    ≡ Some (res.Func i) → FunctionNamed k f c items word i
 function_first k f c [] word i e = absurd (grind (arith, e))
-function_first k f c (constant_item p x ∷ rest) word i e = go (bytes_eq x.name.text word) e (function_first (suc k) f c rest word i)
+function_first k f c (constant_item p x ∷ rest) word i e = go (bytes_eq x.name.text word) e
+    (function_first (suc k) f c rest word i)
   where
-    go : (b : Test) → (if b then Some (res.Const k) else bound_first (suc k) f c rest word) ≡ Some (res.Func i) → (bound_first (suc k) f c rest word ≡ Some (res.Func i) → FunctionNamed (suc k) f c rest word i) → FunctionNamed k f c (constant_item p x ∷ rest) word i
+    go : (b : Test) → (if b then Some (res.Const k) else bound_first (suc k) f c rest word) ≡ Some (res.Func i)
+        → (bound_first (suc k) f c rest word ≡ Some (res.Func i) → FunctionNamed (suc k) f c rest word i)
+        → FunctionNamed k f c (constant_item p x ∷ rest) word i
     go true e others = absurd (grind (arith, e))
-    go false e others = let h = others e in record { at = h.at; function = h.function; behind = h.behind; is = h.is; named = h.named }
-function_first k f c (def_item p x ∷ rest) word i e = go (bytes_eq x.name.text word) refl e (function_first k (suc f) c rest word i)
+    go false e others = let h = others e in record {
+      at = h.at;
+      function = h.function;
+      behind = h.behind;
+      is = h.is;
+      named = h.named;
+    }
+function_first k f c (def_item p x ∷ rest) word i e = go (bytes_eq x.name.text word) refl e
+    (function_first k (suc f) c rest word i)
   where
-    go : (b : Test) → bytes_eq x.name.text word ≡ b → (if b then Some (res.Func f) else bound_first k (suc f) c rest word) ≡ Some (res.Func i) → (bound_first k (suc f) c rest word ≡ Some (res.Func i) → FunctionNamed k (suc f) c rest word i) → FunctionNamed k f c (def_item p x ∷ rest) word i
-    go true t e others = record { at = 0; function = x; behind = let h = func_inj f i e in omega arith; is = refl; named = (bytes_eq-Decides x.name.text word).0 t }
-    go false t e others = let h = others e in let b = h.behind in record { at = suc h.at; function = h.function; behind = omega arith; is = h.is; named = h.named }
-function_first k f c (class_item p x ∷ rest) word i e = go (bytes_eq x.name.text word) e (function_first k f (suc c) rest word i)
+    go : (b : Test) → bytes_eq x.name.text word ≡ b → (if b then Some (res.Func f) else bound_first k (suc f) c rest
+        word) ≡ Some (res.Func i) → (bound_first k (suc f) c rest word ≡ Some (res.Func i)
+        → FunctionNamed k (suc f) c rest word i) → FunctionNamed k f c (def_item p x ∷ rest) word i
+    go true t e others = record {
+      at = 0;
+      function = x;
+      behind = let h = func_inj f i e in omega arith;
+      is = refl;
+      named = (bytes_eq-Decides x.name.text word).0 t;
+    }
+    go false t e others = let h = others e in let b = h.behind in
+        record { at = suc h.at; function = h.function; behind = omega arith; is = h.is; named = h.named }
+function_first k f c (class_item p x ∷ rest) word i e = go (bytes_eq x.name.text word) e
+    (function_first k f (suc c) rest word i)
   where
-    go : (b : Test) → (if b then Some (res.Class c) else bound_first k f (suc c) rest word) ≡ Some (res.Func i) → (bound_first k f (suc c) rest word ≡ Some (res.Func i) → FunctionNamed k f (suc c) rest word i) → FunctionNamed k f c (class_item p x ∷ rest) word i
+    go : (b : Test) → (if b then Some (res.Class c) else bound_first k f (suc c) rest word) ≡ Some (res.Func i)
+        → (bound_first k f (suc c) rest word ≡ Some (res.Func i) → FunctionNamed k f (suc c) rest word i)
+        → FunctionNamed k f c (class_item p x ∷ rest) word i
     go true e others = absurd (grind (arith, e))
-    go false e others = let h = others e in record { at = h.at; function = h.function; behind = h.behind; is = h.is; named = h.named }
+    go false e others = let h = others e in record {
+      at = h.at;
+      function = h.function;
+      behind = h.behind;
+      is = h.is;
+      named = h.named;
+    }
 
 pub record ClassNamed (k f c : ℕ) (items : List Item) (word : List ℕ) (i : ℕ) : Type 0 where
   pub at : ℕ
@@ -128,23 +195,55 @@ pub record ClassNamed (k f c : ℕ) (items : List Item) (word : List ℕ) (i : �
   pub is : slice_get (classes_in items) at ≡ Some class
   pub named : class.name.text ≡ word
 
-class_first : (k f c : ℕ) (items : List Item) (word : List ℕ) (i : ℕ) → bound_first k f c items word ≡ Some (res.Class i) → ClassNamed k f c items word i
+class_first : (k f c : ℕ) (items : List Item) (word : List ℕ) (i : ℕ) → bound_first k f c items word
+    ≡ Some (res.Class i) → ClassNamed k f c items word i
 class_first k f c [] word i e = absurd (grind (arith, e))
-class_first k f c (constant_item p x ∷ rest) word i e = go (bytes_eq x.name.text word) e (class_first (suc k) f c rest word i)
+class_first k f c (constant_item p x ∷ rest) word i e = go (bytes_eq x.name.text word) e
+    (class_first (suc k) f c rest word i)
   where
-    go : (b : Test) → (if b then Some (res.Const k) else bound_first (suc k) f c rest word) ≡ Some (res.Class i) → (bound_first (suc k) f c rest word ≡ Some (res.Class i) → ClassNamed (suc k) f c rest word i) → ClassNamed k f c (constant_item p x ∷ rest) word i
+    go : (b : Test) → (if b then Some (res.Const k) else bound_first (suc k) f c rest word) ≡ Some (res.Class i)
+        → (bound_first (suc k) f c rest word ≡ Some (res.Class i) → ClassNamed (suc k) f c rest word i)
+        → ClassNamed k f c (constant_item p x ∷ rest) word i
     go true e others = absurd (grind (arith, e))
-    go false e others = let h = others e in record { at = h.at; class = h.class; behind = h.behind; is = h.is; named = h.named }
-class_first k f c (def_item p x ∷ rest) word i e = go (bytes_eq x.name.text word) e (class_first k (suc f) c rest word i)
+    go false e others = let h = others e in record {
+      at = h.at;
+      class = h.class;
+      behind = h.behind;
+      is = h.is;
+      named =
+          h.named;
+    }
+class_first k f c (def_item p x ∷ rest) word i e = go (bytes_eq x.name.text word) e
+    (class_first k (suc f) c rest word i)
   where
-    go : (b : Test) → (if b then Some (res.Func f) else bound_first k (suc f) c rest word) ≡ Some (res.Class i) → (bound_first k (suc f) c rest word ≡ Some (res.Class i) → ClassNamed k (suc f) c rest word i) → ClassNamed k f c (def_item p x ∷ rest) word i
+    go : (b : Test) → (if b then Some (res.Func f) else bound_first k (suc f) c rest word) ≡ Some (res.Class i)
+        → (bound_first k (suc f) c rest word ≡ Some (res.Class i) → ClassNamed k (suc f) c rest word i)
+        → ClassNamed k f c (def_item p x ∷ rest) word i
     go true e others = absurd (grind (arith, e))
-    go false e others = let h = others e in record { at = h.at; class = h.class; behind = h.behind; is = h.is; named = h.named }
-class_first k f c (class_item p x ∷ rest) word i e = go (bytes_eq x.name.text word) refl e (class_first k f (suc c) rest word i)
+    go false e others = let h = others e in record {
+      at = h.at;
+      class = h.class;
+      behind = h.behind;
+      is = h.is;
+      named =
+          h.named;
+    }
+class_first k f c (class_item p x ∷ rest) word i e = go (bytes_eq x.name.text word) refl e
+    (class_first k f (suc c) rest word i)
   where
-    go : (b : Test) → bytes_eq x.name.text word ≡ b → (if b then Some (res.Class c) else bound_first k f (suc c) rest word) ≡ Some (res.Class i) → (bound_first k f (suc c) rest word ≡ Some (res.Class i) → ClassNamed k f (suc c) rest word i) → ClassNamed k f c (class_item p x ∷ rest) word i
-    go true t e others = record { at = 0; class = x; behind = let h = class_inj c i e in omega arith; is = refl; named = (bytes_eq-Decides x.name.text word).0 t }
-    go false t e others = let h = others e in let b = h.behind in record { at = suc h.at; class = h.class; behind = omega arith; is = h.is; named = h.named }
+    go : (b : Test) → bytes_eq x.name.text word ≡ b → (if b then Some (res.Class c) else bound_first k f (suc c) rest
+        word) ≡ Some (res.Class i) → (bound_first k f (suc c) rest word ≡ Some (res.Class i)
+        → ClassNamed k f (suc c) rest word i) → ClassNamed k f c (class_item p x ∷ rest) word i
+    go true t e others = record {
+      at = 0;
+      class = x;
+      behind = let h = class_inj c i e in omega arith;
+      is = refl;
+      named =
+          (bytes_eq-Decides x.name.text word).0 t;
+    }
+    go false t e others = let h = others e in let b = h.behind in
+        record { at = suc h.at; class = h.class; behind = omega arith; is = h.is; named = h.named }
 
 -- what a name means as a class where there are locals is what it means in the module
 pub outside_class : (o : Option ℕ) (r : Res) (i : ℕ) → or_meaning (local_meaning o) r ≡ res.Class i → r ≡ res.Class i
@@ -152,19 +251,27 @@ outside_class None r i e = e
 outside_class (Some x) r i e = absurd (grind (arith, e))
 
 -- what a module binds is bound first by an item
-bound_so : (m : Module) (word : List ℕ) (r : Res) → ((b : Builtin) → r ≡ res.Builtin b → ⊥) → (r ≡ res.None → ⊥) → resolve_in_module m word ≡ r → bound_first 0 0 0 m.items word ≡ Some r
+bound_so : (m : Module) (word : List ℕ) (r : Res) → ((b : Builtin) → r ≡ res.Builtin b → ⊥) → (r ≡ res.None → ⊥)
+    → resolve_in_module m word ≡ r → bound_first 0 0 0 m.items word ≡ Some r
 bound_so m word r not_builtin not_none e = go (builtin_of word) (bound_first 0 0 0 m.items word) refl e
   where
-    go : (b : Option Builtin) (o : Option Res) → bound_first 0 0 0 m.items word ≡ o → or_meaning (builtin_meaning b) (or_meaning o res.None) ≡ r → bound_first 0 0 0 m.items word ≡ Some r
+    go : (b : Option Builtin) (o : Option Res) → bound_first 0 0 0 m.items word ≡ o
+        → or_meaning (builtin_meaning b) (or_meaning o res.None) ≡ r → bound_first 0 0 0 m.items word ≡ Some r
     go (Some b) o is e = absurd (not_builtin b (sym e))
     go None None is e = absurd (not_none (sym e))
     go None (Some q) is e = is ∙ ap Some e
 
-pub constant_named : (m : Module) (word : List ℕ) (i : ℕ) → resolve_in_module m word ≡ res.Const i → ConstantNamed 0 0 0 m.items word i
-constant_named m word i e = constant_first 0 0 0 m.items word i (bound_so m word (res.Const i) (λ b f. grind (arith, f)) (λ f. grind (arith, f)) e)
+pub constant_named : (m : Module) (word : List ℕ) (i : ℕ) → resolve_in_module m word ≡ res.Const i
+    → ConstantNamed 0 0 0 m.items word i
+constant_named m word i e = constant_first 0 0 0 m.items word i
+    (bound_so m word (res.Const i) (λ b f. grind (arith, f)) (λ f. grind (arith, f)) e)
 
-pub function_named : (m : Module) (word : List ℕ) (i : ℕ) → resolve_in_module m word ≡ res.Func i → FunctionNamed 0 0 0 m.items word i
-function_named m word i e = function_first 0 0 0 m.items word i (bound_so m word (res.Func i) (λ b f. grind (arith, f)) (λ f. grind (arith, f)) e)
+pub function_named : (m : Module) (word : List ℕ) (i : ℕ) → resolve_in_module m word ≡ res.Func i
+    → FunctionNamed 0 0 0 m.items word i
+function_named m word i e = function_first 0 0 0 m.items word i
+    (bound_so m word (res.Func i) (λ b f. grind (arith, f)) (λ f. grind (arith, f)) e)
 
-pub class_named : (m : Module) (word : List ℕ) (i : ℕ) → resolve_in_module m word ≡ res.Class i → ClassNamed 0 0 0 m.items word i
-class_named m word i e = class_first 0 0 0 m.items word i (bound_so m word (res.Class i) (λ b f. grind (arith, f)) (λ f. grind (arith, f)) e)
+pub class_named : (m : Module) (word : List ℕ) (i : ℕ) → resolve_in_module m word ≡ res.Class i
+    → ClassNamed 0 0 0 m.items word i
+class_named m word i e = class_first 0 0 0 m.items word i (bound_so m word (res.Class i) (λ b f. grind (arith, f))
+    (λ f. grind (arith, f)) e)

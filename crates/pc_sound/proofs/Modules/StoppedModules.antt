@@ -5,7 +5,8 @@ use Rattle.pc_source.specs.declared.place.Place.{Place}
 use Rattle.pc_tree.specs.declared.code.Code.{Code}
 use Rattle.pc_tree.specs.declared.code.Code.TheVariants.{E01, E05, E06, E28, E29, E31}
 use Rattle.pc_tree.specs.Code.{finding, IsError}
-use Rattle.pc_tree.specs.Stopping.{has_none, twice, outside_loop, clashing_members, no_main, reserved_bound, default_order, IsStopping, is_runnable}
+use Rattle.pc_tree.specs.Stopping.{has_none, twice, outside_loop, clashing_members, no_main, reserved_bound}
+use Rattle.pc_tree.specs.Stopping.{default_order, IsStopping, is_runnable}
 use Rattle.pc_tree.specs.Tree.{Module}
 use Rattle.pc_scope_findings.specs.Findings as scope
 use Rattle.pc_scope_findings.specs.Findings.{ScopeFinds}
@@ -29,10 +30,16 @@ either (p ∷ ps) qs e = inl (record { place = p; among = (0, omega arith, refl)
 
 module _ (m : Module) (labelled : HasLabelling m) (clean : HasNoError m) where
   scope_stop : (code : Code) → scope.IsScopeCode code → IsError code → (p : Place) → IsStopping m p code → ⊥
-  scope_stop code is error p stops = clean (finding p code) (record { labels = labelled.labels; lawful = labelled.lawful; found = inl (scope.stopping is stops) }) error
+  scope_stop code is error p stops = clean (finding p code)
+      (record { labels = labelled.labels; lawful = labelled.lawful; found = inl (scope.stopping is stops) }) error
 
   class_stop : (p : Place) → IsStopping m p E06 → ⊥
-  class_stop p stops = clean (finding p E06) (record { labels = labelled.labels; lawful = labelled.lawful; found = inr (inl (class.member (record { code = refl; stops = stops }))) }) refl
+  class_stop p stops = clean (finding p E06) (record {
+    labels = labelled.labels;
+    lawful = labelled.lawful;
+    found =
+        inr (inl (class.member (record { code = refl; stops = stops })));
+  }) refl
 
   pub never_stopped : is_runnable m ≡ false → ⊥
   never_stopped e = elim (either (twice m) _ e) [

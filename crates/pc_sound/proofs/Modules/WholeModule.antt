@@ -1,4 +1,5 @@
--- The whole: where each form is safe in each body, a run of a module that ends in a fault has evaluated a listed dynamic place.
+-- The whole: where each form is safe in each body, a run of a module that ends in a fault has evaluated a listed
+-- dynamic place.
 use Rattle.std.proofs.Common.{◌≡◌, ℕ, List, [], length, refl, sym, subst, inl, inr, arith, Contains}
 use Rattle.std.specs.Prelude.{true, nat_lt, codes, Some}
 use Rattle.std.proofs.lemmas.Bool.Decides.{nat_tests}
@@ -19,7 +20,8 @@ use Rattle.pc_ann.proofs.Earlier.{smaller}
 use Rattle.pc_rules.specs.Context.{Context}
 use Rattle.pc_rules.specs.Signatures.{initializer_context}
 use Rattle.pc_module_rules.proofs.Scopes.{said_is_found}
-use Rattle.pc_module_rules.specs.Modules.{Labelling, IsLawful, IsFinding, constant_types, BeforeItem, nothing_before, ItemsFind}
+use Rattle.pc_module_rules.specs.Modules.{Labelling, IsLawful, IsFinding, constant_types, BeforeItem, nothing_before}
+use Rattle.pc_module_rules.specs.Modules.{ItemsFind}
 use Rattle.pc_value.specs.Value.{Value, Raised, Other, Outside, Cut, Out, Gives, Stops}
 use Rattle.pc_machine.specs.State.{nothing_bound}
 use Rattle.pc_machine.specs.Free.{Step, free}
@@ -35,7 +37,8 @@ use Rattle.pc_sound.proofs.Modules.MainWorld.{Labelled, around_of, context_of}
 use Rattle.pc_sound.proofs.Calls.EnteredFunctions.{fits_of, module_local}
 use Rattle.pc_sound.proofs.Steps.ModuleSteps.{Proceeds, proceeds_bind, proceeds_as}
 use Rattle.pc_sound.proofs.Modules.ModuleOrder.{around_items, Between, Listed, proceeds_safe}
-use Rattle.pc_sound.proofs.Modules.ModuleItems.{ItemsReady, last_of, GoodClasses, items_proceed, MainIs, main_is, main_safe}
+use Rattle.pc_sound.proofs.Modules.ModuleItems.{ItemsReady, last_of, GoodClasses, items_proceed, MainIs, main_is}
+use Rattle.pc_sound.proofs.Modules.ModuleItems.{main_safe}
 
 -- the place of a finding that is no error
 pub record IsListedPlace (m : Module) (p : Place) : Type 0 where
@@ -50,7 +53,8 @@ module _ (m : Module) (labels : Labelling m) where
 
   -- a body of the module: of a function or method, or an initializer after some items
   pub data BodyOf : Type 0 where
-    of_function : (owner : Owner) (d : FuncDef) (lab : Labelled m (constant_types m m.items labels) (IsListedPlace m) owner d) → BodyOf
+    of_function : (owner : Owner) (d : FuncDef) (lab : Labelled m (constant_types m m.items labels) (IsListedPlace m)
+        owner d) → BodyOf
     of_items : (types : List Tree) (defs : List FuncDef) (n : ℕ) (names : List (List ℕ)) → BodyOf
 
   abbrev pub body_around : BodyOf → Around
@@ -82,32 +86,46 @@ module _ (m : Module) (labels : Labelling m) where
   abbrev pub Last : BeforeItem
   Last = last_of m (constant_types m m.items labels) (IsListedPlace m) nothing_before m.items labels
 
-  -- what is left to be shown of a module without errors: each form is safe in each body, classes are made as their facts say, and its labels are as runs need them
+  -- what is left to be shown of a module without errors: each form is safe in each body, classes are made as their
+  -- facts say, and its labels are as runs need them
   pub record Premises : Type 1 where
     pub forms : FormsGood m bodies
     pub classes : (n : ℕ) → GoodClasses m (constant_types m m.items labels) (IsListedPlace m) (steps Step free n)
     pub ready : ItemsReady m (constant_types m m.items labels) (IsListedPlace m) nothing_before m.items labels
-    pub labelled : (owner : Owner) (d : FuncDef) → function_of m owner ≡ Some d → Labelled m (constant_types m m.items labels) (IsListedPlace m) owner d
+    pub labelled : (owner : Owner) (d : FuncDef) → function_of m owner ≡ Some d
+        → Labelled m (constant_types m m.items labels) (IsListedPlace m) owner d
     pub main : is_plain_def (codes "main") m.items ≡ true
     pub inherits : Inherits (bases_of m) (classes_of m)
-    pub last_types : (last_of m (constant_types m m.items labels) (IsListedPlace m) nothing_before m.items labels).constants ≡ constant_types m m.items labels
-    pub last_classes : (last_of m (constant_types m m.items labels) (IsListedPlace m) nothing_before m.items labels).classes ≡ length (classes_in m.items)
+    pub last_types : (last_of m (constant_types m m.items labels) (IsListedPlace m) nothing_before m.items
+        labels).constants ≡ constant_types m m.items labels
+    pub last_classes : (last_of m (constant_types m m.items labels) (IsListedPlace m) nothing_before m.items
+        labels).classes ≡ length (classes_in m.items)
 
   module _ (lawful : IsLawful m labels) (clean : HasNoError m) (premises : Premises) where
     listed_of : Listed m (IsListedPlace m) (ItemsFind m (constant_types m m.items labels) nothing_before m.items labels)
-    listed_of f h = let found = said_is_found m labels lawful f h in (record { finding = f; found = found; dynamic = clean f found; at = refl }, clean f found)
+    listed_of f h = let found = said_is_found m labels lawful f h in
+        (record { finding = f; found = found; dynamic = clean f found; at = refl }, clean f found)
 
     good : (n : ℕ) → AllGood m bodies n
     good n = all_good m bodies premises.forms n
 
     -- the items and `main`, in any number of nested steps
-    module_proceeds : (n : ℕ) → Proceeds (IsListedPlace m) (λ k s. Between m (IsListedPlace m) [] [] 0 [] k s) (exec_module Step free (steps Step free n) m) (λ k v s. Unit {0})
+    module_proceeds : (n : ℕ) → Proceeds (IsListedPlace m) (λ k s. Between m (IsListedPlace m) [] [] 0 [] k s)
+        (exec_module Step free (steps Step free n) m) (λ k v s. Unit {0})
     module_proceeds n =
-        proceeds_bind (IsListedPlace m) _ _ _ (λ k u s. Between m (IsListedPlace m) Last.constants (functions_in m.items) Last.classes Last.names k s) _
-        (items_proceed m (constant_types m m.items labels) (IsListedPlace m) (steps Step free n) (λ types defs c names. (good n).eval (of_items types defs c names)) (steps_evaluate n) (premises.classes n) [] m.items nothing_before [] labels refl refl refl refl lawful listed_of premises.ready)
-        λ u. proceeds_as (IsListedPlace m) _ (λ k s. Between m (IsListedPlace m) Last.constants (functions_in m.items) Last.classes Last.names k s) _ (λ k v s. Between m (IsListedPlace m) Last.constants (functions_in m.items) Last.classes Last.names k s × Unit {0}) _ (λ k s b. b) (λ k v s b. tt)
-        (proceeds_safe m (IsListedPlace m) Last.constants (functions_in m.items) Last.classes Last.names (enter_main Step free (steps Step free n)) (λ k v. Unit {0})
-        (main_safe m (constant_types m m.items labels) (IsListedPlace m) premises.inherits (steps Step free n) Last.constants Last.classes Last.names premises.last_types premises.last_classes main lab ((good n).exec (of_function (owners.Func main.number) main.function lab))))
+        proceeds_bind (IsListedPlace m) _ _ _ (λ k u s. Between m (IsListedPlace m) Last.constants
+        (functions_in m.items) Last.classes Last.names k s) _
+        (items_proceed m (constant_types m m.items labels) (IsListedPlace m) (steps Step free n)
+        (λ types defs c names. (good n).eval (of_items types defs c names)) (steps_evaluate n) (premises.classes n)
+        [] m.items nothing_before [] labels refl refl refl refl lawful listed_of premises.ready)
+        λ u. proceeds_as (IsListedPlace m) _ (λ k s. Between m (IsListedPlace m) Last.constants (functions_in m.items)
+        Last.classes Last.names k s) _ (λ k v s. Between m (IsListedPlace m) Last.constants (functions_in m.items)
+        Last.classes Last.names k s × Unit {0}) _ (λ k s b. b) (λ k v s b. tt)
+        (proceeds_safe m (IsListedPlace m) Last.constants (functions_in m.items) Last.classes Last.names
+        (enter_main Step free (steps Step free n)) (λ k v. Unit {0})
+        (main_safe m (constant_types m m.items labels) (IsListedPlace m) premises.inherits (steps Step free n)
+        Last.constants Last.classes Last.names premises.last_types premises.last_classes main lab
+        ((good n).exec (of_function (owners.Func main.number) main.function lab))))
       where
         main : MainIs m (constant_types m m.items labels) (IsListedPlace m)
         main = main_is m (constant_types m m.items labels) (IsListedPlace m) premises.main
@@ -143,8 +161,16 @@ module _ (m : Module) (labels : Labelling m) where
 
     -- a run that ends in a fault has evaluated a listed dynamic place
     pub sound_of : (events : List Place) (end : End) → Run m events end → IsFaultyEnd end → HasEvaluated m events
-    sound_of events end (inl never) fault = absurd (never_stopped m (record { labels = labels; lawful = lawful }) clean never.0)
-    sound_of events end (inr ran) fault = elim ((module_proceeds ran.1.bound).run [] nothing_bound ran.1.left events ran.1.out begins ran.1.runs) [
-      | inl h ↦ record { finding = h.is.finding; found = h.is.found; dynamic = h.is.dynamic; event = subst (λ p. Contains events p) (sym h.is.at) h.event }
-      | inr a ↦ absurd (no_fault ran.1.out a.ends (subst IsFaultyEnd ran.1.is fault))
-    ]
+    sound_of events end (inl never) fault = absurd (never_stopped m (record { labels = labels; lawful = lawful }) clean
+        never.0)
+    sound_of events end (inr ran) fault = elim ((module_proceeds ran.1.bound).run [] nothing_bound ran.1.left events
+        ran.1.out begins ran.1.runs) [
+          | inl h ↦ record {
+            finding = h.is.finding;
+            found = h.is.found;
+            dynamic = h.is.dynamic;
+            event =
+                subst (λ p. Contains events p) (sym h.is.at) h.event;
+          }
+          | inr a ↦ absurd (no_fault ran.1.out a.ends (subst IsFaultyEnd ran.1.is fault))
+        ]

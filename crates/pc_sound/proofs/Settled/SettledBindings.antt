@@ -170,7 +170,8 @@ module _ (asked : Asked) where
               settled_labels = settled_labels;
               name_settled = local_named m ctx declared n x is d;
               env_settled =
-                  subst (EnvSettled asked declared) (sym law.after_is) (bound_settled env x (type_of e labels) flows ek d
+                  subst (EnvSettled asked declared) (sym law.after_is)
+                  (bound_settled env x (type_of e labels) flows ek d
                   (settled_type asked e labels settled_labels));
             }
         go (res.Const i) is law = elsewhere (res.Const i) is (λ x e. absurd (grind (arith, e))) law.value law.after_is

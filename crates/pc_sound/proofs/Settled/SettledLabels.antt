@@ -350,7 +350,8 @@ module _ (asked : Asked) where
         labels_settled env ek want wk (index p e i) t m law =
             let k = labels_settled env ek None tt e t.0 m.object law.object in (
               so_typed law.here (operation_settled asked ctx.bases (index_member ctx.bases (int_literal i))
-                  (index_settled asked ctx.bases (int_literal i)) (type_of e m.object) (settled_type asked e m.object k)),
+                  (index_settled asked ctx.bases (int_literal i)) (type_of e m.object)
+                  (settled_type asked e m.object k)),
               (k, labels_settled env ek None tt i t.1 m.key law.key),
             )
         labels_settled env ek want wk (call p c args kws) t m law =
@@ -362,7 +363,8 @@ module _ (asked : Asked) where
             let named = keywords_settled env ek (named_seat offers) [] (keyword_settled asked offers callee.1) kws
             t.1.1.1 m.keywords law.keywords in (
               (
-                so_typed law.here (whole_call_settled env (callee_of ctx env (arguments_given args kws) c law.value).rule
+                so_typed law.here (whole_call_settled env (callee_of ctx env (arguments_given args kws) c
+                    law.value).rule
                     offers callee.1 args (item_types args m.arguments) (item_types_settled args m.arguments items)),
                 test_punctual env (positional_seat offers) c args kws m.arguments law.arguments t.0,
               ),

@@ -20,19 +20,30 @@ pub record Met (bases : Bases) (d : Tree) (left right : Option Tree) (t : Tree) 
   pub is_right : right ≡ Some second
   pub is : unwrap_or (join bases first second) d ≡ t
 
-met_local : (bases : Bases) (d : Tree) (s r : Option Tree) (t : Tree) → join_local bases d s r ≡ Some t → Met bases d s r t
+met_local : (bases : Bases) (d : Tree) (s r : Option Tree) (t : Tree) → join_local bases d s r ≡ Some t
+    → Met bases d s r t
 met_local bases d None r t e = absurd (grind (arith, e))
 met_local bases d (Some s) None t e = absurd (grind (arith, e))
-met_local bases d (Some s) (Some r) t e = record { first = s; second = r; is_left = refl; is_right = refl; is = same_Some _ _ e }
+met_local bases d (Some s) (Some r) t e = record {
+  first = s;
+  second = r;
+  is_left = refl;
+  is_right = refl;
+  is =
+      same_Some _ _ e;
+}
 
-pub met : (bases : Bases) (ds : List Tree) (left right : Env) (x : ℕ) (t : Tree) → current (join_env bases ds left right) x ≡ Some t → Met bases (declared_type ds x) (current left x) (current right x) t
+pub met : (bases : Bases) (ds : List Tree) (left right : Env) (x : ℕ) (t : Tree)
+    → current (join_env bases ds left right) x ≡ Some t → Met bases (declared_type ds x) (current left x)
+    (current right x) t
 met bases [] left right x t e = absurd (grind (arith, e))
 met bases (d ∷ ds) [] right x t e = absurd (grind (arith, e))
 met bases (d ∷ ds) (s ∷ left) [] x t e = absurd (grind (arith, e))
 met bases (d ∷ ds) (s ∷ left) (r ∷ right) zero t e = met_local bases d s r t e
 met bases (d ∷ ds) (s ∷ left) (r ∷ right) (suc x) t e = met bases ds left right x t e
 
-module _ (bases : Bases) (ordered : AreSmaller bases) (k : HeapTyping) (names : List (List ℕ)) (declared : List Tree) (frame : Frame) where
+module _ (bases : Bases) (ordered : AreSmaller bases) (k : HeapTyping) (names : List (List ℕ)) (declared : List Tree)
+    (frame : Frame) where
   abbrev pub Hold : Env → Type 0
   Hold env = HasLocals bases k names declared env frame
 
@@ -40,20 +51,23 @@ module _ (bases : Bases) (ordered : AreSmaller bases) (k : HeapTyping) (names : 
   pub meet_holds : (left right : Env) → Hold left ⊎ Hold right → Hold (join_env bases declared left right)
   meet_holds left right h = record { each = each }
     where
-      each : (word : List ℕ) (x : ℕ) (t : Tree) → index_of word names ≡ Some x → current (join_env bases declared left right) x ≡ Some t → HasLocal bases k declared frame word x t
+      each : (word : List ℕ) (x : ℕ) (t : Tree) → index_of word names ≡ Some x
+          → current (join_env bases declared left right) x ≡ Some t → HasLocal bases k declared frame word x t
       each word x t named e =
           let m = met bases declared left right x t e in
           elim h [
             | inl a ↦ let l = a.each word x m.first named m.is_left in record {
               value = l.value;
               is = l.is;
-              now = subst (λ y. HasType bases k y l.value) m.is (join_or_holds bases ordered k m.first m.second (declared_type declared x) l.value (inl l.now) l.always);
+              now = subst (λ y. HasType bases k y l.value) m.is (join_or_holds bases ordered k m.first m.second
+                  (declared_type declared x) l.value (inl l.now) l.always);
               always = l.always;
             }
             | inr b ↦ let l = b.each word x m.second named m.is_right in record {
               value = l.value;
               is = l.is;
-              now = subst (λ y. HasType bases k y l.value) m.is (join_or_holds bases ordered k m.first m.second (declared_type declared x) l.value (inr l.now) l.always);
+              now = subst (λ y. HasType bases k y l.value) m.is (join_or_holds bases ordered k m.first m.second
+                  (declared_type declared x) l.value (inr l.now) l.always);
               always = l.always;
             }
           ]

@@ -1,4 +1,5 @@
--- The judgment: from a state that is well typed each run of a step evaluates a listed place, or keeps all that is known.
+-- The judgment: from a state that is well typed each run of a step evaluates a listed place, or keeps all that is
+-- known.
 -- Own rule of the profile.
 use Rattle.std.specs.Prelude.{◌≡◌, ◌⊎◌, ℕ, List, [], ◌∷◌, Bool as Test, Option, Some, None, Contains}
 use Rattle.pc_source.specs.declared.place.Place.{Place}
@@ -48,7 +49,8 @@ pub record Around : Type 1 where
   pub declared : List Tree
   pub listed : Place → Type 0
   pub outside : HeapTyping → List Class → Globals → Type 0
-  pub stays : (k k' : HeapTyping) (made : List Class) (globals : Globals) → Extends k k' → outside k made globals → outside k' made globals
+  pub stays : (k k' : HeapTyping) (made : List Class) (globals : Globals) → Extends k k' → outside k made globals
+      → outside k' made globals
 
 -- a frame has a local, bound or not
 pub record HasLocalNamed (word : List ℕ) (frame : Frame) : Type 0 where
@@ -67,8 +69,10 @@ pub record IsWellTyped (around : Around) (env : Env) (k : HeapTyping) (s : State
   pub locals : HasLocals around.bases k around.names around.declared env s.frame
   pub outside : around.outside k s.classes s.globals
 
--- a step kept the frame, the module's names and the classes; and a heap typing that extends the one before types the heap
-pub record KeepsState (around : Around) {A : Type 0} (P : HeapTyping → A → Type 0) (k : HeapTyping) (s : State) (out : Out A) (s' : State) : Type 0 where
+-- a step kept the frame, the module's names and the classes; and a heap typing that extends the one before types the
+-- heap
+pub record KeepsState (around : Around) {A : Type 0} (P : HeapTyping → A → Type 0) (k : HeapTyping) (s : State)
+    (out : Out A) (s' : State) : Type 0 where
   pub typing : HeapTyping
   pub grows : Extends k typing
   pub well : IsWell around.bases around.classes typing s'.heap
@@ -78,8 +82,10 @@ pub record KeepsState (around : Around) {A : Type 0} (P : HeapTyping → A → T
   pub ends : EndsWell (P typing) out
 
 -- where this is known, the step is safe
-pub record IsSafe (around : Around) (env : Env) (known : HeapTyping → Type 0) {A : Type 0} (m : Step A) (P : HeapTyping → A → Type 0) : Type 0 where
-  pub run : (k : HeapTyping) (s s' : State) (events : List Place) (out : Out A) → known k → IsWellTyped around env k s → m s events out s' → HasListed around.listed events ⊎ KeepsState around P k s out s'
+pub record IsSafe (around : Around) (env : Env) (known : HeapTyping → Type 0) {A : Type 0} (m : Step A)
+    (P : HeapTyping → A → Type 0) : Type 0 where
+  pub run : (k : HeapTyping) (s s' : State) (events : List Place) (out : Out A) → known k → IsWellTyped around env k s
+      → m s events out s' → HasListed around.listed events ⊎ KeepsState around P k s out s'
 
 -- ---- what is around a body, and what its expressions may name
 
@@ -94,13 +100,17 @@ pub record IsContextOf (around : Around) (ctx : Context) : Type 0 where
 -- ---- conditions
 
 -- what the truth of a condition's value tells of the locals
-pub record TellsLocals (around : Around) (ctx : Context) (env : Env) (e : Expr) (k : HeapTyping) (v : Value) (s : State) : Type 0 where
-  pub by : (holds : Test) → is_true s.heap v ≡ holds → HasLocals around.bases k around.names around.declared (narrow around.bases around.declared ctx.resolve holds e env) s.frame
+pub record TellsLocals (around : Around) (ctx : Context) (env : Env) (e : Expr) (k : HeapTyping) (v : Value)
+    (s : State) : Type 0 where
+  pub by : (holds : Test) → is_true s.heap v ≡ holds → HasLocals around.bases k around.names around.declared
+      (narrow around.bases around.declared ctx.resolve holds e env) s.frame
 
 -- ---- statements
 
--- how a step may go: the heap stays well typed, the module's names and the classes stay, and what is promised of an end in a value holds after it
-pub record Goes (around : Around) {A : Type 0} (after : HeapTyping → A → State → Type 0) (k : HeapTyping) (s : State) (out : Out A) (s' : State) : Type 0 where
+-- how a step may go: the heap stays well typed, the module's names and the classes stay, and what is promised of an end
+-- in a value holds after it
+pub record Goes (around : Around) {A : Type 0} (after : HeapTyping → A → State → Type 0) (k : HeapTyping) (s : State)
+    (out : Out A) (s' : State) : Type 0 where
   pub typing : HeapTyping
   pub grows : Extends k typing
   pub well : IsWell around.bases around.classes typing s'.heap
@@ -109,15 +119,20 @@ pub record Goes (around : Around) {A : Type 0} (after : HeapTyping → A → Sta
   pub ends : EndsWell (λ a. after typing a s') out
 
 -- from a state as it is known each run of a step evaluates a listed place, or goes as promised
-pub record Leads (around : Around) (before : HeapTyping → State → Type 0) {A : Type 0} (m : Step A) (after : HeapTyping → A → State → Type 0) : Type 0 where
-  pub run : (k : HeapTyping) (s s' : State) (events : List Place) (out : Out A) → IsWell around.bases around.classes k s.heap → before k s → m s events out s' → HasListed around.listed events ⊎ Goes around after k s out s'
+pub record Leads (around : Around) (before : HeapTyping → State → Type 0) {A : Type 0} (m : Step A)
+    (after : HeapTyping → A → State → Type 0) : Type 0 where
+  pub run : (k : HeapTyping) (s s' : State) (events : List Place) (out : Out A)
+      → IsWell around.bases around.classes k s.heap → before k s → m s events out s' → HasListed around.listed events
+      ⊎ Goes around after k s out s'
 
 -- a state is well typed, and something more is known of its frame
-pub record IsWellTypedAnd (around : Around) (env : Env) (more : HeapTyping → Frame → Type 0) (k : HeapTyping) (s : State) : Type 0 where
+pub record IsWellTypedAnd (around : Around) (env : Env) (more : HeapTyping → Frame → Type 0) (k : HeapTyping)
+    (s : State) : Type 0 where
   pub stands : IsWellTyped around env k s
   pub known : more k s.frame
 
--- what is said of the ways out of a statement: the environments after it and at its `break` statements, the places of `break` and `continue`, the return type
+-- what is said of the ways out of a statement: the environments after it and at its `break` statements, the places of
+-- `break` and `continue`, the return type
 pub record Ways : Type 1 where
   pub out : Env → Type 0
   pub breaks : Env → Type 0
@@ -148,8 +163,12 @@ pub record IsLocal (around : Around) (ctx : Context) (word : List ℕ) : Type 0 
   pub resolves : ctx.resolve word ≡ res.Local number
   pub is : index_of word around.names ≡ Some number
 
--- what is known of a frame stays known when the heap typing grows, and when one of these names is bound to a value of its declared type
-pub record Lasts (around : Around) (ctx : Context) (names : List Name) (more : HeapTyping → Frame → Type 0) : Type 0 where
+-- what is known of a frame stays known when the heap typing grows, and when one of these names is bound to a value of
+-- its declared type
+pub record Lasts (around : Around) (ctx : Context) (names : List Name) (more : HeapTyping → Frame → Type 0) : Type
+    0 where
   pub local : (n : Name) → Contains names n → IsLocal around ctx n.text
   pub grow : (k k' : HeapTyping) (frame : Frame) → Extends k k' → more k frame → more k' frame
-  pub bind : (n : Name) (x : ℕ) (v : Value) (k : HeapTyping) (frame : Frame) → Contains names n → ctx.resolve n.text ≡ res.Local x → HasNames around.names frame → HasType around.bases k (declared_type around.declared x) v → more k frame → more k (with_local n.text v frame)
+  pub bind : (n : Name) (x : ℕ) (v : Value) (k : HeapTyping) (frame : Frame) → Contains names n
+      → ctx.resolve n.text ≡ res.Local x → HasNames around.names frame
+      → HasType around.bases k (declared_type around.declared x) v → more k frame → more k (with_local n.text v frame)

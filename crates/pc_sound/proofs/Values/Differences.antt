@@ -1,7 +1,8 @@
 -- Where a type is not static to another one, some value of the first is not of the second, under each heap typing that
 -- records what values of the first refer to.
 use Rattle.std.proofs.Common.{◌≡◌, suc, sym, inl, inr, arith}
-use Rattle.pc_types.specs.Tree.{Tree, Trees, Any, Object, Never, Int, Bool, Str, NoneType, Class, ListOf, DictOf, TupleOf, Union, end, more, erase_each}
+use Rattle.pc_types.specs.Tree.{Tree, Trees, Any, Object, Never, Int, Bool, Str, NoneType, Class, ListOf, DictOf}
+use Rattle.pc_types.specs.Tree.{TupleOf, Union, end, more, erase_each}
 use Rattle.pc_types.specs.Below.{Bases, AreSmaller, EachBelow, Static, through, both, tuple, one}
 use Rattle.pc_types.specs.Below as below
 use Rattle.pc_types.specs.Shape.{count}
@@ -11,7 +12,8 @@ use Rattle.pc_value.specs.Value.{Value, Values, tuple_of, more_values}
 use Rattle.pc_sound.specs.Values.{HeapTyping, HasType, HaveTypes}
 use Rattle.pc_sound.specs.Needed.{HasNoNever, HaveNoNever}
 use Rattle.pc_sound.proofs.Values.Requirements.{required, required_by_each, Records, records_first, records_second}
-use Rattle.pc_sound.proofs.Values.Inhabitants.{any_value, any_values, Telling, telling_int, telling_bool, telling_str, telling_none, telling_class, telling_list, telling_dict}
+use Rattle.pc_sound.proofs.Values.Inhabitants.{any_value, any_values, Telling, telling_int, telling_bool, telling_str}
+use Rattle.pc_sound.proofs.Values.Inhabitants.{telling_none, telling_class, telling_list, telling_dict}
 use Rattle.pc_sound.proofs.Values.TupleMembers.{size, nones, size-nones, longest, longest_bounds, have_count, tuples_of}
 
 module _ (bases : Bases) (ordered : AreSmaller bases) (k : HeapTyping) where

@@ -32,10 +32,12 @@ pub record Evaluates {A : Type 0} (p : Place) (m : Step A) : Type 0 where
 pub emit_evaluates : (p : Place) → Evaluates p (Emits p)
 emit_evaluates p = record { place = λ s s' events a h. subst (λ l. Contains l p) (sym h.event) (0, omega arith, refl) }
 
-pub later_evaluates : {A B : Type 0} (p : Place) (m : Step A) (f : A → Step B) → ((a : A) → Evaluates p (f a)) → Evaluates p (m >>= f)
+pub later_evaluates : {A B : Type 0} (p : Place) (m : Step A) (f : A → Step B) → ((a : A) → Evaluates p (f a))
+    → Evaluates p (m >>= f)
 later_evaluates p m f h = record {
   place = λ s s' events b r. elim r [
-    | inl w ↦ subst (λ l. Contains l p) (sym w.both) (Contains-append_right w.early w.late p ((h w.value).place w.middle s' w.late b w.after))
+    | inl w ↦ subst (λ l. Contains l p) (sym w.both) (Contains-append_right w.early w.late p
+        ((h w.value).place w.middle s' w.late b w.after))
     | inr w ↦ absurd (gives_not_stops w.is)
   ];
 }
@@ -43,7 +45,8 @@ later_evaluates p m f h = record {
 pub first_evaluates : {A B : Type 0} (p : Place) (m : Step A) (f : A → Step B) → Evaluates p m → Evaluates p (m >>= f)
 first_evaluates p m f h = record {
   place = λ s s' events b r. elim r [
-    | inl w ↦ subst (λ l. Contains l p) (sym w.both) (Contains-append_left w.early w.late p (h.place s w.middle w.early w.value w.before))
+    | inl w ↦ subst (λ l. Contains l p) (sym w.both) (Contains-append_left w.early w.late p
+        (h.place s w.middle w.early w.value w.before))
     | inr w ↦ absurd (gives_not_stops w.is)
   ];
 }
@@ -54,13 +57,19 @@ early_code [] e = absurd (grind (arith, e))
 early_code (E03 ∷ cs) e = (0, omega arith, refl)
 early_code (c ∷ cs) e = absurd (grind (arith, e))
 
-module _ (around : Around) (ctx : Context) (eval : Expr → Step Value) (good : GoodEval around ctx eval) (evaluates : (e : Expr) → Evaluates (place_of e) (eval e)) (env : Env) where
+module _ (around : Around) (ctx : Context) (eval : Expr → Step Value) (good : GoodEval around ctx eval)
+    (evaluates : (e : Expr) → Evaluates (place_of e) (eval e)) (env : Env) where
   -- an expression that flows into a type, whose flow's code is allowed
-  pub flow_safe : (known : HeapTyping → Type 0) (want : Option Tree) (e : Expr) (m : Labels e) (t : Tree) (flow : FlowLabel) → Lawful ctx around.declared env want e m → Covered around (Finds e m) → FlowAt around.bases (whole_label e m) t flow → Covered around (IsFlowAt (place_of e) (flow ∷ [])) → Keyed e m → IsSafe around env known (eval e) (λ k v. HasType around.bases k t v)
+  pub flow_safe : (known : HeapTyping → Type 0) (want : Option Tree) (e : Expr) (m : Labels e) (t : Tree)
+      (flow : FlowLabel) → Lawful ctx around.declared env want e m → Covered around (Finds e m)
+      → FlowAt around.bases (whole_label e m) t flow → Covered around (IsFlowAt (place_of e) (flow ∷ [])) → Keyed e m
+      → IsSafe around env known (eval e) (λ k v. HasType around.bases k t v)
   flow_safe known want e m t flow law covered at allowed keyed = go (is_early (whole_label e m).codes) refl at.code
     where
       part : IsSafe around env known (eval e) (λ k v. HasType around.bases k (type_of e m) v)
-      part = weaken around env known (λ k. Unit {0}) (eval e) (λ k v. HasType around.bases k (type_of e m) v) (λ k v. HasType around.bases k (type_of e m) v) (λ k h. tt) (λ k v h. h) (good.safe env want e m law covered keyed)
+      part = weaken around env known (λ k. Unit {0}) (eval e) (λ k v. HasType around.bases k (type_of e m) v)
+          (λ k v. HasType around.bases k (type_of e m) v) (λ k h. tt) (λ k v h. h)
+          (good.safe env want e m law covered keyed)
 
       found : (d : Code) → flow.code ≡ Some d → IsFlowAt (place_of e) (flow ∷ []) (finding (place_of e) d)
       found d is = record { flow = flow; among = (0, omega arith, refl); code = d; found = is; is = refl }
@@ -68,18 +77,39 @@ module _ (around : Around) (ctx : Context) (eval : Expr → Step Value) (good : 
       no_error : (d : Code) → flow.code ≡ Some d → IsError d → ⊥
       no_error d is err = (allowed (finding (place_of e) d) (found d is)).1 err
 
-      dynamic_run : around.listed (place_of e) → (k : HeapTyping) (s s' : State) (events : List Place) (o : Out Value) → known k → IsWellTyped around env k s → eval e s events o s' → HasListed around.listed events ⊎ KeepsState around (λ k v. HasType around.bases k t v) k s o s'
-      dynamic_run here k s s' events (Gives v) knows st r = inl (record { place = place_of e; is = here; event = (evaluates e).place s s' events v r })
+      dynamic_run : around.listed (place_of e) → (k : HeapTyping) (s s' : State) (events : List Place) (o : Out Value)
+          → known k → IsWellTyped around env k s → eval e s events o s' → HasListed around.listed events
+          ⊎ KeepsState around (λ k v. HasType around.bases k t v) k s o s'
+      dynamic_run here k s s' events (Gives v) knows st r =
+          inl (record { place = place_of e; is = here; event = (evaluates e).place s s' events v r })
       dynamic_run here k s s' events (Stops stop) knows st r = elim (part.run k s s' events (Stops stop) knows st r) [
         | inl l ↦ inl l
-        | inr kept ↦ inr (record { typing = kept.typing; grows = kept.grows; well = kept.well; same_frame = kept.same_frame; same_globals = kept.same_globals; same_classes = kept.same_classes; ends = stopped_as (λ v. HasType around.bases kept.typing (type_of e m) v) (λ v. HasType around.bases kept.typing t v) stop kept.ends })
+        | inr kept ↦ inr (record {
+          typing = kept.typing;
+          grows = kept.grows;
+          well = kept.well;
+          same_frame =
+              kept.same_frame;
+          same_globals = kept.same_globals;
+          same_classes = kept.same_classes;
+          ends =
+              stopped_as (λ v. HasType around.bases kept.typing (type_of e m) v)
+              (λ v. HasType around.bases kept.typing t v) stop kept.ends;
+        })
       ]
 
-      by_flow : (d : Option Code) → flow.code ≡ d → Flows around.bases (type_of e m) t d → IsSafe around env known (eval e) (λ k v. HasType around.bases k t v)
-      by_flow _ is (static below) = weaken around env known known (eval e) (λ k v. HasType around.bases k (type_of e m) v) (λ k v. HasType around.bases k t v) (λ k h. h) (λ k v h. of_static around.bases k (type_of e m) t below v h) part
+      by_flow : (d : Option Code) → flow.code ≡ d → Flows around.bases (type_of e m) t d
+          → IsSafe around env known (eval e) (λ k v. HasType around.bases k t v)
+      by_flow _ is (static below) = weaken around env known known (eval e)
+          (λ k v. HasType around.bases k (type_of e m) v) (λ k v. HasType around.bases k t v) (λ k h. h)
+          (λ k v h. of_static around.bases k (type_of e m) t below v h) part
       by_flow _ is (dynamic n a) = record { run = dynamic_run (allowed (finding (place_of e) A1) (found A1 is)).0 }
       by_flow _ is (wrong n) = absurd (no_error E12 is refl)
 
-      go : (early : Test) → is_early (whole_label e m).codes ≡ early → FlowUnless early around.bases (type_of e m) t flow.code → IsSafe around env known (eval e) (λ k v. HasType around.bases k t v)
-      go true is f = absurd ((covered (finding (place_of e) E03) (found_here e m (finding (place_of e) E03) (record { code = E03; among = early_code (whole_label e m).codes is; is = refl }))).1 refl)
+      go : (early : Test) → is_early (whole_label e m).codes ≡ early → FlowUnless early around.bases (type_of e m) t
+          flow.code → IsSafe around env known (eval e) (λ k v. HasType around.bases k t v)
+      go true is f =
+          absurd
+          ((covered (finding (place_of e) E03) (found_here e m (finding (place_of e) E03)
+          (record { code = E03; among = early_code (whole_label e m).codes is; is = refl }))).1 refl)
       go false is f = by_flow flow.code refl f

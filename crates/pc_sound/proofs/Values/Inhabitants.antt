@@ -3,12 +3,15 @@
 use Rattle.std.proofs.Common.{◌≡◌, ℕ, sym, ◌∙◌, subst, inl, inr, []}
 use Rattle.std.specs.Prelude.{◌⊎◌, false, pos, Some, slice_get}
 use Rattle.std.proofs.lemmas.Option.{same_Some}
-use Rattle.pc_types.specs.Tree.{Tree, Trees, Any, Object, Never, Int, Bool, Str, NoneType, Class, ListOf, DictOf, TupleOf, Union, end, more}
+use Rattle.pc_types.specs.Tree.{Tree, Trees, Any, Object, Never, Int, Bool, Str, NoneType, Class, ListOf, DictOf}
+use Rattle.pc_types.specs.Tree.{TupleOf, Union, end, more}
 use Rattle.pc_types.specs.Below.{Bases, Below, Static, same, through, object, bool_int, left, right, list, dict}
-use Rattle.pc_value.specs.Value.{Value, Values, whole, boolean, string, none, tuple_of, location, no_values, more_values}
+use Rattle.pc_value.specs.Value.{Value, Values, whole, boolean, string, none, tuple_of, location, no_values}
+use Rattle.pc_value.specs.Value.{more_values}
 use Rattle.pc_sound.specs.Values.{HeapTyping, a_list, a_dict, a_class, Equal, HasType, HaveTypes}
 use Rattle.pc_sound.specs.Needed.{HasNoNever, HaveNoNever}
-use Rattle.pc_sound.proofs.Values.Requirements.{required, required_by_each, Records, records_first, records_second, place_of}
+use Rattle.pc_sound.proofs.Values.Requirements.{required, required_by_each, Records, records_first, records_second}
+use Rattle.pc_sound.proofs.Values.Requirements.{place_of}
 
 -- ---- what is recorded of a location is one thing
 

@@ -1,17 +1,20 @@
 -- What a test leaves of a type has the values that pass it, and what it leaves where it fails has those that fail.
 use Rattle.std.proofs.Common.{◌≡◌, ◌≢◌, ℕ, List, [], ◌∷◌, refl, sym, ap, ◌∙◌, subst, inl, inr, arith}
-use Rattle.std.specs.Prelude.{◌⊎◌, Bool as Test, true, false, ◌==◌, ◌&&◌, ◌||◌, not, if◌then◌else◌, Option, Some, None, filter_map, ℤ}
+use Rattle.std.specs.Prelude.{◌⊎◌, Bool as Test, true, false, ◌==◌, ◌&&◌, ◌||◌, not, if◌then◌else◌, Option, Some, None}
+use Rattle.std.specs.Prelude.{filter_map, ℤ}
 use Rattle.std.specs.List.{cons_option}
 use Rattle.std.proofs.lemmas.Bool.Decides.{eqb_tells}
 use Rattle.std.proofs.lemmas.Option.{same_Some}
 use Rattle.std.proofs.lemmas.Bool.{and_parts, false≢true, or_left, or_right}
-use Rattle.pc_types.specs.Tree.{Tree, Any, Object, Never, Int, Bool, Str, NoneType, Class, ListOf, DictOf, TupleOf, Union}
+use Rattle.pc_types.specs.Tree.{Tree, Any, Object, Never, Int, Bool, Str, NoneType, Class, ListOf, DictOf, TupleOf}
+use Rattle.pc_types.specs.Tree.{Union}
 use Rattle.pc_types.specs.Below.{Bases, AreSmaller}
 use Rattle.pc_types.specs.Shape.{members, union, ahead}
 use Rattle.pc_types.specs.Join.{same_tree, absorbs, reaches}
 use Rattle.pc_types.proofs.Structural.{Chain}
 use Rattle.pc_types.proofs.Descent.{reaches_below, chain_of, chain_reaches, comparable}
-use Rattle.pc_flow.specs.Narrowing.{Tested, for_none, for_type, for_list, is_within, member_within, member_passing, member_failing, type_where_true, type_where_false}
+use Rattle.pc_flow.specs.Narrowing.{Tested, for_none, for_type, for_list, is_within, member_within, member_passing}
+use Rattle.pc_flow.specs.Narrowing.{member_failing, type_where_true, type_where_false}
 use Rattle.pc_value.specs.Value as value
 use Rattle.pc_value.specs.Value.{Value, whole, boolean, string, location}
 use Rattle.pc_sound.specs.Values.{HeapTyping, a_list, a_dict, a_class, HasType}
@@ -74,7 +77,11 @@ module _ (bases : Bases) (k : HeapTyping) where
 
   of_union : (ms : List Tree) (v : Value) → SomeHas ms v → HasType bases k (union ms) v
   of_union [] v h = h
-  of_union (m ∷ ms) v h = elim h [ inl x ↦ ahead_first m (union ms) v x | inr y ↦ ahead_rest m (union ms) v (of_union ms v y) ]
+  of_union (m ∷ ms) v h = elim h [
+    | inl x ↦ ahead_first m (union ms) v x
+    | inr y ↦
+        ahead_rest m (union ms) v (of_union ms v y)
+  ]
 
   kept_first : (o : Option Tree) (ms : List Tree) (v : Value) → OptionHas o v → SomeHas (cons_option o ms) v
   kept_first None ms v h = absurd h
@@ -84,11 +91,17 @@ module _ (bases : Bases) (k : HeapTyping) where
   kept_rest None ms v h = h
   kept_rest (Some t) ms v h = inr h
 
-  kept_some : (f : Tree → Option Tree) (v : Value) → ((m : Tree) → HasType bases k m v → OptionHas (f m) v) → (ms : List Tree) → SomeHas ms v → SomeHas (filter_map f ms) v
+  kept_some : (f : Tree → Option Tree) (v : Value) → ((m : Tree) → HasType bases k m v → OptionHas (f m) v)
+      → (ms : List Tree) → SomeHas ms v → SomeHas (filter_map f ms) v
   kept_some f v each [] h = h
-  kept_some f v each (m ∷ ms) h = elim h [ inl x ↦ kept_first (f m) (filter_map f ms) v (each m x) | inr y ↦ kept_rest (f m) (filter_map f ms) v (kept_some f v each ms y) ]
+  kept_some f v each (m ∷ ms) h = elim h [
+    | inl x ↦ kept_first (f m) (filter_map f ms) v (each m x)
+    | inr y ↦
+        kept_rest (f m) (filter_map f ms) v (kept_some f v each ms y)
+  ]
 
-  narrowed : (f : Tree → Option Tree) (t : Tree) (v : Value) → ((m : Tree) → HasType bases k m v → OptionHas (f m) v) → HasType bases k t v → HasType bases k (union (filter_map f (members t))) v
+  narrowed : (f : Tree → Option Tree) (t : Tree) (v : Value) → ((m : Tree) → HasType bases k m v → OptionHas (f m) v)
+      → HasType bases k t v → HasType bases k (union (filter_map f (members t))) v
   narrowed f t v each h = of_union (filter_map f (members t)) v (kept_some f v each (members t) (to_members t v h))
 
 -- ---- tests of a class, int, str, bool
@@ -142,11 +155,13 @@ module _ (bases : Bases) (ordered : AreSmaller bases) (k : HeapTyping) where
   both_true : (x y : Test) → x ≡ false → y ≡ true → (not x && y) ≡ true
   both_true x y e e' = rw e e'
 
-  classes_apart : (c d l : ℕ) → is_within bases (Class c) (Class d) ≡ false → absorbs bases (Class d) (Class c) ≡ false → HasType bases k (Class d) (location l) → HasType bases k (Class c) (location l) → ⊥
+  classes_apart : (c d l : ℕ) → is_within bases (Class c) (Class d) ≡ false → absorbs bases (Class d) (Class c) ≡ false
+      → HasType bases k (Class d) (location l) → HasType bases k (Class c) (location l) → ⊥
   classes_apart c d l w a h p = elim (eqb_tells d c) [
     | inl e ↦ not_both (or_left (d == c) (not (d == c) && reaches bases d d c) e.0) w
     | inr n ↦ elim (comparable (chain_of h.below) (subst (λ x. Chain bases x c) one_class (chain_of p.below))) [
-      | inl above ↦ not_both (or_right (d == c) (not (d == c) && reaches bases d d c) (both_true (d == c) (reaches bases d d c) n.0 (chain_reaches ordered above))) w
+      | inl above ↦ not_both (or_right (d == c) (not (d == c) && reaches bases d d c)
+          (both_true (d == c) (reaches bases d d c) n.0 (chain_reaches ordered above))) w
       | inr down ↦ not_both (both_true (c == d) (reaches bases c c d) (flip c d n.1) (chain_reaches ordered down)) a
     ]
   ]
@@ -154,7 +169,8 @@ module _ (bases : Bases) (ordered : AreSmaller bases) (k : HeapTyping) where
       one_class : p.class ≡ h.class
       one_class = class_inj (same_Some _ _ (sym p.is ∙ h.is))
 
-  instance_apart : (c l : ℕ) (m : Tree) → is_within bases (Class c) m ≡ false → absorbs bases m (Class c) ≡ false → HasType bases k m (location l) → HasType bases k (Class c) (location l) → IsFollowed m → ⊥
+  instance_apart : (c l : ℕ) (m : Tree) → is_within bases (Class c) m ≡ false → absorbs bases m (Class c) ≡ false
+      → HasType bases k m (location l) → HasType bases k (Class c) (location l) → IsFollowed m → ⊥
   instance_apart c l (Class d) w a h p f = classes_apart c d l w a h p
   instance_apart c l (ListOf u) w a h p f = no_list_class (same_Some _ _ (sym h.is ∙ p.is))
   instance_apart c l (DictOf s u) w a h p f = no_dict_class (same_Some _ _ (sym h.is ∙ p.is))
@@ -170,11 +186,16 @@ module _ (bases : Bases) (ordered : AreSmaller bases) (k : HeapTyping) where
   within_bool m e = ap (is_within bases Int) e
 
   -- a member that neither is below the type tested for nor above it shares no value with it
-  apart : (c m : Tree) → IsTestedType c → is_within bases c m ≡ false → absorbs bases m c ≡ false → (v : Value) → HasType bases k m v → HasType bases k c v → IsFollowed m → ⊥
+  apart : (c m : Tree) → IsTestedType c → is_within bases c m ≡ false → absorbs bases m c ≡ false → (v : Value)
+      → HasType bases k m v → HasType bases k c v → IsFollowed m → ⊥
   apart Int m t w a (whole n) h p f = not_both (ap (is_within bases Int) (number_member m n h f)) w
-  apart Int m t w a (boolean b) h p f = elim (truth_member m b h f) [ inl e ↦ not_both (ap (is_within bases Int) e) w | inr e ↦ not_both (ap (is_within bases Int) e) w ]
+  apart Int m t w a (boolean b) h p f = elim (truth_member m b h f) [
+    | inl e ↦ not_both (ap (is_within bases Int) e) w
+    | inr e ↦ not_both (ap (is_within bases Int) e) w
+  ]
   apart Int m t w a _ h p f = absurd p
-  apart Bool m t w a (boolean b) h p f = elim (truth_member m b h f) [ inl e ↦ not_both (ap (λ u. absorbs bases u Bool) e) a | inr e ↦ not_both (ap (is_within bases Bool) e) w ]
+  apart Bool m t w a (boolean b) h p f = elim (truth_member m b h f)
+      [ inl e ↦ not_both (ap (λ u. absorbs bases u Bool) e) a | inr e ↦ not_both (ap (is_within bases Bool) e) w ]
   apart Bool m t w a _ h p f = absurd p
   apart Str m t w a (string cs) h p f = not_both (ap (is_within bases Str) (text_member m cs h f)) w
   apart Str m t w a _ h p f = absurd p
@@ -183,10 +204,12 @@ module _ (bases : Bases) (ordered : AreSmaller bases) (k : HeapTyping) where
   apart _ m t w a v h p f = absurd t
 
   -- a value of a member below the type tested for is of that type
-  absorbed : (c m : Tree) → IsTestedType c → absorbs bases c m ≡ true → (v : Value) → HasType bases k m v → HasType bases k c v
+  absorbed : (c m : Tree) → IsTestedType c → absorbs bases c m ≡ true → (v : Value) → HasType bases k m v
+      → HasType bases k c v
   absorbed Int Bool t e (boolean b) h = tt
   absorbed Int Bool t e _ h = absurd h
-  absorbed (Class c) (Class d) t e (location l) h = of_below k (reaches_below bases d d c (and_parts (not (d == c)) (reaches bases d d c) e).1) (location l) h
+  absorbed (Class c) (Class d) t e (location l) h = of_below k
+      (reaches_below bases d d c (and_parts (not (d == c)) (reaches bases d d c) e).1) (location l) h
   absorbed (Class c) (Class d) t e _ h = absurd h
   absorbed _ _ t e v h = absurd (false≢true e)
 
@@ -205,7 +228,8 @@ module _ (bases : Bases) (ordered : AreSmaller bases) (k : HeapTyping) where
   equal_type m NoneType t e = absurd t
   equal_type _ _ t e = absurd (false≢true e)
 
-  within : (c m : Tree) → IsTestedType c → is_within bases c m ≡ true → (v : Value) → HasType bases k m v → HasType bases k c v
+  within : (c m : Tree) → IsTestedType c → is_within bases c m ≡ true → (v : Value) → HasType bases k m v
+      → HasType bases k c v
   within c m t e v h = go (same_tree m c) refl e
     where
       go : (x : Test) → same_tree m c ≡ x → (x || absorbs bases c m) ≡ true → HasType bases k c v
@@ -214,22 +238,26 @@ module _ (bases : Bases) (ordered : AreSmaller bases) (k : HeapTyping) where
 
   -- ---- what is left of a member
 
-  member_within_has : (c m : Tree) → IsTestedType c → IsFollowed m → (v : Value) → HasType bases k m v → HasType bases k c v → OptionHas bases k (member_within bases c m) v
+  member_within_has : (c m : Tree) → IsTestedType c → IsFollowed m → (v : Value) → HasType bases k m v
+      → HasType bases k c v → OptionHas bases k (member_within bases c m) v
   member_within_has c m t f v h p = go (is_within bases c m) (absorbs bases m c) refl refl
     where
-      go : (x y : Test) → is_within bases c m ≡ x → absorbs bases m c ≡ y → OptionHas bases k (if x then Some m else (if y then Some c else None)) v
+      go : (x y : Test) → is_within bases c m ≡ x → absorbs bases m c ≡ y
+          → OptionHas bases k (if x then Some m else (if y then Some c else None)) v
       go true y e e' = h
       go false true e e' = p
       go false false e e' = apart c m t e e' v h p f
 
-  outside_has : (c m : Tree) → IsTestedType c → (v : Value) → HasType bases k m v → ¬ (HasType bases k c v) → OptionHas bases k (if is_within bases c m then None else Some m) v
+  outside_has : (c m : Tree) → IsTestedType c → (v : Value) → HasType bases k m v → ¬ (HasType bases k c v)
+      → OptionHas bases k (if is_within bases c m then None else Some m) v
   outside_has c m t v h n = go (is_within bases c m) refl
     where
       go : (x : Test) → is_within bases c m ≡ x → OptionHas bases k (if x then None else Some m) v
       go true e = n (within c m t e v h)
       go false e = h
 
-  passing_has : (test : Tested) (m : Tree) → CanFollow test m → (v : Value) → HasType bases k m v → Passes bases k test v → OptionHas bases k (member_passing bases test m) v
+  passing_has : (test : Tested) (m : Tree) → CanFollow test m → (v : Value) → HasType bases k m v
+      → Passes bases k test v → OptionHas bases k (member_passing bases test m) v
   passing_has for_none Any t value.none h p = tt
   passing_has for_none Object t value.none h p = tt
   passing_has for_none NoneType t value.none h p = tt
@@ -257,7 +285,8 @@ module _ (bases : Bases) (ordered : AreSmaller bases) (k : HeapTyping) where
   passing_has for_list _ t (location l) h p = absurd h
   passing_has for_list _ t _ h p = absurd p
 
-  failing_has : (test : Tested) (m : Tree) → CanFollow test m → (v : Value) → HasType bases k m v → ¬ (Passes bases k test v) → OptionHas bases k (member_failing bases test m) v
+  failing_has : (test : Tested) (m : Tree) → CanFollow test m → (v : Value) → HasType bases k m v
+      → ¬ (Passes bases k test v) → OptionHas bases k (member_failing bases test m) v
   failing_has for_none NoneType t value.none h n = n tt
   failing_has for_none NoneType t _ h n = absurd h
   failing_has for_none (Union a b) t v h n = h
@@ -298,25 +327,35 @@ module _ (bases : Bases) (ordered : AreSmaller bases) (k : HeapTyping) where
   failing_has for_list (TupleOf us) t v h n = h
 
   -- what a test leaves of a type has the values of the type that pass it
-  pub passing_keeps : (test : Tested) (t : Tree) → CanFollowAll test (members t) → (v : Value) → HasType bases k t v → Passes bases k test v → HasType bases k (type_where_true bases test t) v
-  passing_keeps test t can v h p = of_union bases k (filter_map (member_passing bases test) (members t)) v (go (members t) can (to_members bases k t v h))
+  pub passing_keeps : (test : Tested) (t : Tree) → CanFollowAll test (members t) → (v : Value) → HasType bases k t v
+      → Passes bases k test v → HasType bases k (type_where_true bases test t) v
+  passing_keeps test t can v h p = of_union bases k (filter_map (member_passing bases test) (members t)) v
+      (go (members t) can (to_members bases k t v h))
     where
-      go : (ms : List Tree) → CanFollowAll test ms → SomeHas bases k ms v → SomeHas bases k (filter_map (member_passing bases test) ms) v
+      go : (ms : List Tree) → CanFollowAll test ms → SomeHas bases k ms v
+          → SomeHas bases k (filter_map (member_passing bases test) ms) v
       go [] c h = h
       go (m ∷ ms) c h = elim h [
-        | inl x ↦ kept_first bases k (member_passing bases test m) (filter_map (member_passing bases test) ms) v (passing_has test m c.0 v x p)
-        | inr y ↦ kept_rest bases k (member_passing bases test m) (filter_map (member_passing bases test) ms) v (go ms c.1 y)
+        | inl x ↦ kept_first bases k (member_passing bases test m) (filter_map (member_passing bases test) ms) v
+            (passing_has test m c.0 v x p)
+        | inr y ↦ kept_rest bases k (member_passing bases test m) (filter_map (member_passing bases test) ms) v
+            (go ms c.1 y)
       ]
 
   -- and what it leaves where it fails has those that fail
-  pub failing_keeps : (test : Tested) (t : Tree) → CanFollowAll test (members t) → (v : Value) → HasType bases k t v → ¬ (Passes bases k test v) → HasType bases k (type_where_false bases test t) v
-  failing_keeps test t can v h n = of_union bases k (filter_map (member_failing bases test) (members t)) v (go (members t) can (to_members bases k t v h))
+  pub failing_keeps : (test : Tested) (t : Tree) → CanFollowAll test (members t) → (v : Value) → HasType bases k t v
+      → ¬ (Passes bases k test v) → HasType bases k (type_where_false bases test t) v
+  failing_keeps test t can v h n = of_union bases k (filter_map (member_failing bases test) (members t)) v
+      (go (members t) can (to_members bases k t v h))
     where
-      go : (ms : List Tree) → CanFollowAll test ms → SomeHas bases k ms v → SomeHas bases k (filter_map (member_failing bases test) ms) v
+      go : (ms : List Tree) → CanFollowAll test ms → SomeHas bases k ms v
+          → SomeHas bases k (filter_map (member_failing bases test) ms) v
       go [] c h = h
       go (m ∷ ms) c h = elim h [
-        | inl x ↦ kept_first bases k (member_failing bases test m) (filter_map (member_failing bases test) ms) v (failing_has test m c.0 v x n)
-        | inr y ↦ kept_rest bases k (member_failing bases test m) (filter_map (member_failing bases test) ms) v (go ms c.1 y)
+        | inl x ↦ kept_first bases k (member_failing bases test m) (filter_map (member_failing bases test) ms) v
+            (failing_has test m c.0 v x n)
+        | inr y ↦ kept_rest bases k (member_failing bases test m) (filter_map (member_failing bases test) ms) v
+            (go ms c.1 y)
       ]
 
 -- ---- members, for joins
@@ -325,5 +364,6 @@ module _ (bases : Bases) (ordered : AreSmaller bases) (k : HeapTyping) where
 abbrev pub HasSome : Bases → HeapTyping → List Tree → Value → Type 0
 HasSome bases k ms v = SomeHas bases k ms v
 
-pub of_members : (bases : Bases) (k : HeapTyping) (ms : List Tree) (v : Value) → HasSome bases k ms v → HasType bases k (union ms) v
+pub of_members : (bases : Bases) (k : HeapTyping) (ms : List Tree) (v : Value) → HasSome bases k ms v
+    → HasType bases k (union ms) v
 of_members bases k ms v h = of_union bases k ms v h

@@ -1,10 +1,12 @@
 -- The types that the annotations of a text are read as have no Never, and so have the fields of its classes.
-use Rattle.std.proofs.Common.{◌++◌, ℕ, suc, Bool as Test, true, List, [], ◌∷◌, Option, Some, None, refl, sym, subst, inl, inr}
+use Rattle.std.proofs.Common.{◌++◌, ℕ, suc, Bool as Test, true, List, [], ◌∷◌, Option, Some, None, refl, sym, subst}
+use Rattle.std.proofs.Common.{inl, inr}
 use Rattle.std.proofs.lemmas.Bool.{cond_both}
 use Rattle.std.specs.Prelude.{if◌then◌else◌, is_some, nat_le, unwrap_or}
 use Rattle.pc_token.specs.declared.token.Operator.{Operator}
 use Rattle.pc_token.specs.Lexeme.{Lexeme}
-use Rattle.pc_tree.specs.Tree.{Ann, Anns, named, none_type, applied, applied_empty, no_anns, more_anns, Member, field_member, method_member, ClassDef, Item, constant_item, class_item, def_item, Module}
+use Rattle.pc_tree.specs.Tree.{Ann, Anns, named, none_type, applied, applied_empty, no_anns, more_anns, Member}
+use Rattle.pc_tree.specs.Tree.{field_member, method_member, ClassDef, Item, constant_item, class_item, def_item, Module}
 use Rattle.pc_tree.specs.Tree as tree
 use Rattle.pc_tree.specs.Grammar.Annotations.{AreSeveral, SpellsAnn, Separated, Annotation}
 use Rattle.pc_tree.specs.Grammar.Modules.{SpellsMembers, ClassBody, SpellsItems, SpellsModule}
@@ -18,10 +20,12 @@ use Rattle.pc_types.specs.Tree.{Tree, Any, Never, Int, Str}
 use Rattle.pc_types.specs.Below.{Bases}
 use Rattle.pc_types.specs.Shape.{nodes, node_limit, trees, ahead, union}
 use Rattle.pc_types.specs.Join.{is_before}
-use Rattle.pc_ann.specs.Annotations.{atom, named_type, dict_type, built_type, applied_type, empty_type, is_union, insert_member, in_union_order, union_type, reading, readings, read_ann}
+use Rattle.pc_ann.specs.Annotations.{atom, named_type, dict_type, built_type, applied_type, empty_type, is_union}
+use Rattle.pc_ann.specs.Annotations.{insert_member, in_union_order, union_type, reading, readings, read_ann}
 use Rattle.pc_ann.specs.Bases.{bases_of, base_named}
 use Rattle.pc_class.specs.Facts as facts
-use Rattle.pc_class.specs.Facts.{TypedParameter, class_facts_at, base_facts, binds_field, own_fields, class_facts_behind, classes_behind, classes_of}
+use Rattle.pc_class.specs.Facts.{TypedParameter, class_facts_at, base_facts, binds_field, own_fields}
+use Rattle.pc_class.specs.Facts.{class_facts_behind, classes_behind, classes_of}
 use Rattle.pc_sound.specs.Needed.{HasNoNever, HaveNoNever, NoneHasNever, FieldsHaveNoNever}
 use Rattle.pc_sound.proofs.Values.Requirements.{fields_without}
 

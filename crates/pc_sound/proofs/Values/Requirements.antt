@@ -70,7 +70,8 @@ records_fields (d ∷ ds) (suc c) h =
 
 -- the fields of a class have no Never, where those of all have none
 pub fields_without :
-    (classes : List facts.ClassFacts) (c : ℕ) → FieldsHaveNoNever classes → NoneHasNever (class_facts_at classes c).fields
+    (classes : List facts.ClassFacts) (c : ℕ) → FieldsHaveNoNever classes
+    → NoneHasNever (class_facts_at classes c).fields
 fields_without [] c h = tt
 fields_without (d ∷ ds) zero h = h.0
 fields_without (d ∷ ds) (suc c) h = fields_without ds c h.1

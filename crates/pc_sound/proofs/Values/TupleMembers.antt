@@ -3,7 +3,8 @@
 use Rattle.std.proofs.Common.{◌≡◌, ◌<◌, ◌≤◌, ◌+◌, ℕ, zero, suc, refl, ap, ◌∙◌, inl, inr, arith}
 use Rattle.std.specs.Prelude.{◌⊎◌}
 use Rattle.std.proofs.lemmas.Bool.{cases_eq}
-use Rattle.pc_types.specs.Tree.{Tree, Trees, Any, Object, Never, Int, Bool, Str, NoneType, Class, ListOf, DictOf, TupleOf, Union, end, more}
+use Rattle.pc_types.specs.Tree.{Tree, Trees, Any, Object, Never, Int, Bool, Str, NoneType, Class, ListOf, DictOf}
+use Rattle.pc_types.specs.Tree.{TupleOf, Union, end, more}
 use Rattle.pc_types.specs.Below.{Bases, Static, same, through, object, left, right}
 use Rattle.pc_types.specs.Shape.{count}
 use Rattle.pc_types.specs.Normal.{IsNormal, AreNormal, IsAfter}

@@ -16,7 +16,8 @@ use Rattle.pc_sound.proofs.Values.Narrowing.{HasSome, to_members}
 use Rattle.pc_sound.proofs.Values.Joins.{all_hold}
 
 -- an end that is well for less is well for more
-pub ends_more : {A : Type 0} (P Q : A → Type 0) → ((a : A) → P a → Q a) → (out : Out A) → EndsWell P out → EndsWell Q out
+pub ends_more : {A : Type 0} (P Q : A → Type 0) → ((a : A) → P a → Q a) → (out : Out A) → EndsWell P out
+    → EndsWell Q out
 ends_more P Q more (Gives a) e = more a e
 ends_more P Q more (Stops (Raised x)) e = e
 ends_more P Q more (Stops Outside) e = e
@@ -28,7 +29,8 @@ abbrev pub HasEach : Bases → HeapTyping → List Tree → Value → Type 0
 HasEach bases k [] v = Unit {0}
 HasEach bases k (t ∷ ts) v = HasType bases k t v × HasEach bases k ts v
 
-pub each_later : (bases : Bases) {k k' : HeapTyping} → Extends k k' → (ts : List Tree) (v : Value) → HasEach bases k ts v → HasEach bases k' ts v
+pub each_later : (bases : Bases) {k k' : HeapTyping} → Extends k k' → (ts : List Tree) (v : Value)
+    → HasEach bases k ts v → HasEach bases k' ts v
 each_later bases x [] v h = tt
 each_later bases x (t ∷ ts) v h = (later bases x t v h.0, each_later bases x ts v h.1)
 
@@ -64,11 +66,14 @@ module _ (bases : Bases) (k : HeapTyping) where
     pub member : Tree
     pub has : HasType bases k member v
     pub clean : (offer member).found ≡ []
-    pub gives : (w : Value) → HasType bases k (offer member).gives w → HasSome bases k (map (λ o. o.gives) (map offer ms)) w
-    pub takes : (w : Value) → HasEach bases k (flat_map (λ o. o.takes) (map offer ms)) w → HasEach bases k (offer member).takes w
+    pub gives : (w : Value) → HasType bases k (offer member).gives w
+        → HasSome bases k (map (λ o. o.gives) (map offer ms)) w
+    pub takes : (w : Value) → HasEach bases k (flat_map (λ o. o.takes) (map offer ms)) w
+        → HasEach bases k (offer member).takes w
     pub among : IsAmong ms member
 
-  pub chosen : (offer : Tree → Offer) (ms : List Tree) (v : Value) → HasSome bases k ms v → found_of (map offer ms) ≡ [] → Chosen offer ms v
+  pub chosen : (offer : Tree → Offer) (ms : List Tree) (v : Value) → HasSome bases k ms v → found_of (map offer ms) ≡ []
+      → Chosen offer ms v
   chosen offer [] v h e = absurd h
   chosen offer (m ∷ ms) v h e = elim h [
     | inl x ↦ record {
@@ -92,28 +97,43 @@ module _ (bases : Bases) (k : HeapTyping) where
   module _ (ordered : AreSmaller bases) where
     -- an end that is well for what one of the offers gives is well for the type of the operation
     pub one_offer_ends :
-        (m : Label) (offers : List Offer) → m ≡ offers_label bases offers → m.codes ≡ [] → (g : Tree) → ((w : Value) → HasType bases k g w → HasSome bases k (map (λ o. o.gives) offers) w) → (out : Out Value)
+        (m : Label) (offers : List Offer) → m ≡ offers_label bases offers → m.codes ≡ [] → (g : Tree)
+        → ((w : Value) → HasType bases k g w → HasSome bases k (map (λ o. o.gives) offers) w) → (out : Out Value)
         → EndsWell (λ w. HasType bases k g w) out → EndsWell (λ w. HasType bases k m.type w) out
     one_offer_ends m offers is none g among out ends =
         let quiet : found_of offers ≡ [] = ap (λ x. x.codes) (sym is) ∙ none in
-        let type : m.type ≡ join_all bases (map (λ o. o.gives) offers) = ap (λ x. x.type) is ∙ ap (λ codes. if has_error codes then Any else join_all bases (map (λ o. o.gives) offers)) quiet in
-        ends_more (λ w. HasType bases k g w) (λ w. HasType bases k m.type w) (λ w h. subst (λ u. HasType bases k u w) (sym type) (all_hold bases ordered k (map (λ o. o.gives) offers) w (among w h))) out ends
+        let type : m.type ≡ join_all bases (map (λ o. o.gives) offers) = ap (λ x. x.type) is
+        ∙ ap (λ codes. if has_error codes then Any else join_all bases (map (λ o. o.gives) offers)) quiet in
+        ends_more (λ w. HasType bases k g w) (λ w. HasType bases k m.type w)
+        (λ w h. subst (λ u. HasType bases k u w) (sym type) (all_hold bases ordered k (map (λ o. o.gives) offers) w
+        (among w h))) out ends
 
-    -- an operation that ends well on each member of which this is known, and on which nothing is found, ends well on the type
+    -- an operation that ends well on each member of which this is known, and on which nothing is found, ends well on
+    -- the type
     pub offers_end_where :
-        (P : Tree → Type 0) (m : Label) (offer : Tree → Offer) (t : Tree) (v : Value) → AllOf P (members t) → m ≡ offers_label bases (map offer (members t)) → m.codes ≡ [] → HasType bases k t v → (out : Out Value)
-        → ((member : Tree) → P member → HasType bases k member v → (offer member).found ≡ [] → ((w : Value) → HasEach bases k (operand_types (map offer (members t))) w → HasEach bases k (offer member).takes w) → EndsWell (λ w. HasType bases k (offer member).gives w) out)
+        (P : Tree → Type 0) (m : Label) (offer : Tree → Offer) (t : Tree) (v : Value) → AllOf P (members t)
+        → m ≡ offers_label bases (map offer (members t)) → m.codes ≡ [] → HasType bases k t v → (out : Out Value)
+        → ((member : Tree) → P member → HasType bases k member v → (offer member).found ≡ []
+        → ((w : Value) → HasEach bases k (operand_types (map offer (members t))) w
+        → HasEach bases k (offer member).takes w) → EndsWell (λ w. HasType bases k (offer member).gives w) out)
         → EndsWell (λ w. HasType bases k m.type w) out
     offers_end_where P m offer t v known is none h out ends =
         let offers = map offer (members t) in
         let quiet : found_of offers ≡ [] = ap (λ x. x.codes) (sym is) ∙ none in
         let c = chosen offer (members t) v (to_members bases k t v h) quiet in
-        let all : operand_types offers ≡ flat_map (λ o. o.takes) offers = ap (λ codes. if has_error codes then [] else flat_map (λ o. o.takes) offers) quiet in
-        one_offer_ends m offers is none (offer c.member).gives c.gives out (ends c.member (one_of_all P (members t) c.member known c.among) c.has c.clean (λ w e. c.takes w (subst (λ l. HasEach bases k l w) all e)))
+        let all : operand_types offers ≡ flat_map (λ o. o.takes) offers =
+        ap (λ codes. if has_error codes then [] else flat_map (λ o. o.takes) offers) quiet in
+        one_offer_ends m offers is none (offer c.member).gives c.gives out
+        (ends c.member (one_of_all P (members t) c.member known c.among) c.has c.clean
+        (λ w e. c.takes w (subst (λ l. HasEach bases k l w) all e)))
 
     -- an operation that ends well on each member on which nothing is found ends well on the type
     pub offers_end :
-        (m : Label) (offer : Tree → Offer) (t : Tree) (v : Value) → m ≡ offers_label bases (map offer (members t)) → m.codes ≡ [] → HasType bases k t v → (out : Out Value)
-        → ((member : Tree) → HasType bases k member v → (offer member).found ≡ [] → ((w : Value) → HasEach bases k (operand_types (map offer (members t))) w → HasEach bases k (offer member).takes w) → EndsWell (λ w. HasType bases k (offer member).gives w) out)
+        (m : Label) (offer : Tree → Offer) (t : Tree) (v : Value) → m ≡ offers_label bases (map offer (members t))
+        → m.codes ≡ [] → HasType bases k t v → (out : Out Value)
+        → ((member : Tree) → HasType bases k member v → (offer member).found ≡ []
+        → ((w : Value) → HasEach bases k (operand_types (map offer (members t))) w
+        → HasEach bases k (offer member).takes w) → EndsWell (λ w. HasType bases k (offer member).gives w) out)
         → EndsWell (λ w. HasType bases k m.type w) out
-    offers_end m offer t v is none h out ends = offers_end_where (λ n. Unit {0}) m offer t v (all_any (members t)) is none h out λ n known has found takes. ends n has found takes
+    offers_end m offer t v is none h out ends = offers_end_where (λ n. Unit {0}) m offer t v (all_any (members t)) is
+        none h out λ n known has found takes. ends n has found takes

@@ -1,7 +1,9 @@
 -- A value goes wherever its type is static to.
 use Rattle.std.proofs.Common.{◌≡◌, ℕ, refl, sym, ap, subst, inl, inr, List, [], ◌∷◌}
-use Rattle.pc_types.specs.Tree.{Tree, Trees, Any, Object, Never, Int, Bool, Str, NoneType, Class, ListOf, DictOf, TupleOf, Union, end, more, erase, erase_each}
-use Rattle.pc_types.specs.Below.{Bases, Below, EachBelow, Static, same, through, never, object, bool_int, base, left, right, both, tuple, list, dict, none, one}
+use Rattle.pc_types.specs.Tree.{Tree, Trees, Any, Object, Never, Int, Bool, Str, NoneType, Class, ListOf, DictOf}
+use Rattle.pc_types.specs.Tree.{TupleOf, Union, end, more, erase, erase_each}
+use Rattle.pc_types.specs.Below.{Bases, Below, EachBelow, Static, same, through, never, object, bool_int, base, left}
+use Rattle.pc_types.specs.Below.{right, both, tuple, list, dict, none, one}
 use Rattle.pc_value.specs.Value as value
 use Rattle.pc_value.specs.Value.{Value, Values, whole, boolean, string, tuple_of, location, no_values, more_values}
 use Rattle.pc_sound.specs.Values.{HeapTyping, Extends, Equal, IsList, IsDict, HasType, HaveTypes, AllHave}
@@ -52,7 +54,11 @@ module _ {bases : Bases} where
   equal_below a b = record { to = erase_below a; fro = erase_below b }
 
   pub equal_erase : (t : Tree) → Equal bases t (erase t)
-  equal_erase t = record { to = subst (Below bases (erase t)) (sym (erase_twice t)) same; fro = subst (λ u. Below bases u (erase t)) (sym (erase_twice t)) same }
+  equal_erase t = record {
+    to = subst (Below bases (erase t)) (sym (erase_twice t)) same;
+    fro =
+        subst (λ u. Below bases u (erase t)) (sym (erase_twice t)) same;
+  }
 
   pub equal_back : {s t : Tree} → Equal bases s t → Equal bases t s
   equal_back e = record { to = e.fro; fro = e.to }
@@ -60,8 +66,15 @@ module _ {bases : Bases} where
   pub list_through : {k : HeapTyping} {l : ℕ} {s t : Tree} → Equal bases s t → IsList bases k l s → IsList bases k l t
   list_through e h = record { item = h.item; is = h.is; equal = equal_through h.equal e }
 
-  pub dict_through : {k : HeapTyping} {l : ℕ} {s t u v : Tree} → Equal bases s t → Equal bases u v → IsDict bases k l s u → IsDict bases k l t v
-  dict_through e f h = record { keys = h.keys; values = h.values; is = h.is; equal_keys = equal_through h.equal_keys e; equal_values = equal_through h.equal_values f }
+  pub dict_through : {k : HeapTyping} {l : ℕ} {s t u v : Tree} → Equal bases s t → Equal bases u v
+      → IsDict bases k l s u → IsDict bases k l t v
+  dict_through e f h = record {
+    keys = h.keys;
+    values = h.values;
+    is = h.is;
+    equal_keys = equal_through h.equal_keys e;
+    equal_values = equal_through h.equal_values f;
+  }
 
   module _ (k : HeapTyping) where
     -- a value of a type is one of each type above it
@@ -85,7 +98,8 @@ module _ {bases : Bases} where
       of_below (dict a b c d) (location l) h = dict_through (equal_below a b) (equal_below c d) h
       of_below (dict a b c d) _ h = absurd h
 
-      pub of_each_below : {ss ts : Trees} → EachBelow bases ss ts → (vs : Values) → HaveTypes bases k ss vs → HaveTypes bases k ts vs
+      pub of_each_below : {ss ts : Trees} → EachBelow bases ss ts → (vs : Values) → HaveTypes bases k ss vs
+          → HaveTypes bases k ts vs
       of_each_below none vs h = h
       of_each_below (one a b) (more_values v vs) h = (of_below a v h.0, of_each_below b vs h.1)
       of_each_below (one a b) no_values h = absurd h
@@ -162,7 +176,14 @@ module _ (bases : Bases) {k k' : HeapTyping} (grows : Extends k k') where
     later NoneType value.none h = tt
     later (Class c) (location l) h = record { class = h.class; is = grows.by l _ h.is; below = h.below }
     later (ListOf t) (location l) h = record { item = h.item; is = grows.by l _ h.is; equal = h.equal }
-    later (DictOf s t) (location l) h = record { keys = h.keys; values = h.values; is = grows.by l _ h.is; equal_keys = h.equal_keys; equal_values = h.equal_values }
+    later (DictOf s t) (location l) h = record {
+      keys = h.keys;
+      values = h.values;
+      is = grows.by l _ h.is;
+      equal_keys =
+          h.equal_keys;
+      equal_values = h.equal_values;
+    }
     later (TupleOf ts) (tuple_of vs) h = later_each ts vs h
     later (Union s t) v h = elim h [ inl x ↦ inl (later s v x) | inr y ↦ inr (later t v y) ]
     later _ v h = absurd h
@@ -173,6 +194,7 @@ module _ (bases : Bases) {k k' : HeapTyping} (grows : Extends k k') where
     later_each _ vs h = absurd h
 
 -- values of a list keep their type
-pub all_later : (bases : Bases) {k k' : HeapTyping} → Extends k k' → (t : Tree) (vs : List Value) → AllHave bases k t vs → AllHave bases k' t vs
+pub all_later : (bases : Bases) {k k' : HeapTyping} → Extends k k' → (t : Tree) (vs : List Value) → AllHave bases k t vs
+    → AllHave bases k' t vs
 all_later bases x t [] h = tt
 all_later bases x t (v ∷ vs) h = (later bases x t v h.0, all_later bases x t vs h.1)

@@ -129,6 +129,7 @@ returns-clause-pushed g c =
     middle start body
     c.requires.body c.requires.count received started walked in
     c.in_ok-find_end.ensures.pushed
-    ∙ (λ i. notes_of later.found.now ++ end_finds (g3.context i).parents.now (tree (g3.context i).returned.now)
+    ∙ (λ i. notes_of later.found.now ++ end_finds (g3.context i).globals.now.outline.now.parents.now
+    (tree (g3.context i).returned.now)
     def.name.place
     (option_map (env_of tree) out)) ∙ whole

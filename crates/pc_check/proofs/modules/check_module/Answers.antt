@@ -18,7 +18,11 @@ pub check_bodies-requires : goal.check_bodies-requires
 check_bodies-requires g c =
     let has = g.S.TypeStore.has in
     record {
-      outline = read_signatures-requires-clause-outline g c;
+      outline = record {
+        scopes = c.requires.scopes;
+        parents = c.parents-parents.ensures ∙ sym (bases_there g.S.TypeStore.tree c.args.classes.now)
+            ∙ ap (map (λ (x : ClassFacts). x.base)) c.requires.classes ∙ bases_are (module_of c.args.tree.now);
+      };
       classes = c.requires.classes;
       entries = entries_kept has g.S.TypeStore.tree c.args.store.now _ c.read_signatures.ensures.goes_on.kept
           c.args.classes.now c.requires.entries;
