@@ -1,0 +1,103 @@
+//! Positions of bytes.
+
+ghost use Rattle.std.specs.Prelude.{◌≡◌, ◌≤◌, length};
+ghost use Rattle.pc_position.specs.Positions.{IsPositionOf, units, line_at, character_at};
+
+use pc_source::Source;
+
+/// How the characters of a line are counted. Language Server Protocol 3.17, "PositionEncodingKind".
+#[derive(Clone, Copy, Debug, PartialEq, Eq)]
+pub enum Encoding {
+    /// Bytes of UTF-8.
+    Utf8,
+    /// Units of UTF-16: two for each character from U+10000 on, one for each other.
+    Utf16,
+    /// Characters.
+    Utf32,
+}
+
+/// A line and a character in it, both from 0. Language Server Protocol 3.17, "Position".
+#[derive(Clone, Copy, Debug, PartialEq, Eq)]
+pub struct Position {
+    pub line: u64,
+    pub character: u64,
+}
+
+/// A byte and its position: where a walk over a text has come to.
+#[derive(Clone, Copy, Debug, PartialEq, Eq)]
+pub struct Mark {
+    pub byte: usize,
+    pub position: Position,
+}
+
+impl Mark {
+    /// The start of any text.
+    pub fn start() -> Mark
+        ensures byte { result.byte ≡ 0 }
+        ensures line { result.position.line ≡ 0 }
+        ensures character { result.position.character ≡ 0 }
+    {
+        Mark {
+            byte: 0,
+            position: Position {
+                line: 0,
+                character: 0,
+            },
+        }
+    }
+}
+
+/// How many units a byte of UTF-8 begins.
+fn units_of(encoding: Encoding, byte: u8) -> u64
+    ensures units { result ≡ units encoding byte }
+    ensures few { result ≤ 2 }
+{
+    match encoding {
+        Encoding::Utf8 => 1,
+        Encoding::Utf16 if byte >= 240 => 2,
+        Encoding::Utf16 | Encoding::Utf32 => { if byte < 128 || byte >= 192 { 1 } else { 0 } }
+    }
+}
+
+/// The mark of a byte of a text, found from a known one: a walk over what stands between them. Where the byte stands
+/// before the known one, the walk begins at the start of the text.
+pub fn mark_after(text: &[u8], encoding: Encoding, known: Mark, byte: usize) -> Mark
+    requires known { IsPositionOf encoding text.now known.byte known.position }
+    ensures byte { result.byte ≡ byte }
+    ensures position { IsPositionOf encoding text.now byte result.position }
+{
+    let from = if byte < known.byte {
+        Mark::start()
+    } else {
+        known
+    };
+    let mut line = from.position.line;
+    let mut character = from.position.character;
+    for at in from.byte..byte.min(text.len()) {
+        let b = text[at];
+        if b == b'\n' {
+            line += 1;
+            character = 0;
+        } else {
+            character += units_of(encoding, b);
+        }
+    }
+    Mark {
+        byte,
+        position: Position { line, character },
+    }
+}
+
+/// The position of a byte of a text, for any number. Language Server Protocol 3.17, "Position".
+pub fn position_in(text: &[u8], byte: usize, encoding: Encoding) -> Position
+    ensures { IsPositionOf encoding text.now byte result }
+{
+    mark_after(text, encoding, Mark::start(), byte).position
+}
+
+/// The position of a byte of a source text, for any number. Language Server Protocol 3.17, "Position".
+pub fn position_of(source: &Source, byte: usize, encoding: Encoding) -> Position
+    ensures { IsPositionOf encoding source.now byte result }
+{
+    position_in(source.text().as_bytes(), byte, encoding)
+}
