@@ -1,0 +1,45 @@
+-- Framed messages. Language Server Protocol 3.17, "Base Protocol".
+use Rattle.std.specs.Prelude.{◌≡◌, ℕ, ◌<◌, ◌≤◌, Bool, true, false, List, [], ◌∷◌, ◌++◌, length, take, codes, decimal}
+use Rattle.std.specs.Prelude.{Ok, nat_eq}
+use Rattle.std.specs.List.{ends_with}
+use Rattle.pc_wire.specs.Fields.{length_in}
+
+-- the greatest length of a header, in bytes
+abbrev pub header_limit : ℕ
+header_limit = 8192
+
+-- the greatest length of a message, in bytes
+abbrev pub message_limit : ℕ
+message_limit = 16777216
+
+-- two line ends stand at the end
+abbrev pub ends_header : List ℕ → Bool
+ends_header bytes = ends_with nat_eq bytes (codes "\r\n\r\n")
+
+-- no front of the bytes ends a header, nor do they all
+abbrev pub IsUnended : List ℕ → Type 0
+IsUnended bytes = (k : ℕ) → k ≤ length bytes → ends_header (take k bytes) ≡ false
+
+-- a header: it ends with two line ends, and no shorter front of it does; it is within the limit
+pub record IsHeader (header : List ℕ) : Type 0 where
+  pub ended : ends_header header ≡ true
+  pub first : (k : ℕ) → k < length header → ends_header (take k header) ≡ false
+  pub short : length header ≤ header_limit
+
+-- a framed message: a header that names the message's length, within the limit, and then the message
+pub record IsFrame (bytes message : List ℕ) : Type 0 where
+  pub header : List ℕ
+  pub is_header : IsHeader header
+  pub named : length_in header ≡ Ok (length message)
+  pub short : length message ≤ message_limit
+  pub spelled : bytes ≡ header ++ message
+
+-- the bytes are these framed messages, one after the other
+abbrev pub AreFrames : List ℕ → List (List ℕ) → Type 0
+AreFrames bytes [] = bytes ≡ []
+AreFrames bytes (message ∷ messages) = (first : List ℕ) × (rest : List ℕ) × (bytes ≡ first ++ rest)
+    × IsFrame first message × AreFrames rest messages
+
+-- a message with the header that is written before it
+abbrev pub frame : List ℕ → List ℕ
+frame message = (codes "Content-Length: " ++ (decimal (length message) ++ codes "\r\n\r\n")) ++ message

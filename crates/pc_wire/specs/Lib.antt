@@ -1,0 +1,6 @@
+pub mod Faults
+pub mod Fields
+pub mod Frames
+pub mod Laws
+pub mod Reading
+pub mod Writing

@@ -1,0 +1,83 @@
+//! Why no message was read, or written.
+
+ghost use Rattle.std.specs.Prelude.{◌≡◌};
+ghost use Rattle.pc_wire.specs.declared.fault.FrameFault.TheVariants as frame_fault;
+ghost use Rattle.pc_wire.specs.declared.fault.SendFault.TheVariants as send_fault;
+
+use std::alloc::AllocError;
+use thiserror::Error;
+
+/// Why a header names no length. Language Server Protocol 3.17, "Header Part".
+#[derive(Clone, Copy, Debug, PartialEq, Eq, Error)]
+pub enum HeaderFault {
+    /// A line of the header has no colon.
+    #[error("a line of a header without a colon")]
+    BadField,
+    /// The length is no number that fits 64 bits.
+    #[error("a Content-Length that is no number")]
+    BadLength,
+    /// The header names no length.
+    #[error("a header without Content-Length")]
+    NoLength,
+    /// The header names two lengths.
+    #[error("a header with two lengths")]
+    TwoLengths,
+}
+
+/// Why no message was read. Language Server Protocol 3.17, "Base Protocol"; the limits are own rules of the server.
+#[derive(Clone, Copy, Debug, PartialEq, Eq, Error)]
+pub enum FrameFault {
+    /// The message had no room in memory. It was read whole, and is lost.
+    #[error("out of memory")]
+    OutOfMemory,
+    /// The device failed.
+    #[error("the input could not be read")]
+    Read,
+    /// The input ends inside a message.
+    #[error("the input ends inside a message")]
+    Cut,
+    /// The header does not end within 8,192 bytes.
+    #[error("a header of more than 8,192 bytes")]
+    LongHeader,
+    /// The header names no length.
+    #[error("{0}")]
+    Header(HeaderFault),
+    /// The message is longer than 16,777,216 bytes.
+    #[error("a message of more than 16,777,216 bytes")]
+    LongMessage,
+}
+
+impl From<HeaderFault> for FrameFault {
+    ghost from_gives = { λ f e. e ≡ frame_fault.Header f };
+
+    fn from(fault: HeaderFault) -> FrameFault {
+        FrameFault::Header(fault)
+    }
+}
+
+impl From<AllocError> for FrameFault {
+    ghost from_gives = { λ _ e. e ≡ frame_fault.OutOfMemory };
+
+    fn from(_error: AllocError) -> FrameFault {
+        FrameFault::OutOfMemory
+    }
+}
+
+/// Why a message was not written. Own rule of the server.
+#[derive(Clone, Copy, Debug, PartialEq, Eq, Error)]
+pub enum SendFault {
+    /// A growth of memory was refused.
+    #[error("out of memory")]
+    OutOfMemory,
+    /// The device failed.
+    #[error("the output could not be written")]
+    Write,
+}
+
+impl From<AllocError> for SendFault {
+    ghost from_gives = { λ _ e. e ≡ send_fault.OutOfMemory };
+
+    fn from(_error: AllocError) -> SendFault {
+        SendFault::OutOfMemory
+    }
+}
