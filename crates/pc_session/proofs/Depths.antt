@@ -1,0 +1,353 @@
+-- No reply nests deep, so the text of each reads back.
+use Rattle.std.proofs.Common.{◌≡◌, ℕ, ◌≤◌, suc, List, [], ◌∷◌, ◌++◌, map, Option, None, Some, true, refl, sym, subst}
+use Rattle.std.proofs.Common.{inl, inr, arith}
+use Rattle.std.proofs.Math.Nat.{max-le}
+use Rattle.std.proofs.lemmas.Bool.{false≢true}
+use Rattle.std.specs.Prelude.{codes}
+use Rattle.std.specs.List.{AllZip}
+use Rattle.serde_json.specs.Data.{Data, null, boolean, number, string, array, object, no_items, depth, items_depth}
+use Rattle.serde_json.specs.Find.{get}
+use Rattle.serde_json.specs.Read.{max_depth}
+use Rattle.serde_json.specs.View.{items_of}
+use Rattle.pc_source.specs.Refusals.{code_text}
+use Rattle.pc_tree.specs.Code.{text_of}
+use Rattle.pc_help.specs.Refusals.{refusal_meaning_of}
+use Rattle.pc_position.specs.declared.positions.Encoding.{Encoding}
+use Rattle.pc_session.specs.declared.checker.Found.{Found}
+use Rattle.pc_session.specs.declared.checker.Found.TheVariants.{Items, Refused}
+use Rattle.pc_session.specs.declared.checker.Item.{Item}
+use Rattle.pc_session.specs.declared.messages.Method.{Method}
+use Rattle.pc_session.specs.declared.messages.Method.TheVariants.{Initialize, Initialized, Shutdown, Exit, DidOpen}
+use Rattle.pc_session.specs.declared.messages.Method.TheVariants.{DidChange, DidSave, DidClose, Hover, Diagnostic}
+use Rattle.pc_session.specs.declared.messages.Method.TheVariants.{CodeAction, Other}
+use Rattle.pc_session.specs.declared.replies.ErrorCode.{ErrorCode}
+use Rattle.pc_session.specs.declared.replies.ErrorCode.TheVariants.{ParseError, InvalidRequest, MethodNotFound}
+use Rattle.pc_session.specs.declared.replies.ErrorCode.TheVariants.{InvalidParams, ServerNotInitialized}
+use Rattle.pc_session.specs.declared.session.Stage.{Stage}
+use Rattle.pc_session.specs.declared.session.Stage.TheVariants.{Fresh, Running, ShutDown, Ended}
+use Rattle.pc_session.specs.Checked.{IsChecked, IsPublished, told_data}
+use Rattle.pc_session.specs.Diagnostics.{range_data, diagnostic_data, item_data, refusal_data, found_data, severity_of, message_text}
+use Rattle.pc_session.specs.Messages.{is_identifier, agreed_in}
+use Rattle.pc_session.specs.Replies.{publish_data, result_data, full_data, hover_data, capabilities_data, refusal_of}
+use Rattle.pc_session.specs.Sent.{IsTextOf, AreSent}
+use Rattle.pc_session.specs.Sessions.{IsTurn, OnOpen, OnChange, OnClose, OnNoMethod, OnFresh, OnRunning, OnRequest}
+use Rattle.pc_session.specs.Sessions.{OnNotice, OnStage, OnNotification, OnMethod, OnMessage, IsUnreadable, Step}
+use Rattle.pc_session.specs.Sessions.{IsPulled, IsHovered, RepliesWith, nothing_of, told_of, identifier_or_null}
+use Rattle.pc_session.specs.Spelled.{IsSpelled, AreSpelled}
+use Rattle.pc_session.specs.States.{Agreed, OpenDocument, State}
+
+-- each of the values is shallow enough to be read
+abbrev AreShallow : List Data → Type 0
+AreShallow [] = Unit {0}
+AreShallow (d ∷ ds) = (depth d ≤ max_depth) × AreShallow ds
+
+z : (n : ℕ) → 0 ≤ n
+z n = omega arith
+
+up : (a b : ℕ) → a ≤ b → suc a ≤ suc b
+up a b h = omega arith
+
+-- ---- values
+
+-- a value of depth 0 to 6 is shallow
+low : (d : Data) (n : ℕ) → n ≤ 6 → depth d ≤ n → depth d ≤ max_depth
+low d n small h = omega arith
+
+diagnostic_depth : (page : Option (List ℕ)) (e : Encoding) (text : List ℕ) (start end severity : ℕ)
+    (code message : List ℕ)
+    → depth (diagnostic_data page (range_data e text start end) severity code message) ≡ 3
+diagnostic_depth None e text start end severity code message = refl
+diagnostic_depth (Some page) e text start end severity code message = refl
+
+items_low : (agreed : Agreed) (text : List ℕ) (items : List Item)
+    → items_depth (items_of (map (item_data agreed text) items)) ≤ 3
+items_low agreed text [] = z 3
+items_low agreed text (item ∷ items) =
+    let is : depth (item_data agreed text item) ≡ 3 =
+    diagnostic_depth agreed.codes_page agreed.encoding text item.finding.place.start item.finding.place.end
+    (severity_of agreed.dynamic_severity item.finding.code) (text_of item.finding.code)
+    (message_text item.finding.code item.flow) in
+    let first : depth (item_data agreed text item) ≤ 3 = omega (arith, is) in
+    max-le first (items_low agreed text items)
+
+found_low : (agreed : Agreed) (text : List ℕ) (found : Found)
+    → items_depth (items_of (found_data agreed text found)) ≤ 3
+found_low agreed text (Items items) = items_low agreed text items.items
+found_low agreed text (Refused refusal) =
+    let is : depth (refusal_data agreed text refusal) ≡ 3 =
+    diagnostic_depth agreed.codes_page agreed.encoding text refusal.byte refusal.byte 1 (code_text refusal.code)
+    (refusal_meaning_of refusal.code) in
+    let first : depth (refusal_data agreed text refusal) ≤ 3 = omega (arith, is) in
+    max-le first (z 3)
+
+publish_low : (uri : List ℕ) (version : Option ℕ) (ds : List Data) → items_depth (items_of ds) ≤ 3
+    → depth (publish_data uri version ds) ≤ max_depth
+publish_low uri None ds h =
+    let listed : suc (items_depth (items_of ds)) ≤ 4 = up _ 3 h in
+    let params = up _ 4 (max-le listed (max-le (z 4) (z 4))) in
+    low (publish_data uri None ds) 6 (omega arith) (up _ 5 (max-le (z 5) (max-le (z 5) (max-le params (z 5)))))
+publish_low uri (Some version) ds h =
+    let listed : suc (items_depth (items_of ds)) ≤ 4 = up _ 3 h in
+    let params = up _ 4 (max-le listed (max-le (z 4) (max-le (z 4) (z 4)))) in
+    low (publish_data uri (Some version) ds) 6 (omega arith) (up _ 5 (max-le (z 5) (max-le (z 5) (max-le params (z 5)))))
+
+-- a line for the log has depth 2
+log_low : 2 ≤ max_depth
+log_low = omega arith
+
+result_low : (id result : Data) → depth id ≡ 0 → depth result ≤ 5 → depth (result_data id result) ≤ max_depth
+result_low id result flat h =
+    let own : depth id ≤ 5 = omega arith in
+    low (result_data id result) 6 (omega arith) (up _ 5 (max-le own (max-le (z 5) (max-le h (z 5)))))
+
+refusal_low : (code : ErrorCode) (id : Data) → depth id ≡ 0 → depth (refusal_of code id) ≤ max_depth
+refusal_low code id flat =
+    let own : depth id ≤ 1 = omega arith in
+    let told : 1 ≤ 1 = omega arith in
+    low (refusal_of code id) 2 (omega arith) (up _ 1 (max-le told (max-le own (max-le (z 1) (z 1)))))
+
+full_low : (ds : List Data) → items_depth (items_of ds) ≤ 3 → depth (full_data ds) ≤ 5
+full_low ds h =
+    let listed : suc (items_depth (items_of ds)) ≤ 4 = up _ 3 h in
+    up _ 4 (max-le listed (max-le (z 4) (z 4)))
+
+hover_low : (told : List ℕ) → depth (hover_data told) ≤ 5
+hover_low [] = z 5
+hover_low (byte ∷ bytes) = let is : depth (hover_data (byte ∷ bytes)) ≡ 2 = refl in omega (arith, is)
+
+capabilities_low : (encoding : Encoding) → depth (capabilities_data encoding) ≤ 5
+capabilities_low encoding = let is : depth (capabilities_data encoding) ≡ 3 = refl in omega (arith, is)
+
+-- an identifier is no array and no object
+flat_identifier : (id : Data) → is_identifier id ≡ true → depth id ≡ 0
+flat_identifier null h = refl
+flat_identifier (boolean b) h = refl
+flat_identifier (number n) h = refl
+flat_identifier (string s) h = refl
+flat_identifier (array ds) h = absurd (false≢true h)
+flat_identifier (object ms) h = absurd (false≢true h)
+
+flat_or_null : (id : Data) → depth (identifier_or_null id) ≡ 0
+flat_or_null null = refl
+flat_or_null (boolean b) = refl
+flat_or_null (number n) = refl
+flat_or_null (string s) = refl
+flat_or_null (array ds) = refl
+flat_or_null (object ms) = refl
+
+-- ---- replies
+
+shallow_append : (xs ys : List Data) → AreShallow xs → AreShallow ys → AreShallow (xs ++ ys)
+shallow_append [] ys a b = b
+shallow_append (x ∷ xs) ys a b = (a.0, shallow_append xs ys a.1 b)
+
+turned : {wanted : List Data} {next new : State} {replies : List Data} → IsTurn wanted next replies new
+    → AreShallow wanted → AreShallow replies
+turned turn shallow = subst AreShallow (sym turn.replies_are) shallow
+
+answered : {reply : Data} {next new : State} {replies : List Data} → IsTurn (reply ∷ []) next replies new
+    → depth reply ≤ max_depth → AreShallow replies
+answered turn low = turned turn (low, tt)
+
+told_shallow : (told : Option (List ℕ)) → AreShallow (told_data told)
+told_shallow None = tt
+told_shallow (Some text) = (log_low, tt)
+
+nothing_shallow : (documents : List OpenDocument) → AreShallow (map nothing_of documents)
+nothing_shallow [] = tt
+nothing_shallow (document ∷ documents) =
+    (publish_low document.uri document.version [] (z 3), nothing_shallow documents)
+
+told_of_shallow : (documents : List OpenDocument) → AreShallow (told_of documents)
+told_of_shallow [] = tt
+told_of_shallow (document ∷ documents) = (log_low, tt)
+
+unreadable : (old new : State) (replies : List Data) → IsUnreadable old replies new → AreShallow replies
+unreadable old new replies turn = turned turn (
+  refusal_low ParseError null refl,
+  shallow_append (map nothing_of old.documents) (told_of old.documents) (nothing_shallow old.documents)
+      (told_of_shallow old.documents),
+)
+
+module _ (finds : List ℕ → Found → Type 0) where
+  checked_low : (agreed : Agreed) (text : Option (List ℕ)) (ds : List Data) (told : Option (List ℕ))
+      → IsChecked finds agreed text ds told → items_depth (items_of ds) ≤ 3
+  checked_low agreed None ds None checked = absurd checked
+  checked_low agreed None ds (Some told) checked =
+      subst (λ (l : List Data). items_depth (items_of l) ≤ 3) (sym checked.1) (z 3)
+  checked_low agreed (Some text) ds None checked =
+      subst (λ (l : List Data). items_depth (items_of l) ≤ 3) (sym checked.are) (found_low agreed text checked.found)
+  checked_low agreed (Some text) ds (Some told) checked =
+      subst (λ (l : List Data). items_depth (items_of l) ≤ 3) (sym checked.1) (z 3)
+
+  published : (agreed : Agreed) (document : OpenDocument) (replies : List Data)
+      → IsPublished finds agreed document replies → AreShallow replies
+  published agreed document replies it = subst AreShallow (sym it.are) (
+    publish_low document.uri document.version it.diagnostics
+        (checked_low agreed document.text it.diagnostics it.told it.is_checked),
+    told_shallow it.told,
+  )
+
+  opened : (message : Data) (old new : State) (replies : List Data) → OnOpen finds message old replies new
+      → AreShallow replies
+  opened message old new replies (inl it) = published old.agreed it.kept.document replies it.kept.published
+  opened message old new replies (inr it) = answered it.answered log_low
+
+  changed : (message : Data) (old new : State) (replies : List Data) → OnChange finds message old replies new
+      → AreShallow replies
+  changed message old new replies (inl it) = published old.agreed it.kept.document replies it.kept.published
+  changed message old new replies (inr (inl it)) = answered it.answered log_low
+  changed message old new replies (inr (inr it)) = answered it.answered log_low
+
+  closed : (message : Data) (old new : State) (replies : List Data) → OnClose message old replies new
+      → AreShallow replies
+  closed message old new replies (inl it) = answered it.turn (publish_low it.uri None [] (z 3))
+  closed message old new replies (inr (inl it)) = answered it.answered log_low
+  closed message old new replies (inr (inr it)) = answered it.answered log_low
+
+  noticed : (method : Method) (message : Data) (old new : State) (replies : List Data)
+      → OnNotice finds method message old replies new → AreShallow replies
+  noticed DidOpen message old new replies h = opened message old new replies h
+  noticed DidChange message old new replies h = changed message old new replies h
+  noticed DidClose message old new replies h = closed message old new replies h
+  noticed Initialize message old new replies h = turned h tt
+  noticed Initialized message old new replies h = turned h tt
+  noticed Shutdown message old new replies h = turned h tt
+  noticed Exit message old new replies h = turned h tt
+  noticed DidSave message old new replies h = turned h tt
+  noticed Hover message old new replies h = turned h tt
+  noticed Diagnostic message old new replies h = turned h tt
+  noticed CodeAction message old new replies h = turned h tt
+  noticed Other message old new replies h = turned h tt
+
+  staged : (stage : Stage) (method : Method) (message : Data) (old new : State) (replies : List Data)
+      → OnStage finds stage method message old replies new → AreShallow replies
+  staged Running method message old new replies h = noticed method message old new replies h
+  staged Fresh method message old new replies h = turned h tt
+  staged ShutDown method message old new replies h = turned h tt
+  staged (Ended status) method message old new replies h = turned h tt
+
+  notified : (method : Method) (stage : Stage) (message : Data) (old new : State) (replies : List Data)
+      → OnNotification finds method stage message old replies new → AreShallow replies
+  notified Exit stage message old new replies h = turned h tt
+  notified Initialize stage message old new replies h = staged stage Initialize message old new replies h
+  notified Initialized stage message old new replies h = staged stage Initialized message old new replies h
+  notified Shutdown stage message old new replies h = staged stage Shutdown message old new replies h
+  notified DidOpen stage message old new replies h = staged stage DidOpen message old new replies h
+  notified DidChange stage message old new replies h = staged stage DidChange message old new replies h
+  notified DidSave stage message old new replies h = staged stage DidSave message old new replies h
+  notified DidClose stage message old new replies h = staged stage DidClose message old new replies h
+  notified Hover stage message old new replies h = staged stage Hover message old new replies h
+  notified Diagnostic stage message old new replies h = staged stage Diagnostic message old new replies h
+  notified CodeAction stage message old new replies h = staged stage CodeAction message old new replies h
+  notified Other stage message old new replies h = staged stage Other message old new replies h
+
+  pulled : (message id : Data) (old new : State) (replies : List Data) → depth id ≡ 0
+      → RepliesWith (IsPulled finds message id old) old replies new → AreShallow replies
+  pulled message id old new replies flat it =
+      let Low : Data → Type 0 = λ d. depth d ≤ max_depth in
+      let low_reply : Low it.reply = elim it.is_reply [
+        | inl of_it ↦
+            let listed : items_depth (items_of of_it.diagnostics) ≤ 3 =
+            checked_low old.agreed of_it.document.text of_it.diagnostics of_it.told of_it.is_checked in
+            subst Low (sym of_it.replied) (result_low id (full_data of_it.diagnostics) flat (full_low of_it.diagnostics listed))
+        | inr none ↦ subst Low (sym none.1) (refusal_low InvalidParams id flat)
+      ] in
+      answered it.answered low_reply
+
+  hovered : (message id : Data) (old new : State) (replies : List Data) → depth id ≡ 0
+      → RepliesWith (IsHovered finds message id old) old replies new → AreShallow replies
+  hovered message id old new replies flat it =
+      let Low : Data → Type 0 = λ d. depth d ≤ max_depth in
+      let low_reply : Low it.reply = elim it.is_reply [
+        | inl of_it ↦
+            subst Low (sym of_it.replied) (result_low id (hover_data of_it.told) flat (hover_low of_it.told))
+        | inr none ↦ subst Low (sym none.1) (refusal_low InvalidParams id flat)
+      ] in
+      answered it.answered low_reply
+
+  running : (method : Method) (id message : Data) (old new : State) (replies : List Data) → depth id ≡ 0
+      → OnRunning finds method id message old replies new → AreShallow replies
+  running Shutdown id message old new replies flat h = answered h (result_low id null flat (z 5))
+  running Hover id message old new replies flat h = hovered message id old new replies flat h
+  running Diagnostic id message old new replies flat h = pulled message id old new replies flat h
+  running CodeAction id message old new replies flat h =
+      answered h (result_low id (array no_items) flat (omega arith))
+  running Initialize id message old new replies flat h = answered h (refusal_low InvalidRequest id flat)
+  running Initialized id message old new replies flat h = answered h (refusal_low MethodNotFound id flat)
+  running Exit id message old new replies flat h = answered h (refusal_low MethodNotFound id flat)
+  running DidOpen id message old new replies flat h = answered h (refusal_low MethodNotFound id flat)
+  running DidChange id message old new replies flat h = answered h (refusal_low MethodNotFound id flat)
+  running DidSave id message old new replies flat h = answered h (refusal_low MethodNotFound id flat)
+  running DidClose id message old new replies flat h = answered h (refusal_low MethodNotFound id flat)
+  running Other id message old new replies flat h = answered h (refusal_low MethodNotFound id flat)
+
+  begun : (method : Method) (id message : Data) (old new : State) (replies : List Data) → depth id ≡ 0
+      → OnFresh method id message old replies new → AreShallow replies
+  begun Initialize id message old new replies flat h =
+      answered h (result_low id (capabilities_data (agreed_in message).encoding) flat (capabilities_low (agreed_in message).encoding))
+  begun Initialized id message old new replies flat h = answered h (refusal_low ServerNotInitialized id flat)
+  begun Shutdown id message old new replies flat h = answered h (refusal_low ServerNotInitialized id flat)
+  begun Exit id message old new replies flat h = answered h (refusal_low ServerNotInitialized id flat)
+  begun DidOpen id message old new replies flat h = answered h (refusal_low ServerNotInitialized id flat)
+  begun DidChange id message old new replies flat h = answered h (refusal_low ServerNotInitialized id flat)
+  begun DidSave id message old new replies flat h = answered h (refusal_low ServerNotInitialized id flat)
+  begun DidClose id message old new replies flat h = answered h (refusal_low ServerNotInitialized id flat)
+  begun Hover id message old new replies flat h = answered h (refusal_low ServerNotInitialized id flat)
+  begun Diagnostic id message old new replies flat h = answered h (refusal_low ServerNotInitialized id flat)
+  begun CodeAction id message old new replies flat h = answered h (refusal_low ServerNotInitialized id flat)
+  begun Other id message old new replies flat h = answered h (refusal_low ServerNotInitialized id flat)
+
+  requested : (stage : Stage) (method : Method) (id message : Data) (old new : State) (replies : List Data)
+      → depth id ≡ 0 → OnRequest finds stage method id message old replies new → AreShallow replies
+  requested Fresh method id message old new replies flat h = begun method id message old new replies flat h
+  requested Running method id message old new replies flat h = running method id message old new replies flat h
+  requested ShutDown method id message old new replies flat h = answered h (refusal_low InvalidRequest id flat)
+  requested (Ended status) method id message old new replies flat h =
+      answered h (refusal_low InvalidRequest id flat)
+
+  with_method : (method : Method) (id : Option Data) (message : Data) (old new : State) (replies : List Data)
+      → OnMethod finds method id message old replies new → AreShallow replies
+  with_method method None message old new replies h = notified method old.stage message old new replies h
+  with_method method (Some id) message old new replies (inl h) =
+      requested old.stage method id message old new replies (flat_identifier id h.0) h.1
+  with_method method (Some id) message old new replies (inr h) =
+      answered h.1 (refusal_low InvalidRequest null refl)
+
+  without_method : (id : Option Data) (message : Data) (old new : State) (replies : List Data)
+      → OnNoMethod id message old replies new → AreShallow replies
+  without_method None message old new replies h = answered h (refusal_low InvalidRequest null refl)
+  without_method (Some id) message old new replies (inl h) = turned h.1 tt
+  without_method (Some id) message old new replies (inr h) =
+      answered h.1 (refusal_low InvalidRequest (identifier_or_null id) (flat_or_null id))
+
+  messaged : (message : Data) (old new : State) (replies : List Data) → OnMessage finds message old replies new
+      → AreShallow replies
+  messaged message old new replies (inl it) = with_method it.method (get (codes "id") message) message old new replies it.answered
+  messaged message old new replies (inr it) = without_method (get (codes "id") message) message old new replies it.answered
+
+  stepped : (old new : State) (bytes : List ℕ) (replies : List Data) → Step finds old bytes replies new
+      → AreShallow replies
+  stepped old new bytes replies (inl it) = messaged it.message old new replies it.answered
+  stepped old new bytes replies (inr it) = unreadable old new replies it.unreadable
+
+-- ---- texts
+
+texts_of : (replies : List Data) (texts : List (List ℕ)) → AreShallow replies → AllZip IsSpelled replies texts
+    → AllZip IsTextOf replies texts
+texts_of [] [] shallow spelled = tt
+texts_of [] (text ∷ texts) shallow spelled = absurd spelled
+texts_of (reply ∷ replies) [] shallow spelled = absurd spelled
+texts_of (reply ∷ replies) (text ∷ texts) shallow spelled = (
+  record { compact = spelled.0.compact; reads_back = spelled.0.if_shallow shallow.0 },
+  texts_of replies texts shallow.1 spelled.1,
+)
+
+-- what a step replies is sent where it is spelled
+pub sent : (finds : List ℕ → Found → Type 0) (old new : State) (message bytes : List ℕ) (replies : List Data)
+    → Step finds old message replies new → AreSpelled replies bytes → AreSent replies bytes
+sent finds old new message bytes replies step spelled = record {
+  texts = spelled.texts;
+  each = texts_of replies spelled.texts (stepped finds old new message replies step) spelled.each;
+  framed = spelled.framed;
+}

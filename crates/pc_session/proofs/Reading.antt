@@ -1,0 +1,44 @@
+-- Items of an array, and what a text of them says.
+use Rattle.std.proofs.Common.{◌≡◌, ℕ, ◌+◌, ◌-◌, ◌<◌, ◌≤◌, suc, false, ◌||◌, List, [], ◌∷◌, length, map, drop}
+use Rattle.std.proofs.Common.{get_or, refl, ap, sym, ◌∙◌}
+use Rattle.std.proofs.Common.{arith}
+use Rattle.std.specs.Prelude.{codes, option_map, slice_get}
+use Rattle.std.proofs.lemmas.List.{drop_more, drop_all}
+use Rattle.serde_json.specs.declared.value.Value.{Value}
+use Rattle.serde_json.specs.View.{view, items_view}
+use Rattle.pc_session.specs.Messages.{last_item, is_text, has_text}
+use Rattle.pc_session.specs.declared.documents.Document.{Document}
+use Rattle.pc_session.specs.Replies.{log_data}
+use Rattle.pc_session.specs.Sessions.{told_of}
+use Rattle.pc_session.specs.States.{opened_of}
+
+-- the last item of an array
+pub last_is : (vs : List Value) → last_item (items_view vs) ≡ option_map view (slice_get vs (length vs - 1))
+last_is [] = refl
+last_is (v ∷ []) = refl
+last_is (v ∷ w ∷ vs) =
+    let further : suc (suc (length vs)) - 1 ≡ suc (length vs) = omega arith in
+    let near : suc (length vs) - 1 ≡ length vs = omega arith in
+    rw further (rw near at (last_is (w ∷ vs)))
+
+-- what the items from a place on say, by the item there
+pub has_text_drop : (text : List ℕ) (vs : List Value) (i : ℕ) (v : Value) → i < length vs → v ≡ get_or vs i v
+    → has_text text (items_view (drop i vs)) ≡ (is_text text (view v) || has_text text (items_view (drop (i + 1) vs)))
+has_text_drop text vs i v within read =
+    ap (λ l. has_text text (items_view l)) (drop_more vs i v within)
+    ∙ ap (λ x. is_text text (view x) || has_text text (items_view (drop (i + 1) vs))) (sym read)
+
+-- there are no items from the end on
+pub has_text_end : (text : List ℕ) (vs : List Value) (i : ℕ) → length vs ≤ i
+    → has_text text (items_view (drop i vs)) ≡ false
+has_text_end text vs i past = ap (λ l. has_text text (items_view l)) (drop_all i vs past)
+
+-- the log is told something where a document is open, and nothing where none is
+pub told_some : (documents : List Document) → 0 < length documents → told_of (map opened_of documents)
+    ≡ log_data (codes "after a message that is no JSON the texts of the open documents are not known") ∷ []
+told_some [] some = absurd (omega arith)
+told_some (other ∷ others) some = refl
+
+pub told_none : (documents : List Document) → length documents ≡ 0 → told_of (map opened_of documents) ≡ []
+told_none [] none = refl
+told_none (other ∷ others) none = absurd (omega arith)

@@ -1,0 +1,8 @@
+use Rattle.std.proofs.Common.{◌≡◌, drop}
+use Rattle.serde_json.specs.View.{items_view}
+use Rattle.pc_session.specs.Messages.{has_text}
+use Rattle.pc_session.proofs.settings.has_text.Given as goal
+
+abbrev pub invariant-loop-item : goal.invariant-loop-item
+invariant-loop-item l =
+    has_text l.text (items_view l.items) ≡ has_text l.text (items_view (drop l.item-index l.items))

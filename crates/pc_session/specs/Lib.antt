@@ -1,0 +1,12 @@
+pub mod Answers
+pub mod Checked
+pub mod Diagnostics
+pub mod Documents
+pub mod Hovers
+pub mod Messages
+pub mod Notices
+pub mod Replies
+pub mod Sent
+pub mod Sessions
+pub mod Spelled
+pub mod States

@@ -1,0 +1,120 @@
+-- What messages say. Language Server Protocol 3.17.
+use Rattle.std.specs.Prelude.{ℕ, Bool, false, ◌||◌, List, codes, Option, None, Some, bytes_eq, if◌then◌else◌}
+use Rattle.std.specs.Prelude.{is_some, unwrap_or, option_map, option_and_then}
+use Rattle.serde_json.specs.Data.{Data, Items, no_items, item}
+use Rattle.serde_json.specs.Find.{get, as_str, as_number, as_null, as_array, as_u64}
+use Rattle.pc_position.specs.declared.positions.Encoding.TheVariants.{Utf8, Utf16}
+use Rattle.pc_position.specs.declared.positions.Position.{Position}
+use Rattle.pc_session.specs.declared.messages.Method.{Method}
+use Rattle.pc_session.specs.declared.messages.Method.TheVariants.{Initialize, Initialized, Shutdown, Exit, DidOpen}
+use Rattle.pc_session.specs.declared.messages.Method.TheVariants.{DidChange}
+use Rattle.pc_session.specs.declared.messages.Method.TheVariants.{DidSave, DidClose, Hover, Diagnostic, CodeAction}
+use Rattle.pc_session.specs.declared.messages.Method.TheVariants.{Other}
+use Rattle.pc_session.specs.States.{Agreed}
+
+-- the method of this name
+abbrev pub method_named : List ℕ → Method
+method_named name =
+    if bytes_eq name (codes "initialize") then Initialize else (
+    if bytes_eq name (codes "initialized") then Initialized else (
+    if bytes_eq name (codes "shutdown") then Shutdown else (
+    if bytes_eq name (codes "exit") then Exit else (
+    if bytes_eq name (codes "textDocument/didOpen") then DidOpen else (
+    if bytes_eq name (codes "textDocument/didChange") then DidChange else (
+    if bytes_eq name (codes "textDocument/didSave") then DidSave else (
+    if bytes_eq name (codes "textDocument/didClose") then DidClose else (
+    if bytes_eq name (codes "textDocument/hover") then Hover else (
+    if bytes_eq name (codes "textDocument/diagnostic") then Diagnostic else (
+    if bytes_eq name (codes "textDocument/codeAction") then CodeAction else Other))))))))))
+
+-- the method that a message names
+abbrev pub method_in : Data → Option Method
+method_in message = option_map method_named (option_and_then as_str (get (codes "method") message))
+
+-- an identifier of a request: a text, a number or null
+abbrev pub is_identifier : Data → Bool
+is_identifier value = is_some (as_str value) || (is_some (as_number value) || is_some (as_null value))
+
+-- a message without a method is a reply where it has a result or an error
+abbrev pub is_reply : Data → Bool
+is_reply message = is_some (get (codes "result") message) || is_some (get (codes "error") message)
+
+-- the parameter of this name
+abbrev pub parameter : List ℕ → Data → Option Data
+parameter name message = option_and_then (get name) (get (codes "params") message)
+
+-- what the parameter of the first name has under the second
+abbrev pub inside : List ℕ → List ℕ → Data → Option Data
+inside name inner message = option_and_then (get inner) (parameter name message)
+
+-- the address of the document that a message names
+abbrev pub uri_in : Data → Option (List ℕ)
+uri_in message = option_and_then as_str (inside (codes "textDocument") (codes "uri") message)
+
+-- the version of the document that a message gives
+abbrev pub version_in : Data → Option ℕ
+version_in message =
+    option_and_then as_u64 (option_and_then as_number (inside (codes "textDocument") (codes "version") message))
+
+-- the text of the document that is opened
+abbrev pub opened_text : Data → Option (List ℕ)
+opened_text message = option_and_then as_str (inside (codes "textDocument") (codes "text") message)
+
+-- the last item
+abbrev pub last_item : Items → Option Data
+last_item no_items = None
+last_item (item value no_items) = Some value
+last_item (item value (item next rest)) = last_item (item next rest)
+
+-- the whole text that a change gives: none where it names a range
+abbrev pub whole_text : Data → Option (List ℕ)
+whole_text change =
+    if is_some (get (codes "range") change) then None else option_and_then as_str (get (codes "text") change)
+
+-- the whole text that the last change of a message gives
+abbrev pub changed_text : Data → Option (List ℕ)
+changed_text message = option_and_then whole_text
+    (option_and_then last_item (option_and_then as_array (parameter (codes "contentChanges") message)))
+
+-- the position that two numbers make
+abbrev pub position_from : Option ℕ → Option ℕ → Option Position
+position_from None character = None
+position_from (Some line) None = None
+position_from (Some line) (Some character) = Some (record { line = line; character = character })
+
+-- one number of the position that a message names
+abbrev pub place_in : List ℕ → Data → Option ℕ
+place_in name message = option_and_then as_u64 (option_and_then as_number (inside (codes "position") name message))
+
+-- the position that a message names
+abbrev pub position_in : Data → Option Position
+position_in message = position_from (place_in (codes "line") message) (place_in (codes "character") message)
+
+-- the value is this text
+abbrev pub is_text : List ℕ → Data → Bool
+is_text text value = unwrap_or (option_map (λ found. bytes_eq found text) (as_str value)) false
+
+-- one of the items is this text
+abbrev pub has_text : List ℕ → Items → Bool
+has_text text no_items = false
+has_text text (item value values) = is_text text value || has_text text values
+
+-- the encodings that the client offers have this one
+abbrev pub offers : List ℕ → Data → Bool
+offers name message = unwrap_or (option_map (has_text name) (option_and_then as_array (option_and_then
+    (get (codes "positionEncodings")) (option_and_then (get (codes "general"))
+    (parameter (codes "capabilities") message))))) false
+
+-- an option of the client
+abbrev pub option_in : List ℕ → Data → Option Data
+option_in name message = inside (codes "initializationOptions") name message
+
+-- what `initialize` agrees on: UTF-8 where the client offers it, otherwise UTF-16; dynamic places are information where
+-- the client asks for it, otherwise warnings; and the page that explains the codes
+abbrev pub agreed_in : Data → Agreed
+agreed_in message = record {
+  encoding = if offers (codes "utf-8") message then Utf8 else Utf16;
+  dynamic_severity = if unwrap_or (option_map (is_text (codes "information"))
+      (option_in (codes "dynamicPlaces") message)) false then 3 else 2;
+  codes_page = option_and_then as_str (option_in (codes "codesPage") message);
+}

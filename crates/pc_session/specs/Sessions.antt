@@ -1,0 +1,270 @@
+-- What messages change in a session, and what is replied. Own rule of the server, over Language Server Protocol 3.17.
+use Rattle.std.specs.Prelude.{◌≡◌, ◌⊎◌, ℕ, ◌<◌, ◌≤◌, List, [], ◌∷◌, ◌++◌, map, codes, true, false, if◌then◌else◌}
+use Rattle.std.specs.Prelude.{Option, None, Some, option_and_then, length, IsUtf8}
+use Rattle.serde_json.specs.Data.{Data, null, array, no_items}
+use Rattle.serde_json.specs.Find.{get}
+use Rattle.serde_json.specs.Read.{read}
+use Rattle.pc_position.specs.declared.positions.Position.{Position}
+use Rattle.pc_session.specs.declared.checker.Found.{Found}
+use Rattle.pc_session.specs.declared.messages.Method.{Method}
+use Rattle.pc_session.specs.declared.messages.Method.TheVariants.{Initialize, Shutdown, Exit, DidOpen, DidChange}
+use Rattle.pc_session.specs.declared.messages.Method.TheVariants.{DidClose}
+use Rattle.pc_session.specs.declared.messages.Method.TheVariants.{Hover, Diagnostic, CodeAction}
+use Rattle.pc_session.specs.declared.replies.ErrorCode.TheVariants.{ParseError, InvalidRequest, MethodNotFound}
+use Rattle.pc_session.specs.declared.replies.ErrorCode.TheVariants.{InvalidParams, ServerNotInitialized}
+use Rattle.pc_session.specs.declared.session.Stage.{Stage}
+use Rattle.pc_session.specs.declared.session.Stage.TheVariants.{Fresh, Running, ShutDown, Ended}
+use Rattle.pc_session.specs.Checked.{IsChecked, IsPublished, text_limit}
+use Rattle.pc_session.specs.Documents.{document_at, is_open, with_document, without_document, forgotten}
+use Rattle.pc_session.specs.Hovers.{hover_text}
+use Rattle.pc_session.specs.Messages.{method_in, is_identifier, is_reply, uri_in, version_in, opened_text, changed_text}
+use Rattle.pc_session.specs.Messages.{position_in, agreed_in}
+use Rattle.pc_session.specs.Replies.{publish_data, log_data, result_data, full_data, hover_data, capabilities_data}
+use Rattle.pc_session.specs.Replies.{refusal_of}
+use Rattle.pc_session.specs.States.{Agreed, OpenDocument, State}
+
+-- the same session, at another stage
+abbrev pub at_stage : Stage → State → State
+at_stage stage old = record { stage = stage; agreed = old.agreed; documents = old.documents }
+
+-- the same session, with other documents
+abbrev pub with_documents : List OpenDocument → State → State
+with_documents documents old = record { stage = old.stage; agreed = old.agreed; documents = documents }
+
+-- these are the replies, and this is the session after the message
+pub record IsTurn (wanted : List Data) (next : State) (replies : List Data) (new : State) : Type 0 where
+  pub replies_are : replies ≡ wanted
+  pub new_is : new ≡ next
+
+-- nothing is replied, and nothing changes
+abbrev pub IsLetBe : State → List Data → State → Type 0
+IsLetBe old replies new = IsTurn [] old replies new
+
+-- this alone is replied, and nothing changes
+abbrev pub IsAnswered : Data → State → List Data → State → Type 0
+IsAnswered reply old replies new = IsTurn (reply ∷ []) old replies new
+
+-- after `exit` the program ends: with status 0 after `shutdown`, otherwise 1
+abbrev pub exit_status : Stage → ℕ
+exit_status ShutDown = 0
+exit_status stage = 1
+
+-- the client shows no diagnostics of a document
+abbrev pub nothing_of : OpenDocument → Data
+nothing_of document = publish_data document.uri document.version []
+
+-- what the log is told where texts are forgotten: nothing where no document is open
+abbrev pub told_of : List OpenDocument → List Data
+told_of [] = []
+told_of (document ∷ documents) =
+    log_data (codes "after a message that is no JSON the texts of the open documents are not known") ∷ []
+
+-- a message that is no JSON: an error, and nothing is known of any text from now on
+abbrev pub IsUnreadable : State → List Data → State → Type 0
+IsUnreadable old replies new = IsTurn
+    (refusal_of ParseError null ∷ (map nothing_of old.documents ++ told_of old.documents))
+    (with_documents (map forgotten old.documents) old) replies new
+
+-- the open document that a message names
+abbrev pub named_document : Data → State → Option OpenDocument
+named_document message old = option_and_then (λ uri. document_at uri old.documents) (uri_in message)
+
+-- a message names no document: the log says so, and nothing changes
+pub record IsUnnamed (told : List ℕ) (message : Data) (old : State) (replies : List Data) (new : State) : Type 0 where
+  pub none : uri_in message ≡ None
+  pub answered : IsAnswered (log_data told) old replies new
+
+-- a message names a document that is not open: the log says so, and nothing changes
+pub record IsNotOpen (told : List ℕ) (message : Data) (old : State) (replies : List Data) (new : State) : Type 0 where
+  pub uri : List ℕ
+  pub names : uri_in message ≡ Some uri
+  pub closed : is_open uri old.documents ≡ false
+  pub answered : IsAnswered (log_data told) old replies new
+
+-- an open document is closed: nothing is left of it, and the client shows no diagnostics of it
+pub record IsClosed (message : Data) (old : State) (replies : List Data) (new : State) : Type 0 where
+  pub uri : List ℕ
+  pub names : uri_in message ≡ Some uri
+  pub was_open : is_open uri old.documents ≡ true
+  pub turn : IsTurn (publish_data uri None [] ∷ [])
+      (with_documents (without_document uri old.documents) old) replies new
+
+-- `didClose`: of an open document, of one that is not open, or of none
+abbrev pub OnClose : Data → State → List Data → State → Type 0
+OnClose message old replies new = IsClosed message old replies new
+    ⊎ (IsNotOpen (codes "didClose names a document that is not open") message old replies new
+    ⊎ IsUnnamed (codes "didClose names no document") message old replies new)
+
+-- the identifier, if it may be one, otherwise null
+abbrev pub identifier_or_null : Data → Data
+identifier_or_null id = if is_identifier id then id else null
+
+-- a message without a method: a reply of the client is let be, and what is no request gets an error
+abbrev pub OnNoMethod : Option Data → Data → State → List Data → State → Type 0
+OnNoMethod None message old replies new = IsAnswered (refusal_of InvalidRequest null) old replies new
+OnNoMethod (Some id) message old replies new = ((is_reply message ≡ true) × IsLetBe old replies new)
+    ⊎ ((is_reply message ≡ false) × IsAnswered (refusal_of InvalidRequest (identifier_or_null id)) old replies new)
+
+-- one reply of this kind, and nothing changes
+pub record RepliesWith (IsReply : Data → Type 0) (old : State) (replies : List Data) (new : State) : Type 0 where
+  pub reply : Data
+  pub is_reply : IsReply reply
+  pub answered : IsAnswered reply old replies new
+
+-- a request before `initialize` gets an error; `initialize` begins the session
+abbrev pub OnFresh : Method → Data → Data → State → List Data → State → Type 0
+OnFresh Initialize id message old replies new =
+    IsTurn (result_data id (capabilities_data (agreed_in message).encoding) ∷ [])
+    (record { stage = Running; agreed = agreed_in message; documents = old.documents }) replies new
+OnFresh method id message old replies new = IsAnswered (refusal_of ServerNotInitialized id) old replies new
+
+module _ (finds : List ℕ → Found → Type 0) where
+  -- the document of this address has this version and this text from now on, and its diagnostics are published: nothing
+  -- else changes
+  pub record IsKept (uri : List ℕ) (version : Option ℕ) (text : Option (List ℕ)) (old : State) (replies : List Data)
+      (new : State) : Type 0 where
+    pub document : OpenDocument
+    pub uri_is : document.uri ≡ uri
+    pub version_is : document.version ≡ version
+    pub text_is : document.text ≡ text
+    pub published : IsPublished finds old.agreed document replies
+    pub new_is : new ≡ with_documents (with_document document old.documents) old
+
+  -- a document is opened, with the text that the message gives
+  pub record IsOpened (message : Data) (old : State) (replies : List Data) (new : State) : Type 0 where
+    pub uri : List ℕ
+    pub names : uri_in message ≡ Some uri
+    pub kept : IsKept uri (version_in message) (opened_text message) old replies new
+
+  -- an open document has the new text that the message gives
+  pub record IsChanged (message : Data) (old : State) (replies : List Data) (new : State) : Type 0 where
+    pub uri : List ℕ
+    pub names : uri_in message ≡ Some uri
+    pub was_open : is_open uri old.documents ≡ true
+    pub kept : IsKept uri (version_in message) (changed_text message) old replies new
+
+  -- `didOpen`: of the document that the message names, or of none
+  abbrev pub OnOpen : Data → State → List Data → State → Type 0
+  OnOpen message old replies new = IsOpened message old replies new
+      ⊎ IsUnnamed (codes "didOpen names no document") message old replies new
+
+  -- `didChange`: of an open document, of one that is not open, or of none
+  abbrev pub OnChange : Data → State → List Data → State → Type 0
+  OnChange message old replies new = IsChanged message old replies new
+      ⊎ (IsNotOpen (codes "didChange names a document that is not open") message old replies new
+      ⊎ IsUnnamed (codes "didChange names no document") message old replies new)
+
+  -- the reply to a pull has the diagnostics of the open document that the message names
+  pub record IsPulledOf (message id : Data) (old : State) (reply : Data) : Type 0 where
+    pub document : OpenDocument
+    pub named : named_document message old ≡ Some document
+    pub diagnostics : List Data
+    pub told : Option (List ℕ)
+    pub is_checked : IsChecked finds old.agreed document.text diagnostics told
+    pub replied : reply ≡ result_data id (full_data diagnostics)
+
+  -- the reply to a pull: the diagnostics of the document, or an error where the message names none that is open
+  abbrev pub IsPulled : Data → Data → State → Data → Type 0
+  IsPulled message id old reply = IsPulledOf message id old reply
+      ⊎ ((named_document message old ≡ None) × (reply ≡ refusal_of InvalidParams id))
+
+  -- the text is within the limit, and this is said of what is found in it
+  pub record IsSaidOf (text : List ℕ) (position : Position) (agreed : Agreed) (told : List ℕ) : Type 0 where
+    pub short : length text ≤ text_limit
+    pub found : Found
+    pub finds_it : finds text found
+    pub are : told ≡ hover_text agreed text found position
+
+  -- what is said at a position of a text: nothing of one that is not known or too long
+  abbrev pub IsToldOf : Option (List ℕ) → Position → Agreed → List ℕ → Type 0
+  IsToldOf None position agreed told = told ≡ []
+  IsToldOf (Some text) position agreed told = IsSaidOf text position agreed told
+      ⊎ ((text_limit < length text) × (told ≡ []))
+
+  -- the reply to `hover` has what is said at the position of the open document that the message names
+  pub record IsHoveredOf (message id : Data) (old : State) (reply : Data) : Type 0 where
+    pub document : OpenDocument
+    pub named : named_document message old ≡ Some document
+    pub position : Position
+    pub placed : position_in message ≡ Some position
+    pub told : List ℕ
+    pub is_told : IsToldOf document.text position old.agreed told
+    pub replied : reply ≡ result_data id (hover_data told)
+
+  -- the reply to `hover`: what is said at the position, or an error where the message names no open document or no
+  -- position
+  abbrev pub IsHovered : Data → Data → State → Data → Type 0
+  IsHovered message id old reply = IsHoveredOf message id old reply
+      ⊎ (((named_document message old ≡ None) ⊎ (position_in message ≡ None))
+      × (reply ≡ refusal_of InvalidParams id))
+
+  -- a request of a session that runs, by its method
+  abbrev pub OnRunning : Method → Data → Data → State → List Data → State → Type 0
+  OnRunning Shutdown id message old replies new =
+      IsTurn (result_data id null ∷ []) (at_stage ShutDown old) replies new
+  OnRunning Hover id message old replies new = RepliesWith (IsHovered message id old) old replies new
+  OnRunning Diagnostic id message old replies new = RepliesWith (IsPulled message id old) old replies new
+  OnRunning CodeAction id message old replies new = IsAnswered (result_data id (array no_items)) old replies new
+  OnRunning Initialize id message old replies new = IsAnswered (refusal_of InvalidRequest id) old replies new
+  OnRunning method id message old replies new = IsAnswered (refusal_of MethodNotFound id) old replies new
+
+  -- a request, by how far the session has come; after `shutdown` none is valid
+  abbrev pub OnRequest : Stage → Method → Data → Data → State → List Data → State → Type 0
+  OnRequest Fresh method id message old replies new = OnFresh method id message old replies new
+  OnRequest Running method id message old replies new = OnRunning method id message old replies new
+  OnRequest stage method id message old replies new = IsAnswered (refusal_of InvalidRequest id) old replies new
+
+  -- a notification of a session that runs, by its method; those that are not known are let be
+  abbrev pub OnNotice : Method → Data → State → List Data → State → Type 0
+  OnNotice DidOpen message old replies new = OnOpen message old replies new
+  OnNotice DidChange message old replies new = OnChange message old replies new
+  OnNotice DidClose message old replies new = OnClose message old replies new
+  OnNotice method message old replies new = IsLetBe old replies new
+
+  -- a notification other than `exit`, by how far the session has come: it is let be unless the session runs
+  abbrev pub OnStage : Stage → Method → Data → State → List Data → State → Type 0
+  OnStage Running method message old replies new = OnNotice method message old replies new
+  OnStage stage method message old replies new = IsLetBe old replies new
+
+  -- a notification: `exit` ends the session at any time
+  abbrev pub OnNotification : Method → Stage → Data → State → List Data → State → Type 0
+  OnNotification Exit stage message old replies new = IsTurn [] (at_stage (Ended (exit_status stage)) old) replies new
+  OnNotification method stage message old replies new = OnStage stage method message old replies new
+
+  -- a message with a method: a request where it has an identifier, otherwise a notification
+  abbrev pub OnMethod : Method → Option Data → Data → State → List Data → State → Type 0
+  OnMethod method None message old replies new = OnNotification method old.stage message old replies new
+  OnMethod method (Some id) message old replies new =
+      ((is_identifier id ≡ true) × OnRequest old.stage method id message old replies new)
+      ⊎ ((is_identifier id ≡ false) × IsAnswered (refusal_of InvalidRequest null) old replies new)
+
+  -- a message that names a method
+  pub record HasMethod (message : Data) (old : State) (replies : List Data) (new : State) : Type 0 where
+    pub method : Method
+    pub names : method_in message ≡ Some method
+    pub answered : OnMethod method (get (codes "id") message) message old replies new
+
+  -- a message that names none
+  pub record HasNoMethod (message : Data) (old : State) (replies : List Data) (new : State) : Type 0 where
+    pub none : method_in message ≡ None
+    pub answered : OnNoMethod (get (codes "id") message) message old replies new
+
+  -- a message, by whether it names a method
+  abbrev pub OnMessage : Data → State → List Data → State → Type 0
+  OnMessage message old replies new = HasMethod message old replies new ⊎ HasNoMethod message old replies new
+
+  -- the bytes are a message in JSON, and this comes of it
+  pub record IsRead (bytes : List ℕ) (old : State) (replies : List Data) (new : State) : Type 0 where
+    pub message : Data
+    pub utf8 : IsUtf8 bytes
+    pub spelled : read bytes ≡ Some message
+    pub answered : OnMessage message old replies new
+
+  -- the bytes are no JSON, and this comes of them
+  pub record IsNotRead (bytes : List ℕ) (old : State) (replies : List Data) (new : State) : Type 0 where
+    pub no_json : IsUtf8 bytes → read bytes ≡ None
+    pub unreadable : IsUnreadable old replies new
+
+  -- what is replied to a message, and the session after it
+  abbrev pub Step : State → List ℕ → List Data → State → Type 0
+  Step old message replies new = IsRead message old replies new ⊎ IsNotRead message old replies new

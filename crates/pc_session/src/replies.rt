@@ -1,0 +1,161 @@
+//! Replies and notifications as values.
+
+ghost use Rattle.std.specs.Prelude.{◌≡◌, IfOk, map, string_bytes};
+ghost use Rattle.serde_json.specs.View.{view};
+ghost use Rattle.pc_session.specs.Replies.{published_data, publish_data, log_data, result_data, error_data, full_data};
+ghost use Rattle.pc_session.specs.Replies.{number_of, error_text, refusal_of, encoding_name, capabilities_data};
+ghost use Rattle.pc_session.specs.Replies.{hover_data};
+
+use pc_position::Encoding;
+use serde_json::{Value, json};
+use std::alloc::{AllocError, Global};
+
+/// The errors of the protocol. Language Server Protocol 3.17, "ErrorCodes".
+#[derive(Clone, Copy)]
+pub(crate) enum ErrorCode {
+    ParseError,
+    InvalidRequest,
+    MethodNotFound,
+    InvalidParams,
+    ServerNotInitialized,
+}
+
+impl ErrorCode {
+    /// The number of the error.
+    fn number(self) -> i64
+        ensures { result ≡ number_of self }
+    {
+        match self {
+            ErrorCode::ParseError => -32700,
+            ErrorCode::InvalidRequest => -32600,
+            ErrorCode::MethodNotFound => -32601,
+            ErrorCode::InvalidParams => -32602,
+            ErrorCode::ServerNotInitialized => -32002,
+        }
+    }
+
+    /// The text of the error.
+    fn text(self) -> &'static str
+        ensures { result.now ≡ error_text self }
+    {
+        match self {
+            ErrorCode::ParseError => "the message is no JSON",
+            ErrorCode::InvalidRequest => "the message is no request",
+            ErrorCode::MethodNotFound => "the method is not known",
+            ErrorCode::InvalidParams => "the parameters do not fit the method",
+            ErrorCode::ServerNotInitialized => "the session has not begun",
+        }
+    }
+}
+
+/// The reply to a request with a result, with the identifier as it came.
+pub(crate) fn result_reply(alloc: Global, id: &Value, value: Value) -> Result<Value, AllocError>
+    ensures { IfOk result (λ v. view v ≡ result_data (view id.now) (view value)) }
+{
+    json!(in alloc; {"id": id, "jsonrpc": "2.0", "result": value})
+}
+
+/// The reply to a request with the number and the text of an error, with the identifier as it came.
+fn error_value(alloc: Global, id: &Value, number: i64, text: &str) -> Result<Value, AllocError>
+    ensures { IfOk result (λ v. view v ≡ error_data (view id.now) number text.now) }
+{
+    json!(in alloc; {"error": {"code": number, "message": text}, "id": id, "jsonrpc": "2.0"})
+}
+
+/// The reply to a request with an error, with the identifier as it came.
+pub(crate) fn error_reply(alloc: Global, id: &Value, code: ErrorCode) -> Result<Value, AllocError>
+    ensures { IfOk result (λ v. view v ≡ refusal_of code (view id.now)) }
+{
+    error_value(alloc, id, code.number(), code.text())
+}
+
+/// The parameters of the notification of the diagnostics of a document.
+fn published(
+    alloc: Global,
+    uri: &str,
+    version: Option<u64>,
+    diagnostics: Vec<Value>,
+) -> Result<Value, AllocError>
+    ensures { IfOk result (λ v. view v ≡ published_data uri.now version (map view diagnostics.items)) }
+{
+    let diagnostics = Value::Array(diagnostics);
+    match version {
+        None => json!(in alloc; {"diagnostics": diagnostics, "uri": uri}),
+        Some(version) => {
+            json!(in alloc; {"diagnostics": diagnostics, "uri": uri, "version": version})
+        }
+    }
+}
+
+/// The notification of the diagnostics of a document.
+pub(crate) fn publish(
+    alloc: Global,
+    uri: &str,
+    version: Option<u64>,
+    diagnostics: Vec<Value>,
+) -> Result<Value, AllocError>
+    ensures { IfOk result (λ v. view v ≡ publish_data uri.now version (map view diagnostics.items)) }
+{
+    let params = published(alloc, uri, version, diagnostics)?;
+    json!(in alloc; {
+        "jsonrpc": "2.0",
+        "method": "textDocument/publishDiagnostics",
+        "params": params
+    })
+}
+
+/// The notification that tells something to the reader of the client's log, as a warning.
+pub(crate) fn log(alloc: Global, text: &str) -> Result<Value, AllocError>
+    ensures { IfOk result (λ v. view v ≡ log_data text.now) }
+{
+    json!(in alloc; {
+        "jsonrpc": "2.0",
+        "method": "window/logMessage",
+        "params": {"message": text, "type": 2u64}
+    })
+}
+
+/// The name of an encoding. Language Server Protocol 3.17, "PositionEncodingKind".
+fn name_of(encoding: Encoding) -> &'static str
+    ensures { result.now ≡ encoding_name encoding }
+{
+    match encoding {
+        Encoding::Utf8 => "utf-8",
+        Encoding::Utf16 => "utf-16",
+        Encoding::Utf32 => "utf-32",
+    }
+}
+
+/// What the server can do, as the result of `initialize`.
+pub(crate) fn capabilities(alloc: Global, encoding: Encoding) -> Result<Value, AllocError>
+    ensures { IfOk result (λ v. view v ≡ capabilities_data encoding) }
+{
+    let encoding = name_of(encoding);
+    json!(in alloc; {
+        "capabilities": {
+            "diagnosticProvider": {"interFileDependencies": false, "workspaceDiagnostics": false},
+            "hoverProvider": true,
+            "positionEncoding": encoding,
+            "textDocumentSync": {"change": 1, "openClose": true}
+        },
+        "serverInfo": {"name": "pycheck", "version": "1.0.0"}
+    })
+}
+
+/// The result of a pull of diagnostics.
+pub(crate) fn full_report(alloc: Global, diagnostics: Vec<Value>) -> Result<Value, AllocError>
+    ensures { IfOk result (λ v. view v ≡ full_data (map view diagnostics.items)) }
+{
+    let items = Value::Array(diagnostics);
+    json!(in alloc; {"items": items, "kind": "full"})
+}
+
+/// The result of a request for what stands at a position: null where nothing is said.
+pub(crate) fn hover_result(alloc: Global, markdown: &str) -> Result<Value, AllocError>
+    ensures { IfOk result (λ v. view v ≡ hover_data markdown.now) }
+{
+    if markdown.is_empty() {
+        return Ok(Value::Null);
+    }
+    json!(in alloc; {"contents": {"kind": "markdown", "value": markdown}})
+}

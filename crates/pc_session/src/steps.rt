@@ -1,0 +1,203 @@
+//! What is replied to a message, and what it changes.
+
+ghost use Rattle.std.specs.Prelude.{◌≡◌, ◌++◌, IfOk, OnOk, OnErr, map, option_map};
+ghost use Rattle.serde_json.specs.View.{view};
+ghost use Rattle.pc_session.specs.Answers.{after};
+ghost use Rattle.pc_session.specs.Sent.{SendsStep};
+ghost use Rattle.pc_session.specs.Sessions.{nothing_of, told_of, OnNoMethod, OnMethod, OnMessage, IsUnreadable, Step};
+ghost use Rattle.pc_session.specs.Spelled.{AreSpelled};
+ghost use Rattle.pc_session.specs.States.{opened_of, state_of};
+
+use crate::checker::Checker;
+use crate::documents::Document;
+use crate::messages::{Method, is_identifier, is_reply, method_in};
+use crate::notifications::{nothing, notified};
+use crate::replies::{ErrorCode, error_reply, log, publish};
+use crate::requests::{refused, request};
+use crate::session::{Answer, Change, Session};
+use pc_source::OutOfMemory;
+use pc_wire::framed;
+use serde_json::Value;
+use std::alloc::Global;
+
+/// Adds that nothing is known of documents.
+fn add_nothing(
+    alloc: Global,
+    documents: &[Document],
+    replies: &mut Vec<Value>,
+) -> Result<(), OutOfMemory>
+    ensures { OnOk result (map view replies.new.items
+        ≡ map view replies.old.items ++ map nothing_of (map opened_of documents.now)) }
+{
+    for document in documents {
+        let uri = document.uri.as_str();
+        let none = publish(alloc, uri, document.version, Vec::new(alloc))?;
+        replies.push(none)?;
+    }
+    Ok(())
+}
+
+/// Adds what the log is told where texts are forgotten.
+#[tactic(auto, using(crate::proofs::Reading::told_some, crate::proofs::Reading::told_none))]
+fn add_told(
+    alloc: Global,
+    documents: &[Document],
+    replies: &mut Vec<Value>,
+) -> Result<(), OutOfMemory>
+    ensures { OnOk result (map view replies.new.items
+        ≡ map view replies.old.items ++ told_of (map opened_of documents.now)) }
+{
+    if documents.is_empty() {
+        return Ok(());
+    }
+    let text = "after a message that is no JSON the texts of the open documents are not known";
+    replies.push(log(alloc, text)?)?;
+    Ok(())
+}
+
+/// What is replied to a message that is no JSON: an error, and for each open document that nothing is known of it.
+fn unreadable(session: &Session, alloc: Global) -> Result<Answer, OutOfMemory>
+    ensures { IfOk result (λ a. IsUnreadable (state_of session.now) (map view a.replies.items)
+        (after a.change (state_of session.now))) }
+{
+    let mut replies = Vec::new(alloc);
+    replies.push(error_reply(alloc, &Value::Null, ErrorCode::ParseError)?)?;
+    add_nothing(alloc, &session.documents, &mut replies)?;
+    add_told(alloc, &session.documents, &mut replies)?;
+    Ok(Answer {
+        replies,
+        change: Change::Forget,
+    })
+}
+
+/// What is answered to a message without a method.
+fn without_method(
+    session: &Session,
+    alloc: Global,
+    id: Option<&Value>,
+    message: &Value,
+) -> Result<Answer, OutOfMemory>
+    ensures { IfOk result (λ a. OnNoMethod (option_map (λ v. view v.now) id.entry) (view message.now)
+        (state_of session.now) (map view a.replies.items) (after a.change (state_of session.now))) }
+{
+    match id {
+        None => refused(session, alloc, &Value::Null, ErrorCode::InvalidRequest),
+        Some(id) => {
+            if is_reply(message) {
+                return Ok(nothing(session, alloc));
+            }
+            let answer = if is_identifier(id) {
+                refused(session, alloc, id, ErrorCode::InvalidRequest)?
+            } else {
+                refused(session, alloc, &Value::Null, ErrorCode::InvalidRequest)?
+            };
+            Ok(answer)
+        }
+    }
+}
+
+/// What is answered to a message with a method.
+fn with_method<C: Checker>(
+    session: &Session,
+    checker: &C,
+    alloc: Global,
+    method: Method,
+    id: Option<&Value>,
+    message: &Value,
+) -> Result<Answer, OutOfMemory>
+    ensures { IfOk result (λ a. OnMethod (C.finds checker.now) method (option_map (λ v. view v.now) id.entry)
+        (view message.now) (state_of session.now) (map view a.replies.items) (after a.change (state_of session.now))) }
+{
+    match id {
+        None => notified(session, checker, alloc, method, message),
+        Some(id) => {
+            if is_identifier(id) {
+                let answer = request(session, checker, alloc, id, method, message)?;
+                Ok(answer)
+            } else {
+                let answer = refused(session, alloc, &Value::Null, ErrorCode::InvalidRequest)?;
+                Ok(answer)
+            }
+        }
+    }
+}
+
+/// What is answered to a message, and what it changes.
+fn answered<C: Checker>(
+    session: &Session,
+    checker: &C,
+    alloc: Global,
+    message: &Value,
+) -> Result<Answer, OutOfMemory>
+    ensures { IfOk result (λ a. OnMessage (C.finds checker.now) (view message.now)
+        (state_of session.now) (map view a.replies.items) (after a.change (state_of session.now))) }
+{
+    let id = message.get("id");
+    match method_in(message) {
+        None => {
+            let answer = without_method(session, alloc, id, message)?;
+            Ok(answer)
+        }
+        Some(method) => {
+            let answer = with_method(session, checker, alloc, method, id, message)?;
+            Ok(answer)
+        }
+    }
+}
+
+/// What is replied to the bytes of a message, and what they change.
+fn read<C: Checker>(
+    session: &Session,
+    checker: &C,
+    alloc: Global,
+    message: &[u8],
+) -> Result<Answer, OutOfMemory>
+    ensures { IfOk result (λ a. Step (C.finds checker.now) (state_of session.now) message.now
+        (map view a.replies.items) (after a.change (state_of session.now))) }
+{
+    match Value::from_slice(alloc, message) {
+        Ok(value) => {
+            let answer = answered(session, checker, alloc, &value)?;
+            Ok(answer)
+        }
+        Err(error) if error.is_memory() => Err(OutOfMemory),
+        Err(_) => {
+            let answer = unreadable(session, alloc)?;
+            Ok(answer)
+        }
+    }
+}
+
+/// The frames of replies.
+fn frames(alloc: Global, replies: &[Value]) -> Result<Vec<u8>, OutOfMemory>
+    ensures { IfOk result (λ bytes. AreSpelled (map view replies.now) bytes.items) }
+{
+    let mut bytes = Vec::new(alloc);
+    for reply in replies {
+        let text = reply.to_vec(alloc)?;
+        let framed = framed(alloc, &text)?;
+        bytes.extend_from_slice(&framed)?;
+    }
+    Ok(bytes)
+}
+
+/// The frames of what is replied to a message, in order, and the session after it.
+///
+/// # Errors
+///
+/// `OutOfMemory` only when an allocation failed; the session is unchanged then.
+pub fn step<C: Checker>(
+    session: &mut Session,
+    checker: &C,
+    alloc: Global,
+    message: &[u8],
+) -> Result<Vec<u8>, OutOfMemory>
+    ensures step { IfOk result (λ bytes. SendsStep (C.finds checker.now) (state_of session.old) message.now bytes.items
+        (state_of session.new)) }
+    ensures unchanged { OnErr result (state_of session.new ≡ state_of session.old) }
+{
+    let Answer { replies, change } = read(session, checker, alloc, message)?;
+    let bytes = frames(alloc, &replies)?;
+    session.apply(change)?;
+    Ok(bytes)
+}
