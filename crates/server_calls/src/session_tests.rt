@@ -1,0 +1,84 @@
+//! Sessions from memory to memory.
+use pc_serve::{End, serve};
+use pc_session::{Checker, Found, Session, Stage, step};
+use pc_source::{Counted, OutOfMemory, Refusal, RefusalCode};
+use pc_wire::framed;
+use std::alloc::Global;
+use std::test::Fail;
+
+/// A checker that refuses each text at its second byte.
+struct Refusing;
+
+impl Checker for Refusing {
+    ghost use Rattle.std.specs.Prelude.{⊤};
+
+    ghost finds = { λ _ text found. ⊤ };
+
+    fn find(&self, alloc: Global, text: &str) -> Result<Found, OutOfMemory> {
+        let _ = alloc;
+        let _ = text;
+        Ok(Found::Refused(Refusal {
+            code: RefusalCode::L7,
+            byte: 1,
+        }))
+    }
+}
+
+const BEGIN: &str = "{\"id\":1,\"method\":\"initialize\",\"params\":{}}";
+
+const OPEN: &str =
+    "{\"method\":\"textDocument/didOpen\",\"params\":{\"textDocument\":{\"uri\":\"a\",\"version\":3,\"text\":\"xy\"}}}";
+
+const EXIT: &str = "{\"method\":\"exit\"}";
+
+/// The frames of messages.
+fn frames(alloc: Global, messages: &[&str]) -> Result<Vec<u8>, Fail> {
+    let mut bytes = Vec::new(alloc);
+    for message in messages {
+        let frame = framed(alloc, message.as_bytes())?;
+        bytes.extend_from_slice(&frame)?;
+    }
+    Ok(bytes)
+}
+
+#[test]
+fn a_new_text_is_published_and_kept(rt: HostRuntime) -> Result<(), Fail> {
+    let alloc = rt.alloc();
+    let mut session = Session::new(alloc);
+    let begun = step(&mut session, &Refusing, alloc, BEGIN.as_bytes())?;
+    assert!(rt; begun.ends_with(b"\"serverInfo\":{\"name\":\"pycheck\",\"version\":\"1.0.0\"}}}"));
+    let told = step(&mut session, &Refusing, alloc, OPEN.as_bytes())?;
+    assert!(rt; told.ends_with(b"\"source\":\"pycheck\"}],\"uri\":\"a\",\"version\":3}}"));
+    assert_eq!(rt; session.documents.len(), 1);
+    assert!(rt; session.stage == Stage::Running);
+    Ok(())
+}
+
+#[test]
+fn messages_are_answered_up_to_exit(rt: HostRuntime) -> Result<(), Fail> {
+    let alloc = rt.alloc();
+    let given = frames(alloc, &[BEGIN, OPEN, EXIT, OPEN])?;
+    let mut input = Counted::new(given.as_slice());
+    let mut output = Counted::new(Vec::new(alloc));
+    let end = serve(alloc, &Refusing, &mut input, &mut output);
+    assert!(rt; matches!(end, End::Exited(1)));
+    assert!(rt; output.inner().ends_with(b"\"uri\":\"a\",\"version\":3}}"));
+    Ok(())
+}
+
+#[test]
+fn a_broken_message_is_told(rt: HostRuntime) -> Result<(), Fail> {
+    let alloc = rt.alloc();
+    let mut output = Counted::new(Vec::new(alloc));
+    let mut none = Counted::new(b"".as_slice());
+    assert!(rt; matches!(serve(alloc, &Refusing, &mut none, &mut output), End::Ended));
+    let mut cut = Counted::new(b"Content-Length: 9\r\n\r\n{}".as_slice());
+    assert!(rt;
+        matches!(
+            serve(alloc, &Refusing, &mut cut, &mut output),
+            End::Broken(_)
+        )
+    );
+    assert!(rt; output.inner().is_empty());
+    Ok(())
+}
