@@ -21,14 +21,16 @@ TOOLS = "sh gzip sha256sum find grep uname mktemp chmod mv rm mkdir dirname read
 MORE_TOOLS = "touch cp cmp basename env bash tee sed wc tail".split()
 # The parts of the tree that the commands need
 PARTS = (
-    "HANDLES", "LICENSE", "README.md", "CHANGELOG.md", "crates.txt", "pycheck", "pyrun", "test", ".ci", "action.yml",
-    ".pre-commit-hooks.yaml", "crates/pycheck", "crates/pyrun", "crates/pc_commands", "docs", "examples", "release",
-    "tools",
+    "HANDLES", "LICENSE", "README.md", "CHANGELOG.md", "crates.txt", "pycheck", "pycheck_server", "pyrun",
+    "test", ".ci", "action.yml", ".pre-commit-hooks.yaml", "crates/pycheck", "crates/pycheck_server", "crates/pyrun",
+    "crates/pc_commands", "docs", "examples", "release", "tools",
 )
 NOT_IN_CLONES = {".git", "out", "__pycache__"}
 # Seconds until a command is stopped, since a wrong program could let the tests hang
 LIMIT = 120
 SHIPPED = ("PROGRAMS", "README.md", "SHA256SUMS")
+# The shipped programs by name
+PROGRAMS = (ROOT / "release" / "PROGRAMS").read_text(encoding="ascii").split()
 Done = subprocess.CompletedProcess
 
 

@@ -5,10 +5,10 @@ from __future__ import annotations
 from pathlib import Path
 from typing import List
 
-from room import MORE_TOOLS, TOOLS, Done, RoomCase
+from room import MORE_TOOLS, PROGRAMS, TOOLS, Done, RoomCase
 
 # The toolchain: it gives the programs of the folder `gives`
-TOOLCHAIN = """for name in pycheck pyrun; do
+TOOLCHAIN = """for name in {names}; do
   mkdir -p "crates/$name/out"
   cp "{room}/gives/$name" "crates/$name/out/$name" && chmod 755 "crates/$name/out/$name"
 done
@@ -16,8 +16,8 @@ echo "{last}"
 exit {status}
 """
 SLOW_STEPS = ("tools/check_definitions", "tools/check_edits", "tools/check_tested", "tools/check_pages",
-              "tools/architecture", "tests/tools/run", "tools/check_codes", "tools/compare_rows", "tools/generated",
-              "tests/memory/run", "tests/depth/run", "tests/mypy/run")
+              "tools/architecture", "tools/check_help", "tests/tools/run", "tools/check_codes", "tools/compare_rows",
+              "tools/generated", "tests/memory/run", "tests/depth/run", "tests/mypy/run")
 
 
 class Gate(RoomCase):
@@ -27,17 +27,19 @@ class Gate(RoomCase):
         super().setUp()
         self.few = self.folder_of_tools("more", [*TOOLS, *MORE_TOOLS])
         (self.room / "gives").mkdir()
-        for name in ("pycheck", "pyrun"):
+        for name in PROGRAMS:
             (self.room / "gives" / name).write_bytes(self.shipped(name))
         self.prove(0, "75 passed, 0 failed")
         for step in SLOW_STEPS:
             self.put_step(step, "exit 0")
         self.put_step("tests/release/run", "echo '9 passed, 0 failed'")
         self.put_step("tests/reports/run", "echo '8 passed, 0 failed'")
+        self.put_step("tests/server/run", "echo '7 passed, 0 failed'")
+        self.put_step("tools/editors/neovim", "echo '1 passed, 0 failed'")
 
     def prove(self, status: int, last: str) -> None:
         """Has the toolchain end with this status and this last line."""
-        self.put_tool("rt", TOOLCHAIN.format(room=self.room, status=status, last=last))
+        self.put_tool("rt", TOOLCHAIN.format(names=" ".join(PROGRAMS), room=self.room, status=status, last=last))
 
     def put_step(self, path: str, text: str) -> None:
         """Puts a shell script in the place of a step's command."""
@@ -64,7 +66,7 @@ class Gate(RoomCase):
     def test_it_passes(self) -> None:
         done = self.gate()
         self.assertEqual((done.returncode, done.stdout), (0, "75 passed, 0 failed\n"), done.stderr)
-        self.assertEqual(self.last_lines(done, 1), ["8 passed, 0 failed"])
+        self.assertEqual(self.last_lines(done, 1), ["1 passed, 0 failed"])
 
     def test_a_shipped_byte_that_was_not_built_fails(self) -> None:
         program = bytearray(self.shipped("pyrun"))
@@ -78,10 +80,11 @@ class Gate(RoomCase):
     def test_each_step_that_fails_is_told(self) -> None:
         commands = {"tools/check_definitions": "definitions", "tools/check_edits": "edits",
                     "tools/check_tested": "tested", "tools/check_pages": "links",
-                    "tools/architecture": "architecture", "tests/tools/run": "tools", "tools/check_codes": "pages",
-                    "tools/compare_rows": "examples left_out", "tools/generated": "generated",
-                    "tests/memory/run": "memory", "tests/depth/run": "depth", "tests/mypy/run": "mypy",
-                    "tests/release/run": "release", "tests/reports/run": "reports"}
+                    "tools/architecture": "architecture", "tools/check_help": "help",
+                    "tests/tools/run": "tools", "tools/check_codes": "pages", "tools/compare_rows": "examples left_out",
+                    "tools/generated": "generated", "tests/memory/run": "memory", "tests/depth/run": "depth",
+                    "tests/mypy/run": "mypy", "tests/release/run": "release", "tests/reports/run": "reports",
+                    "tests/server/run": "server", "tools/editors/neovim": "editors"}
         for step, names in commands.items():
             with self.subTest(step):
                 kept = (self.clone / step).read_text(encoding="utf-8").splitlines()[1]

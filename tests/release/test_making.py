@@ -7,7 +7,7 @@ import os
 import time
 from typing import Dict
 
-from room import MORE_TOOLS, ROOT, TOOLS, RoomCase, report_of
+from room import MORE_TOOLS, PROGRAMS, ROOT, TOOLS, RoomCase, report_of
 
 ANEW = "tools/release writes the shipped programs anew"
 # The toolchain: it notes its words, and gives the program of this folder
@@ -27,7 +27,7 @@ class Making(RoomCase):
 
     def files(self) -> Dict[str, bytes]:
         """The files in release/ by their name, but for unpacked programs."""
-        files = (it for it in (self.clone / "release").iterdir() if it.name not in ("pycheck", "pyrun"))
+        files = (it for it in (self.clone / "release").iterdir() if it.name not in PROGRAMS)
         return {it.name: it.read_bytes() for it in files}
 
 
@@ -36,7 +36,7 @@ class Comparing(Making):
 
     def setUp(self) -> None:
         super().setUp()
-        for name in ("pycheck", "pyrun"):
+        for name in PROGRAMS:
             self.put_built(name, self.shipped(name))
 
     def assert_differs(self, *told: str) -> None:
@@ -48,7 +48,7 @@ class Comparing(Making):
 
     def test_the_same_programs_pass(self) -> None:
         done = self.run_few("tools/release", "--check")
-        self.assert_answer(done, 0, "2 shipped programs are those that were built, 0 differ\n")
+        self.assert_answer(done, 0, "3 shipped programs are those that were built, 0 differ\n")
 
     def test_a_changed_byte_in_what_was_built_fails(self) -> None:
         content = bytearray(self.shipped("pycheck"))
@@ -56,7 +56,7 @@ class Comparing(Making):
         self.put_built("pycheck", content)
         place = len(content) // 2 + 1
         self.assert_differs("pycheck: the shipped program is not the one that was built", f" {place}, line",
-                            "1 shipped programs are those that were built, 1 differ")
+                            "2 shipped programs are those that were built, 1 differ")
 
     def test_a_byte_more_in_what_was_built_fails(self) -> None:
         self.put_built("pycheck", self.shipped("pycheck") + b"\0")
@@ -87,19 +87,20 @@ class Writing(Making):
     """`tools/release`."""
 
     def test_what_is_written_is_what_was_built(self) -> None:
-        programs = {"pycheck": b"#!/bin/sh\necho new\n", "pyrun": self.shipped("pyrun")}
+        programs = {**{it: self.shipped(it) for it in PROGRAMS}, "pycheck": b"#!/bin/sh\necho new\n"}
         for name, program in programs.items():
             self.put_built(name, program)
-        sums = "".join(f"{hashlib.sha256(programs[it]).hexdigest()}  {it}\n" for it in ("pycheck", "pyrun"))
+        sums = "".join(f"{hashlib.sha256(programs[it]).hexdigest()}  {it}\n" for it in PROGRAMS)
         self.assert_answer(self.run_few("tools/release"), 0, sums)
         self.assertEqual({it: self.shipped(it) for it in programs}, programs)
         self.assertEqual(self.run_few("tools/release", "--check").returncode, 0)
-        self.assertEqual(sorted(self.files()), ["PROGRAMS", "README.md", "SHA256SUMS", "pycheck.gz", "pyrun.gz"])
+        packed = [f"{it}.gz" for it in PROGRAMS]
+        self.assertEqual(sorted(self.files()), ["PROGRAMS", "README.md", "SHA256SUMS", *packed])
 
     def test_the_same_programs_give_the_same_bytes(self) -> None:
         written = []
         for seconds in (0, 1_000_000):
-            for name in ("pycheck", "pyrun"):
+            for name in PROGRAMS:
                 path = self.put_built(name, self.shipped(name))
                 later = time.time() + 60 + seconds
                 os.utime(path, (later, later))
@@ -109,7 +110,8 @@ class Writing(Making):
 
     def test_nothing_is_written_of_an_older_or_a_missing_program(self) -> None:
         before = self.files()
-        self.put_built("pycheck", b"#!/bin/sh\n")
+        for name in PROGRAMS[:-1]:
+            self.put_built(name, b"#!/bin/sh\n")
         for told in ("pyrun: no program was built here", "crates/pyrun/out/pyrun, is older than its sources"):
             done = self.run_few("tools/release")
             self.assertEqual((done.returncode, done.stdout), (1, ""))
@@ -129,21 +131,21 @@ class Building(Making):
     def setUp(self) -> None:
         super().setUp()
         (self.room / "gives").mkdir()
-        for name in ("pycheck", "pyrun"):
+        for name in PROGRAMS:
             (self.room / "gives" / name).write_bytes(self.shipped(name))
         self.put_tool("rt", f"ROOM='{self.room}'\n{TOOLCHAIN}")
-        self.sums = {it: hashlib.sha256(self.shipped(it)).hexdigest() for it in ("pycheck", "pyrun")}
+        self.sums = {it: hashlib.sha256(self.shipped(it)).hexdigest() for it in PROGRAMS}
 
     def asked(self) -> str:
         """What the toolchain was asked."""
         return (self.room / "asked").read_text(encoding="utf-8")
 
-    def test_both_are_built_and_their_sums_stand_beside_the_shipped_ones(self) -> None:
+    def test_all_are_built_and_their_sums_stand_beside_the_shipped_ones(self) -> None:
         done = self.run_few("tools/build")
-        sums = [f"{self.sums[it]}  {it}, {where}\n" for it in ("pycheck", "pyrun")
+        sums = [f"{self.sums[it]}  {it}, {where}\n" for it in PROGRAMS
                 for where in ("built here", "shipped: the same")]
         self.assert_answer(done, 0, "".join(sums))
-        self.assertEqual(self.asked(), "rt all check --jobs 4\nrt run -- --version\n" * 2)
+        self.assertEqual(self.asked(), "rt all check --jobs 4\nrt run -- --version\n" * len(PROGRAMS))
         self.assertEqual(self.run_few("tools/release", "--check").returncode, 0)
 
     def test_a_difference_is_told(self) -> None:

@@ -8,7 +8,7 @@ import time
 from pathlib import Path
 from typing import Any, Dict, List
 
-from room import LIMIT, ROOT, RoomCase, files_of, report_of, run
+from room import LIMIT, PROGRAMS, ROOT, RoomCase, files_of, report_of, run
 
 RUN_OF_README = "58 59\n62 65\n58 65\nend TypeError\n"
 # What a program of these tests says, so that it can be told from the shipped one
@@ -85,11 +85,11 @@ class InAClone(RoomCase):
 
     def test_what_is_shipped_is_small(self) -> None:
         shipped = list((self.clone / "release").glob("*.gz"))
-        self.assertGreaterEqual(len(shipped), 2)
+        self.assertEqual(len(shipped), len(PROGRAMS))
         self.assertLess(sum(it.stat().st_size for it in shipped), GROWTH)
 
     def test_words_and_status_are_those_of_the_program(self) -> None:
-        for name in ("pycheck", "pyrun"):
+        for name in PROGRAMS:
             self.ship(name, b'#!/bin/sh\n[ "$1" = --version ] && exit\nprintf "<%s>" "$@"\nexit 7\n')
             done = self.run_few(f"./{name}", "a  b", "", "$HOME", "--", "-c")
             self.assert_answer(done, 7, "<a  b><><$HOME><--><-c>")

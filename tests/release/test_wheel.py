@@ -12,7 +12,7 @@ import zipfile
 from pathlib import Path
 from typing import Dict
 
-from room import ROOT, Done, RoomCase, report_of, run
+from room import PROGRAMS, ROOT, Done, RoomCase, report_of, run
 
 
 class Wheel(RoomCase):
@@ -79,7 +79,7 @@ class Bytes(Wheel):
         version = self.version()
         with zipfile.ZipFile(self.wheel()) as opened:
             names = opened.namelist()
-            for name in ("pycheck", "pyrun"):
+            for name in PROGRAMS:
                 info = opened.getinfo(f"pycheck-{version}.data/scripts/{name}")
                 self.assertEqual(info.external_attr >> 16, 0o100755)
                 self.assertEqual(opened.read(info), self.shipped(name))
@@ -139,12 +139,14 @@ class Installed(Wheel):
             self.assertEqual(done.returncode, 0, done.stdout + done.stderr)
         return environment / "bin"
 
-    def test_its_three_commands_run(self) -> None:
+    def test_its_commands_run(self) -> None:
         commands = self.install()
         status, report = report_of(ROOT / "examples" / "ages.py")
         self.assert_answer(self.run_few(commands / "pycheck", "examples/ages.py"), status, report)
         done = self.run_few(commands / "pyrun", "--fuel", "4", "examples/add.py")
         self.assert_answer(done, 0, "58 59\n62 65\n58 65\nend TypeError\n")
+        server = self.run_few(commands / "pycheck_server")
+        self.assert_answer(server, 0, "")
         failing = self.run_few(commands / "pycheck-all", "examples/ages.py")
         self.assertEqual((failing.returncode, failing.stderr), (1, ""))
         self.assertIn("E12", failing.stdout)

@@ -1,0 +1,209 @@
+"""What the tests of the language server send to it, and how they compare what it replies."""
+import json
+import os
+import re
+import subprocess
+from typing import Any, Dict, List, Optional, Tuple
+
+ROOT = os.path.join(os.path.dirname(os.path.abspath(__file__)), os.pardir, os.pardir)
+URI = "file:///module.py"
+SECONDS = 600  # how long a session may take
+Message = Dict[str, Any]
+
+AGES = """from __future__ import annotations
+
+def age_of(ages: dict[str, int], name: str) -> int:
+    return ages.get(name)
+
+def next_year(age):
+    return age + 1
+
+def main():
+    ages = {"Ada": 36, "Bob": 41}
+    print(next_year(age_of(ages, "Ada")))
+
+main()
+"""
+
+CLEAN = """from __future__ import annotations
+
+def main():
+    print("hello")
+
+main()
+"""
+
+FLOW = """from __future__ import annotations
+
+def increase(n: int) -> int:
+    return n + 1
+
+def step(value) -> int:
+    return increase(value)
+
+def main():
+    print(step(3))
+
+main()
+"""
+
+ASTRAL = """from __future__ import annotations
+
+def main():
+    print("\u00e9\U0001f600", "\U0001f600" + 1)
+
+main()
+"""
+
+
+class Failure(Exception):
+    """A session went otherwise than it should; the text says how."""
+
+
+def texts_of(path: str, function: str) -> Dict[str, str]:
+    """The text for each code in a function of the crate of texts, by the code."""
+    with open(os.path.join(ROOT, "crates", "pc_help", "src", path), encoding="utf-8") as source:
+        text = source.read()
+    body = text.split(f"pub fn {function}(", 1)[1].split("\n}\n", 1)[0]
+    return dict(re.findall(r'Code::([A-Z]\d+) =>\s+\{?\s*"([^"]*)"', body))
+
+
+MEANINGS = {**texts_of("findings.rt", "meaning"), **texts_of("refusals.rt", "refusal_meaning")}
+
+
+def frame(message: Any) -> bytes:
+    """A message with its header; bytes are framed as they are."""
+    body = message if isinstance(message, bytes) else json.dumps(message).encode()
+    return b"Content-Length: %d\r\n\r\n" % len(body) + body
+
+
+def request(number: Any, method: str, params: Optional[Any] = None) -> Message:
+    """A request with an identifier."""
+    message = {"jsonrpc": "2.0", "id": number, "method": method}
+    return message if params is None else {**message, "params": params}
+
+
+def notification(method: str, params: Optional[Any] = None) -> Message:
+    """A notification."""
+    message = {"jsonrpc": "2.0", "method": method}
+    return message if params is None else {**message, "params": params}
+
+
+def initialize(encodings: Optional[List[str]] = None, options: Optional[Message] = None) -> Message:
+    """The request that begins a session."""
+    general = {} if encodings is None else {"general": {"positionEncodings": encodings}}
+    params: Message = {"processId": None, "rootUri": None, "capabilities": general}
+    if options is not None:
+        params["initializationOptions"] = options
+    return request(1, "initialize", params)
+
+
+def did_open(text: str, version: int = 1, uri: str = URI) -> Message:
+    """The notification that a document is open."""
+    document = {"uri": uri, "languageId": "python", "version": version, "text": text}
+    return notification("textDocument/didOpen", {"textDocument": document})
+
+
+def did_change(text: str, version: int, uri: str = URI) -> Message:
+    """The notification that a document has a new text."""
+    params = {"textDocument": {"uri": uri, "version": version}, "contentChanges": [{"text": text}]}
+    return notification("textDocument/didChange", params)
+
+
+def did_close(uri: str = URI) -> Message:
+    """The notification that a document is closed."""
+    return notification("textDocument/didClose", {"textDocument": {"uri": uri}})
+
+
+def at(line: int, character: int, uri: str = URI) -> Message:
+    """The parameters of a request at a position, from 0."""
+    return {"textDocument": {"uri": uri}, "position": {"line": line, "character": character}}
+
+
+SHUTDOWN = request("end", "shutdown")
+EXIT = notification("exit")
+
+
+def read_frames(output: bytes) -> List[Any]:
+    """The messages in the bytes that the server wrote; fails where they are framed otherwise than the protocol says."""
+    messages = []
+    while output:
+        header = re.match(rb"Content-Length: (\d+)\r\n\r\n", output)
+        if header is None:
+            raise Failure(f"no header at {output[:60]!r}")
+        end = header.end() + int(header.group(1))
+        if end > len(output):
+            raise Failure("a message is cut off")
+        messages.append(json.loads(output[header.end():end].decode("utf-8")))
+        output = output[end:]
+    return messages
+
+
+class Server:
+    """Runs the program on whole inputs."""
+
+    def __init__(self, program: str) -> None:
+        self.program = program
+
+    def run(self, given: bytes, words: Optional[List[str]] = None) -> Tuple[int, bytes]:
+        """The exit status and the output for an input."""
+        done = subprocess.run([self.program] + (words or []), input=given, stdout=subprocess.PIPE,
+                              stderr=subprocess.DEVNULL, timeout=SECONDS)
+        return done.returncode, done.stdout
+
+    def replies(self, messages: List[Any], status: int = 0) -> List[Any]:
+        """The replies to messages; the server has to end with this status."""
+        found, output = self.run(b"".join(frame(message) for message in messages))
+        same("exit status", status, found)
+        return read_frames(output)
+
+    def replies_within(self, messages: List[Any], begun: Optional[Message] = None) -> List[Any]:
+        """The replies to messages of a session that begins and ends as it should, without those of the two ends."""
+        replies = self.replies([begun or initialize(), notification("initialized", {})] + messages + [SHUTDOWN, EXIT])
+        same("first identifier", 1, replies[0].get("id"))
+        same("last reply", {"jsonrpc": "2.0", "id": "end", "result": None}, replies[-1])
+        return replies[1:-1]
+
+
+def same(what: str, wanted: Any, found: Any) -> None:
+    """Fails where what was found is not what was wanted."""
+    if wanted != found or type(wanted) is not type(found):
+        raise Failure(f"{what}: wanted {wanted!r}, found {found!r}")
+
+
+def span(line: int, start: int, end: int) -> Message:
+    """A range within a line, from 0."""
+    return {"start": {"line": line, "character": start}, "end": {"line": line, "character": end}}
+
+
+def diagnostic(code: str, place: Message, before: str = "", severity: Optional[int] = None) -> Message:
+    """A diagnostic, whose message is what the code means, after the types of a flow."""
+    usual = 2 if code.startswith("A") else 1
+    return {"code": code, "message": before + MEANINGS[code], "range": place, "source": "pycheck",
+            "severity": usual if severity is None else severity}
+
+
+def published(diagnostics: List[Message], version: Optional[int] = None, uri: str = URI) -> Message:
+    """The notification of the diagnostics of a document."""
+    params: Message = {"uri": uri, "diagnostics": diagnostics}
+    if version is not None:
+        params["version"] = version
+    return notification("textDocument/publishDiagnostics", params)
+
+
+def error(number: Any, code: int, reply: Any) -> None:
+    """Fails where a reply is not this error of the protocol with this identifier."""
+    same("identifier", number, reply.get("id"))
+    same("error", code, reply.get("error", {}).get("code"))
+    if "result" in reply or not reply["error"].get("message"):
+        raise Failure(f"an error with a result or without a text: {reply!r}")
+
+
+def logged(word: str, reply: Any) -> None:
+    """Fails where a reply is not a line for the log with this word."""
+    same("method", "window/logMessage", reply.get("method"))
+    if word not in reply["params"]["message"]:
+        raise Failure(f"no {word!r} in {reply!r}")
+
+
+AGES_FOUND = [diagnostic("E12", span(3, 11, 25)), diagnostic("A2", span(6, 11, 18))]
