@@ -26,7 +26,8 @@ named : (m : Module) (c b : ℕ) (n : Option Name) → base_named m c n ≡ Some
 named m c b None is = absurd (grind arith)
 named m c b (Some n) is = earlier c b (resolve_in_module m n.text) is
 
-from : (m : Module) (n : ℕ) (cs : List ClassDef) (i b : ℕ) → slice_index_or (bases_from m n cs) i None ≡ Some b → b < n + i
+from : (m : Module) (n : ℕ) (cs : List ClassDef) (i b : ℕ) → slice_index_or (bases_from m n cs) i None ≡ Some b
+    → b < n + i
 from m n [] i b is = absurd (grind arith)
 from m n (c ∷ cs) zero b is = let h = named m n b c.base is in omega arith
 from m n (c ∷ cs) (suc i) b is = let h = from m (suc n) cs i b is in omega arith

@@ -14,13 +14,15 @@ pub all_placed : (ms : List Tree) → placed_each ms [] ≡ in_union_order ms
 all_placed [] = refl
 all_placed (m ∷ ms) = ap (insert_member m) (all_placed ms)
 
-last_placed : (ms : List Tree) (m : Tree) (ns : List Tree) → placed_each (ms ++ m ∷ []) ns ≡ placed_each ms (insert_member m ns)
+last_placed : (ms : List Tree) (m : Tree) (ns : List Tree) → placed_each (ms ++ m ∷ []) ns ≡ placed_each ms
+    (insert_member m ns)
 last_placed [] m ns = refl
 last_placed (x ∷ ms) m ns = ap (insert_member x) (last_placed ms m ns)
 
 -- one type more, put at its place
 module _ {Ty : Type 0} (tree : Ty → Tree) where
-  pub one_placed : (xs ys out next : List Ty) (t : Ty) (at : ℕ) → xs ≡ ys ++ t ∷ [] → next ≡ take at out ++ t ∷ drop at out
+  pub one_placed : (xs ys out next : List Ty) (t : Ty) (at : ℕ) → xs ≡ ys ++ t ∷ []
+      → next ≡ take at out ++ t ∷ drop at out
       → insert_member (tree t) (map tree out) ≡ map tree (take at out) ++ tree t ∷ map tree (drop at out)
       → placed_each (map tree ys) (map tree next) ≡ placed_each (map tree xs) (map tree out)
   one_placed xs ys out next t at e f h =
@@ -28,6 +30,8 @@ module _ {Ty : Type 0} (tree : Ty → Tree) where
       ∙ sym (last_placed (map tree ys) (tree t) (map tree out))
       ∙ ap (λ l. placed_each l (map tree out)) (sym (map-append tree ys (t ∷ [])) ∙ ap (map tree) (sym e))
 
-pub all_next : {Ty : Type 0} (P : Ty → Type 0) (out next : List Ty) (t : Ty) (at : ℕ) → next ≡ take at out ++ t ∷ drop at out → All P out → P t → All P next
+pub all_next : {Ty : Type 0} (P : Ty → Type 0) (out next : List Ty) (t : Ty) (at : ℕ)
+    → next ≡ take at out ++ t ∷ drop at out → All P out → P t → All P next
 all_next P out next t at f a p =
-    subst (All P) (sym f) (All-append P (take at out) (t ∷ drop at out) (All-take P at out a) (All-cons P t (drop at out) p (All-drop P at out a)))
+    subst (All P) (sym f) (All-append P (take at out) (t ∷ drop at out) (All-take P at out a)
+    (All-cons P t (drop at out) p (All-drop P at out a)))

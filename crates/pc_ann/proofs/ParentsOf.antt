@@ -12,7 +12,9 @@ abbrev pub bases_with : Module → Bases → List Item → Bases
 bases_with m bases items = bases ++ bases_from m (length bases) (classes_in items)
 
 -- once no item is left, those listed are all
-pub all_walked : (m : Module) (items all : List RustItem) (bases : Bases) (k : ℕ) → items ≡ all → length items ≤ k → bases_with m bases (map item_of (drop k items)) ≡ bases_from m 0 (classes_in (map item_of items)) → bases ≡ bases_from m 0 (classes_in (map item_of all))
+pub all_walked : (m : Module) (items all : List RustItem) (bases : Bases) (k : ℕ) → items ≡ all → length items ≤ k
+    → bases_with m bases (map item_of (drop k items)) ≡ bases_from m 0 (classes_in (map item_of items))
+    → bases ≡ bases_from m 0 (classes_in (map item_of all))
 all_walked m items all bases k e h i =
     sym (append-nil bases)
     ∙ ap (λ l. bases_with m bases (map item_of l)) (sym (drop_all k items h))

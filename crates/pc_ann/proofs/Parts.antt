@@ -18,15 +18,18 @@ use Rattle.pc_ann.specs.Internal.TypesRead.{IsRead, IsReadAny}
 
 module _ {Store Ty : Type 0} (has : Store → Ty → Type 0) (tree : Ty → Tree) (store : Store) where
   -- what was read is read as the type that there is
-  pub read_some : (x : Head × Option Ty) (found : Option Tree) → IsReadAny has tree store (Some x) found → IsRead has tree store x.0 x.1 (unwrap_or found Any)
+  pub read_some : (x : Head × Option Ty) (found : Option Tree) → IsReadAny has tree store (Some x) found
+      → IsRead has tree store x.0 x.1 (unwrap_or found Any)
   read_some x None h = absurd h
   read_some x (Some t) h = h
 
-  pub inside_some : (x : Head × Option Ty) (found : Option Tree) (p : Place) (xs : List Finding) → IsReadAny has tree store (Some x) found → inside_type found p xs ≡ xs
+  pub inside_some : (x : Head × Option Ty) (found : Option Tree) (p : Place) (xs : List Finding)
+      → IsReadAny has tree store (Some x) found → inside_type found p xs ≡ xs
   inside_some x None p xs h = absurd h
   inside_some x (Some t) p xs h = refl
 
-  pub without_some : (x : Head × Option Ty) (found : Option Tree) (p : Place) (code : Code) → IsReadAny has tree store (Some x) found → without_type found p code ≡ []
+  pub without_some : (x : Head × Option Ty) (found : Option Tree) (p : Place) (code : Code)
+      → IsReadAny has tree store (Some x) found → without_type found p code ≡ []
   without_some x None p code h = absurd h
   without_some x (Some t) p code h = refl
 
@@ -36,17 +39,28 @@ module _ {Store Ty : Type 0} (has : Store → Ty → Type 0) (tree : Ty → Tree
   none_is (Some t) h = absurd h
 
 module _ (m : Module) (bases : Bases) where
-  pub applied_reading : (a : Ann) (p : Place) (n : Name) (anns : Anns) (r : Res) (f : Option Tree) → a ≡ applied p n anns → r ≡ resolve_in_module m n.text → applied_type r (readings m bases anns) ≡ f → reading m bases a ≡ unwrap_or f Any
-  applied_reading a p n anns r f e h k = ap (reading m bases) e ∙ ap (λ x. unwrap_or (applied_type x (readings m bases anns)) Any) (sym h) ∙ ap (λ x. unwrap_or x Any) k
+  pub applied_reading : (a : Ann) (p : Place) (n : Name) (anns : Anns) (r : Res) (f : Option Tree)
+      → a ≡ applied p n anns → r ≡ resolve_in_module m n.text → applied_type r (readings m bases anns) ≡ f
+      → reading m bases a ≡ unwrap_or f Any
+  applied_reading a p n anns r f e h k = ap (reading m bases) e
+      ∙ ap (λ x. unwrap_or (applied_type x (readings m bases anns)) Any) (sym h) ∙ ap (λ x. unwrap_or x Any) k
 
-  pub applied_found : (a : Ann) (p : Place) (n : Name) (anns : Anns) (r : Res) (f : Option Tree) → a ≡ applied p n anns → r ≡ resolve_in_module m n.text → applied_type r (readings m bases anns) ≡ f → part_findings m bases a ≡ inside_type f p (parts_findings m bases anns)
-  applied_found a p n anns r f e h k = ap (part_findings m bases) e ∙ ap (λ x. inside_type (applied_type x (readings m bases anns)) p (parts_findings m bases anns)) (sym h) ∙ ap (λ x. inside_type x p (parts_findings m bases anns)) k
+  pub applied_found : (a : Ann) (p : Place) (n : Name) (anns : Anns) (r : Res) (f : Option Tree) → a ≡ applied p n anns
+      → r ≡ resolve_in_module m n.text → applied_type r (readings m bases anns) ≡ f
+      → part_findings m bases a ≡ inside_type f p (parts_findings m bases anns)
+  applied_found a p n anns r f e h k = ap (part_findings m bases) e
+      ∙ ap (λ x. inside_type (applied_type x (readings m bases anns)) p (parts_findings m bases anns)) (sym h)
+      ∙ ap (λ x. inside_type x p (parts_findings m bases anns)) k
 
-  pub union_reading : (a : Ann) (p : Place) (anns : Anns) (f : Option Tree) → a ≡ union p anns → union_type bases (readings m bases anns) ≡ f → reading m bases a ≡ unwrap_or f Any
+  pub union_reading : (a : Ann) (p : Place) (anns : Anns) (f : Option Tree) → a ≡ union p anns
+      → union_type bases (readings m bases anns) ≡ f → reading m bases a ≡ unwrap_or f Any
   union_reading a p anns f e k = ap (reading m bases) e ∙ ap (λ x. unwrap_or x Any) k
 
-  pub union_found : (a : Ann) (p : Place) (anns : Anns) (f : Option Tree) → a ≡ union p anns → union_type bases (readings m bases anns) ≡ f → part_findings m bases a ≡ parts_findings m bases anns ++ without_type f p E10
-  union_found a p anns f e k = ap (part_findings m bases) e ∙ ap (λ x. parts_findings m bases anns ++ without_type x p E10) k
+  pub union_found : (a : Ann) (p : Place) (anns : Anns) (f : Option Tree) → a ≡ union p anns
+      → union_type bases (readings m bases anns) ≡ f → part_findings m bases a ≡ parts_findings m bases anns
+      ++ without_type f p E10
+  union_found a p anns f e k = ap (part_findings m bases) e ∙ ap (λ x. parts_findings m bases anns ++ without_type x p
+      E10) k
 
 -- what was pushed after a list is cut off
 pub truncated : (old all behind : List Finding) (n : ℕ) → n ≡ length old → all ≡ old ++ behind → take n all ≡ old

@@ -1,5 +1,6 @@
 -- The type of an annotation is in normal form, without absorbed members, and within the limit.
-use Rattle.std.proofs.Common.{◌≡◌, ◌⊎◌, ◌&&◌, ◌==◌, ℕ, not, Bool as Test, true, false, List, [], ◌∷◌, Option, Some, None, sym, ◌∙◌, arith, inl, inr, ⊎_elim}
+use Rattle.std.proofs.Common.{◌≡◌, ◌⊎◌, ◌&&◌, ◌==◌, ℕ, not, Bool as Test, true, false, List, [], ◌∷◌, Option, Some}
+use Rattle.std.proofs.Common.{None, sym, ◌∙◌, arith, inl, inr, ⊎_elim}
 use Rattle.std.proofs.lemmas.Bool.{false≢true, true≢false, and_parts, not-true, cond_both, leb-true, cases_lt}
 use Rattle.std.proofs.lemmas.Bool.Decides.{nat_tests}
 use Rattle.std.specs.List.{list_all}
@@ -16,11 +17,14 @@ use Rattle.pc_types.specs.Below.{Bases, AreSmaller}
 use Rattle.pc_types.specs.Shape.{nodes, node_limit, trees, union}
 use Rattle.pc_types.specs.Normal.{member_rank, IsRankBefore, IsMember, IsNormal, AreNormal, AreReduced}
 use Rattle.pc_types.specs.Join.{absorbs, is_before}
-use Rattle.pc_ann.specs.Annotations.{atom, named_type, dict_type, built_type, applied_type, empty_type, is_member, has_same_head, are_apart, is_union, insert_member, in_union_order, union_type, reading, readings, read_ann, read_option}
+use Rattle.pc_ann.specs.Annotations.{atom, named_type, dict_type, built_type, applied_type, empty_type, is_member}
+use Rattle.pc_ann.specs.Annotations.{has_same_head, are_apart, is_union, insert_member, in_union_order, union_type}
+use Rattle.pc_ann.specs.Annotations.{reading, readings, read_ann, read_option}
 use Rattle.pc_types.specs.WellFormed.{IsWellFormed}
 use Rattle.pc_types.proofs.Together.{AllBehind, before_true, before_of}
 use Rattle.pc_types.proofs.JoinNormal.{InOrder, union_normal, all_through}
-use Rattle.pc_types.proofs.Incomparable.{Incomparable, IncomparableToEach, IsNormalReduced, ArePairwiseIncomparable, union_reduced}
+use Rattle.pc_types.proofs.Incomparable.{Incomparable, IncomparableToEach, IsNormalReduced, ArePairwiseIncomparable}
+use Rattle.pc_types.proofs.Incomparable.{union_reduced}
 
 -- what is made is in normal form and without absorbed members
 abbrev IsNormalReducedIfAny : Bases → Option Tree → Type 0
@@ -57,7 +61,8 @@ abbrev AreNormalReduced : Bases → List Tree → Type 0
 AreNormalReduced bases [] = Unit {0}
 AreNormalReduced bases (t ∷ ts) = IsNormalReduced bases t × AreNormalReduced bases ts
 
-trees_well : (bases : Bases) (ts : List Tree) → AreNormalReduced bases ts → AreNormal (trees ts) × AreReduced bases (trees ts)
+trees_well : (bases : Bases) (ts : List Tree) → AreNormalReduced bases ts → AreNormal (trees ts)
+    × AreReduced bases (trees ts)
 trees_well bases [] w = (tt, tt)
 trees_well bases (t ∷ ts) w = let r = trees_well bases ts w.1 in ((w.0.0, r.0), (w.0.1, r.1))
 
@@ -66,13 +71,15 @@ dict_good bases Int v w = ((tt, tt, w.0), w.1)
 dict_good bases Str v w = ((tt, tt, w.0), w.1)
 dict_good bases _ v w = tt
 
-built_good : (bases : Bases) (b : Builtin) (ts : List Tree) → AreNormalReduced bases ts → IsNormalReducedIfAny bases (built_type b ts)
+built_good : (bases : Bases) (b : Builtin) (ts : List Tree) → AreNormalReduced bases ts
+    → IsNormalReducedIfAny bases (built_type b ts)
 built_good bases builtin.List (t ∷ []) w = w.0
 built_good bases builtin.Dict (k ∷ v ∷ []) w = dict_good bases k v w.1.0
 built_good bases builtin.Tuple (t ∷ ts) w = trees_well bases (t ∷ ts) w
 built_good bases _ _ w = tt
 
-applied_good : (bases : Bases) (r : Res) (ts : List Tree) → AreNormalReduced bases ts → IsNormalReducedIfAny bases (applied_type r ts)
+applied_good : (bases : Bases) (r : Res) (ts : List Tree) → AreNormalReduced bases ts
+    → IsNormalReducedIfAny bases (applied_type r ts)
 applied_good bases (res.Builtin b) ts w = built_good bases b ts w
 applied_good bases _ ts w = tt
 
@@ -87,15 +94,20 @@ DifferFrom m (n ∷ ns) = Differ m n × DifferFrom m ns
 
 places_differ : (p q : ℕ × ℕ) → ((p.0 == q.0) && (p.1 == q.1)) ≡ false → IsRankBefore p q ⊎ IsRankBefore q p
 places_differ p q e =
-    ⊎_elim (λ h. inl (inl h)) (λ h. ⊎_elim (λ k. inr (inl k)) (λ k. ⊎_elim (λ l. inl (inr (omega arith, l))) (λ l. ⊎_elim (λ j. inr (inr (omega arith, j))) (λ j. absurd (grind (arith, nat_tests))) (cases_lt q.1 p.1)) (cases_lt p.1 q.1)) (cases_lt q.0 p.0)) (cases_lt p.0 q.0)
+    ⊎_elim (λ h. inl (inl h)) (λ h. ⊎_elim (λ k. inr (inl k)) (λ k. ⊎_elim (λ l. inl (inr (omega arith, l)))
+    (λ l. ⊎_elim (λ j. inr (inr (omega arith, j))) (λ j. absurd (grind (arith, nat_tests))) (cases_lt q.1 p.1))
+    (cases_lt p.1 q.1)) (cases_lt q.0 p.0)) (cases_lt p.0 q.0)
 
 apart_differ : (bases : Bases) (m n : Tree) → are_apart bases m n ≡ true → Differ m n × Incomparable bases m n
 apart_differ bases m n e =
     let p = and_parts (not (has_same_head m n)) (not (absorbs bases m n) && not (absorbs bases n m)) e in
-    let q = and_parts (not (absorbs bases m n)) (not (absorbs bases n m)) p.1 in
-    (places_differ (member_rank m) (member_rank n) (not-true (has_same_head m n) p.0), (not-true (absorbs bases m n) q.0, not-true (absorbs bases n m) q.1))
+    let q = and_parts (not (absorbs bases m n)) (not (absorbs bases n m)) p.1 in (
+      places_differ (member_rank m) (member_rank n) (not-true (has_same_head m n) p.0),
+      (not-true (absorbs bases m n) q.0, not-true (absorbs bases n m) q.1),
+    )
 
-all_differ : (bases : Bases) (m : Tree) (l : List Tree) → list_all (are_apart bases m) l ≡ true → DifferFrom m l × IncomparableToEach bases m l
+all_differ : (bases : Bases) (m : Tree) (l : List Tree) → list_all (are_apart bases m) l ≡ true → DifferFrom m l
+    × IncomparableToEach bases m l
 all_differ bases m [] e = (tt, tt)
 all_differ bases m (n ∷ ns) e =
     let p = and_parts (are_apart bases m n) (list_all (are_apart bases m) ns) e in
@@ -115,9 +127,11 @@ module _ (m : Tree) where
   behind_of : (n : Tree) → Differ m n → is_before m n ≡ false → IsRankBefore (member_rank n) (member_rank m)
   behind_of n d e = ⊎_elim (λ h. absurd (true≢false (sym (before_true m n h) ∙ e))) (λ h. h) d
 
-  placed_behind : (a : Tree) (l : List Tree) → IsRankBefore (member_rank a) (member_rank m) → AllBehind a l → AllBehind a (insert_member m l)
+  placed_behind : (a : Tree) (l : List Tree) → IsRankBefore (member_rank a) (member_rank m) → AllBehind a l
+      → AllBehind a (insert_member m l)
   placed_behind a [] h b = (h, tt)
-  placed_behind a (n ∷ ns) h b = cond_both (is_before m n) (m ∷ n ∷ ns) (n ∷ insert_member m ns) (AllBehind a) (λ e. (h, b)) (λ e. (b.0, placed_behind a ns h b.1))
+  placed_behind a (n ∷ ns) h b = cond_both (is_before m n) (m ∷ n ∷ ns) (n ∷ insert_member m ns) (AllBehind a)
+      (λ e. (h, b)) (λ e. (b.0, placed_behind a ns h b.1))
 
   placed_order : (l : List Tree) → IsMember m → IsNormal m → DifferFrom m l → InOrder l → InOrder (insert_member m l)
   placed_order [] k j d o = (k, (j, (tt, tt)))
@@ -128,13 +142,17 @@ module _ (m : Tree) where
 
   placed_differ : (x : Tree) (l : List Tree) → Differ x m → DifferFrom x l → DifferFrom x (insert_member m l)
   placed_differ x [] h b = (h, tt)
-  placed_differ x (n ∷ ns) h b = cond_both (is_before m n) (m ∷ n ∷ ns) (n ∷ insert_member m ns) (DifferFrom x) (λ e. (h, b)) (λ e. (b.0, placed_differ x ns h b.1))
+  placed_differ x (n ∷ ns) h b = cond_both (is_before m n) (m ∷ n ∷ ns) (n ∷ insert_member m ns) (DifferFrom x)
+      (λ e. (h, b)) (λ e. (b.0, placed_differ x ns h b.1))
 
-  placed_incomparable : (bases : Bases) (x : Tree) (l : List Tree) → Incomparable bases x m → IncomparableToEach bases x l → IncomparableToEach bases x (insert_member m l)
+  placed_incomparable : (bases : Bases) (x : Tree) (l : List Tree) → Incomparable bases x m
+      → IncomparableToEach bases x l → IncomparableToEach bases x (insert_member m l)
   placed_incomparable bases x [] h b = (h, tt)
-  placed_incomparable bases x (n ∷ ns) h b = cond_both (is_before m n) (m ∷ n ∷ ns) (n ∷ insert_member m ns) (IncomparableToEach bases x) (λ e. (h, b)) (λ e. (b.0, placed_incomparable bases x ns h b.1))
+  placed_incomparable bases x (n ∷ ns) h b = cond_both (is_before m n) (m ∷ n ∷ ns) (n ∷ insert_member m ns)
+      (IncomparableToEach bases x) (λ e. (h, b)) (λ e. (b.0, placed_incomparable bases x ns h b.1))
 
-  placed_pairwise : (bases : Bases) (l : List Tree) → IsNormalReduced bases m → IncomparableToEach bases m l → ArePairwiseIncomparable bases l → ArePairwiseIncomparable bases (insert_member m l)
+  placed_pairwise : (bases : Bases) (l : List Tree) → IsNormalReduced bases m → IncomparableToEach bases m l
+      → ArePairwiseIncomparable bases l → ArePairwiseIncomparable bases (insert_member m l)
   placed_pairwise bases [] w f a = (w, (tt, tt))
   placed_pairwise bases (n ∷ ns) w f a =
       cond_both (is_before m n) (m ∷ n ∷ ns) (n ∷ insert_member m ns) (ArePairwiseIncomparable bases)
@@ -145,35 +163,50 @@ order_differ : (x : Tree) (l : List Tree) → DifferFrom x l → DifferFrom x (i
 order_differ x [] h = tt
 order_differ x (m ∷ ms) h = placed_differ m x (in_union_order ms) h.0 (order_differ x ms h.1)
 
-order_incomparable : (bases : Bases) (x : Tree) (l : List Tree) → IncomparableToEach bases x l → IncomparableToEach bases x (in_union_order l)
+order_incomparable : (bases : Bases) (x : Tree) (l : List Tree) → IncomparableToEach bases x l
+    → IncomparableToEach bases x (in_union_order l)
 order_incomparable bases x [] h = tt
-order_incomparable bases x (m ∷ ms) h = placed_incomparable m bases x (in_union_order ms) h.0 (order_incomparable bases x ms h.1)
+order_incomparable bases x (m ∷ ms) h = placed_incomparable m bases x (in_union_order ms) h.0
+    (order_incomparable bases x ms h.1)
 
 -- the parts of a union in their order
-parts_order : (bases : Bases) (l : List Tree) → AreNormalReduced bases l → is_union bases l ≡ true → InOrder (in_union_order l) × ArePairwiseIncomparable bases (in_union_order l)
+parts_order : (bases : Bases) (l : List Tree) → AreNormalReduced bases l → is_union bases l ≡ true
+    → InOrder (in_union_order l) × ArePairwiseIncomparable bases (in_union_order l)
 parts_order bases [] w e = (tt, tt)
 parts_order bases (m ∷ ms) w e =
     let p = and_parts (is_member m) (list_all (are_apart bases m) ms && is_union bases ms) e in
     let q = and_parts (list_all (are_apart bases m) ms) (is_union bases ms) p.1 in
     let d = all_differ bases m ms q.0 in
-    let r = parts_order bases ms w.1 q.1 in
-    (placed_order m (in_union_order ms) (member_of m p.0) w.0.0 (order_differ m ms d.0) r.0, placed_pairwise m bases (in_union_order ms) w.0 (order_incomparable bases m ms d.1) r.1)
+    let r = parts_order bases ms w.1 q.1 in (
+      placed_order m (in_union_order ms) (member_of m p.0) w.0.0 (order_differ m ms d.0) r.0,
+      placed_pairwise m bases (in_union_order ms) w.0 (order_incomparable bases m ms d.1) r.1,
+    )
 
-union_good : (bases : Bases) (l : List Tree) → AreSmaller bases → AreNormalReduced bases l → IsNormalReducedIfAny bases (union_type bases l)
+union_good : (bases : Bases) (l : List Tree) → AreSmaller bases → AreNormalReduced bases l
+    → IsNormalReducedIfAny bases (union_type bases l)
 union_good bases l o w =
     cond_both (is_union bases l) (Some (union (in_union_order l))) None (IsNormalReducedIfAny bases)
-    (λ e. let p = parts_order bases l w e in (union_normal (in_union_order l) p.0, union_reduced bases (in_union_order l) o p.0 p.1))
+    (λ e. let p = parts_order bases l w e in (
+      union_normal (in_union_order l) p.0,
+      union_reduced bases (in_union_order l) o p.0 p.1,
+    ))
     (λ e. tt)
 
 module _ (m : Module) (bases : Bases) (o : AreSmaller bases) where
   mutual
     -- the type of an annotation, whatever its size
     pub reading_normal_reduced : (a : Ann) → IsNormalReduced bases (reading m bases a)
-    reading_normal_reduced (named n) = good_or bases (named_type m.imports_any (resolve_in_module m n.text)) (named_good bases m.imports_any (resolve_in_module m n.text))
+    reading_normal_reduced (named n) = good_or bases (named_type m.imports_any (resolve_in_module m n.text))
+        (named_good bases m.imports_any (resolve_in_module m n.text))
     reading_normal_reduced (none_type p) = (tt, tt)
-    reading_normal_reduced (applied p head arguments) = good_or bases (applied_type (resolve_in_module m head.text) (readings m bases arguments)) (applied_good bases (resolve_in_module m head.text) (readings m bases arguments) (each_reading_normal_reduced arguments))
-    reading_normal_reduced (applied_empty p head) = good_or bases (empty_type (resolve_in_module m head.text)) (empty_good bases (resolve_in_module m head.text))
-    reading_normal_reduced (tree.union p parts) = good_or bases (union_type bases (readings m bases parts)) (union_good bases (readings m bases parts) o (each_reading_normal_reduced parts))
+    reading_normal_reduced (applied p head arguments) = good_or bases
+        (applied_type (resolve_in_module m head.text) (readings m bases arguments))
+        (applied_good bases (resolve_in_module m head.text) (readings m bases arguments)
+        (each_reading_normal_reduced arguments))
+    reading_normal_reduced (applied_empty p head) = good_or bases (empty_type (resolve_in_module m head.text))
+        (empty_good bases (resolve_in_module m head.text))
+    reading_normal_reduced (tree.union p parts) = good_or bases (union_type bases (readings m bases parts))
+        (union_good bases (readings m bases parts) o (each_reading_normal_reduced parts))
 
     each_reading_normal_reduced : (as' : Anns) → AreNormalReduced bases (readings m bases as')
     each_reading_normal_reduced no_anns = tt

@@ -1,6 +1,7 @@
 -- The classes among items, the nearest first: their numbers, and what the name of a class means.
 use Rattle.std.proofs.Common.{◌≡◌, ℕ, suc, ◌+◌, ◌<◌, ◌≤◌, List, [], ◌∷◌, map, refl, sym, ap, ◌∙◌, arith}
-use Rattle.std.specs.Prelude.{Bool, true, false, ◌&&◌, ◌||◌, not, if◌then◌else◌, nat_lt, Option, Some, None, is_some, slice_get, bytes_eq}
+use Rattle.std.specs.Prelude.{Bool, true, false, ◌&&◌, ◌||◌, not, if◌then◌else◌, nat_lt, Option, Some, None, is_some}
+use Rattle.std.specs.Prelude.{slice_get, bytes_eq}
 use Rattle.std.proofs.lemmas.Bool.{false≢true, false_from_ne_true, or_parts, and_parts, and_from}
 use Rattle.std.proofs.lemmas.Bool.Decides.{nat_tests}
 use Rattle.std.proofs.lemmas.Option.{same_Some}
@@ -49,12 +50,14 @@ abbrev names_of : List Item → List (List ℕ)
 names_of before = map (λ i. (name_of_item i).text) before
 
 -- a class among the others has its number after the classes before
-pub class_numbered : (before rest : List Item) (i : ℕ) → slice_get (classes_in (onto before rest)) (class_count before + i) ≡ slice_get (classes_in rest) i
+pub class_numbered : (before rest : List Item) (i : ℕ) → slice_get (classes_in (onto before rest))
+    (class_count before + i) ≡ slice_get (classes_in rest) i
 class_numbered [] rest i = ap (slice_get (classes_in rest)) (omega arith)
 class_numbered (constant_item p c ∷ before) rest i = class_numbered before (constant_item p c ∷ rest) i
 class_numbered (def_item p f ∷ before) rest i = class_numbered before (def_item p f ∷ rest) i
 class_numbered (class_item p c ∷ before) rest i =
-    ap (slice_get (classes_in (onto before (class_item p c ∷ rest)))) (omega arith) ∙ class_numbered before (class_item p c ∷ rest) (suc i)
+    ap (slice_get (classes_in (onto before (class_item p c ∷ rest)))) (omega arith)
+    ∙ class_numbered before (class_item p c ∷ rest) (suc i)
 
 -- ---- what a name means
 
@@ -80,17 +83,22 @@ not_class : {r : Res} {i : ℕ} {P : Type 0} → is_class r ≡ false → r ≡ 
 not_class f e = absurd (false≢true (sym f ∙ ap is_class e))
 
 -- a name that no item before has is the first one of the others
-passed : (before rest : List Item) (w : List ℕ) → is_among (names_of before) w ≡ false → bound_first 0 0 0 (onto before rest) w ≡ bound_first (constant_count before) (function_count before) (class_count before) rest w
+passed : (before rest : List Item) (w : List ℕ) → is_among (names_of before) w ≡ false
+    → bound_first 0 0 0 (onto before rest) w ≡ bound_first (constant_count before) (function_count before)
+    (class_count before) rest w
 passed [] rest w e = refl
 passed (constant_item p c ∷ before) rest w e =
     let r = or_parts (bytes_eq c.name.text w) (is_among (names_of before) w) e in
-    passed before (constant_item p c ∷ rest) w r.1 ∙ ap (λ b. if b then Some (res.Const (constant_count before)) else bound_first (suc (constant_count before)) (function_count before) (class_count before) rest w) r.0
+    passed before (constant_item p c ∷ rest) w r.1 ∙ ap (λ b. if b then Some (res.Const (constant_count before))
+    else bound_first (suc (constant_count before)) (function_count before) (class_count before) rest w) r.0
 passed (def_item p c ∷ before) rest w e =
     let r = or_parts (bytes_eq c.name.text w) (is_among (names_of before) w) e in
-    passed before (def_item p c ∷ rest) w r.1 ∙ ap (λ b. if b then Some (res.Func (function_count before)) else bound_first (constant_count before) (suc (function_count before)) (class_count before) rest w) r.0
+    passed before (def_item p c ∷ rest) w r.1 ∙ ap (λ b. if b then Some (res.Func (function_count before))
+    else bound_first (constant_count before) (suc (function_count before)) (class_count before) rest w) r.0
 passed (class_item p c ∷ before) rest w e =
     let r = or_parts (bytes_eq c.name.text w) (is_among (names_of before) w) e in
-    passed before (class_item p c ∷ rest) w r.1 ∙ ap (λ b. if b then Some (res.Class (class_count before)) else bound_first (constant_count before) (function_count before) (suc (class_count before)) rest w) r.0
+    passed before (class_item p c ∷ rest) w r.1 ∙ ap (λ b. if b then Some (res.Class (class_count before))
+    else bound_first (constant_count before) (function_count before) (suc (class_count before)) rest w) r.0
 
 -- a first test that holds, where the other fails
 first_holds : (a b : Bool) → (a || b) ≡ true → b ≡ false → a ≡ true
@@ -98,32 +106,46 @@ first_holds true b e f = refl
 first_holds false b e f = absurd (false≢true (sym f ∙ e))
 
 -- a class of a name that an item before has is one before
-early : (before rest : List Item) (w : List ℕ) (i : ℕ) → is_among (names_of before) w ≡ true → bound_first 0 0 0 (onto before rest) w ≡ Some (res.Class i) → i < class_count before
+early : (before rest : List Item) (w : List ℕ) (i : ℕ) → is_among (names_of before) w ≡ true
+    → bound_first 0 0 0 (onto before rest) w ≡ Some (res.Class i) → i < class_count before
 early [] rest w i e h = absurd (false≢true e)
-early (constant_item p c ∷ before) rest w i e h = go (is_among (names_of before) w) refl (λ f. early before (constant_item p c ∷ rest) w i f h)
+early (constant_item p c ∷ before) rest w i e h = go (is_among (names_of before) w) refl
+    (λ f. early before (constant_item p c ∷ rest) w i f h)
   where
-    go : (b : Bool) → is_among (names_of before) w ≡ b → (is_among (names_of before) w ≡ true → i < class_count before) → i < class_count before
+    go : (b : Bool) → is_among (names_of before) w ≡ b → (is_among (names_of before) w ≡ true → i < class_count before)
+        → i < class_count before
     go true f on = on f
     go false f on =
         let here = first_holds (bytes_eq c.name.text w) (is_among (names_of before) w) e f in
-        let is = sym (ap (λ b. if b then Some (res.Const (constant_count before)) else bound_first (suc (constant_count before)) (function_count before) (class_count before) rest w) here) ∙ (sym (passed before (constant_item p c ∷ rest) w f) ∙ h) in
+        let is = sym (ap (λ b. if b then Some (res.Const (constant_count before)) else bound_first
+        (suc (constant_count before)) (function_count before) (class_count before) rest w) here)
+        ∙ (sym (passed before (constant_item p c ∷ rest) w f) ∙ h) in
         not_class refl (same_Some _ _ is)
-early (def_item p c ∷ before) rest w i e h = go (is_among (names_of before) w) refl (λ f. early before (def_item p c ∷ rest) w i f h)
+early (def_item p c ∷ before) rest w i e h = go (is_among (names_of before) w) refl
+    (λ f. early before (def_item p c ∷ rest) w i f h)
   where
-    go : (b : Bool) → is_among (names_of before) w ≡ b → (is_among (names_of before) w ≡ true → i < class_count before) → i < class_count before
+    go : (b : Bool) → is_among (names_of before) w ≡ b → (is_among (names_of before) w ≡ true → i < class_count before)
+        → i < class_count before
     go true f on = on f
     go false f on =
         let here = first_holds (bytes_eq c.name.text w) (is_among (names_of before) w) e f in
-        let is = sym (ap (λ b. if b then Some (res.Func (function_count before)) else bound_first (constant_count before) (suc (function_count before)) (class_count before) rest w) here) ∙ (sym (passed before (def_item p c ∷ rest) w f) ∙ h) in
+        let is = sym (ap (λ b. if b then Some (res.Func (function_count before)) else bound_first
+        (constant_count before) (suc (function_count before)) (class_count before) rest w) here)
+        ∙ (sym (passed before (def_item p c ∷ rest) w f) ∙ h) in
         not_class refl (same_Some _ _ is)
-early (class_item p c ∷ before) rest w i e h = go (is_among (names_of before) w) refl (λ f. early before (class_item p c ∷ rest) w i f h)
+early (class_item p c ∷ before) rest w i e h = go (is_among (names_of before) w) refl
+    (λ f. early before (class_item p c ∷ rest) w i f h)
   where
-    go : (b : Bool) → is_among (names_of before) w ≡ b → (is_among (names_of before) w ≡ true → i < class_count before) → i < suc (class_count before)
+    go : (b : Bool) → is_among (names_of before) w ≡ b → (is_among (names_of before) w ≡ true → i < class_count before)
+        → i < suc (class_count before)
     go true f on = let l = on f in omega arith
     go false f on =
         let here = first_holds (bytes_eq c.name.text w) (is_among (names_of before) w) e f in
-        let is = sym (ap (λ b. if b then Some (res.Class (class_count before)) else bound_first (constant_count before) (function_count before) (suc (class_count before)) rest w) here) ∙ (sym (passed before (class_item p c ∷ rest) w f) ∙ h) in
-        let same : class_count before ≡ i = ap number_of (same_Some (res.Class (class_count before)) (res.Class i) is) in
+        let is = sym (ap (λ b. if b then Some (res.Class (class_count before)) else bound_first (constant_count before)
+        (function_count before) (suc (class_count before)) rest w) here)
+        ∙ (sym (passed before (class_item p c ∷ rest) w f) ∙ h) in
+        let same : class_count before ≡ i = ap number_of (same_Some (res.Class (class_count before)) (res.Class i)
+        is) in
         omega arith
 
 -- a class that is found after others has a number after theirs
@@ -131,17 +153,20 @@ later : (k f c : ℕ) (items : List Item) (w : List ℕ) (i : ℕ) → bound_fir
 later k f c [] w i e = absurd (grind (arith, e))
 later k f c (constant_item p x ∷ rest) w i e = go (bytes_eq x.name.text w) e (later (suc k) f c rest w i)
   where
-    go : (b : Bool) → (if b then Some (res.Const k) else bound_first (suc k) f c rest w) ≡ Some (res.Class i) → (bound_first (suc k) f c rest w ≡ Some (res.Class i) → c ≤ i) → c ≤ i
+    go : (b : Bool) → (if b then Some (res.Const k) else bound_first (suc k) f c rest w) ≡ Some (res.Class i)
+        → (bound_first (suc k) f c rest w ≡ Some (res.Class i) → c ≤ i) → c ≤ i
     go true e on = not_class refl (same_Some _ _ e)
     go false e on = on e
 later k f c (def_item p x ∷ rest) w i e = go (bytes_eq x.name.text w) e (later k (suc f) c rest w i)
   where
-    go : (b : Bool) → (if b then Some (res.Func f) else bound_first k (suc f) c rest w) ≡ Some (res.Class i) → (bound_first k (suc f) c rest w ≡ Some (res.Class i) → c ≤ i) → c ≤ i
+    go : (b : Bool) → (if b then Some (res.Func f) else bound_first k (suc f) c rest w) ≡ Some (res.Class i)
+        → (bound_first k (suc f) c rest w ≡ Some (res.Class i) → c ≤ i) → c ≤ i
     go true e on = not_class refl (same_Some _ _ e)
     go false e on = on e
 later k f c (class_item p x ∷ rest) w i e = go (bytes_eq x.name.text w) e (later k f (suc c) rest w i)
   where
-    go : (b : Bool) → (if b then Some (res.Class c) else bound_first k f (suc c) rest w) ≡ Some (res.Class i) → (bound_first k f (suc c) rest w ≡ Some (res.Class i) → suc c ≤ i) → c ≤ i
+    go : (b : Bool) → (if b then Some (res.Class c) else bound_first k f (suc c) rest w) ≡ Some (res.Class i)
+        → (bound_first k f (suc c) rest w ≡ Some (res.Class i) → suc c ≤ i) → c ≤ i
     go true e on = let same : c ≡ i = ap number_of (same_Some (res.Class c) (res.Class i) e) in omega arith
     go false e on = let l = on e in omega arith
 
@@ -164,39 +189,55 @@ module _ (m : Module) (before : List Item) (c : ClassDef) where
   is_meant w = bytes_eq c.name.text w && is_first_binding before c.name
 
   -- so the name means its class
-  pub meant_class : (rest : List Item) (p : Place) → onto before (class_item p c ∷ rest) ≡ m.items → (w : List ℕ) → is_meant w ≡ true → resolve_in_module m w ≡ res.Class (class_count before)
+  pub meant_class : (rest : List Item) (p : Place) → onto before (class_item p c ∷ rest) ≡ m.items → (w : List ℕ)
+      → is_meant w ≡ true → resolve_in_module m w ≡ res.Class (class_count before)
   meant_class rest p whole w e =
       let a = and_parts (bytes_eq c.name.text w) (is_first_binding before c.name) e in
       let b = and_parts (not (is_among (names_of before) c.name.text)) (not (keywords.is_reserved c.name.text)) a.1 in
       let same : c.name.text ≡ w = (bytes_eq-Decides c.name.text w).0 a.0 in
-      let new : is_among (names_of before) w ≡ false = ap (is_among (names_of before)) (sym same) ∙ not_true (is_among (names_of before) c.name.text) b.0 in
-      let free : is_builtin_name w ≡ false = sym (reserved_same w) ∙ (ap keywords.is_reserved (sym same) ∙ not_true (keywords.is_reserved c.name.text) b.1) in
-      ap (λ o. or_meaning (builtin_meaning o) (or_meaning (bound_first 0 0 0 m.items w) res.None)) (none_of (builtin_of w) free)
+      let new : is_among (names_of before) w ≡ false = ap (is_among (names_of before)) (sym same)
+      ∙ not_true (is_among (names_of before) c.name.text) b.0 in
+      let free : is_builtin_name w ≡ false = sym (reserved_same w)
+      ∙ (ap keywords.is_reserved (sym same) ∙ not_true (keywords.is_reserved c.name.text) b.1) in
+      ap (λ o. or_meaning (builtin_meaning o) (or_meaning (bound_first 0 0 0 m.items w) res.None))
+      (none_of (builtin_of w) free)
       ∙ ap (λ (items : List Item). or_meaning (bound_first 0 0 0 items w) res.None) (sym whole)
       ∙ ap (λ o. or_meaning o res.None) (passed before (class_item p c ∷ rest) w new
-      ∙ ap (λ t. if t then Some (res.Class (class_count before)) else bound_first (constant_count before) (function_count before) (suc (class_count before)) rest w) a.0)
+      ∙ ap (λ t. if t then Some (res.Class (class_count before)) else bound_first (constant_count before)
+      (function_count before) (suc (class_count before)) rest w) a.0)
 
   -- and only so
-  pub class_meant : (rest : List Item) (p : Place) → onto before (class_item p c ∷ rest) ≡ m.items → (w : List ℕ) → resolve_in_module m w ≡ res.Class (class_count before) → is_meant w ≡ true
+  pub class_meant : (rest : List Item) (p : Place) → onto before (class_item p c ∷ rest) ≡ m.items → (w : List ℕ)
+      → resolve_in_module m w ≡ res.Class (class_count before) → is_meant w ≡ true
   class_meant rest p whole w e = by_builtin (builtin_of w) refl e
     where
       by_name : builtin_of w ≡ None → is_among (names_of before) w ≡ false → (t : Bool) → bytes_eq c.name.text w ≡ t
-          → (if t then Some (res.Class (class_count before)) else bound_first (constant_count before) (function_count before) (suc (class_count before)) rest w) ≡ Some (res.Class (class_count before)) → is_meant w ≡ true
+          → (if t then Some (res.Class (class_count before)) else bound_first (constant_count before)
+          (function_count before) (suc (class_count before)) rest w) ≡ Some (res.Class (class_count before))
+          → is_meant w ≡ true
       by_name none new true is h =
           let same : c.name.text ≡ w = (bytes_eq-Decides c.name.text w).0 is in
           and_from (bytes_eq c.name.text w) (is_first_binding before c.name) is
-          (ap (λ v. not (is_among (names_of before) v) && not (keywords.is_reserved v)) same ∙ ap (λ t. not t && not (keywords.is_reserved w)) new ∙ ap not (builtin_none w none))
-      by_name none new false is h = let l = later (constant_count before) (function_count before) (suc (class_count before)) rest w (class_count before) h in absurd (omega arith)
+          (ap (λ v. not (is_among (names_of before) v) && not (keywords.is_reserved v)) same
+          ∙ ap (λ t. not t && not (keywords.is_reserved w)) new ∙ ap not (builtin_none w none))
+      by_name none new false is h = let l = later (constant_count before) (function_count before)
+          (suc (class_count before)) rest w (class_count before) h in absurd (omega arith)
 
-      by_among : builtin_of w ≡ None → bound_first 0 0 0 (onto before (class_item p c ∷ rest)) w ≡ Some (res.Class (class_count before)) → (t : Bool) → is_among (names_of before) w ≡ t → is_meant w ≡ true
-      by_among none h true f = let l = early before (class_item p c ∷ rest) w (class_count before) f h in absurd (omega arith)
-      by_among none h false f = by_name none f (bytes_eq c.name.text w) refl (sym (passed before (class_item p c ∷ rest) w f) ∙ h)
+      by_among : builtin_of w ≡ None → bound_first 0 0 0 (onto before (class_item p c ∷ rest)) w
+          ≡ Some (res.Class (class_count before)) → (t : Bool) → is_among (names_of before) w ≡ t → is_meant w ≡ true
+      by_among none h true f = let l = early before (class_item p c ∷ rest) w (class_count before) f h in
+          absurd (omega arith)
+      by_among none h false f = by_name none f (bytes_eq c.name.text w) refl
+          (sym (passed before (class_item p c ∷ rest) w f) ∙ h)
 
-      by_item : builtin_of w ≡ None → (o : Option Res) → bound_first 0 0 0 m.items w ≡ o → or_meaning o res.None ≡ res.Class (class_count before) → is_meant w ≡ true
+      by_item : builtin_of w ≡ None → (o : Option Res) → bound_first 0 0 0 m.items w ≡ o
+          → or_meaning o res.None ≡ res.Class (class_count before) → is_meant w ≡ true
       by_item none None is h = not_class refl h
-      by_item none (Some r) is h = by_among none (ap (λ (items : List Item). bound_first 0 0 0 items w) whole ∙ (is ∙ ap Some h)) (is_among (names_of before) w) refl
+      by_item none (Some r) is h = by_among none (ap (λ (items : List Item). bound_first 0 0 0 items w) whole
+          ∙ (is ∙ ap Some h)) (is_among (names_of before) w) refl
 
-      by_builtin : (o : Option Builtin) → builtin_of w ≡ o → or_meaning (builtin_meaning o) (or_meaning (bound_first 0 0 0 m.items w) res.None) ≡ res.Class (class_count before) → is_meant w ≡ true
+      by_builtin : (o : Option Builtin) → builtin_of w ≡ o → or_meaning (builtin_meaning o)
+          (or_meaning (bound_first 0 0 0 m.items w) res.None) ≡ res.Class (class_count before) → is_meant w ≡ true
       by_builtin None none h = by_item none (bound_first 0 0 0 m.items w) refl h
       by_builtin (Some b) some h = not_class refl h
 

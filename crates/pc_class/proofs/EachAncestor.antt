@@ -14,10 +14,15 @@ use Rattle.pc_class.specs.Overrides.{overridden}
 use Rattle.pc_class.proofs.ClassesBuilt.{has_base, class_over, class_is}
 
 -- a method that passes a test is among those that do
-kept_where_true : (test : Method → Bool) (xs : List Method) (x : Method) → Contains xs x → test x ≡ true → Contains (filter test xs) x
+kept_where_true : (test : Method → Bool) (xs : List Method) (x : Method) → Contains xs x → test x ≡ true
+    → Contains (filter test xs) x
 kept_where_true test [] x among e = absurd (omega (arith, among.1))
 kept_where_true test (y ∷ ys) x among e = elim (Contains-append_cases (y ∷ []) ys x among) [
-  | inl a ↦ elim (Contains-push_cases [] y x a) [ inl b ↦ absurd (omega (arith, b.1)) | inr same ↦ at_first (test y) refl same ]
+  | inl a ↦ elim (Contains-push_cases [] y x a) [
+    | inl b ↦ absurd (omega (arith, b.1))
+    | inr same ↦
+        at_first (test y) refl same
+  ]
   | inr b ↦ behind (test y) (kept_where_true test ys x b e)
 ]
   where
@@ -31,18 +36,25 @@ kept_where_true test (y ∷ ys) x among e = elim (Contains-append_cases (y ∷ [
 
 module _ (m : Module) where
   -- a class has the methods of each of its ancestors
-  handed_down : {c a : ℕ} → Chain (bases_of m) c a → (x : Method) → Contains (class_facts_at (classes_of m) a).methods x → Contains (class_facts_at (classes_of m) c).methods x
+  handed_down : {c a : ℕ} → Chain (bases_of m) c a → (x : Method) → Contains (class_facts_at (classes_of m) a).methods x
+      → Contains (class_facts_at (classes_of m) c).methods x
   handed_down here x among = among
   handed_down {c} (up {b = b} e rest) x among =
       let known = has_base m c b e in
       let own = own_methods m (class_facts_at (classes_of m) b) c 0 [] known.class.members in
-      let is = class_is m c known.class known.is ∙ ap (λ o. class_over m c known.class (base_facts (classes_of m) o)) known.base in
-      subst (λ xs. Contains xs x) (sym (ap (λ f. f.methods) is)) (Contains-append_right own (class_facts_at (classes_of m) b).methods x (handed_down rest x among))
+      let is = class_is m c known.class known.is ∙ ap (λ o. class_over m c known.class (base_facts (classes_of m) o))
+      known.base in
+      subst (λ xs. Contains xs x) (sym (ap (λ f. f.methods) is))
+      (Contains-append_right own (class_facts_at (classes_of m) b).methods x (handed_down rest x among))
 
   chain_of : {c a : ℕ} → Sub (bases_of m) (Class c) (Class a) → Chain (bases_of m) c a
   chain_of (s_class chain) = chain
 
-  pub judged_against_each : (c b a : ℕ) (class : ClassDef) (name : List ℕ) (old : Method) → base_named m c class.base ≡ Some b → Below (bases_of m) (Class b) (Class a) → Contains (class_facts_at (classes_of m) a).methods old → bytes_eq name old.name ≡ true → Contains (overridden (base_class m c class).methods name) old
+  pub judged_against_each : (c b a : ℕ) (class : ClassDef) (name : List ℕ) (old : Method)
+      → base_named m c class.base ≡ Some b → Below (bases_of m) (Class b) (Class a)
+      → Contains (class_facts_at (classes_of m) a).methods old → bytes_eq name old.name ≡ true
+      → Contains (overridden (base_class m c class).methods name) old
   judged_against_each c b a class name old is below among named =
       subst (λ o. Contains (overridden (base_facts (classes_of m) o).methods name) old) (sym is)
-      (kept_where_true (λ f. bytes_eq name f.name) (class_facts_at (classes_of m) b).methods old (handed_down (chain_of (sub_of below)) old among) named)
+      (kept_where_true (λ f. bytes_eq name f.name) (class_facts_at (classes_of m) b).methods old
+      (handed_down (chain_of (sub_of below)) old among) named)

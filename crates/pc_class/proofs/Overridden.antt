@@ -1,6 +1,7 @@
 -- The methods of a name that a class has: the nearest one, and after it those that the base of its owner has.
 use Rattle.std.proofs.Common.{◌≡◌, ◌<◌, ◌≤◌, ℕ, zero, suc, List, [], ◌∷◌, ◌++◌, refl, sym, ap, ◌∙◌, subst, arith}
-use Rattle.std.specs.Prelude.{Bool, true, false, ◌&&◌, ◌||◌, cond, if◌then◌else◌, Option, Some, None, find, filter, slice_get, bytes_eq, Contains}
+use Rattle.std.specs.Prelude.{Bool, true, false, ◌&&◌, ◌||◌, cond, if◌then◌else◌, Option, Some, None, find, filter}
+use Rattle.std.specs.Prelude.{slice_get, bytes_eq, Contains}
 use Rattle.std.specs.Option.{option_or}
 use Rattle.std.proofs.lemmas.Bool.{false≢true}
 use Rattle.std.proofs.lemmas.List.Folds.{find-append}
@@ -12,7 +13,8 @@ use Rattle.pc_scope.specs.Bindings.{classes_in}
 use Rattle.pc_scope.specs.Resolution.{is_one_of}
 use Rattle.pc_types.specs.Below.{base_of}
 use Rattle.pc_ann.specs.Bases.{base_named, bases_of}
-use Rattle.pc_class.specs.Facts.{Method, ClassFacts, class_in, class_facts_at, base_facts, method_by_name, binds_method, method_made, own_methods, classes_of}
+use Rattle.pc_class.specs.Facts.{Method, ClassFacts, class_in, class_facts_at, base_facts, method_by_name, binds_method}
+use Rattle.pc_class.specs.Facts.{method_made, own_methods, classes_of}
 use Rattle.pc_class.specs.Entries.{inherited_by}
 use Rattle.pc_class.specs.Overrides.{overridden}
 use Rattle.pc_class.proofs.ClassesBuilt.{no_class_past, base_here, below_class, class_is}
@@ -27,7 +29,8 @@ pub none_kept : {X : Type 0} (p : X → Bool) (xs : List X) → find p xs ≡ No
 none_kept p [] e = refl
 none_kept p (x ∷ xs) e = go (p x) (λ f. none_kept p xs f) e
   where
-    go : (b : Bool) → (find p xs ≡ None → filter p xs ≡ []) → cond b (Some x) (find p xs) ≡ None → cond b (x ∷ filter p xs) (filter p xs) ≡ []
+    go : (b : Bool) → (find p xs ≡ None → filter p xs ≡ []) → cond b (Some x) (find p xs) ≡ None
+        → cond b (x ∷ filter p xs) (filter p xs) ≡ []
     go true on f = absurd (none_some x (sym f))
     go false on f = on f
 
@@ -36,24 +39,33 @@ module _ (m : Module) (base : ClassFacts) (c : ℕ) (name : List ℕ) where
   named x = bytes_eq name x.name
 
   -- after a member of the name no method is of that name
-  none_again : (n : ℕ) (before : List (List ℕ)) (ms : List Member) → is_one_of name before ≡ true → filter named (own_methods m base c n before ms) ≡ []
+  none_again : (n : ℕ) (before : List (List ℕ)) (ms : List Member) → is_one_of name before ≡ true
+      → filter named (own_methods m base c n before ms) ≡ []
   none_again n before [] e = refl
-  none_again n before (field_member f ∷ ms) e = none_again n (f.name.text ∷ before) ms (second (bytes_eq name f.name.text) e)
+  none_again n before (field_member f ∷ ms) e = none_again n (f.name.text ∷ before) ms
+      (second (bytes_eq name f.name.text) e)
     where
       second : {b : Bool} (a : Bool) → b ≡ true → (a || b) ≡ true
       second true h = refl
       second false h = h
-  none_again n before (method_member f ∷ ms) e = go (binds_method base before f.name.text) refl (bytes_eq name f.name.text) refl (none_again (suc n) (f.name.text ∷ before) ms (second (bytes_eq name f.name.text) e))
+  none_again n before (method_member f ∷ ms) e = go (binds_method base before f.name.text) refl
+      (bytes_eq name f.name.text) refl (none_again (suc n) (f.name.text ∷ before) ms
+      (second (bytes_eq name f.name.text) e))
     where
       second : {b : Bool} (a : Bool) → b ≡ true → (a || b) ≡ true
       second true h = refl
       second false h = h
 
-      go : (b : Bool) → binds_method base before f.name.text ≡ b → (d : Bool) → bytes_eq name f.name.text ≡ d → filter named (own_methods m base c (suc n) (f.name.text ∷ before) ms) ≡ []
-          → filter named ((if b then method_made m c n f ∷ [] else []) ++ own_methods m base c (suc n) (f.name.text ∷ before) ms) ≡ []
+      go : (b : Bool) → binds_method base before f.name.text ≡ b → (d : Bool) → bytes_eq name f.name.text ≡ d
+          → filter named (own_methods m base c (suc n) (f.name.text ∷ before) ms) ≡ []
+          → filter named ((if b then method_made m c n f ∷ [] else []) ++ own_methods m base c (suc n)
+          (f.name.text ∷ before) ms) ≡ []
       go false i d j rest = rest
-      go true i true j rest = absurd (false≢true (sym (field_new (inherited_by base) before n (method_member f) i).0 ∙ ap (λ t. is_one_of t before) (sym ((bytes_eq-Decides name f.name.text).0 j)) ∙ e))
-      go true i false j rest = ap (λ b. cond b (method_made m c n f ∷ filter named (own_methods m base c (suc n) (f.name.text ∷ before) ms)) (filter named (own_methods m base c (suc n) (f.name.text ∷ before) ms))) j ∙ rest
+      go true i true j rest = absurd (false≢true (sym (field_new (inherited_by base) before n (method_member f) i).0
+          ∙ ap (λ t. is_one_of t before) (sym ((bytes_eq-Decides name f.name.text).0 j)) ∙ e))
+      go true i false j rest =
+          ap (λ b. cond b (method_made m c n f ∷ filter named (own_methods m base c (suc n) (f.name.text ∷ before) ms))
+          (filter named (own_methods m base c (suc n) (f.name.text ∷ before) ms))) j ∙ rest
 
   -- of the methods of a class at most one is of the name, and it is the class's own
   data IsOneOf (xs : List Method) : Type 0 where
@@ -64,7 +76,9 @@ module _ (m : Module) (base : ClassFacts) (c : ℕ) (name : List ℕ) where
   one_of n before [] = no_one refl refl
   one_of n before (field_member f ∷ ms) = one_of n (f.name.text ∷ before) ms
   one_of n before (method_member f ∷ ms) =
-      go (binds_method base before f.name.text) (bytes_eq name f.name.text) refl (one_of (suc n) (f.name.text ∷ before) ms) (λ e. none_again (suc n) (f.name.text ∷ before) ms (ap (λ b. b || is_one_of name before) e))
+      go (binds_method base before f.name.text) (bytes_eq name f.name.text) refl
+      (one_of (suc n) (f.name.text ∷ before) ms) (λ e. none_again (suc n) (f.name.text ∷ before) ms
+      (ap (λ b. b || is_one_of name before) e))
     where
       rest : List Method
       rest = own_methods m base c (suc n) (f.name.text ∷ before) ms
@@ -72,11 +86,16 @@ module _ (m : Module) (base : ClassFacts) (c : ℕ) (name : List ℕ) where
       made : Method
       made = method_made m c n f
 
-      go : (b : Bool) (d : Bool) → bytes_eq name f.name.text ≡ d → IsOneOf rest → (bytes_eq name f.name.text ≡ true → filter named rest ≡ []) → IsOneOf ((if b then made ∷ [] else []) ++ rest)
+      go : (b : Bool) (d : Bool) → bytes_eq name f.name.text ≡ d → IsOneOf rest
+          → (bytes_eq name f.name.text ≡ true → filter named rest ≡ [])
+          → IsOneOf ((if b then made ∷ [] else []) ++ rest)
       go false d j on none = on
-      go true true j on none = one made (ap (λ b. cond b (Some made) (find named rest)) j) (ap (λ b. cond b (made ∷ filter named rest) (filter named rest)) j ∙ ap (λ xs. made ∷ xs) (none j)) refl
-      go true false j (no_one e g) none = no_one (ap (λ b. cond b (Some made) (find named rest)) j ∙ e) (ap (λ b. cond b (made ∷ filter named rest) (filter named rest)) j ∙ g)
-      go true false j (one x e g o) none = one x (ap (λ b. cond b (Some made) (find named rest)) j ∙ e) (ap (λ b. cond b (made ∷ filter named rest) (filter named rest)) j ∙ g) o
+      go true true j on none = one made (ap (λ b. cond b (Some made) (find named rest)) j)
+          (ap (λ b. cond b (made ∷ filter named rest) (filter named rest)) j ∙ ap (λ xs. made ∷ xs) (none j)) refl
+      go true false j (no_one e g) none = no_one (ap (λ b. cond b (Some made) (find named rest)) j ∙ e)
+          (ap (λ b. cond b (made ∷ filter named rest) (filter named rest)) j ∙ g)
+      go true false j (one x e g o) none = one x (ap (λ b. cond b (Some made) (find named rest)) j ∙ e)
+          (ap (λ b. cond b (made ∷ filter named rest) (filter named rest)) j ∙ g) o
 
 module _ (m : Module) (name : List ℕ) where
   -- the methods of the name that a class of this base inherits
@@ -89,14 +108,20 @@ module _ (m : Module) (name : List ℕ) where
     pub all : above (Some c) ≡ x ∷ above (base_of (bases_of m) x.owner)
     pub class : ClassDef
     pub is : slice_get (classes_in m.items) x.owner ≡ Some class
-    pub among : Contains (own_methods m (base_facts (classes_of m) (base_named m x.owner class.base)) x.owner 0 [] class.members) x
+    pub among : Contains (own_methods m (base_facts (classes_of m) (base_named m x.owner class.base)) x.owner 0 []
+        class.members) x
 
-  nearest_in : (limit c : ℕ) → c < limit → (x : Method) → method_by_name (class_facts_at (classes_of m) c).methods name ≡ Some x → IsNearest c x
+  nearest_in : (limit c : ℕ) → c < limit → (x : Method) → method_by_name (class_facts_at (classes_of m) c).methods name
+      ≡ Some x → IsNearest c x
   nearest_in zero c less x e = absurd (omega arith)
-  nearest_in (suc limit) c less x e = at (slice_get (classes_in m.items) c) refl (λ b l f. nearest_in limit b (omega arith) x f)
+  nearest_in (suc limit) c less x e = at (slice_get (classes_in m.items) c) refl
+      (λ b l f. nearest_in limit b (omega arith) x f)
     where
-      over : (class : ClassDef) → slice_get (classes_in m.items) c ≡ Some class → (o : Option ℕ) → base_named m c class.base ≡ o → ((b : ℕ) → b < c → method_by_name (class_facts_at (classes_of m) b).methods name ≡ Some x → IsNearest b x) → IsNearest c x
-      over class is o named on = go (one_of m (base_facts (classes_of m) (base_named m c class.base)) c name 0 [] class.members) o named
+      over : (class : ClassDef) → slice_get (classes_in m.items) c ≡ Some class → (o : Option ℕ)
+          → base_named m c class.base ≡ o → ((b : ℕ) → b < c → method_by_name (class_facts_at (classes_of m) b).methods
+          name ≡ Some x → IsNearest b x) → IsNearest c x
+      over class is o named on = go (one_of m (base_facts (classes_of m) (base_named m c class.base)) c name 0 []
+          class.members) o named
         where
           parent : ClassFacts
           parent = base_facts (classes_of m) (base_named m c class.base)
@@ -121,17 +146,22 @@ module _ (m : Module) (name : List ℕ) where
               let same : y ≡ x = same_Some _ _ (sym (ap (λ q. option_or q (find is_named parent.methods)) f) ∙ found) in
               let owner : x.owner ≡ c = ap (λ (z : Method). z.owner) (sym same) ∙ h in record {
                 owner = omega (arith, owner);
-                all = kept ∙ ap (λ (ys : List Method). ys ++ filter is_named parent.methods) g ∙ ap (λ (z : Method). z ∷ filter is_named parent.methods) same
+                all = kept ∙ ap (λ (ys : List Method). ys ++ filter is_named parent.methods) g
+                    ∙ ap (λ (z : Method). z ∷ filter is_named parent.methods) same
                     ∙ ap (λ q. x ∷ above q) (sym (base_here m c class is) ∙ ap (base_of (bases_of m)) (sym owner));
                 class = class;
                 is = ap (slice_get (classes_in m.items)) owner ∙ is;
-                among = subst (λ k. Contains (own_methods m (base_facts (classes_of m) (base_named m k class.base)) k 0 [] class.members) x) (sym owner)
+                among = subst (λ k. Contains (own_methods m (base_facts (classes_of m) (base_named m k class.base)) k 0
+                    [] class.members) x) (sym owner)
                     (find_contains is_named own x (f ∙ ap (λ (z : Method). Some z) same));
               }
-          go (no_one f g) None b = absurd (none_some x (sym (ap (λ q. option_or q (find is_named parent.methods)) f ∙ ap (λ q. find is_named (base_facts (classes_of m) q).methods) b) ∙ found))
+          go (no_one f g) None b =
+              absurd (none_some x (sym (ap (λ q. option_or q (find is_named parent.methods)) f
+              ∙ ap (λ q. find is_named (base_facts (classes_of m) q).methods) b) ∙ found))
           go (no_one f g) (Some d) b =
               let less : d < c = below_class m c d class is b in
-              let r = on d less (sym (ap (λ q. option_or q (find is_named parent.methods)) f ∙ ap (λ q. find is_named (base_facts (classes_of m) q).methods) b) ∙ found) in record {
+              let r = on d less (sym (ap (λ q. option_or q (find is_named parent.methods)) f
+              ∙ ap (λ q. find is_named (base_facts (classes_of m) q).methods) b) ∙ found) in record {
                 owner = let l = r.owner in omega arith;
                 all = kept ∙ ap (λ (ys : List Method). ys ++ filter is_named parent.methods) g ∙ ap above b ∙ r.all;
                 class = r.class;
@@ -139,15 +169,20 @@ module _ (m : Module) (name : List ℕ) where
                 among = r.among;
               }
 
-      at : (o : Option ClassDef) → slice_get (classes_in m.items) c ≡ o → ((b : ℕ) → b < c → method_by_name (class_facts_at (classes_of m) b).methods name ≡ Some x → IsNearest b x) → IsNearest c x
-      at None is on = absurd (none_some x (sym (ap (λ q. method_by_name (class_in q).methods name) (no_class_past m c is)) ∙ e))
+      at : (o : Option ClassDef) → slice_get (classes_in m.items) c ≡ o
+          → ((b : ℕ) → b < c → method_by_name (class_facts_at (classes_of m) b).methods name ≡ Some x → IsNearest b x)
+          → IsNearest c x
+      at None is on =
+          absurd (none_some x (sym (ap (λ q. method_by_name (class_in q).methods name) (no_class_past m c is)) ∙ e))
       at (Some class) is on = over class is (base_named m c class.base) refl on
 
-  pub nearest : (c : ℕ) (x : Method) → method_by_name (class_facts_at (classes_of m) c).methods name ≡ Some x → IsNearest c x
+  pub nearest : (c : ℕ) (x : Method) → method_by_name (class_facts_at (classes_of m) c).methods name ≡ Some x
+      → IsNearest c x
   nearest c x e = nearest_in (suc c) c (omega arith) x e
 
 -- tests of all, where one more is tested
-pub one_tested : (total rest test so_far : Bool) → total ≡ ((test && rest) && so_far) → total ≡ (rest && (test && so_far))
+pub one_tested : (total rest test so_far : Bool) → total ≡ ((test && rest) && so_far)
+    → total ≡ (rest && (test && so_far))
 one_tested total rest true so_far e = e
 one_tested total true false so_far e = e
 one_tested total false false so_far e = e

@@ -1,4 +1,5 @@
--- The walk over the methods that a method overrides: what is left to be tested from each of them on, and that the store gave its types.
+-- The walk over the methods that a method overrides: what is left to be tested from each of them on, and that the store
+-- gave its types.
 use Rattle.std.proofs.Common.{◌≡◌, ◌<◌, ℕ, List, sym, ap, ◌∙◌, subst, arith}
 use Rattle.std.specs.Prelude.{Bool, ◌&&◌, Option, Some, None}
 use Rattle.std.specs.Option.{option_map}
@@ -12,17 +13,21 @@ use Rattle.pc_ann.specs.Bases.{bases_of}
 use Rattle.pc_class.specs.declared.table.Method.{Method as RustMethod}
 use Rattle.pc_class.specs.Facts.{Method, ClassFacts, class_facts_at, base_facts, method_by_name, classes_of}
 use Rattle.pc_class.specs.Overrides.{overridden}
-use Rattle.pc_class.specs.Tables.{ClassEntry, classes_with, method_lent, HasParameter, HasMethod, HasEntry, HasEntries, IsMethod}
+use Rattle.pc_class.specs.Tables.{ClassEntry, classes_with, method_lent, HasParameter, HasMethod, HasEntry, HasEntries}
+use Rattle.pc_class.specs.Tables.{IsMethod}
 use Rattle.pc_class.proofs.Overridden.{nearest, none_kept}
 use Rattle.pc_class.proofs.TableFields.{steps_left, fewer}
 
 module _ {Ty : Type 0} where
   -- the store gave the types of a method of the table
-  pub method_given : (has : Ty → Type 0) (es : List (ClassEntry Ty)) (x : RustMethod Ty) → HasEntries has es → IsMethod es x → HasMethod has x
-  method_given has es x given is = All-contains (HasMethod has) is.class.methods x (All-contains (HasEntry has) es is.class given is.listed).methods is.among
+  pub method_given : (has : Ty → Type 0) (es : List (ClassEntry Ty)) (x : RustMethod Ty) → HasEntries has es
+      → IsMethod es x → HasMethod has x
+  method_given has es x given is = All-contains (HasMethod has) is.class.methods x
+      (All-contains (HasEntry has) es is.class given is.listed).methods is.among
 
   -- and it has them still
-  pub method_keeps : (has later : Ty → Type 0) (x : RustMethod Ty) → ((t : Ty) → has t → later t) → HasMethod has x → HasMethod later x
+  pub method_keeps : (has later : Ty → Type 0) (x : RustMethod Ty) → ((t : Ty) → has t → later t) → HasMethod has x
+      → HasMethod later x
   method_keeps has later x keeps h = record {
     params = All-weaker (HasParameter has) (HasParameter later) (λ p q. keeps p.ty q) x.params.items h.params;
     ret = keeps x.ret h.ret;
@@ -34,17 +39,23 @@ module _ (m : Module) (name : List ℕ) where
   above o = overridden (base_facts (classes_of m) o).methods name
 
   -- the nearest method is tested, and then those above its owner
-  pub all_next : (test : Method → Bool) (at : Option ℕ) (c : ℕ) (x : Method) (base : Option ℕ) → at ≡ Some c → method_by_name (class_facts_at (classes_of m) c).methods name ≡ Some x → base ≡ base_of (bases_of m) x.owner
+  pub all_next : (test : Method → Bool) (at : Option ℕ) (c : ℕ) (x : Method) (base : Option ℕ) → at ≡ Some c
+      → method_by_name (class_facts_at (classes_of m) c).methods name ≡ Some x → base ≡ base_of (bases_of m) x.owner
       → list_all test (above at) ≡ (test x && list_all test (above base))
   all_next test at c x base here e b =
-      ap (λ o. list_all test (above o)) here ∙ ap (list_all test) (nearest m name c x e).all ∙ ap (λ o. test x && list_all test (above o)) (sym b)
+      ap (λ o. list_all test (above o)) here ∙ ap (list_all test) (nearest m name c x e).all
+      ∙ ap (λ o. test x && list_all test (above o)) (sym b)
 
   -- where there is none, nothing is left to be tested
-  pub all_done : (test : Method → Bool) (at : Option ℕ) (c : ℕ) → at ≡ Some c → method_by_name (class_facts_at (classes_of m) c).methods name ≡ None → list_all test (above at) ≡ list_all test (above None)
-  all_done test at c here e = ap (λ o. list_all test (above o)) here ∙ ap (list_all test) (none_kept _ (class_facts_at (classes_of m) c).methods e)
+  pub all_done : (test : Method → Bool) (at : Option ℕ) (c : ℕ) → at ≡ Some c
+      → method_by_name (class_facts_at (classes_of m) c).methods name ≡ None → list_all test (above at) ≡ list_all test
+      (above None)
+  all_done test at c here e = ap (λ o. list_all test (above o)) here
+      ∙ ap (list_all test) (none_kept _ (class_facts_at (classes_of m) c).methods e)
 
   -- the base of the owner stands before the class
-  pub base_fewer : (at : Option ℕ) (c : ℕ) (x : Method) (base : Option ℕ) → at ≡ Some c → method_by_name (class_facts_at (classes_of m) c).methods name ≡ Some x → ((b : ℕ) → base ≡ Some b → b < x.owner)
+  pub base_fewer : (at : Option ℕ) (c : ℕ) (x : Method) (base : Option ℕ) → at ≡ Some c
+      → method_by_name (class_facts_at (classes_of m) c).methods name ≡ Some x → ((b : ℕ) → base ≡ Some b → b < x.owner)
       → steps_left base < steps_left at
   base_fewer at c x base here e before =
       let l = fewer base x.owner before in
@@ -52,7 +63,13 @@ module _ (m : Module) (name : List ℕ) where
       subst (λ o. steps_left base < steps_left o) (sym here) (omega arith)
 
 -- what the table gave at the name is what the class has there
-pub found_there : {Ty : Type 0} (tree : Ty → Tree) (es : List (ClassEntry Ty)) (m : Module) (class : ℕ) (text name : List ℕ) (given known : Option (Bor (RustMethod Ty))) → classes_with tree es ≡ classes_of m → text ≡ name
-    → option_map (method_lent tree) given ≡ method_by_name (class_facts_at (classes_with tree es) class).methods text → given ≡ known → method_by_name (class_facts_at (classes_of m) class).methods name ≡ option_map (method_lent tree) known
+pub found_there : {Ty : Type 0} (tree : Ty → Tree) (es : List (ClassEntry Ty)) (m : Module) (class : ℕ)
+    (text name : List ℕ) (given known : Option (Bor (RustMethod Ty))) → classes_with tree es ≡ classes_of m
+    → text ≡ name
+    → option_map (method_lent tree) given ≡ method_by_name (class_facts_at (classes_with tree es) class).methods text
+    → given ≡ known → method_by_name (class_facts_at (classes_of m) class).methods name
+    ≡ option_map (method_lent tree) known
 found_there tree es m class text name given known same is e k =
-    ap (λ t. method_by_name (class_facts_at (classes_of m) class).methods t) (sym is) ∙ ap (λ (cs : List ClassFacts). method_by_name (class_facts_at cs class).methods text) (sym same) ∙ sym e ∙ ap (option_map (method_lent tree)) k
+    ap (λ t. method_by_name (class_facts_at (classes_of m) class).methods t) (sym is)
+    ∙ ap (λ (cs : List ClassFacts). method_by_name (class_facts_at cs class).methods text) (sym same) ∙ sym e
+    ∙ ap (option_map (method_lent tree)) k

@@ -6,11 +6,14 @@ use Rattle.pc_token.specs.Keywords as keywords
 use Rattle.pc_scope.specs.Reserved.{reserved_builtins, beside, builtin_of, is_builtin_name}
 use Rattle.pc_scope.proofs.TextMaps.{turned}
 
-found : {A : Type 0} (table : List (List ℕ × A)) (t : List ℕ) → is_some (beside table t) ≡ list_any (bytes_eq t) (map (λ e. e.0) table)
+found : {A : Type 0} (table : List (List ℕ × A)) (t : List ℕ) → is_some (beside table t) ≡ list_any (bytes_eq t)
+    (map (λ e. e.0) table)
 found [] t = refl
-found (e ∷ rest) t = go (bytes_eq e.0 t) (found rest t) ∙ ap (λ b. b || list_any (bytes_eq t) (map (λ x. x.0) rest)) (turned e.0 t)
+found (e ∷ rest) t = go (bytes_eq e.0 t) (found rest t) ∙ ap (λ b. b || list_any (bytes_eq t) (map (λ x. x.0) rest))
+    (turned e.0 t)
   where
-    go : (b : Bool) → is_some (beside rest t) ≡ list_any (bytes_eq t) (map (λ x. x.0) rest) → is_some (if b then Some e.1 else beside rest t) ≡ (b || list_any (bytes_eq t) (map (λ x. x.0) rest))
+    go : (b : Bool) → is_some (beside rest t) ≡ list_any (bytes_eq t) (map (λ x. x.0) rest)
+        → is_some (if b then Some e.1 else beside rest t) ≡ (b || list_any (bytes_eq t) (map (λ x. x.0) rest))
     go true h = refl
     go false h = h
 

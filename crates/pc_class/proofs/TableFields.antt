@@ -1,5 +1,6 @@
 -- The fields of a class, put one after another from the last of the class itself to the first of its first ancestor.
-use Rattle.std.proofs.Common.{◌≡◌, ◌<◌, ◌≤◌, ◌+◌, ◌-◌, ℕ, zero, suc, List, [], ◌∷◌, ◌++◌, length, map, take, drop, reverse, get_or, refl, sym, ap, ◌∙◌, arith, length-drop, append_assoc}
+use Rattle.std.proofs.Common.{◌≡◌, ◌<◌, ◌≤◌, ◌+◌, ◌-◌, ℕ, zero, suc, List, [], ◌∷◌, ◌++◌, length, map, take, drop}
+use Rattle.std.proofs.Common.{reverse, get_or, refl, sym, ap, ◌∙◌, arith, length-drop, append_assoc}
 use Rattle.std.specs.Prelude.{Option, Some, None, All, Contains, slice_get, slice_index_or}
 use Rattle.std.specs.Borrow.{Bor}
 use Rattle.std.proofs.lemmas.List.{map-append, reverse-append, reverse-reverse, get_or-drop}
@@ -18,12 +19,14 @@ abbrev span : ℕ → ℕ → Span
 span start end = record { start = start; end = end }
 
 -- a part with one more
-part_more : {X : Type 0} (xs : List X) (start end : ℕ) (x : X) → start ≤ end → end < length xs → x ≡ get_or xs end x → part xs (span start (suc end)) ≡ part xs (span start end) ++ x ∷ []
+part_more : {X : Type 0} (xs : List X) (start end : ℕ) (x : X) → start ≤ end → end < length xs → x ≡ get_or xs end x
+    → part xs (span start (suc end)) ≡ part xs (span start end) ++ x ∷ []
 part_more xs start end x order less is =
     let l = length-drop start xs in
     ap (λ n. take n (drop start xs)) (let e : suc end - start ≡ suc (end - start) = omega arith in e)
     ∙ take-suc (drop start xs) (end - start) x (omega arith)
-    ∙ ap (λ y. take (end - start) (drop start xs) ++ y ∷ []) (get_or-drop start xs (end - start) x ∙ ap (λ n. get_or xs n x) (let e : start + (end - start) ≡ end = omega arith in e) ∙ sym is)
+    ∙ ap (λ y. take (end - start) (drop start xs) ++ y ∷ []) (get_or-drop start xs (end - start) x
+    ∙ ap (λ n. get_or xs n x) (let e : start + (end - start) ≡ end = omega arith in e) ∙ sym is)
 
 pub part_none : {X : Type 0} (xs : List X) (start end : ℕ) → end ≤ start → part xs (span start end) ≡ []
 part_none xs start end less = ap (λ n. take n (drop start xs)) (let e : end - start ≡ 0 = omega arith in e)
@@ -39,54 +42,76 @@ fewer (Some b) n h = let l = h b refl in omega arith
 
 module _ {Ty : Type 0} where
   -- one more, from the last on
-  pub back_next : (F : List (RustParameter Ty)) (start end : ℕ) (all new : List (Bor (RustParameter Ty))) (x : Bor (RustParameter Ty)) → start < end → end ≤ length F → x.now ≡ get_or F (end - 1) x.now → new ≡ all ++ x ∷ []
-      → map lent_parameter new ++ reverse (part F (span start (end - 1))) ≡ map lent_parameter all ++ reverse (part F (span start end))
+  pub back_next : (F : List (RustParameter Ty)) (start end : ℕ) (all new : List (Bor (RustParameter Ty)))
+      (x : Bor (RustParameter Ty)) → start < end → end ≤ length F → x.now ≡ get_or F (end - 1) x.now
+      → new ≡ all ++ x ∷ []
+      → map lent_parameter new ++ reverse (part F (span start (end - 1))) ≡ map lent_parameter all
+      ++ reverse (part F (span start end))
   back_next F start end all new x low high is e =
       ap (λ (xs : List (Bor (RustParameter Ty))). map lent_parameter xs ++ reverse (part F (span start (end - 1)))) e
-      ∙ ap (λ (xs : List (RustParameter Ty)). xs ++ reverse (part F (span start (end - 1)))) (map-append lent_parameter all (x ∷ []))
+      ∙ ap (λ (xs : List (RustParameter Ty)). xs ++ reverse (part F (span start (end - 1))))
+      (map-append lent_parameter all (x ∷ []))
       ∙ append_assoc (map lent_parameter all) (x.now ∷ []) (reverse (part F (span start (end - 1))))
-      ∙ ap (λ (xs : List (RustParameter Ty)). map lent_parameter all ++ xs) (sym (reverse-append (part F (span start (end - 1))) (x.now ∷ [])))
-      ∙ ap (λ (xs : List (RustParameter Ty)). map lent_parameter all ++ reverse xs) (sym (part_more F start (end - 1) x.now (omega arith) (omega arith) is))
-      ∙ ap (λ n. map lent_parameter all ++ reverse (part F (span start n))) (let f : suc (end - 1) ≡ end = omega arith in f)
+      ∙ ap (λ (xs : List (RustParameter Ty)). map lent_parameter all ++ xs)
+      (sym (reverse-append (part F (span start (end - 1))) (x.now ∷ [])))
+      ∙ ap (λ (xs : List (RustParameter Ty)). map lent_parameter all ++ reverse xs)
+      (sym (part_more F start (end - 1) x.now (omega arith) (omega arith) is))
+      ∙ ap (λ n. map lent_parameter all ++ reverse (part F (span start n)))
+      (let f : suc (end - 1) ≡ end = omega arith in f)
 
-  index_is : (es : List (ClassEntry Ty)) (i : ℕ) (x other : ClassEntry Ty) → slice_get es i ≡ Some x → slice_index_or es i other ≡ x
+  index_is : (es : List (ClassEntry Ty)) (i : ℕ) (x other : ClassEntry Ty) → slice_get es i ≡ Some x
+      → slice_index_or es i other ≡ x
   index_is [] i x other e = absurd (grind (arith, e))
   index_is (y ∷ xs) zero x other e = grind (arith, e)
   index_is (y ∷ xs) (suc i) x other e = index_is xs i x other e
 
   -- a class's fields are its base's and then those that it binds itself
-  pub fields_over : (d : NameMaps) (F : List (RustParameter Ty)) (M : List (RustMethod Ty)) (ns : List ClassNode) (es : List (ClassEntry Ty)) → AreNodes d F M ns es → (c : ℕ) (n : ClassNode) → slice_get ns c ≡ Some n
+  pub fields_over : (d : NameMaps) (F : List (RustParameter Ty)) (M : List (RustMethod Ty)) (ns : List ClassNode)
+      (es : List (ClassEntry Ty)) → AreNodes d F M ns es → (c : ℕ) (n : ClassNode) → slice_get ns c ≡ Some n
       → (inherited_entry es (Some c)).fields ≡ (inherited_entry es n.base).fields ++ part F n.fields
-  fields_over d F M ns es are c n is = ap (λ (e : ClassEntry Ty). e.fields) (index_is es c _ empty_entry (are.each c n is).is)
+  fields_over d F M ns es are c n is = ap (λ (e : ClassEntry Ty). e.fields)
+      (index_is es c _ empty_entry (are.each c n is).is)
 
   -- so are its methods those that it binds itself and then its base's
-  pub methods_over : (d : NameMaps) (F : List (RustParameter Ty)) (M : List (RustMethod Ty)) (ns : List ClassNode) (es : List (ClassEntry Ty)) → AreNodes d F M ns es → (c : ℕ) (n : ClassNode) → slice_get ns c ≡ Some n → (own : List (RustMethod Ty)) → own ≡ part M n.methods
-      → (slice_index_or es c empty_entry).methods ≡ own ++ (inherited_entry es (slice_index_or es c empty_entry).base).methods
+  pub methods_over : (d : NameMaps) (F : List (RustParameter Ty)) (M : List (RustMethod Ty)) (ns : List ClassNode)
+      (es : List (ClassEntry Ty)) → AreNodes d F M ns es → (c : ℕ) (n : ClassNode) → slice_get ns c ≡ Some n
+      → (own : List (RustMethod Ty)) → own ≡ part M n.methods
+      → (slice_index_or es c empty_entry).methods ≡ own ++ (inherited_entry es
+      (slice_index_or es c empty_entry).base).methods
   methods_over d F M ns es are c n is own same =
       let here = index_is es c _ empty_entry (are.each c n is).is in
-      ap (λ (e : ClassEntry Ty). e.methods) here ∙ ap (λ (xs : List (RustMethod Ty)). xs ++ (inherited_entry es n.base).methods) (sym same) ∙ ap (λ (e : ClassEntry Ty). own ++ (inherited_entry es e.base).methods) (sym here)
+      ap (λ (e : ClassEntry Ty). e.methods) here ∙ ap (λ (xs : List (RustMethod Ty)). xs
+      ++ (inherited_entry es n.base).methods) (sym same)
+      ∙ ap (λ (e : ClassEntry Ty). own ++ (inherited_entry es e.base).methods) (sym here)
 
   -- one class more on the way up
-  pub up_next : (total base own : List (RustParameter Ty)) (all new : List (RustParameter Ty)) → total ≡ (base ++ own) ++ reverse all → new ≡ all ++ reverse own → total ≡ base ++ reverse new
+  pub up_next : (total base own : List (RustParameter Ty)) (all new : List (RustParameter Ty))
+      → total ≡ (base ++ own) ++ reverse all → new ≡ all ++ reverse own → total ≡ base ++ reverse new
   up_next total base own all new e f =
-      e ∙ append_assoc base own (reverse all) ∙ ap (λ xs. base ++ (xs ++ reverse all)) (sym (reverse-reverse own)) ∙ ap (λ xs. base ++ xs) (sym (reverse-append all (reverse own))) ∙ ap (λ xs. base ++ reverse xs) (sym f)
+      e ∙ append_assoc base own (reverse all) ∙ ap (λ xs. base ++ (xs ++ reverse all)) (sym (reverse-reverse own))
+      ∙ ap (λ xs. base ++ xs) (sym (reverse-append all (reverse own))) ∙ ap (λ xs. base ++ reverse xs) (sym f)
 
   -- what is lent means what it is
-  pub lent_with : (tree : Ty → Tree) (ps : List (Bor (RustParameter Ty))) → map (parameter_lent tree) ps ≡ map (parameter_with tree) (map lent_parameter ps)
+  pub lent_with : (tree : Ty → Tree) (ps : List (Bor (RustParameter Ty))) → map (parameter_lent tree) ps
+      ≡ map (parameter_with tree) (map lent_parameter ps)
   lent_with tree [] = refl
   lent_with tree (p ∷ ps) = ap (λ xs. parameter_lent tree p ∷ xs) (lent_with tree ps)
 
   -- fields of a class are fields of the table
-  pub lent_listed : (es : List (ClassEntry Ty)) (e : ClassEntry Ty) → Contains es e → (ps : List (Bor (RustParameter Ty))) → ((x : RustParameter Ty) → Contains (map lent_parameter ps) x → Contains e.fields x) → All (IsLent es) ps
+  pub lent_listed : (es : List (ClassEntry Ty)) (e : ClassEntry Ty) → Contains es e
+      → (ps : List (Bor (RustParameter Ty))) → ((x : RustParameter Ty) → Contains (map lent_parameter ps) x
+      → Contains e.fields x) → All (IsLent es) ps
   lent_listed es e listed [] among = All-nil (IsLent es)
   lent_listed es e listed (p ∷ ps) among =
       All-cons (IsLent es) p ps (record { class = e; listed = listed; among = among p.now (0, omega arith, refl) })
       (lent_listed es e listed ps (λ x c. among x (suc c.0, (let l = c.1 in omega arith), c.2)))
 
-  pub entry_listed : (es : List (ClassEntry Ty)) (i : ℕ) (d : ClassEntry Ty) → i < length es → Contains es (slice_index_or es i d)
+  pub entry_listed : (es : List (ClassEntry Ty)) (i : ℕ) (d : ClassEntry Ty) → i < length es
+      → Contains es (slice_index_or es i d)
   entry_listed es i d l = (i, l, go es i (slice_index_or es i d) l)
     where
-      go : (xs : List (ClassEntry Ty)) (k : ℕ) (e : ClassEntry Ty) → k < length xs → slice_index_or xs k e ≡ slice_index_or xs k d
+      go : (xs : List (ClassEntry Ty)) (k : ℕ) (e : ClassEntry Ty) → k < length xs
+          → slice_index_or xs k e ≡ slice_index_or xs k d
       go [] k e h = absurd (omega arith)
       go (x ∷ xs) zero e h = refl
       go (x ∷ xs) (suc k) e h = go xs k e (omega arith)

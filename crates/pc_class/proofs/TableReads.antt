@@ -1,20 +1,25 @@
 -- What a class table tells of a class: what stands in the maps' lists at a name.
-use Rattle.std.proofs.Common.{◌≡◌, ◌<◌, ℕ, zero, suc, List, [], ◌∷◌, length, map, get_or, refl, sym, ap, ◌∙◌, subst, arith}
-use Rattle.std.specs.Prelude.{Bool, true, false, cond, Option, Some, None, find, slice_get, slice_index_or, bytes_eq, Contains}
+use Rattle.std.proofs.Common.{◌≡◌, ◌<◌, ℕ, zero, suc, List, [], ◌∷◌, length, map, get_or, refl, sym, ap, ◌∙◌, subst}
+use Rattle.std.proofs.Common.{arith}
+use Rattle.std.specs.Prelude.{Bool, true, false, cond, Option, Some, None, find, slice_get, slice_index_or, bytes_eq}
+use Rattle.std.specs.Prelude.{Contains}
 use Rattle.std.specs.Option.{option_map}
 use Rattle.std.proofs.lemmas.Option.{same_Some, slice_get_read}
 use Rattle.pc_types.specs.Tree.{Tree}
 use Rattle.pc_class.specs.Facts.{ClassFacts, class_in, class_facts_at, base_facts, field_by_name, method_by_name}
 use Rattle.pc_class.specs.NameMaps.{NameMaps, named_at}
 use Rattle.pc_class.specs.Outlines.{at_number, IsNumberIn, first_named, IsMapOf}
-use Rattle.pc_class.specs.Tables.{ClassEntry, empty_entry, inherited_entry, parameter_with, method_with, class_with, classes_with}
+use Rattle.pc_class.specs.Tables.{ClassEntry, empty_entry, inherited_entry, parameter_with, method_with, class_with}
+use Rattle.pc_class.specs.Tables.{classes_with}
 use Rattle.pc_class.specs.Parts.{parameter_name, stored_method_name}
 
-pub find_map : {X Y : Type 0} (f : X → Y) (p : Y → Bool) (xs : List X) → find p (map f xs) ≡ option_map f (find (λ x. p (f x)) xs)
+pub find_map : {X Y : Type 0} (f : X → Y) (p : Y → Bool) (xs : List X)
+    → find p (map f xs) ≡ option_map f (find (λ x. p (f x)) xs)
 find_map f p [] = refl
 find_map {X} {Y} f p (x ∷ xs) = go (p (f x)) (find_map f p xs)
   where
-    go : (b : Bool) → find p (map f xs) ≡ option_map f (find (λ x. p (f x)) xs) → cond b (Some (f x)) (find p (map f xs)) ≡ option_map f (cond b (Some x) (find (λ x. p (f x)) xs))
+    go : (b : Bool) → find p (map f xs) ≡ option_map f (find (λ x. p (f x)) xs)
+        → cond b (Some (f x)) (find p (map f xs)) ≡ option_map f (cond b (Some x) (find (λ x. p (f x)) xs))
     go true e = refl
     go false e = e
 
@@ -38,7 +43,8 @@ find_contains p (y ∷ xs) x e = go (p y) (λ f. find_contains p xs x f) e
     go false on f = let r = on f in (suc r.0, (let l = r.1 in omega arith), r.2)
 
 -- what a map gave, where it is held
-module _ {X : Type 0} (name : X → List ℕ) (d : NameMaps) (all : List X) (at : ℕ) (these : List X) (h : IsMapOf name d all at these) (n : List ℕ) where
+module _ {X : Type 0} (name : X → List ℕ) (d : NameMaps) (all : List X) (at : ℕ) (these : List X)
+    (h : IsMapOf name d all at these) (n : List ℕ) where
   pub number_within : (i : ℕ) → named_at d at n ≡ Some i → i < length all
   number_within i e = subst (IsNumberIn all) e (h.within n)
 
@@ -46,25 +52,35 @@ module _ {X : Type 0} (name : X → List ℕ) (d : NameMaps) (all : List X) (at 
   named_none e = sym (h.same n) ∙ ap (at_number all) e
 
   pub named_some : (i : ℕ) (x : X) → named_at d at n ≡ Some i → x ≡ get_or all i x → first_named name these n ≡ Some x
-  named_some i x e is = sym (h.same n) ∙ ap (at_number all) e ∙ slice_get_read all (length all) i x refl (number_within i e) is
+  named_some i x e is = sym (h.same n) ∙ ap (at_number all) e ∙ slice_get_read all (length all) i x refl
+      (number_within i e) is
 
 module _ {Ty : Type 0} (tree : Ty → Tree) (es : List (ClassEntry Ty)) where
   -- a class of the table among those that it means
-  pub class_there : (c : ℕ) (e : ClassEntry Ty) → slice_get es c ≡ Some e → class_facts_at (classes_with tree es) c ≡ class_with tree e
+  pub class_there : (c : ℕ) (e : ClassEntry Ty) → slice_get es c ≡ Some e → class_facts_at (classes_with tree es) c
+      ≡ class_with tree e
   class_there c e is = ap class_in (get_map (class_with tree) es c ∙ ap (option_map (class_with tree)) is)
 
-  pub field_there : (c : ℕ) (e : ClassEntry Ty) → slice_get es c ≡ Some e → (n : List ℕ) → field_by_name (class_facts_at (classes_with tree es) c).fields n ≡ option_map (parameter_with tree) (first_named parameter_name e.fields n)
-  field_there c e is n = ap (λ (x : ClassFacts). field_by_name x.fields n) (class_there c e is) ∙ find_map (parameter_with tree) (λ f. bytes_eq n f.name) e.fields
+  pub field_there : (c : ℕ) (e : ClassEntry Ty) → slice_get es c ≡ Some e → (n : List ℕ)
+      → field_by_name (class_facts_at (classes_with tree es) c).fields n ≡ option_map (parameter_with tree)
+      (first_named parameter_name e.fields n)
+  field_there c e is n = ap (λ (x : ClassFacts). field_by_name x.fields n) (class_there c e is)
+      ∙ find_map (parameter_with tree) (λ f. bytes_eq n f.name) e.fields
 
-  pub method_there : (c : ℕ) (e : ClassEntry Ty) → slice_get es c ≡ Some e → (n : List ℕ) → method_by_name (class_facts_at (classes_with tree es) c).methods n ≡ option_map (method_with tree) (first_named stored_method_name e.methods n)
-  method_there c e is n = ap (λ (x : ClassFacts). method_by_name x.methods n) (class_there c e is) ∙ find_map (method_with tree) (λ f. bytes_eq n f.name) e.methods
+  pub method_there : (c : ℕ) (e : ClassEntry Ty) → slice_get es c ≡ Some e → (n : List ℕ)
+      → method_by_name (class_facts_at (classes_with tree es) c).methods n ≡ option_map (method_with tree)
+      (first_named stored_method_name e.methods n)
+  method_there c e is n = ap (λ (x : ClassFacts). method_by_name x.methods n) (class_there c e is)
+      ∙ find_map (method_with tree) (λ f. bytes_eq n f.name) e.methods
 
 -- what a class inherits, as what it means
-pub inherits_there : {Ty : Type 0} (tree : Ty → Tree) (es : List (ClassEntry Ty)) (o : Option ℕ) → base_facts (classes_with tree es) o ≡ class_with tree (inherited_entry es o)
+pub inherits_there : {Ty : Type 0} (tree : Ty → Tree) (es : List (ClassEntry Ty)) (o : Option ℕ)
+    → base_facts (classes_with tree es) o ≡ class_with tree (inherited_entry es o)
 inherits_there tree es None = refl
 inherits_there tree es (Some b) = go es b
   where
-    go : (xs : List (ClassEntry _)) (i : ℕ) → class_facts_at (classes_with tree xs) i ≡ class_with tree (slice_index_or xs i empty_entry)
+    go : (xs : List (ClassEntry _)) (i : ℕ) → class_facts_at (classes_with tree xs) i ≡ class_with tree
+        (slice_index_or xs i empty_entry)
     go [] i = refl
     go (x ∷ xs) zero = refl
     go (x ∷ xs) (suc i) = go xs i

@@ -22,5 +22,6 @@ module _ {Store Ty : Type 0} (has : Store → Ty → Type 0) where
     pub all_kept : (types : List Ty) → All (has a) types → All (has b) types
     all_kept types h = All-weaker (has a) (has b) k types h
 
-    pub env_kept : (tree : Ty → Tree) (types : List (Option Ty)) (env : Env) → GivesEnv has tree a types env → GivesEnv has tree b types env
+    pub env_kept : (tree : Ty → Tree) (types : List (Option Ty)) (env : Env) → GivesEnv has tree a types env
+        → GivesEnv has tree b types env
     env_kept tree types env g = record { given = each_kept types g.given; is = g.is }

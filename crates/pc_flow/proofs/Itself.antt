@@ -5,7 +5,8 @@ use Rattle.std.proofs.lemmas.Bool.Decides.{nat_tests}
 use Rattle.pc_types.specs.Tree.{Tree, Trees, Class, ListOf, DictOf, TupleOf, Union, end, more}
 use Rattle.pc_types.specs.Below.{Bases}
 use Rattle.pc_types.specs.Shape.{nodes, node_limit, union}
-use Rattle.pc_types.specs.Join.{same_tree, same_trees, by_rule, put_all, unabsorbed_members, join, join_of, within_limit}
+use Rattle.pc_types.specs.Join.{same_tree, same_trees, by_rule, put_all, unabsorbed_members, join, join_of}
+use Rattle.pc_types.specs.Join.{within_limit}
 use Rattle.pc_types.proofs.JoinNormal.{within_is}
 
 -- a type, and the parts of a tuple, are equal to themselves
@@ -24,7 +25,8 @@ mutual
 
 join_one : (bases : Bases) (s : Tree) → nodes s ≤ node_limit → join bases s s ≡ Some s
 join_one bases s l =
-    let e : join_of bases s s ≡ Some s = ap (λ (b : Bool). if b then Some s else by_rule s s (option_map union (put_all bases s s (unabsorbed_members bases s s)))) (tree_itself s) in
+    let e : join_of bases s s ≡ Some s = ap (λ (b : Bool). if b then Some s else by_rule s s
+    (option_map union (put_all bases s s (unabsorbed_members bases s s)))) (tree_itself s) in
     ap within_limit e ∙ within_is s l
 
 pub join_itself : (bases : Bases) (s t : Tree) → s ≡ t → nodes s ≤ node_limit → join bases s t ≡ Some s

@@ -7,7 +7,8 @@ use Rattle.pc_flow.specs.Environment.{Env, join_env}
 suc_inj : {m n : ℕ} → suc m ≡ suc n → m ≡ n
 suc_inj e = grind arith
 
-pub kept : (bases : Bases) (declared : List Tree) (a b : Env) → length a ≡ length declared → length b ≡ length declared → length (join_env bases declared a b) ≡ length declared
+pub kept : (bases : Bases) (declared : List Tree) (a b : Env) → length a ≡ length declared → length b ≡ length declared
+    → length (join_env bases declared a b) ≡ length declared
 kept bases [] a b la lb = refl
 kept bases (d ∷ ds) [] b la lb = la
 kept bases (d ∷ ds) (s ∷ ss) [] la lb = lb

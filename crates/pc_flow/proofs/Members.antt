@@ -1,5 +1,6 @@
 -- What is left of a member by how it stands to a test, and that the members of a type are one each.
-use Rattle.std.proofs.Common.{◌≡◌, ◌==◌, ◌<◌, ℕ, zero, suc, length, get_or, drop, Bool as Truth, true, false, Some, None, List, [], ◌∷◌, refl, sym, ap, ◌∙◌, subst}
+use Rattle.std.proofs.Common.{◌≡◌, ◌==◌, ◌<◌, ℕ, zero, suc, length, get_or, drop, Bool as Truth, true, false, Some}
+use Rattle.std.proofs.Common.{None, List, [], ◌∷◌, refl, sym, ap, ◌∙◌, subst}
 use Rattle.std.proofs.lemmas.Bool.{true≢false, eqb-true}
 use Rattle.std.specs.Prelude.{if◌then◌else◌, map}
 use Rattle.pc_types.specs.Tree.{Tree, Any, Object, Never, Int, Bool, Class, Union}
@@ -21,15 +22,20 @@ use Rattle.pc_flow.proofs.Rest.{mapped_rest}
 
 -- what is left of a member that stands so
 abbrev pub Leaves : Bases → Test → Tree → Standing → Type 0
-Leaves bases test m Within = (member_passing bases (tested_of test) m ≡ Some m) × (member_failing bases (tested_of test) m ≡ None)
-Leaves bases test m Above = (member_passing bases (tested_of test) m ≡ Some (type_for test)) × (member_failing bases (tested_of test) m ≡ Some m)
-Leaves bases test m Beside = (member_passing bases (tested_of test) m ≡ None) × (member_failing bases (tested_of test) m ≡ Some m)
+Leaves bases test m Within = (member_passing bases (tested_of test) m ≡ Some m)
+    × (member_failing bases (tested_of test) m ≡ None)
+Leaves bases test m Above = (member_passing bases (tested_of test) m ≡ Some (type_for test))
+    × (member_failing bases (tested_of test) m ≡ Some m)
+Leaves bases test m Beside = (member_passing bases (tested_of test) m ≡ None)
+    × (member_failing bases (tested_of test) m ≡ Some m)
 
 -- of a class, by the two walks up from it and from the class tested for
-class_leaves : (bases : Bases) (c d : ℕ) (x y : Truth) → reaches bases d d c ≡ x → reaches bases c c d ≡ y → Leaves bases (tests.Class c) (Class d) (if x then Within else (if y then Above else Beside))
+class_leaves : (bases : Bases) (c d : ℕ) (x y : Truth) → reaches bases d d c ≡ x → reaches bases c c d ≡ y
+    → Leaves bases (tests.Class c) (Class d) (if x then Within else (if y then Above else Beside))
 class_leaves bases c d x y f g = go (d == c) (c == d) x y refl refl f g
   where
-    go : (q p x y : Truth) → (d == c) ≡ q → (c == d) ≡ p → reaches bases d d c ≡ x → reaches bases c c d ≡ y → Leaves bases (tests.Class c) (Class d) (if x then Within else (if y then Above else Beside))
+    go : (q p x y : Truth) → (d == c) ≡ q → (c == d) ≡ p → reaches bases d d c ≡ x → reaches bases c c d ≡ y
+        → Leaves bases (tests.Class c) (Class d) (if x then Within else (if y then Above else Beside))
     go true p true y e k f g = rw e (refl, refl)
     go true p false y e k f g = absurd (true≢false (sym (reaches_itself bases d c (eqb-true d c e)) ∙ f))
     go false p true y e k f g = rw (e, f) (refl, refl)
@@ -73,8 +79,10 @@ leaves bases tests.Str _ h = (refl, refl)
 leaves bases (tests.Class c) _ h = (refl, refl)
 
 -- so at the standing that was found
-pub leaves_at : (bases : Bases) (test : Test) (m : Tree) (head : Head) (r s : Standing) → IsOne m → head ≡ head_of m → r ≡ how_stands bases test head → r ≡ s → Leaves bases test m s
-leaves_at bases test m head r s h e f g = subst (Leaves bases test m) (ap (how_stands bases test) (sym e) ∙ sym f ∙ g) (leaves bases test m h)
+pub leaves_at : (bases : Bases) (test : Test) (m : Tree) (head : Head) (r s : Standing) → IsOne m → head ≡ head_of m
+    → r ≡ how_stands bases test head → r ≡ s → Leaves bases test m s
+leaves_at bases test m head r s h e f g = subst (Leaves bases test m) (ap (how_stands bases test) (sym e) ∙ sym f ∙ g)
+    (leaves bases test m h)
 
 -- what the program tests for may be tested for
 pub is_testable : (test : Test) → IsTestable (tested_of test)
@@ -107,5 +115,7 @@ rest_one [] (suc i) m rest h e = cc
 rest_one (n ∷ ns) zero m rest h e = let p : n ≡ m = cc in subst IsOne p h.0
 rest_one (n ∷ ns) (suc i) m rest h e = rest_one ns i m rest h.1 e
 
-pub item_one : {Ty : Type 0} (tree : Ty → Tree) (t : Tree) (xs : List Ty) (i : ℕ) (x : Ty) → IsNormal t → map tree xs ≡ members t → i < length xs → x ≡ get_or xs i x → IsOne (tree x)
-item_one tree t xs i x n e h f = rest_one (members t) i (tree x) _ (members_one t n) (ap (drop i) (sym e) ∙ mapped_rest tree xs i x h f)
+pub item_one : {Ty : Type 0} (tree : Ty → Tree) (t : Tree) (xs : List Ty) (i : ℕ) (x : Ty) → IsNormal t
+    → map tree xs ≡ members t → i < length xs → x ≡ get_or xs i x → IsOne (tree x)
+item_one tree t xs i x n e h f = rest_one (members t) i (tree x) _ (members_one t n)
+    (ap (drop i) (sym e) ∙ mapped_rest tree xs i x h f)

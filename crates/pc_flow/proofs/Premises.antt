@@ -15,7 +15,8 @@ not_reduced : IsReduced (Some 1 ∷ None ∷ []) (Union (Class 0) (Class 1)) →
 not_reduced r = r.2.0 (base refl)
 
 -- of a union of a class and its base, a test of a class below both leaves that class twice
-twice : type_where_true (None ∷ Some 0 ∷ Some 1 ∷ []) (for_type (Class 2)) (Union (Class 0) (Class 1)) ≡ Union (Class 2) (Class 2)
+twice : type_where_true (None ∷ Some 0 ∷ Some 1 ∷ []) (for_type (Class 2)) (Union (Class 0) (Class 1)) ≡ Union (Class 2)
+    (Class 2)
 twice = refl
 
 -- which is not in normal form

@@ -23,11 +23,14 @@ laid_out_within bytes tokens h = layout_within bytes h.lines tokens (lined_withi
 pub refusal_of_bytes_within : (bytes : List ℕ) (r : Refusal) → IsRefusalOf bytes r → r.byte ≤ length bytes
 refusal_of_bytes_within bytes r (of_source g) = within bytes r g
 refusal_of_bytes_within bytes r (of_tokens g) = refused_within bytes g.before r g.split
-refusal_of_bytes_within bytes r (of_layout g) = faults_within (length bytes) g.lines r.code r.byte (lined_within bytes g.lines g.lined) g.refused.fault
-refusal_of_bytes_within bytes r (of_grammar g) = refusal_within (length bytes) g.tokens r (laid_out_within bytes g.tokens g.laid_out) g.refused
+refusal_of_bytes_within bytes r (of_layout g) = faults_within (length bytes) g.lines r.code r.byte
+    (lined_within bytes g.lines g.lined) g.refused.fault
+refusal_of_bytes_within bytes r (of_grammar g) = refusal_within (length bytes) g.tokens r
+    (laid_out_within bytes g.tokens g.laid_out) g.refused
 
 -- what is answered for bytes
-pub answer_within : {T : Type 0} (bytes : List ℕ) (r : Result T Fault) → IfErr r (OnRefusal (IsRefusalOf bytes)) → IfErr r (IsWithin (length bytes))
+pub answer_within : {T : Type 0} (bytes : List ℕ) (r : Result T Fault) → IfErr r (OnRefusal (IsRefusalOf bytes))
+    → IfErr r (IsWithin (length bytes))
 answer_within bytes (Ok v) h = tt
 answer_within bytes (Err (fault.Refused q)) h = refusal_of_bytes_within bytes q h
 answer_within bytes (Err fault.OutOfMemory) h = tt

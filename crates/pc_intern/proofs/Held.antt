@@ -1,5 +1,7 @@
 -- What a store's types mean while the table grows, and what follows from the numbers of parts.
-use Rattle.std.proofs.Common.{◌≡◌, ◌<◌, ◌≤◌, ◌+◌, ◌↔◌, ℕ, zero, suc, Bool, IsTrue, List, [], ◌∷◌, ◌++◌, length, map, take, get_or, replicate, All, Option, Some, None, MatchOption, refl, sym, ap, subst, ◌∙◌, arith}
+use Rattle.std.proofs.Common.{◌≡◌, ◌<◌, ◌≤◌, ◌+◌, ◌↔◌, ℕ, zero, suc, Bool, IsTrue, List, [], ◌∷◌, ◌++◌, length, map}
+use Rattle.std.proofs.Common.{take, get_or, replicate, All, Option, Some, None, MatchOption, refl, sym, ap, subst, ◌∙◌}
+use Rattle.std.proofs.Common.{arith}
 use Rattle.std.specs.List.{slice_get}
 use Rattle.std.proofs.lemmas.List.{take_more, map-append}
 use Rattle.std.proofs.lemmas.List.Elements.{All-get_or, All-weaker, All-replicate}
@@ -31,7 +33,8 @@ held_stays old new g ty h =
     record { at = rw g.is (tree_stays old g.added ty.number (meaning ty) h.at); normal = h.normal; small = h.small }
 
 -- right answers stay right
-right_stays : (bases : Bases) (old new : List BoxType) → Grows old new → (o : Option Answers) → IsRightAt bases old o → IsRightAt bases new o
+right_stays : (bases : Bases) (old new : List BoxType) → Grows old new → (o : Option Answers) → IsRightAt bases old o
+    → IsRightAt bases new o
 right_stays bases old new g None h = tt
 right_stays bases old new g (Some a) h =
     record {
@@ -43,7 +46,8 @@ right_stays bases old new g (Some a) h =
       is_assignable = h.is_assignable;
     }
 
-pub all_right_stays : (bases : Bases) (old new : List BoxType) (places : List (Option Answers)) → Grows old new → AreRight bases old places → AreRight bases new places
+pub all_right_stays : (bases : Bases) (old new : List BoxType) (places : List (Option Answers)) → Grows old new
+    → AreRight bases old places → AreRight bases new places
 all_right_stays bases old new places g h =
     All-weaker (IsRightAt bases old) (IsRightAt bases new) (right_stays bases old new g) places h
 
@@ -52,7 +56,8 @@ none_right : (bases : Bases) (types : List BoxType) (o : Option Answers) → o �
 none_right bases types None e = tt
 none_right bases types (Some a) e = cc
 
-pub nothing_kept : (bases : Bases) (types : List BoxType) (places : List (Option Answers)) → All (λ o. o ≡ None) places → AreRight bases types places
+pub nothing_kept : (bases : Bases) (types : List BoxType) (places : List (Option Answers)) → All (λ o. o ≡ None) places
+    → AreRight bases types places
 nothing_kept bases types places h =
     All-weaker (λ o. o ≡ None) (IsRightAt bases types) (none_right bases types) places h
 
@@ -63,19 +68,23 @@ within types n t h =
     slice_get_within types n b.0 b.1
 
 -- a held type at a number means the number's tree
-pub meant : (types : List BoxType) (r : TypeId) (n : ℕ) (t : Tree) → IsHeld types r → r.number ≡ n → tree_at types n ≡ Some t → meaning r ≡ t
+pub meant : (types : List BoxType) (r : TypeId) (n : ℕ) (t : Tree) → IsHeld types r → r.number ≡ n
+    → tree_at types n ≡ Some t → meaning r ≡ t
 meant types r n t h e at =
     let q : tree_at types n ≡ Some (meaning r) = subst (λ k. tree_at types k ≡ Some (meaning r)) e h.at in
     cc
 
 -- the numbers of the parts of a type of the table are those of the parts of what it means
-pub part_numbers : (types : List BoxType) (ty : TypeId) (ps : List ℕ) → IsHeld types ty → ((b : BoxType) → slice_get types ty.number ≡ Some b → map (tree_at types) ps ≡ map Some (parts (tree_of b))) → map (tree_at types) ps ≡ map Some (parts (meaning ty))
+pub part_numbers : (types : List BoxType) (ty : TypeId) (ps : List ℕ) → IsHeld types ty
+    → ((b : BoxType) → slice_get types ty.number ≡ Some b → map (tree_at types) ps ≡ map Some (parts (tree_of b)))
+    → map (tree_at types) ps ≡ map Some (parts (meaning ty))
 part_numbers types ty ps h f =
     let b = at_map tree_of types ty.number (meaning ty) h.at in
     f b.0 b.1 ∙ ap (λ t. map Some (parts t)) b.2
 
 -- the number of one part
-pub number_at : (types : List BoxType) (ps : List ℕ) (us : List Tree) (k d : ℕ) → map (tree_at types) ps ≡ map Some us → k < length us → (u : Tree) × (slice_get us k ≡ Some u) × (tree_at types (get_or ps k d) ≡ Some u)
+pub number_at : (types : List BoxType) (ps : List ℕ) (us : List Tree) (k d : ℕ) → map (tree_at types) ps ≡ map Some us
+    → k < length us → (u : Tree) × (slice_get us k ≡ Some u) × (tree_at types (get_or ps k d) ≡ Some u)
 number_at types ps [] k d h l = absurd (omega arith)
 number_at types [] (u ∷ us) k d h l = cc
 number_at types (p ∷ ps) (u ∷ us) zero d h l = (u, refl, cc)
@@ -84,7 +93,8 @@ number_at types (p ∷ ps) (u ∷ us) (suc k) d h l =
     number_at types ps us k d g (omega arith)
 
 -- as many numbers as parts
-pub as_many : (types : List BoxType) (ps : List ℕ) (us : List Tree) → map (tree_at types) ps ≡ map Some us → length ps ≡ length us
+pub as_many : (types : List BoxType) (ps : List ℕ) (us : List Tree) → map (tree_at types) ps ≡ map Some us
+    → length ps ≡ length us
 as_many types [] [] h = refl
 as_many types [] (u ∷ us) h = cc
 as_many types (p ∷ ps) [] h = cc
@@ -92,99 +102,133 @@ as_many types (p ∷ ps) (u ∷ us) h =
     let g : map (tree_at types) ps ≡ map Some us = cc in
     ap suc (as_many types ps us g)
 
-meant_more : (tys : List TypeId) (k : ℕ) (x : TypeId) → k < length tys → x ≡ get_or tys k x → map meaning (take (k + 1) tys) ≡ map meaning (take k tys) ++ meaning x ∷ []
-meant_more tys k x l read = ap (map meaning) (take_more tys k x l ∙ ap (λ y. take k tys ++ y ∷ []) (sym read)) ∙ map-append meaning (take k tys) (x ∷ [])
+meant_more : (tys : List TypeId) (k : ℕ) (x : TypeId) → k < length tys → x ≡ get_or tys k x
+    → map meaning (take (k + 1) tys) ≡ map meaning (take k tys) ++ meaning x ∷ []
+meant_more tys k x l read = ap (map meaning) (take_more tys k x l ∙ ap (λ y. take k tys ++ y ∷ []) (sym read))
+    ∙ map-append meaning (take k tys) (x ∷ [])
 
 -- one more type whose number is pushed
-pub numbered_more : (types : List BoxType) (tys : List TypeId) (ps : List ℕ) (k : ℕ) (x : TypeId) → map (tree_at types) ps ≡ map Some (map meaning (take k tys)) → All (IsHeld types) tys → k < length tys → x ≡ get_or tys k x → map (tree_at types) (ps ++ x.number ∷ []) ≡ map Some (map meaning (take (k + 1) tys))
+pub numbered_more : (types : List BoxType) (tys : List TypeId) (ps : List ℕ) (k : ℕ) (x : TypeId)
+    → map (tree_at types) ps ≡ map Some (map meaning (take k tys)) → All (IsHeld types) tys → k < length tys
+    → x ≡ get_or tys k x → map (tree_at types) (ps ++ x.number ∷ []) ≡ map Some (map meaning (take (k + 1) tys))
 numbered_more types tys ps k x h all l read =
     let g : IsHeld types x = subst (IsHeld types) (sym read) (All-get_or (IsHeld types) tys k x l all) in
     let b = each_push (map tree_of types) ps x.number (map meaning (take k tys)) (meaning x) h g.at in
     b ∙ ap (map Some) (sym (meant_more tys k x l read))
 
 -- what a test of two held types says
-pub static_told : (bases : Bases) (types : List BoxType) (s t : TypeId) (r : Bool) → AreSmaller bases → IsHeld types s → IsHeld types t → r ≡ static_test bases (meaning s) (meaning t) → IsTrue r ↔ Static bases (meaning s) (meaning t)
+pub static_told : (bases : Bases) (types : List BoxType) (s t : TypeId) (r : Bool) → AreSmaller bases → IsHeld types s
+    → IsHeld types t → r ≡ static_test bases (meaning s) (meaning t) → IsTrue r ↔ Static bases (meaning s) (meaning t)
 static_told bases types s t r smaller h g e =
-    subst (λ b. IsTrue b ↔ Static bases (meaning s) (meaning t)) (sym e) (static_decided bases (meaning s) (meaning t) smaller h.normal g.normal)
+    subst (λ b. IsTrue b ↔ Static bases (meaning s) (meaning t)) (sym e)
+    (static_decided bases (meaning s) (meaning t) smaller h.normal g.normal)
 
-pub assignable_told : (bases : Bases) (types : List BoxType) (s t : TypeId) (r : Bool) → AreSmaller bases → IsHeld types s → IsHeld types t → r ≡ assignable_test bases (meaning s) (meaning t) → IsTrue r ↔ Assignable bases (meaning s) (meaning t)
+pub assignable_told : (bases : Bases) (types : List BoxType) (s t : TypeId) (r : Bool) → AreSmaller bases
+    → IsHeld types s → IsHeld types t → r ≡ assignable_test bases (meaning s) (meaning t) → IsTrue r
+    ↔ Assignable bases (meaning s) (meaning t)
 assignable_told bases types s t r smaller h g e =
-    subst (λ b. IsTrue b ↔ Assignable bases (meaning s) (meaning t)) (sym e) (assignable_decided bases (meaning s) (meaning t) smaller h.normal g.normal)
+    subst (λ b. IsTrue b ↔ Assignable bases (meaning s) (meaning t)) (sym e)
+    (assignable_decided bases (meaning s) (meaning t) smaller h.normal g.normal)
 
 -- a type in boxes of the table means what the held type of its number means
-pub box_means : (types : List BoxType) (ty : TypeId) (b : BoxType) → IsHeld types ty → slice_get types ty.number ≡ Some b → tree_of b ≡ meaning ty
+pub box_means : (types : List BoxType) (ty : TypeId) (b : BoxType) → IsHeld types ty
+    → slice_get types ty.number ≡ Some b → tree_of b ≡ meaning ty
 box_means types ty b h at =
     let q = map_at tree_of types ty.number b at in
     let e : Some (meaning ty) ≡ Some (tree_of b) = sym h.at ∙ q in
     cc
 
 -- what a held type means that a node tells
-told_meaning : (types : List BoxType) (node : Node) (n : ℕ) (r : TypeId) (w : IsNodeAt types node n) → IsHeld types r → r.number ≡ n → meaning r ≡ tree_of w.ty
+told_meaning : (types : List BoxType) (node : Node) (n : ℕ) (r : TypeId) (w : IsNodeAt types node n) → IsHeld types r
+    → r.number ≡ n → meaning r ≡ tree_of w.ty
 told_meaning types node n r w h e = meant types r n (tree_of w.ty) h e (map_at tree_of types n w.ty w.at)
 
-pub known_parts : (types : List BoxType) (node : Node) (n : ℕ) (r : TypeId) (us : List Tree) → IsNodeAt types node n → IsHeld types r → r.number ≡ n → map (tree_at types) node.parts.items ≡ map Some us → parts (meaning r) ≡ us
+pub known_parts : (types : List BoxType) (node : Node) (n : ℕ) (r : TypeId) (us : List Tree) → IsNodeAt types node n
+    → IsHeld types r → r.number ≡ n → map (tree_at types) node.parts.items ≡ map Some us → parts (meaning r) ≡ us
 known_parts types node n r us w h e k =
     ap parts (told_meaning types node n r w h e) ∙ same_items (parts (tree_of w.ty)) us (sym w.told.parts ∙ k)
 
 -- a held type with a head and parts is one that a call may answer
-pub known_as : (types : List BoxType) (r : TypeId) (head : Head) (us : List Tree) → IsHeld types r → head_of (meaning r) ≡ head → parts (meaning r) ≡ us → IsHeld types r × (meaning r ≡ rebuilt head us) × (nodes (rebuilt head us) ≤ node_limit)
+pub known_as : (types : List BoxType) (r : TypeId) (head : Head) (us : List Tree) → IsHeld types r
+    → head_of (meaning r) ≡ head → parts (meaning r) ≡ us → IsHeld types r × (meaning r ≡ rebuilt head us)
+    × (nodes (rebuilt head us) ≤ node_limit)
 known_as types r head us h e p =
     let q : meaning r ≡ rebuilt head us = sym (rebuilt_is (meaning r) h.normal) ∙ (λ i. rebuilt (e i) (p i)) in
     (h, q, subst (λ t. nodes t ≤ node_limit) q h.small)
 
 -- the same where the table is told by what the store is seen as
-pub means_now : (types now : List BoxType) (ty : TypeId) (b : BoxType) → types ≡ now → IsHeld now ty → slice_get types ty.number ≡ Some b → tree_of b ≡ meaning ty
+pub means_now : (types now : List BoxType) (ty : TypeId) (b : BoxType) → types ≡ now → IsHeld now ty
+    → slice_get types ty.number ≡ Some b → tree_of b ≡ meaning ty
 means_now types now ty b e h at = box_means types ty b (subst (λ l. IsHeld l ty) (sym e) h) at
 
 pub held_within : (types now : List BoxType) (ty : TypeId) → types ≡ now → IsHeld now ty → ty.number < length types
-held_within types now ty e h = subst (λ (l : List BoxType). ty.number < length l) (sym e) (within now ty.number (meaning ty) h.at)
+held_within types now ty e h = subst (λ (l : List BoxType). ty.number < length l) (sym e)
+    (within now ty.number (meaning ty) h.at)
 
 -- the numbers of one held type, and of two
-pub one_number : (types : List BoxType) (ns : List ℕ) (ty : TypeId) → ns ≡ ty.number ∷ [] → IsHeld types ty → map (tree_at types) ns ≡ map Some (meaning ty ∷ [])
+pub one_number : (types : List BoxType) (ns : List ℕ) (ty : TypeId) → ns ≡ ty.number ∷ [] → IsHeld types ty
+    → map (tree_at types) ns ≡ map Some (meaning ty ∷ [])
 one_number types ns ty e h = ap (map (tree_at types)) e ∙ ap (λ o. o ∷ []) h.at
 
-pub two_numbers : (types : List BoxType) (ns : List ℕ) (s t : TypeId) → ns ≡ s.number ∷ t.number ∷ [] → IsHeld types s → IsHeld types t → map (tree_at types) ns ≡ map Some (meaning s ∷ meaning t ∷ [])
+pub two_numbers : (types : List BoxType) (ns : List ℕ) (s t : TypeId) → ns ≡ s.number ∷ t.number ∷ [] → IsHeld types s
+    → IsHeld types t → map (tree_at types) ns ≡ map Some (meaning s ∷ meaning t ∷ [])
 two_numbers types ns s t e h g = ap (map (tree_at types)) e ∙ (λ i. h.at i ∷ g.at i ∷ [])
 
 -- no type is made of a tree that is too large
-pub answer_none : (o : Option BoxType) (s t : Tree) → o ≡ None → s ≡ t → MatchOption o (node_limit < nodes s) (λ c. IsGiven c × (tree_of c ≡ s) × (nodes s ≤ node_limit)) → node_limit < nodes t
+pub answer_none : (o : Option BoxType) (s t : Tree) → o ≡ None → s ≡ t
+    → MatchOption o (node_limit < nodes s) (λ c. IsGiven c × (tree_of c ≡ s) × (nodes s ≤ node_limit))
+    → node_limit < nodes t
 answer_none None s t e q h = subst (λ x. node_limit < nodes x) q h
 answer_none (Some c) s t e q h = cc
 
 -- a type that is made means the tree
-pub answer_some : (types : List BoxType) (o : Option BoxType) (b : BoxType) (r : TypeId) (s t : Tree) → o ≡ Some b → s ≡ t → MatchOption o (node_limit < nodes s) (λ c. IsGiven c × (tree_of c ≡ s) × (nodes s ≤ node_limit)) → IsHeld types r × (meaning r ≡ tree_of b) → IsHeld types r × (meaning r ≡ t) × (nodes t ≤ node_limit)
+pub answer_some : (types : List BoxType) (o : Option BoxType) (b : BoxType) (r : TypeId) (s t : Tree) → o ≡ Some b
+    → s ≡ t → MatchOption o (node_limit < nodes s) (λ c. IsGiven c × (tree_of c ≡ s) × (nodes s ≤ node_limit))
+    → IsHeld types r × (meaning r ≡ tree_of b) → IsHeld types r × (meaning r ≡ t) × (nodes t ≤ node_limit)
 answer_some types None b r s t e q h g = cc
 answer_some types (Some c) b r s t e q h g =
     let f : c ≡ b = cc in
     (g.0, g.1 ∙ ap tree_of (sym f) ∙ h.1 ∙ q, subst (λ x. nodes x ≤ node_limit) q h.2)
 
 -- there is no join, or one that is made
-pub joined_none : (o : Option BoxType) (x y : Option Tree) → o ≡ None → x ≡ y → MatchOption o (x ≡ None) (λ u. IsGiven u × (x ≡ Some (tree_of u))) → y ≡ None
+pub joined_none : (o : Option BoxType) (x y : Option Tree) → o ≡ None → x ≡ y
+    → MatchOption o (x ≡ None) (λ u. IsGiven u × (x ≡ Some (tree_of u))) → y ≡ None
 joined_none None x y e q h = sym q ∙ h
 joined_none (Some u) x y e q h = cc
 
-pub joined_some : (types : List BoxType) (o : Option BoxType) (b : BoxType) (r : TypeId) (x y : Option Tree) → o ≡ Some b → x ≡ y → MatchOption o (x ≡ None) (λ u. IsGiven u × (x ≡ Some (tree_of u))) → IsHeld types r × (meaning r ≡ tree_of b) → IsHeld types r × (y ≡ Some (meaning r))
+pub joined_some : (types : List BoxType) (o : Option BoxType) (b : BoxType) (r : TypeId) (x y : Option Tree)
+    → o ≡ Some b → x ≡ y → MatchOption o (x ≡ None) (λ u. IsGiven u × (x ≡ Some (tree_of u))) → IsHeld types r
+    × (meaning r ≡ tree_of b) → IsHeld types r × (y ≡ Some (meaning r))
 joined_some types None b r x y e q h g = cc
 joined_some types (Some u) b r x y e q h g =
     let f : u ≡ b = cc in
     (g.0, sym q ∙ h.1 ∙ ap (λ v. Some (tree_of v)) f ∙ ap Some (sym g.1))
 
 -- one more type in boxes that means what a held type means
-pub boxed_more : (types now : List BoxType) (tys : List TypeId) (bs : List BoxType) (k : ℕ) (x : TypeId) (b c : BoxType) → types ≡ now → All (IsHeld now) tys → k < length tys → x ≡ get_or tys k x → slice_get types x.number ≡ Some b → tree_of c ≡ tree_of b → map tree_of bs ≡ map meaning (take k tys) → map tree_of (bs ++ c ∷ []) ≡ map meaning (take (k + 1) tys)
+pub boxed_more : (types now : List BoxType) (tys : List TypeId) (bs : List BoxType) (k : ℕ) (x : TypeId) (b c : BoxType)
+    → types ≡ now → All (IsHeld now) tys → k < length tys → x ≡ get_or tys k x → slice_get types x.number ≡ Some b
+    → tree_of c ≡ tree_of b → map tree_of bs ≡ map meaning (take k tys) → map tree_of (bs ++ c ∷ []) ≡ map meaning
+    (take (k + 1) tys)
 boxed_more types now tys bs k x b c e all l read at same h =
     let g : IsHeld now x = subst (IsHeld now) (sym read) (All-get_or (IsHeld now) tys k x l all) in
     let q : tree_of c ≡ meaning x = same ∙ means_now types now x b e g at in
     map-append tree_of bs (c ∷ []) ∙ (λ i. h i ++ q i ∷ []) ∙ sym (meant_more tys k x l read)
 
 -- the number of a part that a loop comes to
-pub number_in : (types : List BoxType) (ps : List ℕ) (us : List Tree) (k : ℕ) → map (tree_at types) ps ≡ map Some us → k < length ps → (u : Tree) × (slice_get us k ≡ Some u) × (tree_at types (get_or ps k 0) ≡ Some u)
+pub number_in : (types : List BoxType) (ps : List ℕ) (us : List Tree) (k : ℕ) → map (tree_at types) ps ≡ map Some us
+    → k < length ps → (u : Tree) × (slice_get us k ≡ Some u) × (tree_at types (get_or ps k 0) ≡ Some u)
 number_in types ps us k h l = number_at types ps us k 0 h (omega (arith, as_many types ps us h))
 
 -- one more held type whose number is the next
-pub more_parts : (types : List BoxType) (rs : List TypeId) (r : TypeId) (ps : List ℕ) (k : ℕ) → map Some (map meaning rs) ≡ map (tree_at types) (take k ps) → k < length ps → IsHeld types r → r.number ≡ get_or ps k 0 → map Some (map meaning (rs ++ r ∷ [])) ≡ map (tree_at types) (take (k + 1) ps)
+pub more_parts : (types : List BoxType) (rs : List TypeId) (r : TypeId) (ps : List ℕ) (k : ℕ)
+    → map Some (map meaning rs) ≡ map (tree_at types) (take k ps) → k < length ps → IsHeld types r
+    → r.number ≡ get_or ps k 0 → map Some (map meaning (rs ++ r ∷ [])) ≡ map (tree_at types) (take (k + 1) ps)
 more_parts types rs r ps k h l g num =
-    let q : map Some (map meaning (rs ++ r ∷ [])) ≡ map Some (map meaning rs) ++ Some (meaning r) ∷ [] = ap (map Some) (map-append meaning rs (r ∷ [])) ∙ map-append Some (map meaning rs) (meaning r ∷ []) in
-    let t : map (tree_at types) (take (k + 1) ps) ≡ map (tree_at types) (take k ps) ++ tree_at types (get_or ps k 0) ∷ [] = ap (map (tree_at types)) (take_more ps k 0 l) ∙ map-append (tree_at types) (take k ps) (get_or ps k 0 ∷ []) in
+    let q : map Some (map meaning (rs ++ r ∷ [])) ≡ map Some (map meaning rs) ++ Some (meaning r) ∷ [] =
+    ap (map Some) (map-append meaning rs (r ∷ [])) ∙ map-append Some (map meaning rs) (meaning r ∷ []) in
+    let t : map (tree_at types) (take (k + 1) ps) ≡ map (tree_at types) (take k ps) ++ tree_at types (get_or ps k 0)
+    ∷ [] = ap (map (tree_at types)) (take_more ps k 0 l) ∙ map-append (tree_at types) (take k ps)
+    (get_or ps k 0 ∷ []) in
     let e : Some (meaning r) ≡ tree_at types (get_or ps k 0) = sym g.at ∙ ap (tree_at types) num in
     q ∙ (λ i. h i ++ e i ∷ []) ∙ sym t
 
@@ -197,7 +241,8 @@ pub union_members : (t : Tree) (n : ℕ) → heads.Union n ≡ head_of t → par
 union_members (Union a b) n e = refl
 union_members _ n e = cc
 
-pub other_members : (t : Tree) → (heads.Never ≡ head_of t → ⊥) → ((n : ℕ) → heads.Union n ≡ head_of t → ⊥) → t ∷ [] ≡ members t
+pub other_members : (t : Tree) → (heads.Never ≡ head_of t → ⊥) → ((n : ℕ) → heads.Union n ≡ head_of t → ⊥)
+    → t ∷ [] ≡ members t
 other_members Never f g = absurd (f refl)
 other_members (Union a b) f g = absurd (g (length (members (Union a b))) refl)
 other_members _ f g = refl
@@ -207,7 +252,10 @@ take_nil : {X : Type 0} (n : ℕ) → take {A = X} n [] ≡ []
 take_nil zero = refl
 take_nil (suc n) = refl
 
-pub nothing_in : (xs old : List (Option Answers)) (n m : ℕ) → xs ≡ take n old ++ replicate m None → old ≡ [] → All (λ o. o ≡ None) xs
+pub nothing_in : (xs old : List (Option Answers)) (n m : ℕ) → xs ≡ take n old ++ replicate m None → old ≡ []
+    → All (λ o. o ≡ None) xs
 nothing_in xs old n m h e =
-    let q : take n old ++ replicate m None ≡ replicate m None = ap (λ (l : List (Option Answers)). take n l ++ replicate m None) e ∙ ap (λ (l : List (Option Answers)). l ++ replicate m None) (take_nil n) in
+    let q : take n old ++ replicate m None ≡ replicate m None =
+    ap (λ (l : List (Option Answers)). take n l ++ replicate m None) e
+    ∙ ap (λ (l : List (Option Answers)). l ++ replicate m None) (take_nil n) in
     subst (All (λ o. o ≡ None)) (sym (h ∙ q)) (All-replicate (λ (o : Option Answers). o ≡ None) m None refl)

@@ -31,7 +31,9 @@ both false b h = cc
 -- two nodes are equal exactly where they have one head and the same parts
 pub node_decides : (m n : Node) → Decides (node_eq m n) ((m.head ≡ n.head) × (m.parts.items ≡ n.parts.items))
 node_decides m n =
-    let d = slice_eq-Decides Decides-eqb m.parts.items n.parts.items (pointwise nat_eq m.parts.items n.parts.items) refl in (
-      λ h. let b = both (head_eq m.head n.head) (pointwise nat_eq m.parts.items n.parts.items) (sym (node_eq_is m n) ∙ h) in (head_same m.head n.head b.0, d.0 b.1),
+    let d = slice_eq-Decides Decides-eqb m.parts.items n.parts.items (pointwise nat_eq m.parts.items n.parts.items)
+    refl in (
+      λ h. let b = both (head_eq m.head n.head) (pointwise nat_eq m.parts.items n.parts.items)
+          (sym (node_eq_is m n) ∙ h) in (head_same m.head n.head b.0, d.0 b.1),
       λ e. node_eq_is m n ∙ (λ i. (ap (head_eq m.head) (sym e.0) ∙ head_own m.head) i && d.1 e.1 i),
     )

@@ -1,5 +1,6 @@
 -- Lines are the lines of one forest at most, so they have one layout at most.
-use Rattle.std.proofs.Common.{◌≡◌, ℕ, ◌<◌, ◌≤◌, true, false, nat_lt, if◌then◌else◌, List, [], ◌∷◌, ◌++◌, refl, ap, sym, ◌∙◌, inl, inr, arith}
+use Rattle.std.proofs.Common.{◌≡◌, ℕ, ◌<◌, ◌≤◌, true, false, nat_lt, if◌then◌else◌, List, [], ◌∷◌, ◌++◌, refl, ap, sym}
+use Rattle.std.proofs.Common.{◌∙◌, inl, inr, arith}
 use Rattle.std.proofs.lemmas.Bool.{ltb-true, ltb-false}
 use Rattle.pc_token.specs.Lexeme.{Lexeme, LogicalLine}
 use Rattle.pc_layout.specs.Forest.{Suite, nothing, line, lines_of, IsSuite}
@@ -35,7 +36,8 @@ module _ (c : ℕ) where
   unfolding deeper_front AreDeeper StartAt
   front_is [] [] a b = refl
   front_is [] (m ∷ ms) a b = let t : nat_lt c m.column ≡ false = not_less c m.column (omega (arith, b)) in rw t refl
-  front_is (l ∷ ls) ms a b = let t : nat_lt c l.column ≡ true = is_less c l.column a.0 in rw t (ap (λ z. l ∷ z) (front_is ls ms a.1 b))
+  front_is (l ∷ ls) ms a b = let t : nat_lt c l.column ≡ true = is_less c l.column a.0 in
+      rw t (ap (λ z. l ∷ z) (front_is ls ms a.1 b))
 
   rest_is : (ls ms : List LogicalLine) → AreDeeper c ls → StartAt c ms → deeper_rest c (ls ++ ms) ≡ ms
   unfolding deeper_rest AreDeeper StartAt
@@ -51,8 +53,11 @@ module _ (c : ℕ) where
   suite_deeper : (d : ℕ) (s : Suite) → c < d → IsSuite d s → AreDeeper c (lines_of s)
   unfolding AreDeeper
   suite_deeper d nothing lt h = tt
-  suite_deeper d (line l inner others) lt (e, (f, up, i), o) =
-      (omega (arith, e), both_deeper (lines_of inner) (lines_of others) (suite_deeper f inner (omega arith) i) (suite_deeper d others lt o))
+  suite_deeper d (line l inner others) lt (e, (f, up, i), o) = (
+    omega (arith, e),
+    both_deeper (lines_of inner) (lines_of others) (suite_deeper f inner (omega arith) i)
+        (suite_deeper d others lt o),
+  )
 
   suite_starts : (s : Suite) → IsSuite c s → StartAt c (lines_of s)
   unfolding StartAt
@@ -71,12 +76,18 @@ one_forest c d (line l inner others) (line m inner' others') (a, (f, up, i), o) 
     let cd : d ≡ c = sym b ∙ ap (λ (z : LogicalLine). z.column) (sym q.0) ∙ a in
     let j' : AreDeeper c (lines_of inner') = suite_deeper c f' inner' (omega (arith, cd)) i' in
     let k' : StartAt c (lines_of others') = suite_starts c others' (rw cd at o') in
-    let fronts : lines_of inner ≡ lines_of inner' = sym (front_is c (lines_of inner) (lines_of others) (suite_deeper c f inner up i) (suite_starts c others o)) ∙ ap (deeper_front c) q.1 ∙ front_is c (lines_of inner') (lines_of others') j' k' in
-    let rests : lines_of others ≡ lines_of others' = sym (rest_is c (lines_of inner) (lines_of others) (suite_deeper c f inner up i) (suite_starts c others o)) ∙ ap (deeper_rest c) q.1 ∙ rest_is c (lines_of inner') (lines_of others') j' k' in
+    let fronts : lines_of inner ≡ lines_of inner' = sym (front_is c (lines_of inner) (lines_of others)
+    (suite_deeper c f inner up i) (suite_starts c others o)) ∙ ap (deeper_front c) q.1
+    ∙ front_is c (lines_of inner') (lines_of others') j' k' in
+    let rests : lines_of others ≡ lines_of others' = sym (rest_is c (lines_of inner) (lines_of others)
+    (suite_deeper c f inner up i) (suite_starts c others o)) ∙ ap (deeper_rest c) q.1
+    ∙ rest_is c (lines_of inner') (lines_of others') j' k' in
     let x : inner ≡ inner' = one_forest f f' inner inner' i i' fronts in
     let y : others ≡ others' = one_forest c d others others' o o' rests in
     let z : l ≡ m = q.0 in
     cc
 
-pub one_layout : (text : List ℕ) (ls : List LogicalLine) (xs ys : List Lexeme) → IsLayout text ls xs → IsLayout text ls ys → xs ≡ ys
-one_layout text ls xs ys h g = let e : h.forest ≡ g.forest = one_forest 0 0 h.forest g.forest h.suite g.suite (h.its_lines ∙ sym g.its_lines) in h.written ∙ ap (flat text) e ∙ sym g.written
+pub one_layout : (text : List ℕ) (ls : List LogicalLine) (xs ys : List Lexeme) → IsLayout text ls xs
+    → IsLayout text ls ys → xs ≡ ys
+one_layout text ls xs ys h g = let e : h.forest ≡ g.forest = one_forest 0 0 h.forest g.forest h.suite g.suite
+    (h.its_lines ∙ sym g.its_lines) in h.written ∙ ap (flat text) e ∙ sym g.written

@@ -1,5 +1,6 @@
 -- The suites that are held open are those that are open after the lines before.
-use Rattle.std.proofs.Common.{◌≡◌, ◌⊎◌, ℕ, ◌<◌, ◌≤◌, min, Bool, true, nat_lt, List, [], ◌∷◌, length, map, refl, inl, inr, arith}
+use Rattle.std.proofs.Common.{◌≡◌, ◌⊎◌, ℕ, ◌<◌, ◌≤◌, min, Bool, true, nat_lt, List, [], ◌∷◌, length, map, refl, inl}
+use Rattle.std.proofs.Common.{inr, arith}
 use Rattle.std.specs.List.{All}
 use Rattle.std.proofs.lemmas.Bool.{ltb-true, ltb-false}
 use Rattle.std.proofs.lemmas.List.Elements.{All-nil, All-cons, All-head, All-tail, All-weaker}
@@ -69,7 +70,8 @@ has_closing c d (v ∷ vs) le h = elim (by_bool (nat_lt c v.column)) [
   | inr t ↦ rw t h
 ]
 
-pub closing_knows : (c : ℕ) (before : List LogicalLine) (vs : List Level) → Knows before vs → Knows before (levels_up_to c vs)
+pub closing_knows : (c : ℕ) (before : List LogicalLine) (vs : List Level) → Knows before vs
+    → Knows before (levels_up_to c vs)
 closing_knows c before [] h = h
 closing_knows c before (v ∷ vs) h = elim (by_bool (nat_lt c v.column)) [
   | inl t ↦ rw t (closing_knows c before vs h.1)
@@ -87,7 +89,8 @@ closing_there c (v ∷ vs) f h = elim (by_bool (nat_lt c v.column)) [
 -- and so is column 0
 pub closing_zero : (vs : List Level) → Falls vs → column_of (levels_up_to 0 vs) ≡ 0
 closing_zero [] f = refl
-closing_zero (v ∷ vs) f = let t : nat_lt 0 v.column ≡ true = elim (by_bool (nat_lt 0 v.column)) [ inl t ↦ t | inr u ↦ absurd (omega (arith, ltb-false 0 v.column u, f.0)) ] in rw t (closing_zero vs f.1)
+closing_zero (v ∷ vs) f = let t : nat_lt 0 v.column ≡ true = elim (by_bool (nat_lt 0 v.column))
+    [ inl t ↦ t | inr u ↦ absurd (omega (arith, ltb-false 0 v.column u, f.0)) ] in rw t (closing_zero vs f.1)
 
 pub closing_same : (vs : List Level) → levels_up_to (column_of vs) vs ≡ vs
 closing_same [] = refl
@@ -97,10 +100,12 @@ closing_same (v ∷ vs) = elim (by_bool (nat_lt v.column v.column)) [
 ]
 
 -- a line that is not less deep changes nothing
-pub inside_more : (P : LogicalLine → Type 0) (c : ℕ) (l : LogicalLine) (ls : List LogicalLine) → c ≤ l.column → IsInside P c ls → IsInside P c (l ∷ ls)
+pub inside_more : (P : LogicalLine → Type 0) (c : ℕ) (l : LogicalLine) (ls : List LogicalLine) → c ≤ l.column
+    → IsInside P c ls → IsInside P c (l ∷ ls)
 inside_more P c l ls le h = let e : min c l.column ≡ c = omega arith in inr (rw e h)
 
-pub inside_less : (P : LogicalLine → Type 0) (c : ℕ) (l : LogicalLine) (ls : List LogicalLine) → c ≤ l.column → IsInside P c (l ∷ ls) → IsInside P c ls
+pub inside_less : (P : LogicalLine → Type 0) (c : ℕ) (l : LogicalLine) (ls : List LogicalLine) → c ≤ l.column
+    → IsInside P c (l ∷ ls) → IsInside P c ls
 inside_less P c l ls le (inl h) = absurd (omega (arith, h.0))
 inside_less P c l ls le (inr h) = let e : min c l.column ≡ c = omega arith in rw e at h
 
@@ -108,7 +113,8 @@ pub inside_zero : (P : LogicalLine → Type 0) (ls : List LogicalLine) → IsIns
 inside_zero P [] h = h
 inside_zero P (l ∷ ls) h = inside_zero P ls (inside_less P 0 l ls (omega arith) h)
 
-pub knows_more : (l : LogicalLine) (before : List LogicalLine) (vs : List Level) → Falls vs → column_of vs ≤ l.column → Knows before vs → Knows (l ∷ before) vs
+pub knows_more : (l : LogicalLine) (before : List LogicalLine) (vs : List Level) → Falls vs → column_of vs ≤ l.column
+    → Knows before vs → Knows (l ∷ before) vs
 knows_more l before [] f le h = h
 knows_more l before (v ∷ vs) f le h = (
   record {
@@ -119,7 +125,8 @@ knows_more l before (v ∷ vs) f le h = (
 )
 
 -- the innermost suite knows it too
-pub knows_top : (before : List LogicalLine) (vs : List Level) → Knows before vs → Tells (in_def_of vs) (InDef (column_of vs) before)
+pub knows_top : (before : List LogicalLine) (vs : List Level) → Knows before vs
+    → Tells (in_def_of vs) (InDef (column_of vs) before)
 knows_top before [] h = record { yes = λ e. absurd (cc); back = λ g. absurd (inside_zero Defines before g) }
 knows_top before (v ∷ vs) h = h.0
 
@@ -129,10 +136,12 @@ falling_tail c (d ∷ ds) p = p.1
 
 falling_below : (c : ℕ) (cs : List ℕ) → IsFalling (c ∷ cs) → All (λ d. d < c) cs
 falling_below c [] p = All-nil (λ d. d < c)
-falling_below c (d ∷ ds) p = All-cons (λ e. e < c) d ds p.0 (All-weaker (λ e. e < d) (λ e. e < c) (λ e h. omega (arith, h, p.0)) ds (falling_below d ds p.1))
+falling_below c (d ∷ ds) p = All-cons (λ e. e < c) d ds p.0 (All-weaker (λ e. e < d) (λ e. e < c)
+    (λ e h. omega (arith, h, p.0)) ds (falling_below d ds p.1))
 
 -- no more columns than suites
-pub fewer : (cs : List ℕ) (vs : List Level) → IsFalling cs → Falls vs → All (λ c. HasLevel c vs) cs → length cs ≤ length vs
+pub fewer : (cs : List ℕ) (vs : List Level) → IsFalling cs → Falls vs → All (λ c. HasLevel c vs) cs
+    → length cs ≤ length vs
 fewer [] vs p f a = omega arith
 fewer (c ∷ cs) [] p f a = absurd (All-head (λ c. HasLevel c []) c cs a)
 fewer (c ∷ cs) (v ∷ vs) p f a =
@@ -144,11 +153,13 @@ fewer (c ∷ cs) (v ∷ vs) p f a =
     omega (arith, fewer cs vs (falling_tail c cs p) f.1 rest)
 
 -- the columns of the suites that are held open
-pub falling_columns : (c : ℕ) (vs : List Level) → column_of vs < c → Falls vs → IsFalling (c ∷ map (λ (v : Level). v.column) vs)
+pub falling_columns : (c : ℕ) (vs : List Level) → column_of vs < c → Falls vs
+    → IsFalling (c ∷ map (λ (v : Level). v.column) vs)
 falling_columns c [] lt f = lt
 falling_columns c (v ∷ vs) lt f = (lt, falling_columns v.column vs f.0 f.1)
 
 pub columns_held : (vs : List Level) → All (λ c. HasLevel c vs) (map (λ (v : Level). v.column) vs)
 columns_held [] = All-nil (λ c. HasLevel c [])
 columns_held (v ∷ vs) = All-cons (λ c. HasLevel c (v ∷ vs)) v.column (map (λ (v : Level). v.column) vs) (inl refl)
-    (All-weaker (λ c. HasLevel c vs) (λ c. HasLevel c (v ∷ vs)) (λ c h. inr h) (map (λ (v : Level). v.column) vs) (columns_held vs))
+    (All-weaker (λ c. HasLevel c vs) (λ c. HasLevel c (v ∷ vs)) (λ c h. inr h) (map (λ (v : Level). v.column) vs)
+    (columns_held vs))

@@ -22,7 +22,16 @@ no_end_row = refl
 
 -- a line of one name
 abbrev name_at : ℕ → ℕ → LogicalLine
-name_at column byte = record { column = column; lexemes = record { kind = Name; place = place byte (byte + 1); text = 120 ∷ []; form = 120 ∷ [] } ∷ [] }
+name_at column byte = record {
+  column = column;
+  lexemes = record {
+    kind = Name;
+    place = place byte (byte + 1);
+    text =
+        120 ∷ [];
+    form = 120 ∷ [];
+  } ∷ [];
+}
 
 -- after lines at columns 0, 4 and 8 the suite of column 4 is open, and none of column 2
 open_row : IsOpen 4 (name_at 8 20 ∷ name_at 4 10 ∷ name_at 0 0 ∷ [])

@@ -1,5 +1,6 @@
 -- Frames, arguments and suites as lists.
-use Rattle.std.proofs.Common.{◌≡◌, ◌<◌, ◌≤◌, ℕ, zero, suc, List, [], ◌∷◌, ◌++◌, length, get_or, take, drop, map, refl, ap, ◌∙◌, arith, true}
+use Rattle.std.proofs.Common.{◌≡◌, ◌<◌, ◌≤◌, ℕ, zero, suc, List, [], ◌∷◌, ◌++◌, length, get_or, take, drop, map, refl}
+use Rattle.std.proofs.Common.{ap, ◌∙◌, arith, true}
 use Rattle.pc_machine.specs.State.{Local, Parameter}
 use Rattle.pc_machine.specs.Calls.{NamedValue, filled_parameters}
 use Rattle.pc_machine.specs.declared.state.Parameter.{Parameter as RustParameter}
@@ -16,13 +17,17 @@ use Rattle.pc_machine.specs.Performed.{empty_charged}
 use Rattle.pc_machine.specs.Machine.{local_of as local_seen, parameter_of}
 
 -- a local that is set at the first place of its name
-pub set_here : (n : List ℕ) (v : RustValue) (ls : List RustLocal) (i : ℕ) (d : RustLocal) → i < length ls → same_text (get_or ls i d).name.now n ≡ true → map local_seen (slice_set ls i (record { name = (get_or ls i d).name; value = Some v })) ≡ map local_seen (take i ls) ++ with_local n (value_of v) (map local_seen (drop i ls))
+pub set_here : (n : List ℕ) (v : RustValue) (ls : List RustLocal) (i : ℕ) (d : RustLocal) → i < length ls
+    → same_text (get_or ls i d).name.now n ≡ true → map local_seen
+    (slice_set ls i (record { name = (get_or ls i d).name; value = Some v })) ≡ map local_seen (take i ls) ++ with_local
+    n (value_of v) (map local_seen (drop i ls))
 set_here n v [] i d lt h = absurd (omega arith)
 set_here n v (l ∷ ls) zero d lt h = rw h refl
 set_here n v (l ∷ ls) (suc i) d lt h = ap (λ rest. local_seen l ∷ rest) (set_here n v ls i d (omega arith) h)
 
 -- a suite that is not empty is not charged
-pub not_empty : (body : List RustStmt) (w : Progress) → 1 ≤ length body → empty_charged (stmts_of_list body) w ≡ Came tt w
+pub not_empty : (body : List RustStmt) (w : Progress) → 1 ≤ length body → empty_charged (stmts_of_list body) w
+    ≡ Came tt w
 not_empty [] w h = absurd (omega arith)
 not_empty (s ∷ rest) w h = refl
 
@@ -36,7 +41,8 @@ map_both f [] ys = refl
 map_both f (x ∷ xs) ys = ap (λ zs. f x ∷ zs) (map_both f xs ys)
 
 -- more arguments by position than parameters
-left_over : (vs : List RustValue) (ns : List NamedValue) (i : ℕ) → i < length vs → filled_parameters [] (map value_of (drop i vs)) ns ≡ None
+left_over : (vs : List RustValue) (ns : List NamedValue) (i : ℕ) → i < length vs
+    → filled_parameters [] (map value_of (drop i vs)) ns ≡ None
 left_over [] ns i lt = absurd (omega arith)
 left_over (v ∷ vs) ns zero lt = refl
 left_over (v ∷ vs) ns (suc i) lt = left_over vs ns i (omega arith)
@@ -47,5 +53,8 @@ past [] (suc i) h = refl
 past (p ∷ ps) zero h = absurd (omega arith)
 past (p ∷ ps) (suc i) h = past ps i (omega arith)
 
-pub too_many : (ps : List RustParameter) (vs : List RustValue) (ns : List NamedValue) (ls : List Local) (i : ℕ) → length ps ≤ i → i < length vs → before ls (filled_parameters (map parameter_of (drop i ps)) (map value_of (drop i vs)) ns) ≡ None
-too_many ps vs ns ls i le lt = ap (λ (qs : List Parameter). before ls (filled_parameters qs (map value_of (drop i vs)) ns)) (past ps i le) ∙ ap (before ls) (left_over vs ns i lt)
+pub too_many : (ps : List RustParameter) (vs : List RustValue) (ns : List NamedValue) (ls : List Local) (i : ℕ)
+    → length ps ≤ i → i < length vs → before ls (filled_parameters (map parameter_of (drop i ps))
+    (map value_of (drop i vs)) ns) ≡ None
+too_many ps vs ns ls i le lt = ap (λ (qs : List Parameter). before ls
+    (filled_parameters qs (map value_of (drop i vs)) ns)) (past ps i le) ∙ ap (before ls) (left_over vs ns i lt)

@@ -135,7 +135,8 @@ numbered before (t ∷ ts) x word e = go (is_builtin_name t || is_one_of t befor
           among = n.0;
           new = n.1;
           index =
-              ap (λ c. index_of word (if c then first_of_each before ts else t ∷ first_of_each (t ∷ before) ts)) b ∙ n.2;
+              ap (λ c. index_of word (if c then first_of_each before ts else t ∷ first_of_each (t ∷ before) ts)) b
+              ∙ n.2;
         }
 
 -- ---- the entry of a function

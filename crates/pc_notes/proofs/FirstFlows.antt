@@ -1,6 +1,8 @@
 -- The first flow that is noted at each place, as a map grows with the notes.
-use Rattle.std.proofs.Common.{◌≡◌, ℕ, suc, ◌<◌, arith, All, Contains, map, List, [], ◌∷◌, ◌++◌, Bool, true, false, cond, Option, Some, None, refl, sym, ap, ◌∙◌, subst, Equal}
-use Rattle.std.specs.Prelude.{◌&&◌, nat_eq, if◌then◌else◌, option_map, is_some, IsSome, IfSome, MatchOption, string_bytes}
+use Rattle.std.proofs.Common.{◌≡◌, ℕ, suc, ◌<◌, arith, All, Contains, map, List, [], ◌∷◌, ◌++◌, Bool, true, false, cond}
+use Rattle.std.proofs.Common.{Option, Some, None, refl, sym, ap, ◌∙◌, subst, Equal}
+use Rattle.std.specs.Prelude.{◌&&◌, nat_eq, if◌then◌else◌, option_map, is_some, IsSome, IfSome, MatchOption}
+use Rattle.std.specs.Prelude.{string_bytes}
 use Rattle.std.specs.Borrow.{Bor}
 use Rattle.std.proofs.lemmas.Cmp.{ranked}
 use Rattle.std.proofs.lemmas.Bool.{eqb-true, eq-eqb}
@@ -18,7 +20,8 @@ use Rattle.pc_types.specs.Boxed.{tree_of}
 use Rattle.pc_ann.specs.Text.{type_text}
 use Rattle.pc_notes.specs.declared.notes.Flow.{Flow}
 use Rattle.pc_notes.specs.declared.notes.Entry.{Entry}
-use Rattle.pc_notes.specs.Notes.{Note, is_same_place, or_else, flow_or, flow_types, flow_noted, note_of, notes_of, IsGivenFlow}
+use Rattle.pc_notes.specs.Notes.{Note, is_same_place, or_else, flow_or, flow_types, flow_noted, note_of, notes_of}
+use Rattle.pc_notes.specs.Notes.{IsGivenFlow}
 use Rattle.pc_notes.specs.Texts.{FlowText, IsFlowText, place_cmp, places_of, HasGivenFlows, HasFirstFlows}
 
 -- ---- one note more
@@ -27,14 +30,17 @@ or_else_none : {A : Type 0} → (o : Option A) → or_else o None ≡ o
 or_else_none None = refl
 or_else_none (Some a) = refl
 
-behind : (b : Bool) (o r x : Option (Tree × Tree)) → (if b then or_else o (or_else r x) else or_else r x) ≡ or_else (if b then or_else o r else r) x
+behind : (b : Bool) (o r x : Option (Tree × Tree)) → (if b then or_else o (or_else r x) else or_else r x)
+    ≡ or_else (if b then or_else o r else r) x
 behind true None r x = refl
 behind true (Some f) r x = refl
 behind false o r x = refl
 
-pub noted_more : (p : Place) (ns : List Note) (n : Note) → flow_noted p (ns ++ n ∷ []) ≡ or_else (flow_noted p ns) (flow_or p n None)
+pub noted_more : (p : Place) (ns : List Note) (n : Note) → flow_noted p (ns ++ n ∷ []) ≡ or_else (flow_noted p ns)
+    (flow_or p n None)
 noted_more p [] n = refl
-noted_more p (m ∷ ns) n = ap (flow_or p m) (noted_more p ns n) ∙ behind (is_same_place p m.finding.place) m.flow (flow_noted p ns) (flow_or p n None)
+noted_more p (m ∷ ns) n = ap (flow_or p m) (noted_more p ns n) ∙ behind (is_same_place p m.finding.place) m.flow
+    (flow_noted p ns) (flow_or p n None)
 
 -- ---- places
 
@@ -80,7 +86,8 @@ both_true true b h = (refl, h)
 both_true false b h = cc
 
 tested_same : (p q : Place) → is_same_place p q ≡ true → p ≡ q
-tested_same p q h = let both = both_true (nat_eq p.start q.start) (nat_eq p.end q.end) h in one_place p q (eqb-true p.start q.start both.0) (eqb-true p.end q.end both.1)
+tested_same p q h = let both = both_true (nat_eq p.start q.start) (nat_eq p.end q.end) h in
+    one_place p q (eqb-true p.start q.start both.0) (eqb-true p.end q.end both.1)
 
 self_tested : (p : Place) → is_same_place p p ≡ true
 self_tested p = rw (eq-eqb p.start p.start refl, eq-eqb p.end p.end refl) refl
@@ -89,25 +96,31 @@ apart : (x : Bool) → x ≡ true → x ≡ false → ⊥
 apart x a b = cc
 
 not_same : (p k : Place) → is_eq (place_cmp k p) ≡ false → (b : Bool) → is_same_place p k ≡ b → b ≡ false
-not_same p k h true e = absurd (apart (is_eq (place_cmp k p)) (subst (λ q. is_eq (place_cmp q p) ≡ true) (tested_same p k e) (place_self p)) h)
+not_same p k h true e = absurd (apart (is_eq (place_cmp k p))
+    (subst (λ q. is_eq (place_cmp q p) ≡ true) (tested_same p k e) (place_self p)) h)
 not_same p k h false e = refl
 
 -- ---- the map
 
-other_place : (p k : Place) (o : Option (Tree × Tree)) → is_eq (place_cmp k p) ≡ false → (b : Bool) → is_same_place p k ≡ b → (if b then or_else o None else None) ≡ None
+other_place : (p k : Place) (o : Option (Tree × Tree)) → is_eq (place_cmp k p) ≡ false → (b : Bool)
+    → is_same_place p k ≡ b → (if b then or_else o None else None) ≡ None
 other_place p k o h b e = rw (not_same p k h b e) refl
 
 -- an entry without a flow is left out
-pub left_out : (es : List Entry) (e : Entry) (flows : BTreeMap Place (Bor Flow)) → e.flow ≡ None → HasFirstFlows (notes_of es) flows → HasFirstFlows (notes_of es ++ note_of e ∷ []) flows
+pub left_out : (es : List Entry) (e : Entry) (flows : BTreeMap Place (Bor Flow)) → e.flow ≡ None
+    → HasFirstFlows (notes_of es) flows → HasFirstFlows (notes_of es ++ note_of e ∷ []) flows
 left_out es e flows n has = record { first = first; given = has.given }
   where
-    nothing : (b : Bool) (o : Option Flow) → o ≡ None → (if b then or_else (option_map flow_types o) None else None) ≡ None
+    nothing : (b : Bool) (o : Option Flow) → o ≡ None → (if b then or_else (option_map flow_types o) None else None)
+        ≡ None
     nothing true None h = refl
     nothing true (Some f) h = cc
     nothing false o h = refl
 
-    first : (p : Place) → option_map (λ (f : Bor Flow). flow_types f.now) (get place_cmp flows p) ≡ flow_noted p (notes_of es ++ note_of e ∷ [])
-    first p = has.first p ∙ sym (noted_more p (notes_of es) (note_of e) ∙ ap (or_else (flow_noted p (notes_of es))) (nothing (is_same_place p e.finding.place) e.flow n) ∙ or_else_none (flow_noted p (notes_of es)))
+    first : (p : Place) → option_map (λ (f : Bor Flow). flow_types f.now) (get place_cmp flows p) ≡ flow_noted p
+        (notes_of es ++ note_of e ∷ [])
+    first p = has.first p ∙ sym (noted_more p (notes_of es) (note_of e) ∙ ap (or_else (flow_noted p (notes_of es)))
+        (nothing (is_same_place p e.finding.place) e.flow n) ∙ or_else_none (flow_noted p (notes_of es)))
 
 kept_first : (o x : Option (Tree × Tree)) → is_some o ≡ true → or_else o x ≡ o
 kept_first None x h = cc
@@ -118,32 +131,51 @@ some_mapped f None = refl
 some_mapped f (Some a) = refl
 
 -- at a place that has a flow a later one is left out
-pub known_place : (es : List Entry) (e : Entry) (flows : BTreeMap Place (Bor Flow)) → is_some (get place_cmp flows e.finding.place) ≡ true → HasFirstFlows (notes_of es) flows → HasFirstFlows (notes_of es ++ note_of e ∷ []) flows
-known_place es e flows known has = record { first = λ p. has.first p ∙ sym (noted_more p (notes_of es) (note_of e) ∙ by p (is_eq (place_cmp e.finding.place p)) refl); given = has.given }
+pub known_place : (es : List Entry) (e : Entry) (flows : BTreeMap Place (Bor Flow))
+    → is_some (get place_cmp flows e.finding.place) ≡ true → HasFirstFlows (notes_of es) flows
+    → HasFirstFlows (notes_of es ++ note_of e ∷ []) flows
+known_place es e flows known has = record {
+  first = λ p. has.first p
+      ∙ sym (noted_more p (notes_of es) (note_of e) ∙ by p (is_eq (place_cmp e.finding.place p)) refl);
+  given =
+      has.given;
+}
   where
-    by : (p : Place) (b : Bool) → is_eq (place_cmp e.finding.place p) ≡ b → or_else (flow_noted p (notes_of es)) (flow_or p (note_of e) None) ≡ flow_noted p (notes_of es)
+    by : (p : Place) (b : Bool) → is_eq (place_cmp e.finding.place p) ≡ b
+        → or_else (flow_noted p (notes_of es)) (flow_or p (note_of e) None) ≡ flow_noted p (notes_of es)
     by p true h =
         let same : e.finding.place ≡ p = place_same e.finding.place p h in
-        let some : is_some (flow_noted p (notes_of es)) ≡ true = ap is_some (sym (has.first p)) ∙ some_mapped (λ (f : Bor Flow). flow_types f.now) (get place_cmp flows p) ∙ subst (λ q. is_some (get place_cmp flows q) ≡ true) same known in
+        let some : is_some (flow_noted p (notes_of es)) ≡ true = ap is_some (sym (has.first p))
+        ∙ some_mapped (λ (f : Bor Flow). flow_types f.now) (get place_cmp flows p)
+        ∙ subst (λ q. is_some (get place_cmp flows q) ≡ true) same known in
         kept_first (flow_noted p (notes_of es)) (flow_or p (note_of e) None) some
-    by p false h = ap (or_else (flow_noted p (notes_of es))) (other_place p e.finding.place (note_of e).flow h (is_same_place p e.finding.place) refl) ∙ or_else_none (flow_noted p (notes_of es))
+    by p false h = ap (or_else (flow_noted p (notes_of es))) (other_place p e.finding.place (note_of e).flow h
+        (is_same_place p e.finding.place) refl) ∙ or_else_none (flow_noted p (notes_of es))
 
 none_first : (o x : Option (Tree × Tree)) → is_some o ≡ false → or_else o x ≡ x
 none_first None x h = refl
 none_first (Some a) x h = cc
 
 -- at a place without a flow one is put in
-pub new_place : (es : List Entry) (e : Entry) (f : Bor Flow) (old new : BTreeMap Place (Bor Flow)) → e.flow ≡ Some f.now → IsGivenFlow f.now → is_some (get place_cmp old e.finding.place) ≡ false
+pub new_place : (es : List Entry) (e : Entry) (f : Bor Flow) (old new : BTreeMap Place (Bor Flow)) → e.flow ≡ Some f.now
+    → IsGivenFlow f.now → is_some (get place_cmp old e.finding.place) ≡ false
     → ((q : Place) → get place_cmp new q ≡ cond (is_eq (place_cmp e.finding.place q)) (Some f) (get place_cmp old q))
     → HasFirstFlows (notes_of es) old → HasFirstFlows (notes_of es ++ note_of e ∷ []) new
 new_place es e f old new is is_given fresh step has =
-    record { first = λ p. ap (option_map (λ (g : Bor Flow). flow_types g.now)) (step p) ∙ by p (is_eq (place_cmp e.finding.place p)) refl ∙ sym (noted_more p (notes_of es) (note_of e)); given = λ p. subst (λ (o : Option (Bor Flow)). IfSome o (λ g. IsGivenFlow g.now)) (sym (step p)) (each p (is_eq (place_cmp e.finding.place p))) }
+    record {
+      first = λ p. ap (option_map (λ (g : Bor Flow). flow_types g.now)) (step p)
+          ∙ by p (is_eq (place_cmp e.finding.place p)) refl ∙ sym (noted_more p (notes_of es) (note_of e));
+      given =
+          λ p. subst (λ (o : Option (Bor Flow)). IfSome o (λ g. IsGivenFlow g.now)) (sym (step p))
+          (each p (is_eq (place_cmp e.finding.place p)));
+    }
   where
     each : (p : Place) (b : Bool) → IfSome (cond b (Some f) (get place_cmp old p)) (λ g. IsGivenFlow g.now)
     each p true = is_given
     each p false = has.given p
 
-    own_if : (b : Bool) (o : Option Flow) → b ≡ true → o ≡ Some f.now → (if b then or_else (option_map flow_types o) None else None) ≡ Some (flow_types f.now)
+    own_if : (b : Bool) (o : Option Flow) → b ≡ true → o ≡ Some f.now
+        → (if b then or_else (option_map flow_types o) None else None) ≡ Some (flow_types f.now)
     own_if true None h e = cc
     own_if true (Some g) h e = let q : g ≡ f.now = cc in ap (λ x. Some (flow_types x)) q
     own_if false o h e = cc
@@ -151,20 +183,29 @@ new_place es e f old new is is_given fresh step has =
     own : flow_or e.finding.place (note_of e) None ≡ Some (flow_types f.now)
     own = own_if (is_same_place e.finding.place e.finding.place) e.flow (self_tested e.finding.place) is
 
-    by : (p : Place) (b : Bool) → is_eq (place_cmp e.finding.place p) ≡ b → option_map (λ (g : Bor Flow). flow_types g.now) (cond b (Some f) (get place_cmp old p)) ≡ or_else (flow_noted p (notes_of es)) (flow_or p (note_of e) None)
+    by : (p : Place) (b : Bool) → is_eq (place_cmp e.finding.place p) ≡ b
+        → option_map (λ (g : Bor Flow). flow_types g.now) (cond b (Some f) (get place_cmp old p))
+        ≡ or_else (flow_noted p (notes_of es)) (flow_or p (note_of e) None)
     by p true h =
         let same : e.finding.place ≡ p = place_same e.finding.place p h in
-        let none : is_some (flow_noted p (notes_of es)) ≡ false = ap is_some (sym (has.first p)) ∙ some_mapped (λ (g : Bor Flow). flow_types g.now) (get place_cmp old p) ∙ subst (λ q. is_some (get place_cmp old q) ≡ false) same fresh in
-        sym (none_first (flow_noted p (notes_of es)) (flow_or p (note_of e) None) none ∙ subst (λ q. flow_or q (note_of e) None ≡ Some (flow_types f.now)) same own)
-    by p false h = has.first p ∙ sym (ap (or_else (flow_noted p (notes_of es))) (other_place p e.finding.place (note_of e).flow h (is_same_place p e.finding.place) refl) ∙ or_else_none (flow_noted p (notes_of es)))
+        let none : is_some (flow_noted p (notes_of es)) ≡ false = ap is_some (sym (has.first p))
+        ∙ some_mapped (λ (g : Bor Flow). flow_types g.now) (get place_cmp old p)
+        ∙ subst (λ q. is_some (get place_cmp old q) ≡ false) same fresh in
+        sym (none_first (flow_noted p (notes_of es)) (flow_or p (note_of e) None) none
+        ∙ subst (λ q. flow_or q (note_of e) None ≡ Some (flow_types f.now)) same own)
+    by p false h = has.first p ∙ sym (ap (or_else (flow_noted p (notes_of es)))
+        (other_place p e.finding.place (note_of e).flow h (is_same_place p e.finding.place) refl)
+        ∙ or_else_none (flow_noted p (notes_of es)))
 
 -- the map has this entry
 abbrev pub IsPairOf : BTreeMap Place (Bor Flow) → Place × Bor Flow → Type 0
 IsPairOf flows e = get place_cmp flows e.0 ≡ Some e.1
 
 -- with one entry more
-pub first_of_more : (es : List Entry) (e : Entry) (flows : BTreeMap Place (Bor Flow)) (all : List Entry) → all ≡ es ++ e ∷ [] → HasFirstFlows (notes_of es ++ note_of e ∷ []) flows → HasFirstFlows (notes_of all) flows
-first_of_more es e flows all is has = subst (λ (l : List Note). HasFirstFlows l flows) (sym (ap notes_of is ∙ map-append note_of es (e ∷ []))) has
+pub first_of_more : (es : List Entry) (e : Entry) (flows : BTreeMap Place (Bor Flow)) (all : List Entry)
+    → all ≡ es ++ e ∷ [] → HasFirstFlows (notes_of es ++ note_of e ∷ []) flows → HasFirstFlows (notes_of all) flows
+first_of_more es e flows all is has = subst (λ (l : List Note). HasFirstFlows l flows)
+    (sym (ap notes_of is ∙ map-append note_of es (e ∷ []))) has
 
 -- ---- the texts of a map
 
@@ -173,47 +214,63 @@ some_of None f e h = absurd (cc e)
 some_of (Some g) f e h = let q : g ≡ f = cc in subst (λ (x : Bor Flow). IsGivenFlow x.now) q h
 
 -- the flow of an entry of a map is of types that a store of boxes may give
-pub given_pair : (flows : BTreeMap Place (Bor Flow)) → HasGivenFlows flows → (e : Place × Bor Flow) → IsPairOf flows e → IsGivenFlow e.1.now
+pub given_pair : (flows : BTreeMap Place (Bor Flow)) → HasGivenFlows flows → (e : Place × Bor Flow) → IsPairOf flows e
+    → IsGivenFlow e.1.now
 given_pair flows given e is = some_of (get place_cmp flows e.0) e.1 is (given e.0)
 
 -- the types of the flow of an entry are those noted at its place
-pub noted_pair : (flows : BTreeMap Place (Bor Flow)) (notes : List Note) → HasFirstFlows notes flows → (e : Place × Bor Flow) → IsPairOf flows e → flow_noted e.0 notes ≡ Some (flow_types e.1.now)
+pub noted_pair : (flows : BTreeMap Place (Bor Flow)) (notes : List Note) → HasFirstFlows notes flows
+    → (e : Place × Bor Flow) → IsPairOf flows e → flow_noted e.0 notes ≡ Some (flow_types e.1.now)
 noted_pair flows notes has e is = sym (has.first e.0) ∙ ap (option_map (λ (f : Bor Flow). flow_types f.now)) is
 
 -- one text more is that of the flow of its entry
-pub text_of_pair : (m : Module) (flows : BTreeMap Place (Bor Flow)) (notes : List Note) → HasFirstFlows notes flows → (e : Place × Bor Flow) → IsPairOf flows e
-    → (text : FlowText) → text.0 ≡ e.0 → string_bytes text.1 ≡ type_text m (tree_of e.1.now.from) → string_bytes text.2 ≡ type_text m (tree_of e.1.now.into) → IsFlowText m notes text
+pub text_of_pair : (m : Module) (flows : BTreeMap Place (Bor Flow)) (notes : List Note) → HasFirstFlows notes flows
+    → (e : Place × Bor Flow) → IsPairOf flows e
+    → (text : FlowText) → text.0 ≡ e.0 → string_bytes text.1 ≡ type_text m (tree_of e.1.now.from)
+    → string_bytes text.2 ≡ type_text m (tree_of e.1.now.into) → IsFlowText m notes text
 text_of_pair m flows notes has e is text at from into =
-    subst (λ (o : Option (Tree × Tree)). MatchOption o ⊥ (λ f. (string_bytes text.1 ≡ type_text m f.0) × (string_bytes text.2 ≡ type_text m f.1)))
+    subst (λ (o : Option (Tree × Tree)). MatchOption o ⊥ (λ f. (string_bytes text.1 ≡ type_text m f.0)
+    × (string_bytes text.2 ≡ type_text m f.1)))
     (sym (ap (λ p. flow_noted p notes) at ∙ noted_pair flows notes has e is)) (from, into)
 
 -- what holds of each, and of one more
-pub all_more : {X : Type 0} (P : X → Type 0) (xs : List X) (x : X) → AllByRecursion P xs → P x → AllByRecursion P (xs ++ x ∷ [])
+pub all_more : {X : Type 0} (P : X → Type 0) (xs : List X) (x : X) → AllByRecursion P xs → P x
+    → AllByRecursion P (xs ++ x ∷ [])
 all_more P [] x all one = (one, tt)
 all_more P (y ∷ ys) x all one = (all.0, all_more P ys x all.1 one)
 
 -- the places of texts and of one more, before others
-pub places_more : (texts : List FlowText) (text : FlowText) (rest : List Place) → places_of (texts ++ text ∷ []) ++ rest ≡ places_of texts ++ (text.0 ∷ rest)
+pub places_more : (texts : List FlowText) (text : FlowText) (rest : List Place) → places_of (texts ++ text ∷ []) ++ rest
+    ≡ places_of texts ++ (text.0 ∷ rest)
 places_more [] text rest = refl
 places_more (t ∷ ts) text rest = ap (λ (l : List Place). t.0 ∷ l) (places_more ts text rest)
 
 -- each entry of a map is found in it
-pub pairs_found : (flows : BTreeMap Place (Bor Flow)) (es : List (Place × Bor Flow)) → All (IsPairOf flows) es → AllByRecursion (IsPairOf flows) es
+pub pairs_found : (flows : BTreeMap Place (Bor Flow)) (es : List (Place × Bor Flow)) → All (IsPairOf flows) es
+    → AllByRecursion (IsPairOf flows) es
 pairs_found flows [] all = tt
-pairs_found flows (e ∷ es) all = (All-head (IsPairOf flows) e es all, pairs_found flows es (All-tail (IsPairOf flows) e es all))
+pairs_found flows (e ∷ es) all = (
+  All-head (IsPairOf flows) e es all,
+  pairs_found flows es (All-tail (IsPairOf flows) e es all),
+)
 
-here_or_behind : (p k : Place) (v : Bor Flow) (rest : List Place) (b : Bool) → is_eq (place_cmp p k) ≡ b → (o : Option (Bor Flow)) → (IsSome o → Contains rest p) → IsSome (cond b (Some v) o) → Contains (k ∷ rest) p
+here_or_behind : (p k : Place) (v : Bor Flow) (rest : List Place) (b : Bool) → is_eq (place_cmp p k) ≡ b
+    → (o : Option (Bor Flow)) → (IsSome o → Contains rest p) → IsSome (cond b (Some v) o) → Contains (k ∷ rest) p
 here_or_behind p k v rest true same o later h = (0, omega arith, sym (place_same p k same))
 here_or_behind p k v rest false other o later h = let (i, within, is) = later h in (suc i, omega arith, is)
 
-test_places : (p : Place) (es : List (Place × Bor Flow)) → IsSome (lookup (λ k. is_eq (place_cmp p k)) es) → Contains (map (λ e. e.0) es) p
+test_places : (p : Place) (es : List (Place × Bor Flow)) → IsSome (lookup (λ k. is_eq (place_cmp p k)) es)
+    → Contains (map (λ e. e.0) es) p
 test_places p [] h = absurd (cc h)
-test_places p (e ∷ es) h = here_or_behind p e.0 e.1 (map (λ x. x.0) es) (is_eq (place_cmp p e.0)) refl (lookup (λ k. is_eq (place_cmp p k)) es) (test_places p es) h
+test_places p (e ∷ es) h = here_or_behind p e.0 e.1 (map (λ x. x.0) es) (is_eq (place_cmp p e.0)) refl
+    (lookup (λ k. is_eq (place_cmp p k)) es) (test_places p es) h
 
 some_left : {A B : Type 0} (f : A → B) (o : Option A) → IsSome (option_map f o) → IsSome o
 some_left f None h = h
 some_left f (Some a) h = refl
 
 -- each place with a flow is one of a map's
-pub place_found : (flows : BTreeMap Place (Bor Flow)) (notes : List Note) → HasFirstFlows notes flows → (p : Place) → IsSome (flow_noted p notes) → Contains (map (λ e. e.0) flows.entries) p
-place_found flows notes has p some = test_places p flows.entries (some_left (λ (f : Bor Flow). flow_types f.now) (get place_cmp flows p) (subst IsSome (sym (has.first p)) some))
+pub place_found : (flows : BTreeMap Place (Bor Flow)) (notes : List Note) → HasFirstFlows notes flows → (p : Place)
+    → IsSome (flow_noted p notes) → Contains (map (λ e. e.0) flows.entries) p
+place_found flows notes has p some = test_places p flows.entries
+    (some_left (λ (f : Bor Flow). flow_types f.now) (get place_cmp flows p) (subst IsSome (sym (has.first p)) some))

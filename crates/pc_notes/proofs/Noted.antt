@@ -9,12 +9,14 @@ use Rattle.pc_notes.specs.declared.notes.Flow.{Flow}
 use Rattle.pc_notes.specs.declared.notes.Entry.{Entry}
 use Rattle.pc_notes.specs.Notes.{is_same_place, or_else, flow_types, flow_noted, notes_of}
 
-none_test : (b : Test) (o : Option Flow) (rest : Option (Tree × Tree)) → (if b then o else None) ≡ None → (if b then or_else (option_map flow_types o) rest else rest) ≡ rest
+none_test : (b : Test) (o : Option Flow) (rest : Option (Tree × Tree)) → (if b then o else None) ≡ None
+    → (if b then or_else (option_map flow_types o) rest else rest) ≡ rest
 none_test true None rest e = refl
 none_test true (Some f) rest e = absurd (cc e)
 none_test false o rest e = refl
 
-some_test : (b : Test) (o : Option Flow) (f : Flow) (rest : Option (Tree × Tree)) → (if b then o else None) ≡ Some f → (if b then or_else (option_map flow_types o) rest else rest) ≡ Some (flow_types f)
+some_test : (b : Test) (o : Option Flow) (f : Flow) (rest : Option (Tree × Tree)) → (if b then o else None) ≡ Some f
+    → (if b then or_else (option_map flow_types o) rest else rest) ≡ Some (flow_types f)
 some_test true None f rest e = absurd (cc e)
 some_test true (Some g) f rest e = let q : g ≡ f = cc in ap (λ x. Some (flow_types x)) q
 some_test false o f rest e = absurd (cc e)
@@ -24,12 +26,15 @@ module _ (p : Place) (es : List Entry) (i : ℕ) (e : Entry) (lt : i < length es
   next = ap (λ l. flow_noted p (notes_of l)) (cons_at es i e lt is)
 
   -- no flow is noted at the next entry
-  pub later_flow : (if is_same_place p e.finding.place then e.flow else None) ≡ None → flow_noted p (notes_of (drop i es)) ≡ flow_noted p (notes_of (drop (i + 1) es))
+  pub later_flow : (if is_same_place p e.finding.place then e.flow else None) ≡ None
+      → flow_noted p (notes_of (drop i es)) ≡ flow_noted p (notes_of (drop (i + 1) es))
   later_flow n = next ∙ none_test (is_same_place p e.finding.place) e.flow (flow_noted p (notes_of (drop (i + 1) es))) n
 
   -- this one is
-  pub this_flow : (f : Flow) → (if is_same_place p e.finding.place then e.flow else None) ≡ Some f → flow_noted p (notes_of (drop i es)) ≡ Some (flow_types f)
-  this_flow f s = next ∙ some_test (is_same_place p e.finding.place) e.flow f (flow_noted p (notes_of (drop (i + 1) es))) s
+  pub this_flow : (f : Flow) → (if is_same_place p e.finding.place then e.flow else None) ≡ Some f
+      → flow_noted p (notes_of (drop i es)) ≡ Some (flow_types f)
+  this_flow f s = next ∙ some_test (is_same_place p e.finding.place) e.flow f
+      (flow_noted p (notes_of (drop (i + 1) es))) s
 
 -- nothing is left
 pub no_flow : (p : Place) (es : List Entry) (i : ℕ) → length es ≤ i → flow_noted p (notes_of (drop i es)) ≡ None

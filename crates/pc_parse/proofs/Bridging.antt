@@ -1,5 +1,6 @@
 -- From what the machine makes of a stream to what the grammar says of its tokens.
-use Rattle.std.proofs.Common.{◌≡◌, ℕ, ◌⊎◌, inl, inr, List, [], ◌∷◌, ◌++◌, map, Option, Some, None, Result, Ok, Err, refl, ap, sym, ◌∙◌, subst}
+use Rattle.std.proofs.Common.{◌≡◌, ℕ, ◌⊎◌, inl, inr, List, [], ◌∷◌, ◌++◌, map, Option, Some, None, Result, Ok, Err}
+use Rattle.std.proofs.Common.{refl, ap, sym, ◌∙◌, subst}
 use Rattle.pc_source.specs.declared.fault.Fault.{Fault}
 use Rattle.pc_source.specs.declared.fault.Fault.TheVariants as fault
 use Rattle.pc_source.specs.declared.fault.Refusal.{Refusal}
@@ -57,11 +58,13 @@ fault_in e (Err f) = f
 
 -- the answer for an outcome that is no module
 abbrev Unread : ℕ → Outcome → Fault → Type 0
-Unread end x e = ((byte : ℕ) × (x ≡ refuses byte) × (e ≡ fault.Refused (record { code = code.G1; byte = byte }))) ⊎ ((x ≡ short) × (e ≡ fault.Refused (record { code = code.G1; byte = end })))
+Unread end x e = ((byte : ℕ) × (x ≡ refuses byte) × (e ≡ fault.Refused (record { code = code.G1; byte = byte })))
+    ⊎ ((x ≡ short) × (e ≡ fault.Refused (record { code = code.G1; byte = end })))
 
 settled_err : (end : ℕ) (x : Outcome) (e : Fault) → answer_for end x ≡ Err e → Unread end x e
 settled_err end (reads n) e q = cc
-settled_err end (refuses byte) e q = let h : fault.Refused (record { code = code.G1; byte = byte }) ≡ e = cc in inl (byte, refl, sym h)
+settled_err end (refuses byte) e q = let h : fault.Refused (record { code = code.G1; byte = byte }) ≡ e = cc in
+    inl (byte, refl, sym h)
 settled_err end short e q = let h : fault.Refused (record { code = code.G1; byte = end }) ≡ e = cc in inr (refl, sym h)
 
 module _ {X : Type 0} (text : X → List ℕ) where
@@ -71,10 +74,22 @@ module _ {X : Type 0} (text : X → List ℕ) where
     all : xs ≡ map Ok tokens
     run_is : run r (map (lexeme text) tokens) ≡ reads m
 
-  came_whole : (xs : List (Result (Token X) Fault)) (end : ℕ) (r : Reading) (m : Module) → run_items text end r xs ≡ Ok m → Whole r xs m
-  came_whole [] end r m e = record { tokens = []; all = refl; run_is = run_over r ∙ settled_ok end (stop r) m (sym (run_end text end r) ∙ e) }
-  came_whole (Ok t ∷ xs) end r m e = let w = came_whole xs t.place.end (step r (lexeme text t)) m (sym (run_token text end r t xs) ∙ e) in
-      record { tokens = t ∷ w.tokens; all = ap (λ z. Ok t ∷ z) w.all; run_is = run_more r (lexeme text t) (map (lexeme text) w.tokens) ∙ w.run_is }
+  came_whole : (xs : List (Result (Token X) Fault)) (end : ℕ) (r : Reading) (m : Module)
+      → run_items text end r xs ≡ Ok m → Whole r xs m
+  came_whole [] end r m e = record {
+    tokens = [];
+    all = refl;
+    run_is = run_over r
+        ∙ settled_ok end (stop r) m (sym (run_end text end r) ∙ e);
+  }
+  came_whole (Ok t ∷ xs) end r m e = let w = came_whole xs t.place.end (step r (lexeme text t)) m
+      (sym (run_token text end r t xs) ∙ e) in
+      record {
+        tokens = t ∷ w.tokens;
+        all = ap (λ z. Ok t ∷ z) w.all;
+        run_is =
+            run_more r (lexeme text t) (map (lexeme text) w.tokens) ∙ w.run_is;
+      }
   came_whole (Err f ∷ xs) end r m e = let q : Err f ≡ Ok m = sym (run_fault text end r f xs) ∙ e in cc
 
   -- items that lead to a fault end with it, or are tokens that are no module
@@ -88,16 +103,26 @@ module _ {X : Type 0} (text : X → List ℕ) where
     unread : Unread (end_of end (map (lexeme text) tokens)) (run r (map (lexeme text) tokens)) e
 
   module _ {I : Type 0} (steps : I → Option (Result (Token X) Fault) → I → Type 0) where
-    came_fault : (xs : List (Result (Token X) Fault)) (it : I) (end : ℕ) (r : Reading) (e : Fault) → stream.Yields steps it xs → run_items text end r xs ≡ Err e → Faulty xs e ⊎ Unreadable end r xs e
-    came_fault [] it end r e c q = inr (record { tokens = []; all = refl; unread = subst (λ z. Unread end z e) (sym (run_over r)) (settled_err end (stop r) e (sym (run_end text end r) ∙ q)) })
-    came_fault (Ok t ∷ xs) it end r e c q = more (came_fault xs c.0 t.place.end (step r (lexeme text t)) e c.2 (sym (run_token text end r t xs) ∙ q))
+    came_fault : (xs : List (Result (Token X) Fault)) (it : I) (end : ℕ) (r : Reading) (e : Fault)
+        → stream.Yields steps it xs → run_items text end r xs ≡ Err e → Faulty xs e ⊎ Unreadable end r xs e
+    came_fault [] it end r e c q =
+        inr (record {
+          tokens = [];
+          all = refl;
+          unread = subst (λ z. Unread end z e) (sym (run_over r))
+              (settled_err end (stop r) e (sym (run_end text end r) ∙ q));
+        })
+    came_fault (Ok t ∷ xs) it end r e c q = more (came_fault xs c.0 t.place.end (step r (lexeme text t)) e c.2
+        (sym (run_token text end r t xs) ∙ q))
       where
-        more : Faulty xs e ⊎ Unreadable t.place.end (step r (lexeme text t)) xs e → Faulty (Ok t ∷ xs) e ⊎ Unreadable end r (Ok t ∷ xs) e
+        more : Faulty xs e ⊎ Unreadable t.place.end (step r (lexeme text t)) xs e → Faulty (Ok t ∷ xs) e
+            ⊎ Unreadable end r (Ok t ∷ xs) e
         more (inl f) = inl (record { tokens = t ∷ f.tokens; all = ap (λ z. Ok t ∷ z) f.all })
         more (inr u) = inr (record {
           tokens = t ∷ u.tokens;
           all = ap (λ z. Ok t ∷ z) u.all;
-          unread = subst (λ z. Unread (end_of t.place.end (map (lexeme text) u.tokens)) z e) (sym (run_more r (lexeme text t) (map (lexeme text) u.tokens))) u.unread;
+          unread = subst (λ z. Unread (end_of t.place.end (map (lexeme text) u.tokens)) z e)
+              (sym (run_more r (lexeme text t) (map (lexeme text) u.tokens))) u.unread;
         })
     came_fault (Err f ∷ xs) it end r e c q = let h : f ≡ e = ap (fault_in f) (sym (run_fault text end r f xs) ∙ q) in
         inl (record { tokens = []; all = ap (λ z. Err f ∷ z) c.0 ∙ ap (λ z. Err z ∷ []) h })
@@ -105,22 +130,28 @@ module _ {X : Type 0} (text : X → List ℕ) where
 same_refusal : (r q : Refusal) → fault.Refused r ≡ fault.Refused q → r ≡ q
 same_refusal r q e = cc
 
-refusal_of : (ts : List Lexeme) (r : Refusal) → Unread (end_of 0 ts) (run (at start) ts) (fault.Refused r) → IsRefusal ts r
-refusal_of ts r (inl (byte, e, q)) = subst (λ z. IsRefusal ts z) (sym (same_refusal r (record { code = code.G1; byte = byte }) q)) (inl (refl, inl (misfit ts byte e)))
-refusal_of ts r (inr (e, q)) = subst (λ z. IsRefusal ts z) (sym (same_refusal r (record { code = code.G1; byte = end_of 0 ts }) q))
+refusal_of : (ts : List Lexeme) (r : Refusal) → Unread (end_of 0 ts) (run (at start) ts) (fault.Refused r)
+    → IsRefusal ts r
+refusal_of ts r (inl (byte, e, q)) = subst (λ z. IsRefusal ts z)
+    (sym (same_refusal r (record { code = code.G1; byte = byte }) q)) (inl (refl, inl (misfit ts byte e)))
+refusal_of ts r (inr (e, q)) = subst (λ z. IsRefusal ts z)
+    (sym (same_refusal r (record { code = code.G1; byte = end_of 0 ts }) q))
     (inl (refl, inr (let f = ends_early ts e in record { front = f.front; unspelled = f.unspelled; end = end_is ts })))
 
 module _ {X I : Type 0} (text : X → List ℕ) (steps : I → Option (Result (Token X) Fault) → I → Type 0) where
   -- the module that the stream leads to
-  pub answers_module : (it : I) (n m : Module) → ComesToAnswer text steps it 0 (at start) (Ok m) → n ≡ m → too_deep_at m ≡ None → IsRead text steps it n
+  pub answers_module : (it : I) (n m : Module) → ComesToAnswer text steps it 0 (at start) (Ok m) → n ≡ m
+      → too_deep_at m ≡ None → IsRead text steps it n
   answers_module it n m (xs, c, e) same shallow = let w = came_whole text xs 0 (at start) m e in record {
     tokens = w.tokens;
     came = subst (λ z. stream.Yields steps it z) w.all c;
-    is = subst (λ z. IsModule (map (lexeme text) w.tokens) z) (sym same) (record { spelled = reads_spells (map (lexeme text) w.tokens) m w.run_is; shallow = shallow });
+    is = subst (λ z. IsModule (map (lexeme text) w.tokens) z) (sym same)
+        (record { spelled = reads_spells (map (lexeme text) w.tokens) m w.run_is; shallow = shallow });
   }
 
   -- a module that is too deep
-  pub answers_depth : (it : I) (m : Module) (byte : ℕ) → ComesToAnswer text steps it 0 (at start) (Ok m) → too_deep_at m ≡ Some byte → IsRefusedByTokens text steps it (record { code = code.G2; byte = byte })
+  pub answers_depth : (it : I) (m : Module) (byte : ℕ) → ComesToAnswer text steps it 0 (at start) (Ok m)
+      → too_deep_at m ≡ Some byte → IsRefusedByTokens text steps it (record { code = code.G2; byte = byte })
   answers_depth it m byte (xs, c, e) deep = let w = came_whole text xs 0 (at start) m e in record {
     tokens = w.tokens;
     came = subst (λ z. stream.Yields steps it z) w.all c;
@@ -128,25 +159,38 @@ module _ {X I : Type 0} (text : X → List ℕ) (steps : I → Option (Result (T
   }
 
   -- the fault that the stream leads to
-  pub answers_fault : (it : I) (r : Refusal) → ComesToAnswer text steps it 0 (at start) (Err (fault.Refused r)) → IsRefusedByTokens text steps it r ⊎ IsFaulty text steps it (fault.Refused r)
+  pub answers_fault : (it : I) (r : Refusal) → ComesToAnswer text steps it 0 (at start) (Err (fault.Refused r))
+      → IsRefusedByTokens text steps it r ⊎ IsFaulty text steps it (fault.Refused r)
   answers_fault it r (xs, c, e) = by_came (came_fault text steps xs it 0 (at start) (fault.Refused r) c e)
     where
-      by_came : Faulty text xs (fault.Refused r) ⊎ Unreadable text 0 (at start) xs (fault.Refused r) → IsRefusedByTokens text steps it r ⊎ IsFaulty text steps it (fault.Refused r)
+      by_came : Faulty text xs (fault.Refused r) ⊎ Unreadable text 0 (at start) xs (fault.Refused r)
+          → IsRefusedByTokens text steps it r ⊎ IsFaulty text steps it (fault.Refused r)
       by_came (inl f) = inr (record { tokens = f.tokens; came = subst (λ z. stream.Yields steps it z) f.all c })
-      by_came (inr u) = inl (record { tokens = u.tokens; came = subst (λ z. stream.Yields steps it z) u.all c; is = refusal_of (map (lexeme text) u.tokens) r u.unread })
+      by_came (inr u) = inl (record {
+        tokens = u.tokens;
+        came = subst (λ z. stream.Yields steps it z) u.all c;
+        is =
+            refusal_of (map (lexeme text) u.tokens) r u.unread;
+      })
 
   -- what a call answers that ends in a fault
-  pub blamed : (it : I) (e : Fault) → Blames e (λ o. ComesToAnswer text steps it 0 (at start) o) → OnRefusal (λ r. IsRefusedByTokens text steps it r ⊎ IsFaulty text steps it (fault.Refused r)) e
+  pub blamed : (it : I) (e : Fault) → Blames e (λ o. ComesToAnswer text steps it 0 (at start) o)
+      → OnRefusal (λ r. IsRefusedByTokens text steps it r ⊎ IsFaulty text steps it (fault.Refused r)) e
   blamed it (fault.Refused r) h = answers_fault it r (h.said r refl)
   blamed it fault.OutOfMemory h = tt
 
-  module _ {can : I → Type 0} {left : I → Count} {a b : Parser X I} {v : RustModule} (it : I) (lead : (st : Reading) (o : Result Module Fault) → Came text steps a.reader st o → ComesToAnswer text steps it 0 st o) (none : a.deep ≡ None)
+  module _ {can : I → Type 0} {left : I → Count} {a b : Parser X I} {v : RustModule} (it : I)
+      (lead : (st : Reading) (o : Result Module Fault) → Came text steps a.reader st o
+      → ComesToAnswer text steps it 0 st o) (none : a.deep ≡ None)
       (x : GivesModule text steps can left a b v) where
     depth_is : b.deep ≡ too_deep_at x.tree
-    depth_is = x.keeps.deep ∙ ap (λ z. Rattle.pc_parse.specs.Internal.WholeTrees.deep_after z (Rattle.pc_tree.specs.Depth.wholes_of_items x.tree.items)) none
+    depth_is = x.keeps.deep ∙ ap (λ z. Rattle.pc_parse.specs.Internal.WholeTrees.deep_after z
+        (Rattle.pc_tree.specs.Depth.wholes_of_items x.tree.items)) none
 
     pub shallow_module : b.deep ≡ None → IsRead text steps it (module_of v)
-    shallow_module e = answers_module it (module_of v) x.tree (lead (at start) (Ok x.tree) x.comes) (x.keeps.kept e) (sym depth_is ∙ e)
+    shallow_module e = answers_module it (module_of v) x.tree (lead (at start) (Ok x.tree) x.comes) (x.keeps.kept e)
+        (sym depth_is ∙ e)
 
-    pub deep_module : (byte : ℕ) → b.deep ≡ Some byte → IsRefusedByTokens text steps it (record { code = code.G2; byte = byte })
+    pub deep_module : (byte : ℕ) → b.deep ≡ Some byte → IsRefusedByTokens text steps it
+        (record { code = code.G2; byte = byte })
     deep_module byte e = answers_depth it x.tree byte (lead (at start) (Ok x.tree) x.comes) (sym depth_is ∙ e)

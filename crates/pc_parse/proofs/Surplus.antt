@@ -45,9 +45,12 @@ refuses_it t _ = refl
 same_token : {X : Type 0} {t u : Token X} → Some t ≡ Some u → t ≡ u
 same_token e = cc
 
-module _ {X I : Type 0} (text : X → List ℕ) (steps : I → Option (Result (Token X) Fault) → I → Type 0) (a : Reader X I) (tree : Module) where
+module _ {X I : Type 0} (text : X → List ℕ) (steps : I → Option (Result (Token X) Fault) → I → Type 0) (a : Reader X I)
+    (tree : Module) where
   -- no token goes on after the end
-  pub surplus : (e : Fault) (k : TokenKind) → kind_ahead a.ahead ≡ Some k → Blames e (λ o. (st : State) → Rejects text st a → Came text steps a (at st) o) → Blames e (λ o. Came text steps a (at (ended tree)) o)
+  pub surplus : (e : Fault) (k : TokenKind) → kind_ahead a.ahead ≡ Some k
+      → Blames e (λ o. (st : State) → Rejects text st a → Came text steps a (at st) o)
+      → Blames e (λ o. Came text steps a (at (ended tree)) o)
   surplus e k is w = by_ahead a.ahead refl
     where
       by_ahead : (v : Option (Token X)) → a.ahead ≡ v → Blames e (λ o. Came text steps a (at (ended tree)) o)
@@ -55,32 +58,47 @@ module _ {X I : Type 0} (text : X → List ℕ) (steps : I → Option (Result (T
         where
           no_kind : None ≡ Some k → ⊥
           no_kind z = cc
-      by_ahead (Some t) q = blame (λ o u. same_step text steps a (at (ended tree)) (at (another t.kind)) t q (sym (ap (λ z. arrive z (lexeme text t)) (refuses_it (lexeme text t) t.kind))) o
+      by_ahead (Some t) q = blame (λ o u. same_step text steps a (at (ended tree)) (at (another t.kind)) t q
+          (sym (ap (λ z. arrive z (lexeme text t)) (refuses_it (lexeme text t) t.kind))) o
           (u (another t.kind) (record {
             unfinished = waits t.kind;
-            stuck_at = λ v h. subst (λ (z : Token X). turn (another t.kind) (lexeme text z) z.kind ≡ stuck) (same_token (sym q ∙ h)) (refuses_it (lexeme text t) t.kind);
+            stuck_at = λ v h. subst (λ (z : Token X). turn (another t.kind) (lexeme text z) z.kind ≡ stuck)
+                (same_token (sym q ∙ h)) (refuses_it (lexeme text t) t.kind);
           }))) w
 
-module _ {X I : Type 0} {text : X → List ℕ} {steps : I → Option (Result (Token X) Fault) → I → Type 0} {can : I → Type 0} {left : I → Count} {a m : Parser X I} {h : Headers} {v : Vec RustItem Global} (s : ItemsSoFar text steps can left a m h v) where
+module _ {X I : Type 0} {text : X → List ℕ} {steps : I → Option (Result (Token X) Fault) → I → Type 0}
+    {can : I → Type 0} {left : I → Count} {a m : Parser X I} {h : Headers} {v : Vec RustItem Global}
+    (s : ItemsSoFar text steps can left a m h v) where
   -- where an item does not go on
-  pub item_fails : {e : Fault} → Blames e (λ o. (top : Rattle.pc_tree.specs.Machine.States.Top) → Came text steps m.reader (at (Rattle.pc_tree.specs.Machine.States.items Rattle.pc_tree.specs.Machine.States.after_headers top)) o)
+  pub item_fails : {e : Fault} → Blames e (λ o. (top : Rattle.pc_tree.specs.Machine.States.Top)
+      → Came text steps m.reader
+      (at (Rattle.pc_tree.specs.Machine.States.items Rattle.pc_tree.specs.Machine.States.after_headers top)) o)
       → Blames e (λ o. Came text steps a.reader (at start) o)
   item_fails w = blame (λ o u. s.leads o (u (top_of h s.all))) w
 
   module _ {b : Parser X I} {main : Place} (x : GivesLast text steps can left m b main) where
-    pub end_fails : {e : Fault} → Blames e (λ o. Came text steps b.reader (at (ended (module_over (top_of h s.all) main))) o) → Blames e (λ o. Came text steps a.reader (at start) o)
+    pub end_fails : {e : Fault} → Blames e (λ o. Came text steps b.reader
+        (at (ended (module_over (top_of h s.all) main))) o) → Blames e (λ o. Came text steps a.reader (at start) o)
     end_fails w = blame (λ o u. s.leads o (x.leads (top_of h s.all) o u)) w
 
-    pub module_read : b.reader.ahead ≡ None → GivesModule text steps can left a b (record { imports_dataclass = h.dataclass; imports_any = h.any; items = v; main = main })
+    pub module_read : b.reader.ahead ≡ None → GivesModule text steps can left a b
+        (record { imports_dataclass = h.dataclass; imports_any = h.any; items = v; main = main })
     module_read none = let tree = module_over (top_of h s.all) main in
-        let make : List Item → Module = λ is. record { imports_dataclass = h.dataclass; imports_any = h.any; items = is; main = main } in record {
+        let make : List Item → Module = λ is. record {
+          imports_dataclass = h.dataclass;
+          imports_any = h.any;
+          items = is;
+          main = main;
+        } in record {
           tree = tree;
           keeps = record { deep = x.same ∙ s.keeps.deep; kept = λ e. ap make (s.keeps.kept (sym x.same ∙ e)) };
-          comes = s.leads (Ok tree) (x.leads (top_of h s.all) (Ok tree) (at_end text steps b.reader (at (ended tree)) (Ok tree) none refl));
+          comes = s.leads (Ok tree) (x.leads (top_of h s.all) (Ok tree)
+              (at_end text steps b.reader (at (ended tree)) (Ok tree) none refl));
         }
 
 -- whether a token is ahead, by its kind
-pub kind_there : {X : Type 0} (a : Option (Token X)) → is_some (kind_ahead a) ≡ true → (k : TokenKind) × (kind_ahead a ≡ Some k)
+pub kind_there : {X : Type 0} (a : Option (Token X)) → is_some (kind_ahead a) ≡ true → (k : TokenKind)
+    × (kind_ahead a ≡ Some k)
 kind_there None h = cc
 kind_there (Some t) h = (t.kind, refl)
 

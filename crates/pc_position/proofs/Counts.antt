@@ -1,5 +1,6 @@
 -- What the units of texts come to.
-use Rattle.std.proofs.Common.{◌≡◌, ℕ, ◌*◌, ◌<◌, ◌≤◌, List, [], ◌∷◌, length, ◌-◌, take, length-take, length-drop, refl, arith}
+use Rattle.std.proofs.Common.{◌≡◌, ℕ, ◌*◌, ◌<◌, ◌≤◌, List, [], ◌∷◌, length, ◌-◌, take, length-take, length-drop, refl}
+use Rattle.std.proofs.Common.{arith}
 use Rattle.std.specs.Prelude.{◌==◌, not, sum_by, All}
 use Rattle.std.specs.List.{after_last, suffix_len}
 use Rattle.std.proofs.lemmas.List.Elements.{All-take, All-drop, All-head, All-tail}
@@ -20,7 +21,8 @@ pub character_few : (encoding : Encoding) (text : List ℕ) (byte : ℕ) → cha
 character_few encoding text byte =
     let front : List ℕ = take byte text in
     let last : List ℕ = after_last (λ b. b == 10) front in
-    let short : length last ≤ length front = grind (arith, length-drop (length front - suffix_len (λ b. not (b == 10)) front) front) in
+    let short : length last ≤ length front =
+    grind (arith, length-drop (length front - suffix_len (λ b. not (b == 10)) front) front) in
     let front_short : length front ≤ byte = grind (arith, length-take byte text) in
     omega (arith, short, front_short, sum_by-le (units encoding) 2 last (λ k d h. units_few encoding _))
 

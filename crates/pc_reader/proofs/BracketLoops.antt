@@ -18,9 +18,11 @@ use Rattle.pc_reader.specs.Internal.Operands.{Starts}
 use Rattle.pc_reader.specs.Internal.Brackets.{KeepsItems, KeepsEntries, KeepsKeywords}
 use Rattle.pc_reader.specs.Reading.{IsAhead, Onward}
 
-module _ {X I : Type 0} (text : X → List ℕ) (steps : I → Option (Result (Token X) Fault) → I → Type 0) (can : I → Type 0) (left : I → Count) where
+module _ {X I : Type 0} (text : X → List ℕ) (steps : I → Option (Result (Token X) Fault) → I → Type 0)
+    (can : I → Type 0) (left : I → Count) where
   -- items after those that stood before the loop, if those were kept
-  pub record ElementsSoFar (kept : Type 0) (a b : Reader X I) (now : Items) (h : Head) (xs : Exprs) (ts : List Lexeme) : Type 0 where
+  pub record ElementsSoFar (kept : Type 0) (a b : Reader X I) (now : Items) (h : Head) (xs : Exprs)
+      (ts : List Lexeme) : Type 0 where
     pub items : Exprs
     pub more : List Lexeme
     pub keeps : kept → KeepsItems now items
@@ -33,11 +35,14 @@ module _ {X I : Type 0} (text : X → List ℕ) (steps : I → Option (Result (T
     pub starts : Starts tokens start
     pub begins : (t : Token X) → a.ahead ≡ Some t → first_place tokens ≡ t.place
     pub keeps : KeepsEntries now entries
-    pub leads : (s : Stack) → IsAhead (kind.Operator sign.LeftBrace) a.ahead ≡ true → Onward text steps a b (at (operand s)) (at (key_due entries tokens s))
+    pub leads : (s : Stack) → IsAhead (kind.Operator sign.LeftBrace) a.ahead ≡ true
+        → Onward text steps a b (at (operand s)) (at (key_due entries tokens s))
 
   -- arguments by name, and the name of the next one
-  pub record NamesSoFar (a b : Reader X I) (first : Name) (now : Keywords) (next : Name) (e : Expr) (xs : Exprs) (ts : List Lexeme) : Type 0 where
+  pub record NamesSoFar (a b : Reader X I) (first : Name) (now : Keywords) (next : Name) (e : Expr) (xs : Exprs)
+      (ts : List Lexeme) : Type 0 where
     pub arguments : KeywordTrees
     pub more : List Lexeme
     pub keeps : KeepsKeywords now arguments
-    pub leads : (s : Stack) → Onward text steps a b (at (operand (naming e xs no_keywords first ts s))) (at (operand (naming e xs arguments next (ts ++ more) s)))
+    pub leads : (s : Stack) → Onward text steps a b (at (operand (naming e xs no_keywords first ts s)))
+        (at (operand (naming e xs arguments next (ts ++ more) s)))

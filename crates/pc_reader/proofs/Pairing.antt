@@ -1,5 +1,6 @@
 -- Entries of a dict display, one after another.
-use Rattle.std.proofs.Common.{◌≡◌, ℕ, ◌<◌, true, false, List, [], ◌∷◌, ◌++◌, Option, Result, refl, arith, ap, ◌∙◌, subst}
+use Rattle.std.proofs.Common.{◌≡◌, ℕ, ◌<◌, true, false, List, [], ◌∷◌, ◌++◌, Option, Result, refl, arith, ap, ◌∙◌}
+use Rattle.std.proofs.Common.{subst}
 use Rattle.std.specs.Iterator.{Count}
 use Rattle.pc_source.specs.declared.fault.Fault.{Fault}
 use Rattle.pc_token.specs.declared.token.Token.{Token}
@@ -24,59 +25,109 @@ use Rattle.pc_reader.proofs.Listing.{key_begins}
 use Rattle.pc_reader.proofs.SameKind.{is_same}
 use Rattle.pc_reader.proofs.Steps.{step_to}
 
-module _ {X I : Type 0} (text : X → List ℕ) (steps : I → Option (Result (Token X) Fault) → I → Type 0) (can : I → Type 0) (left : I → Count) where
-  pub key_read : {a b c : Reader X I} {start : ℕ} {now : Entries} {o : Operand} (v : EntriesSoFar text steps can left a b start now) (s : Stack) → IsAhead (kind.Operator sign.LeftBrace) a.ahead ≡ true → IsAhead (kind.Operator sign.RightBrace) b.ahead ≡ false
-      → (q : Gives text steps can left (λ s. rank s ≡ 0) 0 b c o) → Onward text steps a c (at (operand s)) (at (have o.level q.part (keying v.entries v.tokens s)))
-  key_read {b = b} v s f n q r x = v.leads s f r (key_begins text steps b v.entries v.tokens s n r (q.leads (keying v.entries v.tokens s) refl r x))
+module _ {X I : Type 0} (text : X → List ℕ) (steps : I → Option (Result (Token X) Fault) → I → Type 0)
+    (can : I → Type 0) (left : I → Count) where
+  pub key_read : {a b c : Reader X I} {start : ℕ} {now : Entries} {o : Operand}
+      (v : EntriesSoFar text steps can left a b start now) (s : Stack) → IsAhead (kind.Operator sign.LeftBrace) a.ahead
+      ≡ true → IsAhead (kind.Operator sign.RightBrace) b.ahead ≡ false
+      → (q : Gives text steps can left (λ s. rank s ≡ 0) 0 b c o)
+      → Onward text steps a c (at (operand s)) (at (have o.level q.part (keying v.entries v.tokens s)))
+  key_read {b = b} v s f n q r x = v.leads s f r (key_begins text steps b v.entries v.tokens s n r
+      (q.leads (keying v.entries v.tokens s) refl r x))
 
-  pub value_due : {a b c d : Reader X I} {start : ℕ} {now : Entries} {o : Operand} {t : Token X} (v : EntriesSoFar text steps can left a b start now) (s : Stack) → IsAhead (kind.Operator sign.LeftBrace) a.ahead ≡ true → IsAhead (kind.Operator sign.RightBrace) b.ahead ≡ false
-      → (q : Gives text steps can left (λ s. rank s ≡ 0) 0 b c o) → Takes text steps can left c d t → t.kind ≡ kind.Operator sign.Colon
-      → Onward text steps a d (at (operand s)) (at (operand (valuing v.entries q.part.tree (v.tokens ++ (q.part.tokens ++ (lexeme text t ∷ []))) s)))
-  value_due {o = o} {t = t} v s f n q k e r x = key_read v s f n q r (step_to (have o.level q.part (keying v.entries v.tokens s)) (operand (valuing v.entries q.part.tree (v.tokens ++ (q.part.tokens ++ (lexeme text t ∷ []))) s)) k
+  pub value_due : {a b c d : Reader X I} {start : ℕ} {now : Entries} {o : Operand} {t : Token X}
+      (v : EntriesSoFar text steps can left a b start now) (s : Stack) → IsAhead (kind.Operator sign.LeftBrace) a.ahead
+      ≡ true → IsAhead (kind.Operator sign.RightBrace) b.ahead ≡ false
+      → (q : Gives text steps can left (λ s. rank s ≡ 0) 0 b c o) → Takes text steps can left c d t
+      → t.kind ≡ kind.Operator sign.Colon
+      → Onward text steps a d (at (operand s))
+      (at (operand (valuing v.entries q.part.tree (v.tokens ++ (q.part.tokens ++ (lexeme text t ∷ []))) s)))
+  value_due {o = o} {t = t} v s f n q k e r x = key_read v s f n q r
+      (step_to (have o.level q.part (keying v.entries v.tokens s))
+      (operand (valuing v.entries q.part.tree (v.tokens ++ (q.part.tokens ++ (lexeme text t ∷ []))) s)) k
       (ap (turn (have o.level q.part (keying v.entries v.tokens s)) (lexeme text t)) e) r x)
 
-  pub value_read : {a b c d f : Reader X I} {start : ℕ} {now : Entries} {o o' : Operand} {t : Token X} (v : EntriesSoFar text steps can left a b start now) (s : Stack) → IsAhead (kind.Operator sign.LeftBrace) a.ahead ≡ true → IsAhead (kind.Operator sign.RightBrace) b.ahead ≡ false
-      → (q : Gives text steps can left (λ s. rank s ≡ 0) 0 b c o) → Takes text steps can left c d t → t.kind ≡ kind.Operator sign.Colon → (w : Gives text steps can left (λ s. rank s ≡ 0) 0 d f o')
-      → Onward text steps a f (at (operand s)) (at (have o'.level w.part (valuing v.entries q.part.tree (v.tokens ++ (q.part.tokens ++ (lexeme text t ∷ []))) s)))
-  value_read {t = t} v s g n q k e w r x = value_due v s g n q k e r (w.leads (valuing v.entries q.part.tree (v.tokens ++ (q.part.tokens ++ (lexeme text t ∷ []))) s) refl r x)
+  pub value_read : {a b c d f : Reader X I} {start : ℕ} {now : Entries} {o o' : Operand} {t : Token X}
+      (v : EntriesSoFar text steps can left a b start now) (s : Stack) → IsAhead (kind.Operator sign.LeftBrace) a.ahead
+      ≡ true → IsAhead (kind.Operator sign.RightBrace) b.ahead ≡ false
+      → (q : Gives text steps can left (λ s. rank s ≡ 0) 0 b c o) → Takes text steps can left c d t
+      → t.kind ≡ kind.Operator sign.Colon → (w : Gives text steps can left (λ s. rank s ≡ 0) 0 d f o')
+      → Onward text steps a f (at (operand s))
+      (at (have o'.level w.part (valuing v.entries q.part.tree (v.tokens ++ (q.part.tokens ++ (lexeme text t ∷ [])))
+      s)))
+  value_read {t = t} v s g n q k e w r x = value_due v s g n q k e r
+      (w.leads (valuing v.entries q.part.tree (v.tokens ++ (q.part.tokens ++ (lexeme text t ∷ []))) s) refl r x)
 
   -- an entry and a comma after it
-  pub entry_more : {a b c d f g : Reader X I} {start : ℕ} {now now' : Entries} {o o' : Operand} {t u : Token X} (v : EntriesSoFar text steps can left a b start now) → IsAhead (kind.Operator sign.RightBrace) b.ahead ≡ false
-      → (q : Gives text steps can left (λ s. rank s ≡ 0) 0 b c o) → Takes text steps can left c d t → t.kind ≡ kind.Operator sign.Colon → (w : Gives text steps can left (λ s. rank s ≡ 0) 0 d f o')
-      → ((es : EntryTrees) (x y : Part) → KeepsEntries now es → KeepsPart o x → KeepsPart o' y → KeepsEntries now' (add_entry es x.tree y.tree)) → Takes text steps can left f g u → u.kind ≡ kind.Operator sign.Comma
+  pub entry_more : {a b c d f g : Reader X I} {start : ℕ} {now now' : Entries} {o o' : Operand} {t u : Token X}
+      (v : EntriesSoFar text steps can left a b start now) → IsAhead (kind.Operator sign.RightBrace) b.ahead ≡ false
+      → (q : Gives text steps can left (λ s. rank s ≡ 0) 0 b c o) → Takes text steps can left c d t
+      → t.kind ≡ kind.Operator sign.Colon → (w : Gives text steps can left (λ s. rank s ≡ 0) 0 d f o')
+      → ((es : EntryTrees) (x y : Part) → KeepsEntries now es → KeepsPart o x → KeepsPart o' y
+      → KeepsEntries now' (add_entry es x.tree y.tree)) → Takes text steps can left f g u
+      → u.kind ≡ kind.Operator sign.Comma
       → EntriesSoFar text steps can left a g start now'
   entry_more {o' = o'} {t = t} {u = u} v n q k e w p h i = record {
     entries = add_entry v.entries q.part.tree w.part.tree;
     tokens = (v.tokens ++ (q.part.tokens ++ (lexeme text t ∷ []))) ++ (w.part.tokens ++ (lexeme text u ∷ []));
     starts = starts_more _ (starts_more _ v.starts);
-    begins = λ z y. first_more _ (starts_more (q.part.tokens ++ (lexeme text t ∷ [])) v.starts) ∙ first_more _ v.starts ∙ v.begins z y;
+    begins = λ z y. first_more _ (starts_more (q.part.tokens ++ (lexeme text t ∷ [])) v.starts) ∙ first_more _ v.starts
+        ∙ v.begins z y;
     keeps = p v.entries q.part w.part v.keeps q.keeps w.keeps;
-    leads = λ s z r x. value_read v s z n q k e w r (step_to (have o'.level w.part (valuing v.entries q.part.tree (v.tokens ++ (q.part.tokens ++ (lexeme text t ∷ []))) s))
-        (key_due (add_entry v.entries q.part.tree w.part.tree) ((v.tokens ++ (q.part.tokens ++ (lexeme text t ∷ []))) ++ (w.part.tokens ++ (lexeme text u ∷ []))) s) h
-        (ap (turn (have o'.level w.part (valuing v.entries q.part.tree (v.tokens ++ (q.part.tokens ++ (lexeme text t ∷ []))) s)) (lexeme text u)) i) r x);
+    leads = λ s z r x. value_read v s z n q k e w r
+        (step_to (have o'.level w.part (valuing v.entries q.part.tree
+        (v.tokens ++ (q.part.tokens ++ (lexeme text t ∷ []))) s))
+        (key_due (add_entry v.entries q.part.tree w.part.tree) ((v.tokens ++ (q.part.tokens ++ (lexeme text t ∷ [])))
+        ++ (w.part.tokens ++ (lexeme text u ∷ []))) s) h
+        (ap
+        (turn (have o'.level w.part (valuing v.entries q.part.tree
+        (v.tokens ++ (q.part.tokens ++ (lexeme text t ∷ []))) s)) (lexeme text u)) i) r x);
   }
 
   -- the last entry and the closing brace
-  pub entry_last : {a b c d f g : Reader X I} {start : ℕ} {now now' : Entries} {o o' made : Operand} {t u : Token X} (v : EntriesSoFar text steps can left a b start now) → IsAhead (kind.Operator sign.RightBrace) b.ahead ≡ false
-      → (q : Gives text steps can left (λ s. rank s ≡ 0) 0 b c o) → Takes text steps can left c d t → t.kind ≡ kind.Operator sign.Colon → (w : Gives text steps can left (λ s. rank s ≡ 0) 0 d f o')
-      → ((es : EntryTrees) (x y : Part) → KeepsEntries now es → KeepsPart o x → KeepsPart o' y → KeepsEntries now' (add_entry es x.tree y.tree)) → (h : Takes text steps can left f g u) → u.kind ≡ kind.Operator sign.RightBrace
-      → made.level ≡ 7 → ((es : EntryTrees) → KeepsEntries now' es → Builds made (λ z. dict z es) start u.place.end) → left_in left b < left_in left a → Gives text steps can left (λ s. IsAhead (kind.Operator sign.LeftBrace) a.ahead ≡ true) 7 a g made
+  pub entry_last : {a b c d f g : Reader X I} {start : ℕ} {now now' : Entries} {o o' made : Operand} {t u : Token X}
+      (v : EntriesSoFar text steps can left a b start now) → IsAhead (kind.Operator sign.RightBrace) b.ahead ≡ false
+      → (q : Gives text steps can left (λ s. rank s ≡ 0) 0 b c o) → Takes text steps can left c d t
+      → t.kind ≡ kind.Operator sign.Colon → (w : Gives text steps can left (λ s. rank s ≡ 0) 0 d f o')
+      → ((es : EntryTrees) (x y : Part) → KeepsEntries now es → KeepsPart o x → KeepsPart o' y
+      → KeepsEntries now' (add_entry es x.tree y.tree)) → (h : Takes text steps can left f g u)
+      → u.kind ≡ kind.Operator sign.RightBrace
+      → made.level ≡ 7 → ((es : EntryTrees) → KeepsEntries now' es → Builds made (λ z. dict z es) start u.place.end)
+      → left_in left b < left_in left a → Gives text steps can left
+      (λ s. IsAhead (kind.Operator sign.LeftBrace) a.ahead ≡ true) 7 a g made
   entry_last {g = g} {o' = o'} {t = t} {u = u} v n q k e w p h i l m y = record {
-    part = part (λ z. dict z (add_entry v.entries q.part.tree w.part.tree)) ((v.tokens ++ (q.part.tokens ++ (lexeme text t ∷ []))) ++ (w.part.tokens ++ (lexeme text u ∷ [])));
-    keeps = m (add_entry v.entries q.part.tree w.part.tree) (p v.entries q.part w.part v.keeps q.keeps w.keeps) _ (starts_more _ (starts_more _ v.starts)) (ends_more (v.tokens ++ (q.part.tokens ++ (lexeme text t ∷ []))) (ends_more w.part.tokens (ends_one (lexeme text u))));
+    part = part (λ z. dict z (add_entry v.entries q.part.tree w.part.tree))
+        ((v.tokens ++ (q.part.tokens ++ (lexeme text t ∷ []))) ++ (w.part.tokens ++ (lexeme text u ∷ [])));
+    keeps = m (add_entry v.entries q.part.tree w.part.tree) (p v.entries q.part w.part v.keeps q.keeps w.keeps) _
+        (starts_more _ (starts_more _ v.starts)) (ends_more (v.tokens ++ (q.part.tokens ++ (lexeme text t ∷ [])))
+        (ends_more w.part.tokens (ends_one (lexeme text u))));
     low = omega (arith, l);
     ready = h.ready;
     later = omega (arith, y, q.later, k.later, w.later, h.later);
-    begins = λ z x. first_more _ (starts_more (q.part.tokens ++ (lexeme text t ∷ [])) v.starts) ∙ first_more _ v.starts ∙ v.begins z x;
-    leads = λ s z r x. value_read v s z n q k e w r (step_to (have o'.level w.part (valuing v.entries q.part.tree (v.tokens ++ (q.part.tokens ++ (lexeme text t ∷ []))) s))
-        (have 7 (part (λ z. dict z (add_entry v.entries q.part.tree w.part.tree)) ((v.tokens ++ (q.part.tokens ++ (lexeme text t ∷ []))) ++ (w.part.tokens ++ (lexeme text u ∷ [])))) s) h
-        (ap (turn (have o'.level w.part (valuing v.entries q.part.tree (v.tokens ++ (q.part.tokens ++ (lexeme text t ∷ []))) s)) (lexeme text u)) i) r
-        (subst (λ y. Came text steps g (at (have y (part (λ z. dict z (add_entry v.entries q.part.tree w.part.tree)) ((v.tokens ++ (q.part.tokens ++ (lexeme text t ∷ []))) ++ (w.part.tokens ++ (lexeme text u ∷ [])))) s)) r) l x));
+    begins = λ z x. first_more _ (starts_more (q.part.tokens ++ (lexeme text t ∷ [])) v.starts) ∙ first_more _ v.starts
+        ∙ v.begins z x;
+    leads = λ s z r x. value_read v s z n q k e w r
+        (step_to (have o'.level w.part (valuing v.entries q.part.tree
+        (v.tokens ++ (q.part.tokens ++ (lexeme text t ∷ []))) s))
+        (have 7 (part (λ z. dict z (add_entry v.entries q.part.tree w.part.tree))
+        ((v.tokens ++ (q.part.tokens ++ (lexeme text t ∷ []))) ++ (w.part.tokens ++ (lexeme text u ∷ [])))) s) h
+        (ap
+        (turn (have o'.level w.part (valuing v.entries q.part.tree
+        (v.tokens ++ (q.part.tokens ++ (lexeme text t ∷ []))) s)) (lexeme text u)) i) r
+        (subst
+        (λ y. Came text steps g
+        (at (have y (part (λ z. dict z (add_entry v.entries q.part.tree w.part.tree))
+        ((v.tokens ++ (q.part.tokens ++ (lexeme text t ∷ []))) ++ (w.part.tokens ++ (lexeme text u ∷ [])))) s)) r) l
+        x));
   }
 
   -- the closing brace and no further entry
-  pub entries_end : {a b c : Reader X I} {start : ℕ} {now : Entries} {made : Operand} {t : Token X} (v : EntriesSoFar text steps can left a b start now) → (h : Takes text steps can left b c t) → t.kind ≡ kind.Operator sign.RightBrace
-      → made.level ≡ 7 → ((es : EntryTrees) → KeepsEntries now es → Builds made (λ z. dict z es) start t.place.end) → left_in left b < left_in left a → Gives text steps can left (λ s. IsAhead (kind.Operator sign.LeftBrace) a.ahead ≡ true) 7 a c made
+  pub entries_end : {a b c : Reader X I} {start : ℕ} {now : Entries} {made : Operand} {t : Token X}
+      (v : EntriesSoFar text steps can left a b start now) → (h : Takes text steps can left b c t)
+      → t.kind ≡ kind.Operator sign.RightBrace
+      → made.level ≡ 7 → ((es : EntryTrees) → KeepsEntries now es → Builds made (λ z. dict z es) start t.place.end)
+      → left_in left b < left_in left a → Gives text steps can left
+      (λ s. IsAhead (kind.Operator sign.LeftBrace) a.ahead ≡ true) 7 a c made
   entries_end {c = c} {t = t} v h i l m y = record {
     part = part (λ z. dict z v.entries) (v.tokens ++ (lexeme text t ∷ []));
     keeps = m v.entries v.keeps _ (starts_more _ v.starts) (ends_more v.tokens (ends_one (lexeme text t)));
@@ -84,7 +135,11 @@ module _ {X I : Type 0} (text : X → List ℕ) (steps : I → Option (Result (T
     ready = h.ready;
     later = omega (arith, y, h.later);
     begins = λ z x. first_more _ v.starts ∙ v.begins z x;
-    leads = λ s z r x. v.leads s z r (step_to (key_due v.entries v.tokens s) (have 7 (part (λ z. dict z v.entries) (v.tokens ++ (lexeme text t ∷ []))) s) h
-        (ap (λ y. on y (have 7 (part (λ z. dict z v.entries) (v.tokens ++ (lexeme text t ∷ []))) s) (operand_turn (keying v.entries v.tokens s) (lexeme text t) (start_of t.kind))) (is_same t.kind (kind.Operator sign.RightBrace) i)) r
-        (subst (λ y. Came text steps c (at (have y (part (λ z. dict z v.entries) (v.tokens ++ (lexeme text t ∷ []))) s)) r) l x));
+    leads = λ s z r x. v.leads s z r (step_to (key_due v.entries v.tokens s)
+        (have 7 (part (λ z. dict z v.entries) (v.tokens ++ (lexeme text t ∷ []))) s) h
+        (ap (λ y. on y (have 7 (part (λ z. dict z v.entries) (v.tokens ++ (lexeme text t ∷ []))) s)
+        (operand_turn (keying v.entries v.tokens s) (lexeme text t) (start_of t.kind)))
+        (is_same t.kind (kind.Operator sign.RightBrace) i)) r
+        (subst (λ y. Came text steps c (at (have y (part (λ z. dict z v.entries) (v.tokens ++ (lexeme text t ∷ []))) s))
+        r) l x));
   }

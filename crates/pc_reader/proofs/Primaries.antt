@@ -1,5 +1,6 @@
 -- Operands without a sign, and what goes on with them.
-use Rattle.std.proofs.Common.{◌≡◌, ℕ, ◌≤◌, ◌<◌, ◌⊎◌, inl, inr, false, List, [], ◌∷◌, ◌++◌, Option, Result, refl, arith, ap, sym, ◌∙◌, subst}
+use Rattle.std.proofs.Common.{◌≡◌, ℕ, ◌≤◌, ◌<◌, ◌⊎◌, inl, inr, false, List, [], ◌∷◌, ◌++◌, Option, Result, refl, arith}
+use Rattle.std.proofs.Common.{ap, sym, ◌∙◌, subst}
 use Rattle.std.specs.Iterator.{Count}
 use Rattle.pc_source.specs.declared.fault.Fault.{Fault}
 use Rattle.pc_token.specs.declared.token.Token.{Token}
@@ -10,7 +11,8 @@ use Rattle.pc_token.specs.declared.token.Operator.TheVariants as sign
 use Rattle.pc_token.specs.Lexeme.{Lexeme}
 use Rattle.pc_tree.specs.Tree.{no_exprs, index}
 use Rattle.pc_tree.specs.Machine.{at, turn}
-use Rattle.pc_tree.specs.Machine.States.{Part, minus, in_call, Stack, applying, indexing, State, operand, have, dotted, item_due, go}
+use Rattle.pc_tree.specs.Machine.States.{Part, minus, in_call, Stack, applying, indexing, State, operand, have, dotted}
+use Rattle.pc_tree.specs.Machine.States.{item_due, go}
 use Rattle.pc_tree.specs.Machine.Expressions.{rank, part}
 use Rattle.pc_reader.specs.declared.reader.Reader.{Reader}
 use Rattle.pc_reader.specs.declared.operand.Operand.{Operand}
@@ -24,32 +26,51 @@ use Rattle.pc_reader.proofs.Signs.{signs_rank_is}
 use Rattle.pc_reader.proofs.Steps.{step_to}
 
 -- after all minus signs no further one stands, and no `not` either
-pub behind_signs : {X I : Type 0} (a b : Reader X I) (starts : List ℕ) (ts : List Lexeme) (s : Stack) (level : ℕ) → starts_of ts ≡ starts → (starts ≡ [] → b.ahead ≡ a.ahead)
-    → IsAhead (kind.Operator sign.Minus) b.ahead ≡ false → rank s ≡ level → (2 < level) ⊎ (IsAhead (kind.Keyword word.Not) a.ahead ≡ false) → IsPrimary b (signs_on minus ts s)
+pub behind_signs : {X I : Type 0} (a b : Reader X I) (starts : List ℕ) (ts : List Lexeme) (s : Stack) (level : ℕ)
+    → starts_of ts ≡ starts → (starts ≡ [] → b.ahead ≡ a.ahead)
+    → IsAhead (kind.Operator sign.Minus) b.ahead ≡ false → rank s ≡ level → (2 < level)
+    ⊎ (IsAhead (kind.Keyword word.Not) a.ahead ≡ false) → IsPrimary b (signs_on minus ts s)
 behind_signs a b starts [] s level e h n r (inl d) = record { plain = n; undenied = inl (omega (arith, d, r)) }
-behind_signs a b starts [] s level e h n r (inr d) = record { plain = n; undenied = inr (ap (IsAhead (kind.Keyword word.Not)) (h (sym e)) ∙ d) }
-behind_signs a b starts (t ∷ ts) s level e h n r d = record { plain = n; undenied = inl (let q = signs_rank_is minus ts (applying minus (t ∷ []) s) refl in omega (arith, q)) }
+behind_signs a b starts [] s level e h n r (inr d) = record {
+  plain = n;
+  undenied =
+      inr (ap (IsAhead (kind.Keyword word.Not)) (h (sym e)) ∙ d);
+}
+behind_signs a b starts (t ∷ ts) s level e h n r d = record {
+  plain = n;
+  undenied =
+      inl (let q = signs_rank_is minus ts (applying minus (t ∷ []) s) refl in omega (arith, q));
+}
 
 -- what does not go on with an operand does not go on with it after minus signs
-pub minus_undotted : {X : Type 0} (a : Option (Token X)) (ts : List Lexeme) (own : ℕ) → NextIs (Undotted own) a → NextIs (Undotted (wrapped_level minus ts own)) a
+pub minus_undotted : {X : Type 0} (a : Option (Token X)) (ts : List Lexeme) (own : ℕ) → NextIs (Undotted own) a
+    → NextIs (Undotted (wrapped_level minus ts own)) a
 minus_undotted a [] own u = u
 minus_undotted a (t ∷ ts) own u = low_undotted a 6 (omega arith)
 
-pub dot_turn : (level : ℕ) (p : Part) (s : Stack) (t : Lexeme) (k : TokenKind) → 7 ≤ level → k ≡ kind.Operator sign.Dot → turn (have level p s) t k ≡ go (dotted p (t ∷ []) s)
+pub dot_turn : (level : ℕ) (p : Part) (s : Stack) (t : Lexeme) (k : TokenKind) → 7 ≤ level → k ≡ kind.Operator sign.Dot
+    → turn (have level p s) t k ≡ go (dotted p (t ∷ []) s)
 dot_turn level p s t k h e = ap (turn (have level p s) t) e ∙ tight 7 level (go (dotted p (t ∷ []) s)) h
 
-pub call_turn : (level : ℕ) (p : Part) (s : Stack) (t : Lexeme) (k : TokenKind) → 7 ≤ level → k ≡ kind.Operator sign.LeftParenthesis
+pub call_turn : (level : ℕ) (p : Part) (s : Stack) (t : Lexeme) (k : TokenKind) → 7 ≤ level
+    → k ≡ kind.Operator sign.LeftParenthesis
     → turn (have level p s) t k ≡ go (item_due (in_call p.tree) no_exprs (p.tokens ++ (t ∷ [])) s)
-call_turn level p s t k h e = ap (turn (have level p s) t) e ∙ tight 7 level (go (item_due (in_call p.tree) no_exprs (p.tokens ++ (t ∷ [])) s)) h
+call_turn level p s t k h e = ap (turn (have level p s) t) e ∙ tight 7 level
+    (go (item_due (in_call p.tree) no_exprs (p.tokens ++ (t ∷ [])) s)) h
 
-pub index_turn : (level : ℕ) (p : Part) (s : Stack) (t : Lexeme) (k : TokenKind) → 7 ≤ level → k ≡ kind.Operator sign.LeftBracket
+pub index_turn : (level : ℕ) (p : Part) (s : Stack) (t : Lexeme) (k : TokenKind) → 7 ≤ level
+    → k ≡ kind.Operator sign.LeftBracket
     → turn (have level p s) t k ≡ go (operand (indexing p.tree (p.tokens ++ (t ∷ [])) s))
-index_turn level p s t k h e = ap (turn (have level p s) t) e ∙ tight 7 level (go (operand (indexing p.tree (p.tokens ++ (t ∷ [])) s))) h
+index_turn level p s t k h e = ap (turn (have level p s) t) e
+    ∙ tight 7 level (go (operand (indexing p.tree (p.tokens ++ (t ∷ [])) s))) h
 
-module _ {X I : Type 0} (text : X → List ℕ) (steps : I → Option (Result (Token X) Fault) → I → Type 0) (can : I → Type 0) (left : I → Count) where
+module _ {X I : Type 0} (text : X → List ℕ) (steps : I → Option (Result (Token X) Fault) → I → Type 0)
+    (can : I → Type 0) (left : I → Count) where
   -- an operand, a token that goes on with it, and what stands after that
-  pub goes_on : {K : Type 0} (st : K → Part → Stack → State) (k : K) {fits : Stack → Type 0} {a b c d : Reader X I} {o o' : Operand} {t : Token X} (v : Gives text steps can left fits 7 a b o) → Takes text steps can left b c t
-      → ((s : Stack) → turn (have o.level v.part s) (lexeme text t) t.kind ≡ go (st k v.part s)) → GivesOn text steps can left st 7 c d o o' → Gives text steps can left fits 7 a d o'
+  pub goes_on : {K : Type 0} (st : K → Part → Stack → State) (k : K) {fits : Stack → Type 0} {a b c d : Reader X I}
+      {o o' : Operand} {t : Token X} (v : Gives text steps can left fits 7 a b o) → Takes text steps can left b c t
+      → ((s : Stack) → turn (have o.level v.part s) (lexeme text t) t.kind ≡ go (st k v.part s))
+      → GivesOn text steps can left st 7 c d o o' → Gives text steps can left fits 7 a d o'
   goes_on st k {d = d} {o = o} {o' = o'} v h f n = let j = n.goes k v.part v.keeps in record {
     part = j.part;
     keeps = j.keeps;
@@ -57,23 +78,39 @@ module _ {X I : Type 0} (text : X → List ℕ) (steps : I → Option (Result (T
     ready = n.ready;
     later = omega (arith, v.later, h.later, n.later);
     begins = λ u e. j.begins ∙ v.begins u e;
-    leads = λ s r x y. v.leads s r x (step_to (have o.level v.part s) (st k v.part s) h (f s) x (j.leads s x (subst (λ z. Came text steps d (at (have z j.part s)) x) n.level_is y)));
+    leads = λ s r x y. v.leads s r x (step_to (have o.level v.part s) (st k v.part s) h (f s) x
+        (j.leads s x (subst (λ z. Came text steps d (at (have z j.part s)) x) n.level_is y)));
   }
 
   -- an operand, and what stands in brackets after it
-  pub index_on : {fits : Stack → Type 0} {a b c d f : Reader X I} {o inner made : Operand} {t u : Token X} (v : Gives text steps can left fits 7 a b o) → Takes text steps can left b c t → t.kind ≡ kind.Operator sign.LeftBracket
-      → (q : Gives text steps can left (λ s. rank s ≡ 0) 0 c d inner) → Takes text steps can left d f u → u.kind ≡ kind.Operator sign.RightBracket
-      → made.level ≡ 7 → ((p k : Part) → KeepsPart o p → KeepsPart inner k → Builds made (λ z. index z p.tree k.tree) o.start u.place.end) → Gives text steps can left fits 7 a f made
+  pub index_on : {fits : Stack → Type 0} {a b c d f : Reader X I} {o inner made : Operand} {t u : Token X}
+      (v : Gives text steps can left fits 7 a b o) → Takes text steps can left b c t
+      → t.kind ≡ kind.Operator sign.LeftBracket
+      → (q : Gives text steps can left (λ s. rank s ≡ 0) 0 c d inner) → Takes text steps can left d f u
+      → u.kind ≡ kind.Operator sign.RightBracket
+      → made.level ≡ 7 → ((p k : Part) → KeepsPart o p → KeepsPart inner k → Builds made (λ z. index z p.tree k.tree)
+      o.start u.place.end) → Gives text steps can left fits 7 a f made
   index_on {f = f} {o = o} {inner = inner} {t = t} {u = u} v h i q k j lv m = record {
-    part = part (λ z. index z v.part.tree q.part.tree) ((v.part.tokens ++ (lexeme text t ∷ [])) ++ (q.part.tokens ++ (lexeme text u ∷ [])));
-    keeps = m v.part q.part v.keeps q.keeps _ (starts_more _ (starts_more _ v.keeps.starts)) (ends_more (v.part.tokens ++ (lexeme text t ∷ [])) (ends_more q.part.tokens (ends_one (lexeme text u))));
+    part = part (λ z. index z v.part.tree q.part.tree) ((v.part.tokens ++ (lexeme text t ∷ []))
+        ++ (q.part.tokens ++ (lexeme text u ∷ [])));
+    keeps = m v.part q.part v.keeps q.keeps _ (starts_more _ (starts_more _ v.keeps.starts))
+        (ends_more (v.part.tokens ++ (lexeme text t ∷ [])) (ends_more q.part.tokens (ends_one (lexeme text u))));
     low = omega (arith, lv);
     ready = k.ready;
     later = omega (arith, v.later, h.later, q.later, k.later);
-    begins = λ z e. first_more _ (starts_more (lexeme text t ∷ []) v.keeps.starts) ∙ first_more _ v.keeps.starts ∙ v.begins z e;
-    leads = λ s r x y. v.leads s r x (step_to (have o.level v.part s) (operand (indexing v.part.tree (v.part.tokens ++ (lexeme text t ∷ [])) s)) h (index_turn o.level v.part s (lexeme text t) t.kind v.low i) x
+    begins = λ z e. first_more _ (starts_more (lexeme text t ∷ []) v.keeps.starts) ∙ first_more _ v.keeps.starts
+        ∙ v.begins z e;
+    leads = λ s r x y. v.leads s r x (step_to (have o.level v.part s)
+        (operand (indexing v.part.tree (v.part.tokens ++ (lexeme text t ∷ [])) s)) h
+        (index_turn o.level v.part s (lexeme text t) t.kind v.low i) x
         (q.leads (indexing v.part.tree (v.part.tokens ++ (lexeme text t ∷ [])) s) refl x
-        (step_to (have inner.level q.part (indexing v.part.tree (v.part.tokens ++ (lexeme text t ∷ [])) s)) (have 7 (part (λ z. index z v.part.tree q.part.tree) ((v.part.tokens ++ (lexeme text t ∷ [])) ++ (q.part.tokens ++ (lexeme text u ∷ [])))) s) k
-        (ap (turn (have inner.level q.part (indexing v.part.tree (v.part.tokens ++ (lexeme text t ∷ [])) s)) (lexeme text u)) j) x
-        (subst (λ z. Came text steps f (at (have z (part (λ z. index z v.part.tree q.part.tree) ((v.part.tokens ++ (lexeme text t ∷ [])) ++ (q.part.tokens ++ (lexeme text u ∷ [])))) s)) x) lv y))));
+        (step_to (have inner.level q.part (indexing v.part.tree (v.part.tokens ++ (lexeme text t ∷ [])) s))
+        (have 7 (part (λ z. index z v.part.tree q.part.tree) ((v.part.tokens ++ (lexeme text t ∷ []))
+        ++ (q.part.tokens ++ (lexeme text u ∷ [])))) s) k
+        (ap (turn (have inner.level q.part (indexing v.part.tree (v.part.tokens ++ (lexeme text t ∷ [])) s))
+        (lexeme text u)) j) x
+        (subst
+        (λ z. Came text steps f
+        (at (have z (part (λ z. index z v.part.tree q.part.tree)
+        ((v.part.tokens ++ (lexeme text t ∷ [])) ++ (q.part.tokens ++ (lexeme text u ∷ [])))) s)) x) lv y))));
   }

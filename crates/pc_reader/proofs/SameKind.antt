@@ -10,16 +10,38 @@ use Rattle.pc_tree.specs.Machine.Kinds.{kind_number, same_kind}
 
 -- the kinds in the order of their numbers
 abbrev words : List TokenKind
-words = kind.Keyword word.False ∷ kind.Keyword word.None ∷ kind.Keyword word.True ∷ kind.Keyword word.And ∷ kind.Keyword word.As ∷ kind.Keyword word.Assert ∷ kind.Keyword word.Async ∷ kind.Keyword word.Await ∷ kind.Keyword word.Break ∷ kind.Keyword word.Class ∷ kind.Keyword word.Continue ∷ kind.Keyword word.Def ∷ kind.Keyword word.Del ∷ kind.Keyword word.Elif ∷ kind.Keyword word.Else ∷ kind.Keyword word.Except ∷ kind.Keyword word.Finally ∷ kind.Keyword word.For ∷ kind.Keyword word.From ∷ kind.Keyword word.Global ∷ kind.Keyword word.If ∷ kind.Keyword word.Import ∷ kind.Keyword word.In ∷ kind.Keyword word.Is ∷ kind.Keyword word.Lambda ∷ kind.Keyword word.Nonlocal ∷ kind.Keyword word.Not ∷ kind.Keyword word.Or ∷ kind.Keyword word.Pass ∷ kind.Keyword word.Raise ∷ kind.Keyword word.Return ∷ kind.Keyword word.Try ∷ kind.Keyword word.While ∷ kind.Keyword word.With ∷ kind.Keyword word.Yield ∷ []
+words = kind.Keyword word.False ∷ kind.Keyword word.None ∷ kind.Keyword word.True ∷ kind.Keyword word.And ∷ kind.Keyword
+    word.As ∷ kind.Keyword word.Assert ∷ kind.Keyword word.Async ∷ kind.Keyword word.Await ∷ kind.Keyword word.Break
+    ∷ kind.Keyword word.Class ∷ kind.Keyword word.Continue ∷ kind.Keyword word.Def ∷ kind.Keyword word.Del
+    ∷ kind.Keyword word.Elif ∷ kind.Keyword word.Else ∷ kind.Keyword word.Except ∷ kind.Keyword word.Finally
+    ∷ kind.Keyword word.For ∷ kind.Keyword word.From ∷ kind.Keyword word.Global ∷ kind.Keyword word.If ∷ kind.Keyword
+    word.Import ∷ kind.Keyword word.In ∷ kind.Keyword word.Is ∷ kind.Keyword word.Lambda ∷ kind.Keyword word.Nonlocal
+    ∷ kind.Keyword word.Not ∷ kind.Keyword word.Or ∷ kind.Keyword word.Pass ∷ kind.Keyword word.Raise ∷ kind.Keyword
+    word.Return ∷ kind.Keyword word.Try ∷ kind.Keyword word.While ∷ kind.Keyword word.With ∷ kind.Keyword word.Yield
+    ∷ []
 
 abbrev signs : List TokenKind
-signs = kind.Operator sign.Plus ∷ kind.Operator sign.Minus ∷ kind.Operator sign.Star ∷ kind.Operator sign.DoubleSlash ∷ kind.Operator sign.Percent ∷ kind.Operator sign.EqualEqual ∷ kind.Operator sign.NotEqual ∷ kind.Operator sign.Less ∷ kind.Operator sign.LessEqual ∷ kind.Operator sign.Greater ∷ kind.Operator sign.GreaterEqual ∷ kind.Operator sign.Equal ∷ kind.Operator sign.LeftParenthesis ∷ kind.Operator sign.RightParenthesis ∷ kind.Operator sign.LeftBracket ∷ kind.Operator sign.RightBracket ∷ kind.Operator sign.LeftBrace ∷ kind.Operator sign.RightBrace ∷ kind.Operator sign.Comma ∷ kind.Operator sign.Colon ∷ kind.Operator sign.Dot ∷ kind.Operator sign.Bar ∷ kind.Operator sign.Arrow ∷ kind.Operator sign.At ∷ kind.Operator sign.Slash ∷ kind.Operator sign.DoubleStar ∷ kind.Operator sign.Ampersand ∷ kind.Operator sign.Circumflex ∷ kind.Operator sign.Tilde ∷ kind.Operator sign.LeftShift ∷ kind.Operator sign.RightShift ∷ kind.Operator sign.ColonEqual ∷ kind.Operator sign.PlusEqual ∷ kind.Operator sign.MinusEqual ∷ kind.Operator sign.StarEqual ∷ kind.Operator sign.SlashEqual ∷ kind.Operator sign.DoubleSlashEqual ∷ kind.Operator sign.PercentEqual ∷ kind.Operator sign.DoubleStarEqual ∷ kind.Operator sign.AmpersandEqual ∷ kind.Operator sign.BarEqual ∷ kind.Operator sign.CircumflexEqual ∷ kind.Operator sign.LeftShiftEqual ∷ kind.Operator sign.RightShiftEqual ∷ kind.Operator sign.AtEqual ∷ kind.Operator sign.Semicolon ∷ kind.Operator sign.Ellipsis ∷ []
+signs = kind.Operator sign.Plus ∷ kind.Operator sign.Minus ∷ kind.Operator sign.Star ∷ kind.Operator sign.DoubleSlash
+    ∷ kind.Operator sign.Percent ∷ kind.Operator sign.EqualEqual ∷ kind.Operator sign.NotEqual ∷ kind.Operator sign.Less
+    ∷ kind.Operator sign.LessEqual ∷ kind.Operator sign.Greater ∷ kind.Operator sign.GreaterEqual ∷ kind.Operator
+    sign.Equal ∷ kind.Operator sign.LeftParenthesis ∷ kind.Operator sign.RightParenthesis ∷ kind.Operator
+    sign.LeftBracket ∷ kind.Operator sign.RightBracket ∷ kind.Operator sign.LeftBrace ∷ kind.Operator sign.RightBrace
+    ∷ kind.Operator sign.Comma ∷ kind.Operator sign.Colon ∷ kind.Operator sign.Dot ∷ kind.Operator sign.Bar
+    ∷ kind.Operator sign.Arrow ∷ kind.Operator sign.At ∷ kind.Operator sign.Slash ∷ kind.Operator sign.DoubleStar
+    ∷ kind.Operator sign.Ampersand ∷ kind.Operator sign.Circumflex ∷ kind.Operator sign.Tilde ∷ kind.Operator
+    sign.LeftShift ∷ kind.Operator sign.RightShift ∷ kind.Operator sign.ColonEqual ∷ kind.Operator sign.PlusEqual
+    ∷ kind.Operator sign.MinusEqual ∷ kind.Operator sign.StarEqual ∷ kind.Operator sign.SlashEqual ∷ kind.Operator
+    sign.DoubleSlashEqual ∷ kind.Operator sign.PercentEqual ∷ kind.Operator sign.DoubleStarEqual ∷ kind.Operator
+    sign.AmpersandEqual ∷ kind.Operator sign.BarEqual ∷ kind.Operator sign.CircumflexEqual ∷ kind.Operator
+    sign.LeftShiftEqual ∷ kind.Operator sign.RightShiftEqual ∷ kind.Operator sign.AtEqual ∷ kind.Operator sign.Semicolon
+    ∷ kind.Operator sign.Ellipsis ∷ []
 
 abbrev others : List TokenKind
 others = kind.Name ∷ kind.Int ∷ kind.Str ∷ kind.Newline ∷ kind.Indent ∷ kind.Dedent ∷ kind.End ∷ []
 
 abbrev kind_at : ℕ → TokenKind
-kind_at n = if nat_lt n 35 then get_or words n kind.Name else if nat_lt n 147 then get_or signs (n - 100) kind.Name else get_or others (n - 200) kind.Name
+kind_at n = if nat_lt n 35 then get_or words n kind.Name else if nat_lt n 147 then get_or signs (n - 100) kind.Name
+    else get_or others (n - 200) kind.Name
 
 back : (k : TokenKind) → kind_at (kind_number k) ≡ k
 back kind.Int = refl

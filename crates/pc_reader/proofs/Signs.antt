@@ -11,7 +11,8 @@ use Rattle.pc_reader.specs.Internal.Operands.{signs_on, applied_all, starts_of}
 use Rattle.pc_reader.specs.Internal.Expressions.{TakesSign, Undotted, wrapped_level}
 use Rattle.pc_reader.proofs.Frames.{is_le, apply_turn, own_left, link_low, not_two}
 
-pub signs_more : (x : Prefix) (ts : List Lexeme) (t : Lexeme) (s : Stack) → signs_on x (ts ++ (t ∷ [])) s ≡ applying x (t ∷ []) (signs_on x ts s)
+pub signs_more : (x : Prefix) (ts : List Lexeme) (t : Lexeme) (s : Stack) → signs_on x (ts ++ (t ∷ [])) s
+    ≡ applying x (t ∷ []) (signs_on x ts s)
 signs_more x [] t s = refl
 signs_more x (u ∷ ts) t s = signs_more x ts t (applying x (u ∷ []) s)
 
@@ -28,17 +29,22 @@ takes_signs x [] s h = h
 takes_signs x (t ∷ ts) s h = takes_signs x ts (applying x (t ∷ []) s) (takes_more x t s)
 
 -- how tightly the operand after signs must bind
-pub signs_rank : (x : Prefix) (ts : List Lexeme) (s : Stack) (n : ℕ) → rank s ≤ n → prefix_level x ≤ n → rank (signs_on x ts s) ≤ n
+pub signs_rank : (x : Prefix) (ts : List Lexeme) (s : Stack) (n : ℕ) → rank s ≤ n → prefix_level x ≤ n
+    → rank (signs_on x ts s) ≤ n
 signs_rank x [] s n h g = h
 signs_rank x (t ∷ ts) s n h g = signs_rank x ts (applying x (t ∷ []) s) n g g
 
-pub sign_turn : (x : Prefix) (s : Stack) (t : Lexeme) (k : TokenKind) → k ≡ prefix_kind x → TakesSign x s → turn (operand s) t k ≡ go (operand (applying x (t ∷ []) s))
+pub sign_turn : (x : Prefix) (s : Stack) (t : Lexeme) (k : TokenKind) → k ≡ prefix_kind x → TakesSign x s
+    → turn (operand s) t k ≡ go (operand (applying x (t ∷ []) s))
 sign_turn minus s t k e h = ap (turn (operand s) t) e
-sign_turn denial s t k e h = ap (turn (operand s) t) e ∙ ap (λ z. on z (operand (applying denial (t ∷ []) s)) stuck) (is_le (rank s) 2 h)
+sign_turn denial s t k e h = ap (turn (operand s) t) e ∙ ap (λ z. on z (operand (applying denial (t ∷ []) s)) stuck)
+    (is_le (rank s) 2 h)
 
 -- before a token that does not go on with the operand, signs are as good as applied
-pub signs_turn : (x : Prefix) (ts : List Lexeme) (p : Part) (s : Stack) (level : ℕ) (t : Lexeme) (f : Follow) → prefix_level x ≤ level
-    → ((k : Link) → f ≡ link k → left_of_link k ≤ level → own_of_link k < prefix_level x) → Undotted level f → Undotted (prefix_level x) f
+pub signs_turn : (x : Prefix) (ts : List Lexeme) (p : Part) (s : Stack) (level : ℕ) (t : Lexeme) (f : Follow)
+    → prefix_level x ≤ level
+    → ((k : Link) → f ≡ link k → left_of_link k ≤ level → own_of_link k < prefix_level x) → Undotted level f
+    → Undotted (prefix_level x) f
     → have_turn level p (signs_on x ts s) t f ≡ have_turn (wrapped_level x ts level) (applied_all x ts p) s t f
 signs_turn x [] p s level t f h v u y = refl
 signs_turn x (w ∷ []) p s level t f h v u y = apply_turn x (w ∷ []) p s level t f h v u y
@@ -65,9 +71,17 @@ last_sign (t ∷ u ∷ ts) [] byte e = cc
 last_sign (t ∷ []) (r ∷ []) byte e = cc
 last_sign (t ∷ []) (r ∷ q ∷ rest) byte e = cc
 last_sign (t ∷ u ∷ ts) (r ∷ rest) byte e = let h = last_sign (u ∷ ts) rest byte cc in
-    record { front = t ∷ h.front; last = h.last; is = ap (λ z. t ∷ z) h.is; starts = let q = h.starts in cc; start = h.start }
+    record {
+      front = t ∷ h.front;
+      last = h.last;
+      is = ap (λ z. t ∷ z) h.is;
+      starts = let q = h.starts in cc;
+      start =
+          h.start;
+    }
 
-pub applied_more : (x : Prefix) (ts : List Lexeme) (t : Lexeme) (p : Part) → applied_all x (ts ++ (t ∷ [])) p ≡ applied_all x ts (applied x (t ∷ []) p)
+pub applied_more : (x : Prefix) (ts : List Lexeme) (t : Lexeme) (p : Part) → applied_all x (ts ++ (t ∷ [])) p
+    ≡ applied_all x ts (applied x (t ∷ []) p)
 applied_more x [] t p = refl
 applied_more x (u ∷ ts) t p = ap (applied x (u ∷ [])) (applied_more x ts t p)
 
@@ -89,6 +103,7 @@ minus_high [] level own h g = omega (arith, h, g)
 minus_high (t ∷ ts) level own h g = h
 
 -- where some sign stands, the last one says how tightly its operand must bind
-pub signs_rank_is : (x : Prefix) (ts : List Lexeme) (s : Stack) → rank s ≡ prefix_level x → rank (signs_on x ts s) ≡ prefix_level x
+pub signs_rank_is : (x : Prefix) (ts : List Lexeme) (s : Stack) → rank s ≡ prefix_level x
+    → rank (signs_on x ts s) ≡ prefix_level x
 signs_rank_is x [] s h = h
 signs_rank_is x (t ∷ ts) s h = signs_rank_is x ts (applying x (t ∷ []) s) refl

@@ -1,5 +1,6 @@
 -- A single token as an operand.
-use Rattle.std.proofs.Common.{◌≡◌, ◌≢◌, ◌<◌, ◌⊎◌, inl, inr, true, false, [], ◌∷◌, Option, Some, Result, Ok, Err, MatchResult, IfOk, refl, sym, ap, ◌∙◌}
+use Rattle.std.proofs.Common.{◌≡◌, ◌≢◌, ◌<◌, ◌⊎◌, inl, inr, true, false, [], ◌∷◌, Option, Some, Result, Ok, Err}
+use Rattle.std.proofs.Common.{MatchResult, IfOk, refl, sym, ap, ◌∙◌}
 use Rattle.pc_source.specs.declared.fault.Fault.{Fault}
 use Rattle.pc_source.specs.declared.fault.Fault.TheVariants as fault
 use Rattle.pc_token.specs.declared.token.Token.{Token}
@@ -16,8 +17,10 @@ use Rattle.pc_reader.specs.Reading.{IsAhead}
 use Rattle.pc_reader.proofs.Frames.{not_le}
 
 -- a token that begins no operand here
-pub no_operand : (s : Stack) (t : Lexeme) (k : TokenKind) → is_value_start (start_of k) ≡ false → same_kind k (kind.Operator sign.LeftParenthesis) ≡ false → same_kind k (kind.Operator sign.LeftBracket) ≡ false
-    → same_kind k (kind.Operator sign.LeftBrace) ≡ false → same_kind k (kind.Operator sign.Minus) ≡ false → (2 < rank s) ⊎ (same_kind k (kind.Keyword word.Not) ≡ false)
+pub no_operand : (s : Stack) (t : Lexeme) (k : TokenKind) → is_value_start (start_of k) ≡ false
+    → same_kind k (kind.Operator sign.LeftParenthesis) ≡ false → same_kind k (kind.Operator sign.LeftBracket) ≡ false
+    → same_kind k (kind.Operator sign.LeftBrace) ≡ false → same_kind k (kind.Operator sign.Minus) ≡ false → (2 < rank s)
+    ⊎ (same_kind k (kind.Keyword word.Not) ≡ false)
     → operand_turn s t (start_of k) ≡ stuck
 no_operand s t kind.Name v a b c m n = cc
 no_operand s t kind.Int v a b c m n = cc
@@ -29,12 +32,14 @@ no_operand s t (kind.Operator sign.LeftParenthesis) v a b c m n = cc
 no_operand s t (kind.Operator sign.LeftBracket) v a b c m n = cc
 no_operand s t (kind.Operator sign.LeftBrace) v a b c m n = cc
 no_operand s t (kind.Operator sign.Minus) v a b c m n = cc
-no_operand s t (kind.Keyword word.Not) v a b c m (inl h) = ap (λ z. on z (operand (applying denial (t ∷ []) s)) stuck) (not_le (rank s) 2 h)
+no_operand s t (kind.Keyword word.Not) v a b c m (inl h) = ap (λ z. on z (operand (applying denial (t ∷ []) s)) stuck)
+    (not_le (rank s) 2 h)
 no_operand s t (kind.Keyword word.Not) v a b c m (inr h) = cc
 no_operand s t _ v a b c m n = refl
 
 -- a value that is no number, no string and no word is a name
-pub only_name : (s : Stack) (t : Lexeme) (k : TokenKind) → is_value_start (start_of k) ≡ true → k ≢ kind.Int → k ≢ kind.Str → k ≢ kind.Keyword word.True → k ≢ kind.Keyword word.False → k ≢ kind.Keyword word.None
+pub only_name : (s : Stack) (t : Lexeme) (k : TokenKind) → is_value_start (start_of k) ≡ true → k ≢ kind.Int
+    → k ≢ kind.Str → k ≢ kind.Keyword word.True → k ≢ kind.Keyword word.False → k ≢ kind.Keyword word.None
     → operand_turn s t (start_of k) ≡ go (have 7 (name_part t) s)
 only_name s t kind.Name v i j a b c = refl
 only_name s t kind.Int v i j a b c = absurd (i refl)
@@ -46,16 +51,21 @@ only_name s t (kind.Operator sign.Minus) v i j a b c = cc
 only_name s t _ v i j a b c = cc
 
 module _ {X : Type 0} where
-  pub no_value : {a : Option (Token X)} {t : Token X} → value_ahead a ≡ false → a ≡ Some t → is_value_start (start_of t.kind) ≡ false
+  pub no_value : {a : Option (Token X)} {t : Token X} → value_ahead a ≡ false → a ≡ Some t
+      → is_value_start (start_of t.kind) ≡ false
   no_value e h = sym (ap value_ahead h) ∙ e
 
-  pub a_value : {a : Option (Token X)} {t : Token X} → value_ahead a ≡ true → a ≡ Some t → is_value_start (start_of t.kind) ≡ true
+  pub a_value : {a : Option (Token X)} {t : Token X} → value_ahead a ≡ true → a ≡ Some t
+      → is_value_start (start_of t.kind) ≡ true
   a_value e h = sym (ap value_ahead h) ∙ e
 
-pub undenied : {X : Type 0} (s : Stack) {a : Option (Token X)} {t : Token X} → (2 < rank s) ⊎ (IsAhead (kind.Keyword word.Not) a ≡ false) → a ≡ Some t → (2 < rank s) ⊎ (same_kind t.kind (kind.Keyword word.Not) ≡ false)
+pub undenied : {X : Type 0} (s : Stack) {a : Option (Token X)} {t : Token X} → (2 < rank s)
+    ⊎ (IsAhead (kind.Keyword word.Not) a ≡ false) → a ≡ Some t → (2 < rank s)
+    ⊎ (same_kind t.kind (kind.Keyword word.Not) ≡ false)
 undenied s (inl h) e = inl h
 undenied s (inr h) e = inr (sym (ap (IsAhead (kind.Keyword word.Not)) e) ∙ h)
 
-pub on_level : {A : Type 0} (r : Result A Fault) (P Q : A → Type 0) → ((x : A) → P x → Q x) → MatchResult r P (λ e. e ≡ fault.OutOfMemory) → IfOk r Q
+pub on_level : {A : Type 0} (r : Result A Fault) (P Q : A → Type 0) → ((x : A) → P x → Q x)
+    → MatchResult r P (λ e. e ≡ fault.OutOfMemory) → IfOk r Q
 on_level (Ok x) P Q f h = f x h
 on_level (Err e) P Q f h = tt

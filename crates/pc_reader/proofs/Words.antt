@@ -1,5 +1,6 @@
 -- Words that must stand, as the machine reads them.
-use Rattle.std.proofs.Common.{◌≡◌, ℕ, true, false, List, ◌∷◌, Option, Some, None, Result, Ok, Err, MatchResult, drop, refl, ap, sym, ◌∙◌, subst}
+use Rattle.std.proofs.Common.{◌≡◌, ℕ, true, false, List, ◌∷◌, Option, Some, None, Result, Ok, Err, MatchResult, drop}
+use Rattle.std.proofs.Common.{refl, ap, sym, ◌∙◌, subst}
 use Rattle.std.specs.Iterator.{Count}
 use Rattle.pc_source.specs.declared.fault.Fault.{Fault}
 use Rattle.pc_token.specs.declared.token.Token.{Token}
@@ -14,12 +15,18 @@ use Rattle.pc_reader.specs.Internal.FixedWords.{kinds_of, IsFormAhead, NeedsForm
 use Rattle.pc_reader.proofs.Steps.{step_to, needs, meets}
 use Rattle.pc_reader.proofs.Streams.{blame}
 
-pub form_seen : {X : Type 0} (text : X → List ℕ) (form : List ℕ) {o : Option (Token X)} {t : Token X} → IsFormAhead text form o ≡ true → o ≡ Some t → is_fixed (a_form form) (lexeme text t) t.kind ≡ true
+pub form_seen : {X : Type 0} (text : X → List ℕ) (form : List ℕ) {o : Option (Token X)} {t : Token X}
+    → IsFormAhead text form o ≡ true → o ≡ Some t → is_fixed (a_form form) (lexeme text t) t.kind ≡ true
 form_seen text form e h = sym (ap (IsFormAhead text form) h) ∙ e
 
 module _ {X I : Type 0} {text : X → List ℕ} {a : Reader X I} where
-  pub rejects_form : {form : List ℕ} {st : State} → IsFormAhead text form a.ahead ≡ false → NeedsForm text form st a → Rejects text st a
-  rejects_form {form = form} e n = record { unfinished = n.unfinished; stuck_at = λ t h. n.stuck_at t h (sym (ap (IsFormAhead text form) h) ∙ e) }
+  pub rejects_form : {form : List ℕ} {st : State} → IsFormAhead text form a.ahead ≡ false → NeedsForm text form st a
+      → Rejects text st a
+  rejects_form {form = form} e n = record {
+    unfinished = n.unfinished;
+    stuck_at =
+        λ t h. n.stuck_at t h (sym (ap (IsFormAhead text form) h) ∙ e);
+  }
 
   pub form_due : (form : List ℕ) (ws : List Fixed) (next : State) → NeedsForm text form (fixed (a_form form) ws next) a
   form_due form ws next = record { unfinished = refl; stuck_at = λ t h e. ap (λ z. on z (due ws next) stuck) e }
@@ -27,19 +34,29 @@ module _ {X I : Type 0} {text : X → List ℕ} {a : Reader X I} where
   pub kind_due : (k : TokenKind) (ws : List Fixed) (next : State) → NeedsKind text k (fixed (a_kind k) ws next) a
   kind_due k ws next = needs (λ t. due ws next) refl (λ t i. refl)
 
-module _ {X I : Type 0} {text : X → List ℕ} {steps : I → Option (Result (Token X) Fault) → I → Type 0} {can : I → Type 0} {left : I → Count} {a b : Reader X I} {t : Token X} where
-  pub form_read : {form : List ℕ} → TakesForm text steps can left form a b t → (ws : List Fixed) (next : State) → Onward text steps a b (at (fixed (a_form form) ws next)) (at (due ws next))
-  form_read {form = form} f ws next = step_to (fixed (a_form form) ws next) (due ws next) f.takes (ap (λ z. on z (due ws next) stuck) f.is)
+module _ {X I : Type 0} {text : X → List ℕ} {steps : I → Option (Result (Token X) Fault) → I → Type 0}
+    {can : I → Type 0} {left : I → Count} {a b : Reader X I} {t : Token X} where
+  pub form_read : {form : List ℕ} → TakesForm text steps can left form a b t → (ws : List Fixed) (next : State)
+      → Onward text steps a b (at (fixed (a_form form) ws next)) (at (due ws next))
+  form_read {form = form} f ws next = step_to (fixed (a_form form) ws next) (due ws next) f.takes
+      (ap (λ z. on z (due ws next) stuck) f.is)
 
-  pub kind_read : (k : TokenKind) → Takes text steps can left a b t → t.kind ≡ k → (ws : List Fixed) (next : State) → Onward text steps a b (at (fixed (a_kind k) ws next)) (at (due ws next))
+  pub kind_read : (k : TokenKind) → Takes text steps can left a b t → t.kind ≡ k → (ws : List Fixed) (next : State)
+      → Onward text steps a b (at (fixed (a_kind k) ws next)) (at (due ws next))
   kind_read k h e ws next = step_to (fixed (a_kind k) ws next) (due ws next) h (meets k t.kind (due ws next) e)
 
 -- a name of this form is ahead, and is taken
-pub takes_form : {X I : Type 0} (text : X → List ℕ) (steps : I → Option (Result (Token X) Fault) → I → Type 0) (can : I → Type 0) (left : I → Count) (a b : Reader X I) (form : List ℕ) → IsFormAhead text form a.ahead ≡ true → (r : Result (Token X) Fault)
-    → MatchResult r (λ t. Takes text steps can left a b t) (λ e. Blames e (λ o. (z : Reading) → (a.ahead ≡ None → stop z ≡ short) → Came text steps a z o)) → ReadsForm text steps can left form a b r
+pub takes_form : {X I : Type 0} (text : X → List ℕ) (steps : I → Option (Result (Token X) Fault) → I → Type 0)
+    (can : I → Type 0) (left : I → Count) (a b : Reader X I) (form : List ℕ) → IsFormAhead text form a.ahead ≡ true
+    → (r : Result (Token X) Fault)
+    → MatchResult r (λ t. Takes text steps can left a b t) (λ e.
+    Blames e (λ o. (z : Reading) → (a.ahead ≡ None → stop z ≡ short) → Came text steps a z o))
+    → ReadsForm text steps can left form a b r
 takes_form text steps can left a b form seen (Ok t) x = record { takes = x; is = form_seen text form seen x.here }
 takes_form text steps can left a b form seen (Err e) x = blame (λ o w. λ st n. w (at st) (λ q. n.unfinished)) x
 
 -- the next of the kinds that are left
-pub next_due : {X I : Type 0} {text : X → List ℕ} {a : Reader X I} (ks : List TokenKind) (i : ℕ) (k : TokenKind) (rest : List TokenKind) (next : State) → drop i ks ≡ k ∷ rest → NeedsKind text k (due (kinds_of (drop i ks)) next) a
-next_due {text = text} {a = a} ks i k rest next e = subst (λ z. NeedsKind text k (due (kinds_of z) next) a) (sym e) (kind_due k (kinds_of rest) next)
+pub next_due : {X I : Type 0} {text : X → List ℕ} {a : Reader X I} (ks : List TokenKind) (i : ℕ) (k : TokenKind)
+    (rest : List TokenKind) (next : State) → drop i ks ≡ k ∷ rest → NeedsKind text k (due (kinds_of (drop i ks)) next) a
+next_due {text = text} {a = a} ks i k rest next e = subst (λ z. NeedsKind text k (due (kinds_of z) next) a) (sym e)
+    (kind_due k (kinds_of rest) next)

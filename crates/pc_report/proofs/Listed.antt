@@ -1,5 +1,6 @@
 -- A map of flows, as it grows with the list.
-use Rattle.std.proofs.Common.{◌≡◌, List, [], ◌∷◌, ◌++◌, Bool, true, false, cond, Option, Some, None, refl, sym, ap, ◌∙◌, subst, inl, inr, Contains, arith}
+use Rattle.std.proofs.Common.{◌≡◌, List, [], ◌∷◌, ◌++◌, Bool, true, false, cond, Option, Some, None, refl, sym, ap, ◌∙◌}
+use Rattle.std.proofs.Common.{subst, inl, inr, Contains, arith}
 use Rattle.std.specs.Prelude.{◌⊎◌, MatchOption}
 use Rattle.std.specs.Borrow.{Bor}
 use Rattle.std.specs.Ordering.{is_eq, nat_cmp, ordering_then}
@@ -34,24 +35,31 @@ module _ (xs : List FlowEntry) (b : Bor FlowEntry) (p : Place) where
   Here : Option (Bor FlowEntry) → Type 0
   Here o = MatchOption o (¬ (IsListed (xs ++ b.now ∷ []) p)) (λ f. Contains (xs ++ b.now ∷ []) f.now × (f.now.0 ≡ p))
 
-  kept : is_eq (place_cmp b.now.0 p) ≡ false → (o : Option (Bor FlowEntry)) → MatchOption o (¬ (IsListed xs p)) (λ f. Contains xs f.now × (f.now.0 ≡ p)) → Here o
+  kept : is_eq (place_cmp b.now.0 p) ≡ false → (o : Option (Bor FlowEntry))
+      → MatchOption o (¬ (IsListed xs p)) (λ f. Contains xs f.now × (f.now.0 ≡ p)) → Here o
   unfolding Here
   kept h None n = λ l. elim (listed_more xs b.now p l) [
     | inl a ↦ n a
-    | inr same ↦ apart (is_eq (place_cmp b.now.0 p)) (subst (λ q. is_eq (place_cmp b.now.0 q) ≡ true) same (place_self b.now.0)) h
+    | inr same ↦ apart (is_eq (place_cmp b.now.0 p)) (subst (λ q. is_eq (place_cmp b.now.0 q) ≡ true) same
+        (place_self b.now.0)) h
   ]
   kept h (Some f) (c, e) = (Contains-append_left xs (b.now ∷ []) f.now c, e)
 
-  here : (t : Bool) → is_eq (place_cmp b.now.0 p) ≡ t → (o : Option (Bor FlowEntry)) → MatchOption o (¬ (IsListed xs p)) (λ f. Contains xs f.now × (f.now.0 ≡ p)) → Here (cond t (Some b) o)
+  here : (t : Bool) → is_eq (place_cmp b.now.0 p) ≡ t → (o : Option (Bor FlowEntry))
+      → MatchOption o (¬ (IsListed xs p)) (λ f. Contains xs f.now × (f.now.0 ≡ p)) → Here (cond t (Some b) o)
   unfolding Here
   here true h o old = (Contains-append_right xs (b.now ∷ []) b.now (0, omega arith, refl), place_same b.now.0 p h)
   here false h o old = kept h o old
 
-pub flows_more : (xs : List FlowEntry) (b : Bor FlowEntry) (old new : BTreeMap Place (Bor FlowEntry)) → HasFlows xs old → ((q : Place) → get place_cmp new q ≡ cond (is_eq (place_cmp b.now.0 q)) (Some b) (get place_cmp old q)) → HasFlows (xs ++ b.now ∷ []) new
+pub flows_more : (xs : List FlowEntry) (b : Bor FlowEntry) (old new : BTreeMap Place (Bor FlowEntry)) → HasFlows xs old
+    → ((q : Place) → get place_cmp new q ≡ cond (is_eq (place_cmp b.now.0 q)) (Some b) (get place_cmp old q))
+    → HasFlows (xs ++ b.now ∷ []) new
 unfolding Here
-flows_more xs b old new has step p = subst (Here xs b p) (sym (step p)) (here xs b p (is_eq (place_cmp b.now.0 p)) refl (get place_cmp old p) (has p))
+flows_more xs b old new has step p = subst (Here xs b p) (sym (step p))
+    (here xs b p (is_eq (place_cmp b.now.0 p)) refl (get place_cmp old p) (has p))
 
 -- what holds of each of a list, and of one more
-pub all_more : (P : Row → Type 0) (rows : List Row) (row : Row) → AllByRecursion P rows → P row → AllByRecursion P (rows ++ row ∷ [])
+pub all_more : (P : Row → Type 0) (rows : List Row) (row : Row) → AllByRecursion P rows → P row
+    → AllByRecursion P (rows ++ row ∷ [])
 all_more P [] row all one = (one, all)
 all_more P (first ∷ rows) row all one = (all.0, all_more P rows row all.1 one)

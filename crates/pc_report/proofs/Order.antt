@@ -1,5 +1,6 @@
 -- The order of findings is that of their starts, ends and codes.
-use Rattle.std.proofs.Common.{◌≡◌, ℕ, ◌<◌, List, [], ◌∷◌, Bool, true, arith, Less, Equal, Greater, refl, sym, ap, ◌∙◌, inl, inr}
+use Rattle.std.proofs.Common.{◌≡◌, ℕ, ◌<◌, List, [], ◌∷◌, Bool, true, arith, Less, Equal, Greater, refl, sym, ap, ◌∙◌}
+use Rattle.std.proofs.Common.{inl, inr}
 use Rattle.std.proofs.lemmas.List.Kept.{IsStrictlySortedBy-dedup}
 use Rattle.std.specs.Prelude.{◌⊎◌}
 use Rattle.std.specs.declared.cmp.Ordering.{Ordering}
@@ -24,8 +25,10 @@ finding_cmp = cmp-value.it
 abbrev pub finding_eq : Finding → Finding → Bool
 finding_eq = eq-value.it
 
-cmp_is : (p q : Place) (c d : Code) → finding_cmp (finding p c) (finding q d) ≡ ordering_then (ordering_then (nat_cmp p.start q.start) (nat_cmp p.end q.end)) (slice_cmp nat_cmp (text_of c) (text_of d))
-cmp_is p q c d = ap (λ o. ordering_then (ordering_then (nat_cmp p.start q.start) (nat_cmp p.end q.end)) o) (in_text_order c d)
+cmp_is : (p q : Place) (c d : Code) → finding_cmp (finding p c) (finding q d) ≡ ordering_then
+    (ordering_then (nat_cmp p.start q.start) (nat_cmp p.end q.end)) (slice_cmp nat_cmp (text_of c) (text_of d))
+cmp_is p q c d = ap (λ o. ordering_then (ordering_then (nat_cmp p.start q.start) (nat_cmp p.end q.end)) o)
+    (in_text_order c d)
 
 pub is_equal : (o : Ordering) → is_eq o ≡ true → o ≡ Equal
 is_equal Less h = cc
@@ -66,23 +69,26 @@ nat_equal x y h = at_equal (x < y) (x ≡ y) (y < x) (nat_cmp x y) (ranked x y (
 pub nat_self : (x : ℕ) → nat_cmp x x ≡ Equal
 nat_self x = at_self x (nat_cmp x x) (ranked x x (nat_cmp x x) refl)
 
-before : (p q : Place) (c d : Code) → finding_cmp (finding p c) (finding q d) ≡ Less → IsBefore (finding p c) (finding q d)
-before p q c d h = elim (then_less (ordering_then (nat_cmp p.start q.start) (nat_cmp p.end q.end)) (slice_cmp nat_cmp (text_of c) (text_of d)) (rw (cmp_is p q c d) at h)) [
-  | inl place ↦ elim (then_less (nat_cmp p.start q.start) (nat_cmp p.end q.end) place) [
-    | inl start ↦ inl (nat_less p.start q.start start)
-    | inr rest ↦ inr (nat_equal p.start q.start rest.0, inl (nat_less p.end q.end rest.1))
-  ]
-  | inr rest ↦
-      let place = then_equal (nat_cmp p.start q.start) (nat_cmp p.end q.end) rest.0 in
-      inr (nat_equal p.start q.start place.0, inr (nat_equal p.end q.end place.1, rest.1))
-]
+before : (p q : Place) (c d : Code) → finding_cmp (finding p c) (finding q d) ≡ Less
+    → IsBefore (finding p c) (finding q d)
+before p q c d h = elim (then_less (ordering_then (nat_cmp p.start q.start) (nat_cmp p.end q.end))
+    (slice_cmp nat_cmp (text_of c) (text_of d)) (rw (cmp_is p q c d) at h)) [
+      | inl place ↦ elim (then_less (nat_cmp p.start q.start) (nat_cmp p.end q.end) place) [
+        | inl start ↦ inl (nat_less p.start q.start start)
+        | inr rest ↦ inr (nat_equal p.start q.start rest.0, inl (nat_less p.end q.end rest.1))
+      ]
+      | inr rest ↦
+          let place = then_equal (nat_cmp p.start q.start) (nat_cmp p.end q.end) rest.0 in
+          inr (nat_equal p.start q.start place.0, inr (nat_equal p.end q.end place.1, rest.1))
+    ]
 
 pub less_is_before : (f g : Finding) → finding_cmp f g ≡ Less → IsBefore f g
 less_is_before f g h = before f.place g.place f.code g.code h
 
 pub equal_is_same : (f g : Finding) → finding_cmp f g ≡ Equal → f ≡ g
 equal_is_same f g h =
-    let whole = then_equal (ordering_then (nat_cmp f.place.start g.place.start) (nat_cmp f.place.end g.place.end)) (slice_cmp nat_cmp (text_of f.code) (text_of g.code)) (rw (cmp_is f.place g.place f.code g.code) at h) in
+    let whole = then_equal (ordering_then (nat_cmp f.place.start g.place.start) (nat_cmp f.place.end g.place.end))
+    (slice_cmp nat_cmp (text_of f.code) (text_of g.code)) (rw (cmp_is f.place g.place f.code g.code) at h) in
     let place = then_equal (nat_cmp f.place.start g.place.start) (nat_cmp f.place.end g.place.end) whole.0 in
     let start : f.place.start ≡ g.place.start = nat_equal f.place.start g.place.start place.0 in
     let end : f.place.end ≡ g.place.end = nat_equal f.place.end g.place.end place.1 in

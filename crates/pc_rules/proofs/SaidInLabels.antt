@@ -364,7 +364,8 @@ module _ (ctx : Context) (declared : List Tree) (part : Expr) (f : Finding) (say
           | inl x ↦ inl (inr (found_by env k.want a m.key law.key x (λ o. within_found env k.want a o m.key law.key x)))
           | inr y ↦ inr (elim (part_either part (parts_in true b) (parts_in_entries true rest) y) [
             | inl z ↦
-                inl (inr (found_by env v.want b m.value law.value z (λ o. within_found env v.want b o m.value law.value z)))
+                inl (inr (found_by env v.want b m.value law.value z (λ o. within_found env v.want b o m.value law.value
+                z)))
             | inr w ↦ inr (entries_found env k v rest m.rest law.rest w)
           ])
         ]

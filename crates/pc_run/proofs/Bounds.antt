@@ -15,7 +15,8 @@ pub record Above (fuel : ℕ) (e : Expr) (body : Stmts) (w : Progress) (l : Afte
   pub is : l ≡ (plain_parts bound).again e body w
 
 -- the further turns of a `for` too
-pub record Turns (fuel : ℕ) (over : Iteration) (i : ℕ) (name : List ℕ) (body : Stmts) (w : Progress) (l : After StatementEnd) : Type 0 where
+pub record Turns (fuel : ℕ) (over : Iteration) (i : ℕ) (name : List ℕ) (body : Stmts) (w : Progress)
+    (l : After StatementEnd) : Type 0 where
   pub bound : ℕ
   pub room : fuel < bound
   pub is : l ≡ (plain_parts bound).turns over i name body w

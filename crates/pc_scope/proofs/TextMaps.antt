@@ -7,10 +7,13 @@ use Rattle.pc_scope.specs.Reserved.{beside}
 use Rattle.pc_scope.specs.declared.resolution.Res.{Res}
 
 -- what a map has at a text stands beside it in the list of its entries
-pub beside_entry : {K : Type 0} (f : K → List ℕ) (t : List ℕ) (es : List (K × Res)) → lookup (λ k. bytes_eq t (f k)) es ≡ beside (map (λ e. (f e.0, e.1)) es) t
+pub beside_entry : {K : Type 0} (f : K → List ℕ) (t : List ℕ) (es : List (K × Res)) → lookup (λ k. bytes_eq t (f k)) es
+    ≡ beside (map (λ e. (f e.0, e.1)) es) t
 beside_entry f t [] = refl
 beside_entry f t (e ∷ es) = rw (turned t (f e.0)) (go (bytes_eq (f e.0) t) (beside_entry f t es))
   where
-    go : (b : Bool) → lookup (λ k. bytes_eq t (f k)) es ≡ beside (map (λ x. (f x.0, x.1)) es) t → cond b (Some e.1) (lookup (λ k. bytes_eq t (f k)) es) ≡ (if b then Some e.1 else beside (map (λ x. (f x.0, x.1)) es) t)
+    go : (b : Bool) → lookup (λ k. bytes_eq t (f k)) es ≡ beside (map (λ x. (f x.0, x.1)) es) t
+        → cond b (Some e.1) (lookup (λ k. bytes_eq t (f k)) es) ≡ (if b then Some e.1
+        else beside (map (λ x. (f x.0, x.1)) es) t)
     go true g = refl
     go false g = g

@@ -1,7 +1,9 @@
 -- The set that holds the locals of a function, as the list of their texts.
-use Rattle.std.proofs.Common.{◌≡◌, ◌+◌, ℕ, suc, List, [], ◌∷◌, ◌++◌, map, refl, ap, ◌∙◌, sym, arith, append_assoc, append-nil}
+use Rattle.std.proofs.Common.{◌≡◌, ◌+◌, ℕ, suc, List, [], ◌∷◌, ◌++◌, map, refl, ap, ◌∙◌, sym, arith, append_assoc}
+use Rattle.std.proofs.Common.{append-nil}
 use Rattle.std.proofs.lemmas.List.Sums.{fold-append}
-use Rattle.std.specs.Prelude.{Bool, true, false, ◌||◌, if◌then◌else◌, bytes_eq, position, cond, not, nat_lt, length, fold, Some, None, is_some}
+use Rattle.std.specs.Prelude.{Bool, true, false, ◌||◌, if◌then◌else◌, bytes_eq, position, cond, not, nat_lt, length}
+use Rattle.std.specs.Prelude.{fold, Some, None, is_some}
 use Rattle.std.specs.List.{list_any, position_or_len}
 use Rattle.std.specs.Option.{option_map}
 use lib.Dec.{leb-suc-suc}
@@ -10,15 +12,18 @@ use Rattle.pc_scope.specs.Resolution.{is_one_of, first_of_each, index_of}
 use Rattle.pc_scope.specs.Internal.WalkViews.{with_new_local}
 
 -- a set of texts has a text where the list of its texts does
-pub among : {A : Type 0} (f : A → List ℕ) (t : List ℕ) (ks : List A) → list_any (λ k. bytes_eq t (f k)) ks ≡ is_one_of t (map f ks)
+pub among : {A : Type 0} (f : A → List ℕ) (t : List ℕ) (ks : List A) → list_any (λ k. bytes_eq t (f k)) ks
+    ≡ is_one_of t (map f ks)
 among f t [] = refl
 among f t (k ∷ ks) = ap (λ b. bytes_eq t (f k) || b) (among f t ks)
 
-kept : (b : Bool) (names : List (List ℕ)) (text : List ℕ) → b ≡ true → (if b then names else names ++ (text ∷ [])) ≡ names
+kept : (b : Bool) (names : List (List ℕ)) (text : List ℕ) → b ≡ true → (if b then names else names ++ (text ∷ []))
+    ≡ names
 kept true names text e = refl
 kept false names text e = absurd (grind (arith, e))
 
-added : (b : Bool) (names : List (List ℕ)) (text : List ℕ) → b ≡ false → (if b then names else names ++ (text ∷ [])) ≡ names ++ (text ∷ [])
+added : (b : Bool) (names : List (List ℕ)) (text : List ℕ) → b ≡ false → (if b then names else names ++ (text ∷ []))
+    ≡ names ++ (text ∷ [])
 added true names text e = absurd (grind (arith, e))
 added false names text e = refl
 
@@ -39,25 +44,33 @@ map_end f [] y = refl
 map_end f (x ∷ xs) y = ap (λ l. f x ∷ l) (map_end f xs y)
 
 -- a text that is put in stands after the others, if it isn't among them
-pub put : {A : Type 0} (f : A → List ℕ) (ks : List A) (s : A) (b : Bool) → list_any (λ k. bytes_eq (f s) (f k)) ks ≡ b → b ≡ false → map f (if b then ks else ks ++ (s ∷ [])) ≡ map f ks ++ (f s ∷ [])
+pub put : {A : Type 0} (f : A → List ℕ) (ks : List A) (s : A) (b : Bool) → list_any (λ k. bytes_eq (f s) (f k)) ks ≡ b
+    → b ≡ false → map f (if b then ks else ks ++ (s ∷ [])) ≡ map f ks ++ (f s ∷ [])
 put f ks s true e e' = absurd (grind (arith, e'))
 put f ks s false e e' = map_end f ks s
 
 -- a free name that is no local yet becomes one
-pub bound_new : (names : List (List ℕ)) (t : List ℕ) → is_some (builtin_of t) ≡ false → is_one_of t names ≡ false → with_new_local names t ≡ names ++ (t ∷ [])
-bound_new names t e e' = added (is_builtin_name t || is_one_of t names) names t (or_both (is_builtin_name t) (is_one_of t names) e e')
+pub bound_new : (names : List (List ℕ)) (t : List ℕ) → is_some (builtin_of t) ≡ false → is_one_of t names ≡ false
+    → with_new_local names t ≡ names ++ (t ∷ [])
+bound_new names t e e' = added (is_builtin_name t || is_one_of t names) names t
+    (or_both (is_builtin_name t) (is_one_of t names) e e')
 
 -- a reserved name doesn't
-pub bound_reserved : (names : List (List ℕ)) (t : List ℕ) → is_some (builtin_of t) ≡ true → with_new_local names t ≡ names
-bound_reserved names t e = kept (is_builtin_name t || is_one_of t names) names t (or_first (is_builtin_name t) (is_one_of t names) e)
+pub bound_reserved : (names : List (List ℕ)) (t : List ℕ) → is_some (builtin_of t) ≡ true
+    → with_new_local names t ≡ names
+bound_reserved names t e = kept (is_builtin_name t || is_one_of t names) names t
+    (or_first (is_builtin_name t) (is_one_of t names) e)
 
 -- nor does a local again
 pub bound_again : (names : List (List ℕ)) (t : List ℕ) → is_one_of t names ≡ true → with_new_local names t ≡ names
-bound_again names t e = kept (is_builtin_name t || is_one_of t names) names t (or_second (is_builtin_name t) (is_one_of t names) e)
+bound_again names t e = kept (is_builtin_name t || is_one_of t names) names t
+    (or_second (is_builtin_name t) (is_one_of t names) e)
 
-same_behind : (t x : List ℕ) (names : List (List ℕ)) → is_one_of t (names ++ (x ∷ [])) ≡ (bytes_eq t x || is_one_of t names)
+same_behind : (t x : List ℕ) (names : List (List ℕ)) → is_one_of t (names ++ (x ∷ []))
+    ≡ (bytes_eq t x || is_one_of t names)
 same_behind t x [] = refl
-same_behind t x (n ∷ names) = ap (λ b. bytes_eq t n || b) (same_behind t x names) ∙ turned (bytes_eq t n) (bytes_eq t x) (is_one_of t names)
+same_behind t x (n ∷ names) = ap (λ b. bytes_eq t n || b) (same_behind t x names)
+    ∙ turned (bytes_eq t n) (bytes_eq t x) (is_one_of t names)
   where
     turned : (a b c : Bool) → (a || (b || c)) ≡ (b || (a || c))
     turned true true c = refl
@@ -65,20 +78,27 @@ same_behind t x (n ∷ names) = ap (λ b. bytes_eq t n || b) (same_behind t x na
     turned false b c = refl
 
 -- names put in one after another: those that stand first, after those that were there
-pub puts : (before names ts : List (List ℕ)) → ((t : List ℕ) → is_one_of t before ≡ is_one_of t names) → fold with_new_local names ts ≡ names ++ first_of_each before ts
+pub puts : (before names ts : List (List ℕ)) → ((t : List ℕ) → is_one_of t before ≡ is_one_of t names)
+    → fold with_new_local names ts ≡ names ++ first_of_each before ts
 puts before names [] same = sym (append-nil names)
-puts before names (t ∷ ts) same = go (is_builtin_name t || is_one_of t names) refl (puts before names ts same) (puts (t ∷ before) (names ++ (t ∷ [])) ts (λ u. ap (λ c. bytes_eq u t || c) (same u) ∙ sym (same_behind u t names)))
+puts before names (t ∷ ts) same = go (is_builtin_name t || is_one_of t names) refl (puts before names ts same)
+    (puts (t ∷ before) (names ++ (t ∷ [])) ts (λ u. ap (λ c. bytes_eq u t || c) (same u) ∙ sym (same_behind u t names)))
   where
     go : (b : Bool) → (is_builtin_name t || is_one_of t names) ≡ b
         → fold with_new_local names ts ≡ names ++ first_of_each before ts
         → fold with_new_local (names ++ (t ∷ [])) ts ≡ (names ++ (t ∷ [])) ++ first_of_each (t ∷ before) ts
-        → fold with_new_local (if b then names else names ++ (t ∷ [])) ts ≡ names ++ (if is_builtin_name t || is_one_of t before then first_of_each before ts else t ∷ first_of_each (t ∷ before) ts)
+        → fold with_new_local (if b then names else names ++ (t ∷ [])) ts ≡ names
+        ++ (if is_builtin_name t || is_one_of t before then first_of_each before ts else t ∷ first_of_each
+        (t ∷ before) ts)
     go true e old new = rw (ap (λ c. is_builtin_name t || c) (same t) ∙ e) old
-    go false e old new = rw (ap (λ c. is_builtin_name t || c) (same t) ∙ e) (new ∙ append_assoc names (t ∷ []) (first_of_each (t ∷ before) ts))
+    go false e old new = rw (ap (λ c. is_builtin_name t || c) (same t) ∙ e)
+        (new ∙ append_assoc names (t ∷ []) (first_of_each (t ∷ before) ts))
 
 -- names put in by three lists in turn are those that stand first in all of them
-pub in_turn : (self params body : List (List ℕ)) → fold with_new_local (fold with_new_local (fold with_new_local [] self) params) body ≡ first_of_each [] (self ++ (params ++ body))
-in_turn self params body = sym (fold-append with_new_local (fold with_new_local [] self) params body) ∙ sym (fold-append with_new_local [] self (params ++ body)) ∙ puts [] [] (self ++ (params ++ body)) (λ t. refl)
+pub in_turn : (self params body : List (List ℕ)) → fold with_new_local
+    (fold with_new_local (fold with_new_local [] self) params) body ≡ first_of_each [] (self ++ (params ++ body))
+in_turn self params body = sym (fold-append with_new_local (fold with_new_local [] self) params body)
+    ∙ sym (fold-append with_new_local [] self (params ++ body)) ∙ puts [] [] (self ++ (params ++ body)) (λ t. refl)
 
 below : (n : ℕ) → nat_lt 0 (suc n) ≡ true
 below n = grind arith
@@ -97,10 +117,16 @@ later i n = ap (λ c. cond c (Some (suc i)) None) (one_more i n) ∙ go (nat_lt 
     go false = refl
 
 -- the place of a text in a set is that in the list of its texts
-pub placed : {A : Type 0} (f : A → List ℕ) (t : List ℕ) (ks : List A) → position (λ k. bytes_eq t (f k)) ks ≡ index_of t (map f ks)
+pub placed : {A : Type 0} (f : A → List ℕ) (t : List ℕ) (ks : List A) → position (λ k. bytes_eq t (f k)) ks
+    ≡ index_of t (map f ks)
 placed f t [] = refl
 placed f t (k ∷ ks) = go (bytes_eq t (f k)) (placed f t ks)
   where
-    go : (b : Bool) → position (λ x. bytes_eq t (f x)) ks ≡ index_of t (map f ks) → cond (nat_lt (cond (not b) (1 + position_or_len (λ x. bytes_eq t (f x)) ks) 0) (suc (length ks))) (Some (cond (not b) (1 + position_or_len (λ x. bytes_eq t (f x)) ks) 0)) None ≡ (if b then Some 0 else option_map suc (index_of t (map f ks)))
+    go : (b : Bool) → position (λ x. bytes_eq t (f x)) ks ≡ index_of t (map f ks)
+        → cond (nat_lt (cond (not b) (1 + position_or_len (λ x. bytes_eq t (f x)) ks) 0) (suc (length ks)))
+        (Some (cond (not b) (1 + position_or_len (λ x. bytes_eq t (f x)) ks) 0)) None
+        ≡ (if b then Some 0 else option_map suc (index_of t (map f ks)))
     go true e = ap (λ c. cond c (Some 0) None) (below (length ks))
-    go false e = ap (λ j. cond (nat_lt j (suc (length ks))) (Some j) None) (next (position_or_len (λ x. bytes_eq t (f x)) ks)) ∙ later (position_or_len (λ x. bytes_eq t (f x)) ks) (length ks) ∙ ap (option_map suc) e
+    go false e = ap (λ j. cond (nat_lt j (suc (length ks))) (Some j) None)
+        (next (position_or_len (λ x. bytes_eq t (f x)) ks)) ∙ later (position_or_len (λ x. bytes_eq t (f x)) ks)
+        (length ks) ∙ ap (option_map suc) e

@@ -15,7 +15,8 @@ other_count (a ∷ b ∷ []) ks h = absurd (h refl)
 other_count (a ∷ b ∷ c ∷ rest) ks h = refl
 
 -- two by position, and perhaps none by name
-pub with_two : (es : List RustExpr) (ks : List RustKeyword) → length es ≡ 2 → nat_eq (length ks) 0 ≡ are_two (exprs_of_list es) (keywords_of_list ks)
+pub with_two : (es : List RustExpr) (ks : List RustKeyword) → length es ≡ 2
+    → nat_eq (length ks) 0 ≡ are_two (exprs_of_list es) (keywords_of_list ks)
 with_two [] ks h = absurd (omega arith)
 with_two (a ∷ []) ks h = absurd (omega arith)
 with_two (a ∷ b ∷ []) [] h = refl

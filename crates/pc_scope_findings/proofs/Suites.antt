@@ -11,4 +11,5 @@ none_listed [] = refl
 none_listed (s ∷ rest) = search rules
 
 pub no_statement : (body : Vec RustStmt Global) → is_empty (stmts_of_list body.items) ≡ nat_eq (vec_len body) 0
-no_statement body = let same : length body.items ≡ vec_len body = omega (arith, body.ok.0) in none_listed body.items ∙ ap (λ (n : ℕ). nat_eq n 0) same
+no_statement body = let same : length body.items ≡ vec_len body = omega (arith, body.ok.0) in none_listed body.items
+    ∙ ap (λ (n : ℕ). nat_eq n 0) same

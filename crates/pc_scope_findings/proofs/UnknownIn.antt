@@ -1,5 +1,6 @@
 -- The names that mean nothing in the expressions of statements, one list of expressions after another.
-use Rattle.std.proofs.Common.{◌≡◌, ◌<◌, ℕ, ◌+◌, List, [], ◌∷◌, ◌++◌, length, get_or, drop, ap, ◌∙◌, sym, append_assoc, Bool, true}
+use Rattle.std.proofs.Common.{◌≡◌, ◌<◌, ℕ, ◌+◌, List, [], ◌∷◌, ◌++◌, length, get_or, drop, ap, ◌∙◌, sym, append_assoc}
+use Rattle.std.proofs.Common.{Bool, true}
 use Rattle.std.specs.Prelude.{if◌then◌else◌}
 use Rattle.pc_tree.specs.declared.code.Code.TheVariants.{E02}
 use Rattle.pc_tree.specs.declared.code.Finding.{Finding}
@@ -25,22 +26,35 @@ module _ (r : List ℕ → Res) where
 
   module _ (old mid : List Finding) where
     pub then_exprs : (a b : List Expr) → mid ≡ old ++ here a → mid ++ here b ≡ old ++ here (a ++ b)
-    then_exprs a b h = ap (λ (fs : List Finding). fs ++ here b) h ∙ append_assoc old (here a) (here b) ∙ ap (λ (fs : List Finding). old ++ fs) (sym (found_both a b))
+    then_exprs a b h = ap (λ (fs : List Finding). fs ++ here b) h ∙ append_assoc old (here a) (here b)
+        ∙ ap (λ (fs : List Finding). old ++ fs) (sym (found_both a b))
 
-    pub then_in : (e : Expr) (b : List Expr) → mid ≡ old ++ at_code E02 (unknown_among r (parts_in true e)) → mid ++ here b ≡ old ++ here (e ∷ b)
-    then_in e b h = ap (λ (fs : List Finding). fs ++ here b) h ∙ append_assoc old (at_code E02 (unknown_among r (parts_in true e))) (here b) ∙ ap (λ (fs : List Finding). old ++ fs) (sym (at_both E02 (unknown_among r (parts_in true e)) (unknown_in r b)))
+    pub then_in : (e : Expr) (b : List Expr) → mid ≡ old ++ at_code E02 (unknown_among r (parts_in true e))
+        → mid ++ here b ≡ old ++ here (e ∷ b)
+    then_in e b h = ap (λ (fs : List Finding). fs ++ here b) h ∙ append_assoc old
+        (at_code E02 (unknown_among r (parts_in true e))) (here b)
+        ∙ ap (λ (fs : List Finding). old ++ fs) (sym (at_both E02 (unknown_among r (parts_in true e)) (unknown_in r b)))
 
   module _ (front all mid : List Finding) where
     -- one more statement that can complete
-    pub stmt_more : (body : List RustStmt) (i : ℕ) (s : RustStmt) → i < length body → s ≡ get_or body i s → completes (stmt_of s) ≡ true → front ++ here (exprs_in_all true (stmts_of_list (drop i body))) ≡ all → mid ≡ front ++ here (exprs_in true (stmt_of s)) → mid ++ here (exprs_in_all true (stmts_of_list (drop (i + 1) body))) ≡ all
+    pub stmt_more : (body : List RustStmt) (i : ℕ) (s : RustStmt) → i < length body → s ≡ get_or body i s
+        → completes (stmt_of s) ≡ true → front ++ here (exprs_in_all true (stmts_of_list (drop i body))) ≡ all
+        → mid ≡ front ++ here (exprs_in true (stmt_of s)) → mid ++ here
+        (exprs_in_all true (stmts_of_list (drop (i + 1) body))) ≡ all
     stmt_more body i s lt is done inv h =
         let rest = exprs_in_all true (stmts_of_list (drop (i + 1) body)) in
         then_exprs front mid (exprs_in true (stmt_of s)) rest h
-        ∙ ap (λ (es : List Expr). front ++ here es) (sym (ap (λ (ss : Stmts). exprs_in_all true ss) (stmts_next body i s lt is) ∙ ap (λ (b : Bool). exprs_in true (stmt_of s) ++ (if b then rest else [])) done))
+        ∙ ap (λ (es : List Expr). front ++ here es)
+        (sym (ap (λ (ss : Stmts). exprs_in_all true ss) (stmts_next body i s lt is)
+        ∙ ap (λ (b : Bool). exprs_in true (stmt_of s) ++ (if b then rest else [])) done))
         ∙ inv
 
     -- one more condition with its suite
-    pub branch_more : (new : List Finding) (bs : List RustBranch) (i : ℕ) (b : RustBranch) → i < length bs → b ≡ get_or bs i b → front ++ here (exprs_in_branches true (branches_of_list (drop i bs))) ≡ all → mid ≡ front ++ at_code E02 (unknown_among r (parts_in true (expr_of (out-Branch b).condition))) → new ≡ mid ++ here (exprs_in_all true (stmts_of_list (out-Branch b).body.items)) → new ++ here (exprs_in_branches true (branches_of_list (drop (i + 1) bs))) ≡ all
+    pub branch_more : (new : List Finding) (bs : List RustBranch) (i : ℕ) (b : RustBranch) → i < length bs
+        → b ≡ get_or bs i b → front ++ here (exprs_in_branches true (branches_of_list (drop i bs))) ≡ all
+        → mid ≡ front ++ at_code E02 (unknown_among r (parts_in true (expr_of (out-Branch b).condition)))
+        → new ≡ mid ++ here (exprs_in_all true (stmts_of_list (out-Branch b).body.items))
+        → new ++ here (exprs_in_branches true (branches_of_list (drop (i + 1) bs))) ≡ all
     branch_more new bs i b lt is inv h k =
         let suite = exprs_in_all true (stmts_of_list (out-Branch b).body.items) in
         let rest = exprs_in_branches true (branches_of_list (drop (i + 1) bs)) in

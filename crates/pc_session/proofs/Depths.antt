@@ -26,7 +26,8 @@ use Rattle.pc_session.specs.declared.replies.ErrorCode.TheVariants.{InvalidParam
 use Rattle.pc_session.specs.declared.session.Stage.{Stage}
 use Rattle.pc_session.specs.declared.session.Stage.TheVariants.{Fresh, Running, ShutDown, Ended}
 use Rattle.pc_session.specs.Checked.{IsChecked, IsPublished, told_data}
-use Rattle.pc_session.specs.Diagnostics.{range_data, diagnostic_data, item_data, refusal_data, found_data, severity_of, message_text}
+use Rattle.pc_session.specs.Diagnostics.{range_data, diagnostic_data, item_data, refusal_data, found_data, severity_of}
+use Rattle.pc_session.specs.Diagnostics.{message_text}
 use Rattle.pc_session.specs.Messages.{is_identifier, agreed_in}
 use Rattle.pc_session.specs.Replies.{publish_data, result_data, full_data, hover_data, capabilities_data, refusal_of}
 use Rattle.pc_session.specs.Sent.{IsTextOf, AreSent}
@@ -89,7 +90,8 @@ publish_low uri None ds h =
 publish_low uri (Some version) ds h =
     let listed : suc (items_depth (items_of ds)) ≤ 4 = up _ 3 h in
     let params = up _ 4 (max-le listed (max-le (z 4) (max-le (z 4) (z 4)))) in
-    low (publish_data uri (Some version) ds) 6 (omega arith) (up _ 5 (max-le (z 5) (max-le (z 5) (max-le params (z 5)))))
+    low (publish_data uri (Some version) ds) 6 (omega arith)
+    (up _ 5 (max-le (z 5) (max-le (z 5) (max-le params (z 5)))))
 
 -- a line for the log has depth 2
 log_low : 2 ≤ max_depth
@@ -250,7 +252,8 @@ module _ (finds : List ℕ → Found → Type 0) where
         | inl of_it ↦
             let listed : items_depth (items_of of_it.diagnostics) ≤ 3 =
             checked_low old.agreed of_it.document.text of_it.diagnostics of_it.told of_it.is_checked in
-            subst Low (sym of_it.replied) (result_low id (full_data of_it.diagnostics) flat (full_low of_it.diagnostics listed))
+            subst Low (sym of_it.replied) (result_low id (full_data of_it.diagnostics) flat
+            (full_low of_it.diagnostics listed))
         | inr none ↦ subst Low (sym none.1) (refusal_low InvalidParams id flat)
       ] in
       answered it.answered low_reply
@@ -285,7 +288,8 @@ module _ (finds : List ℕ → Found → Type 0) where
   begun : (method : Method) (id message : Data) (old new : State) (replies : List Data) → depth id ≡ 0
       → OnFresh method id message old replies new → AreShallow replies
   begun Initialize id message old new replies flat h =
-      answered h (result_low id (capabilities_data (agreed_in message).encoding) flat (capabilities_low (agreed_in message).encoding))
+      answered h (result_low id (capabilities_data (agreed_in message).encoding) flat
+      (capabilities_low (agreed_in message).encoding))
   begun Initialized id message old new replies flat h = answered h (refusal_low ServerNotInitialized id flat)
   begun Shutdown id message old new replies flat h = answered h (refusal_low ServerNotInitialized id flat)
   begun Exit id message old new replies flat h = answered h (refusal_low ServerNotInitialized id flat)
@@ -323,8 +327,10 @@ module _ (finds : List ℕ → Found → Type 0) where
 
   messaged : (message : Data) (old new : State) (replies : List Data) → OnMessage finds message old replies new
       → AreShallow replies
-  messaged message old new replies (inl it) = with_method it.method (get (codes "id") message) message old new replies it.answered
-  messaged message old new replies (inr it) = without_method (get (codes "id") message) message old new replies it.answered
+  messaged message old new replies (inl it) = with_method it.method (get (codes "id") message) message old new replies
+      it.answered
+  messaged message old new replies (inr it) = without_method (get (codes "id") message) message old new replies
+      it.answered
 
   stepped : (old new : State) (bytes : List ℕ) (replies : List Data) → Step finds old bytes replies new
       → AreShallow replies

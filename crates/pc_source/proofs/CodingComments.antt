@@ -1,5 +1,6 @@
 -- The coding comment of a line begins at its first `#`.
-use Rattle.std.proofs.Common.{◌≡◌, ◌≢◌, ℕ, ◌<◌, ◌≤◌, List, length, get_or, drop, not, true, false, ◌==◌, refl, sym, ap, ◌∙◌, subst, inl, inr, arith}
+use Rattle.std.proofs.Common.{◌≡◌, ◌≢◌, ℕ, ◌<◌, ◌≤◌, List, length, get_or, drop, not, true, false, ◌==◌, refl, sym, ap}
+use Rattle.std.proofs.Common.{◌∙◌, subst, inl, inr, arith}
 use Rattle.std.specs.Prelude.{IsTrue}
 use Rattle.std.specs.List.{prefix_len, position_or_len}
 use Rattle.std.proofs.lemmas.Bool.{cases_lt}
@@ -22,7 +23,8 @@ module _ (line : List ℕ) (hash : ℕ) (place : hash ≡ position_or_len (λ b.
   before k h = hash_is_not _ (prefix_len_passes (λ b. not (b == 35)) line k 0 (omega arith))
 
   here : hash < length line → get_or line hash 0 ≡ 35
-  here h = hash_is _ (ap (λ n. not (get_or line n 0 == 35)) place ∙ prefix_len_stops (λ b. not (b == 35)) line 0 (omega arith))
+  here h = hash_is _ (ap (λ n. not (get_or line n 0 == 35)) place ∙ prefix_len_stops (λ b. not (b == 35)) line 0
+      (omega arith))
 
   pub comment_is : hash < length line → NamesOther line hash → IsCodingComment line hash
   comment_is h other = record { within = h; hash = here h; first = before; other = other }

@@ -1,5 +1,6 @@
 -- Bytes have one refusal at most, none where they are a text, and it stands within them.
-use Rattle.std.proofs.Common.{◌≡◌, ℕ, ◌+◌, ◌-◌, ◌<◌, ◌≤◌, List, length, take, drop, ◌==◌, refl, sym, ap, ◌∙◌, inl, inr, arith, length-append}
+use Rattle.std.proofs.Common.{◌≡◌, ℕ, ◌+◌, ◌-◌, ◌<◌, ◌≤◌, List, length, take, drop, ◌==◌, refl, sym, ap, ◌∙◌, inl, inr}
+use Rattle.std.proofs.Common.{arith, length-append}
 use Rattle.std.specs.Prelude.{◌⊎◌, IsUtf8}
 use Rattle.std.specs.List.{position_or_len}
 use Rattle.std.specs.Str.Lossy.{utf8_valid_len}
@@ -10,7 +11,8 @@ use Rattle.pc_source.specs.declared.fault.Refusal.{Refusal}
 use Rattle.pc_source.specs.declared.fault.RefusalCode.{RefusalCode}
 use Rattle.pc_source.specs.declared.fault.RefusalCode.TheVariants.{S1, S2, S3, S4, S5}
 use Rattle.pc_source.specs.Coding.{IsCoding, first_line, later_lines}
-use Rattle.pc_source.specs.Text.{source_limit, IsMarked, IsText, IsReadable, IsFirstControl, IsFirstCoding, IsSourceFault, IsSourceRefusal}
+use Rattle.pc_source.specs.Text.{source_limit, IsMarked, IsText, IsReadable, IsFirstControl, IsFirstCoding}
+use Rattle.pc_source.specs.Text.{IsSourceFault, IsSourceRefusal}
 
 -- ---- a refusal stands within the bytes
 
@@ -24,7 +26,12 @@ coding_within : (text : List ℕ) (byte : ℕ) → IsCoding text byte → byte <
 coding_within text byte (inl w) = omega (arith, w.within, first_line_le text)
 coding_within text byte (inr (k, at, w)) =
     let n = position_or_len (λ b. b == 10) text in
-    let inside : k < length text - (n + 1) = omega (arith, w.within, first_line_le (later_lines text), length-drop (n + 1) text) in
+    let inside : k < length text - (n + 1) = omega (
+      arith,
+      w.within,
+      first_line_le (later_lines text),
+      length-drop (n + 1) text,
+    ) in
     omega (arith, at, inside, length-take-le n text (omega (arith, inside)))
 
 fault_within : (bytes : List ℕ) (code : RefusalCode) (byte : ℕ) → IsSourceFault bytes code byte → byte ≤ length bytes
@@ -57,7 +64,8 @@ no_refusal bytes refusal text h = no_fault bytes refusal.code refusal.byte h tex
 data Reason (bytes : List ℕ) (code : RefusalCode) (byte : ℕ) : Type 0 where
   too_long : code ≡ S1 → source_limit < length bytes → byte ≡ source_limit → Reason bytes code byte
   marked : code ≡ S3 → length bytes ≤ source_limit → IsMarked bytes → byte ≡ 0 → Reason bytes code byte
-  no_utf8 : code ≡ S2 → length bytes ≤ source_limit → ¬ (IsMarked bytes) → ¬ (IsUtf8 bytes) → byte ≡ utf8_valid_len bytes → Reason bytes code byte
+  no_utf8 : code ≡ S2 → length bytes ≤ source_limit → ¬ (IsMarked bytes) → ¬ (IsUtf8 bytes)
+      → byte ≡ utf8_valid_len bytes → Reason bytes code byte
   control : code ≡ S4 → IsReadable bytes → IsFirstControl bytes byte → Reason bytes code byte
   coding : code ≡ S5 → IsReadable bytes → IsFirstCoding bytes byte → Reason bytes code byte
 
@@ -122,9 +130,12 @@ module _ (bytes : List ℕ) (code : RefusalCode) (byte : ℕ) (other : RefusalCo
 -- refusals of one code and one byte are the same
 pub same_refusal : (refusal other : Refusal) → refusal.code ≡ other.code → refusal.byte ≡ other.byte → refusal ≡ other
 same_refusal refusal other e f =
-    ap (λ c. let r : Refusal = record { code = c; byte = refusal.byte } in r) e ∙ ap (λ b. let r : Refusal = record { code = other.code; byte = b } in r) f
+    ap (λ c. let r : Refusal = record { code = c; byte = refusal.byte } in r) e
+    ∙ ap (λ b. let r : Refusal = record { code = other.code; byte = b } in r) f
 
-pub one_refusal : (bytes : List ℕ) (refusal other : Refusal) → IsSourceRefusal bytes refusal → IsSourceRefusal bytes other → refusal ≡ other
+pub one_refusal : (bytes : List ℕ) (refusal other : Refusal) → IsSourceRefusal bytes refusal
+    → IsSourceRefusal bytes other → refusal ≡ other
 one_refusal bytes refusal other h g =
-    let same = one_reason bytes refusal.code refusal.byte other.code other.byte (reason bytes refusal.code refusal.byte h) (reason bytes other.code other.byte g) in
+    let same = one_reason bytes refusal.code refusal.byte other.code other.byte
+    (reason bytes refusal.code refusal.byte h) (reason bytes other.code other.byte g) in
     same_refusal refusal other same.0 same.1

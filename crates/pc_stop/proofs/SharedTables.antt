@@ -1,5 +1,6 @@
 -- A table with one entry changed.
-use Rattle.std.proofs.Common.{inl, inr, ◌⊎◌, ◌*◌, true≢false, ◌≡◌, ◌<◌, ◌≤◌, ◌^◌, ◌%◌, ◌/◌, ◌+◌, ℕ, zero, suc, refl, ap, ◌∙◌, sym, subst, arith, List, [], ◌∷◌, ◌++◌, length, Bool, true, false}
+use Rattle.std.proofs.Common.{inl, inr, ◌⊎◌, ◌*◌, true≢false, ◌≡◌, ◌<◌, ◌≤◌, ◌^◌, ◌%◌, ◌/◌, ◌+◌, ℕ, zero, suc, refl, ap}
+use Rattle.std.proofs.Common.{◌∙◌, sym, subst, arith, List, [], ◌∷◌, ◌++◌, length, Bool, true, false}
 use Rattle.std.specs.Prelude.{nat_eq, not, Result, Ok, Err, IfOk, OnOk, if◌then◌else◌, Option, Some, None, slice_get}
 use Rattle.std.proofs.Math.Nat.{pow-suc}
 use Rattle.std.proofs.lemmas.Bool.{eq-eqb}
@@ -24,10 +25,13 @@ far_behind (x ∷ ns) zero b le = absurd (omega arith)
 far_behind (x ∷ ns) (suc t) b le = far_behind ns t b (omega arith)
 
 -- one more node changes nothing at the tables that were there
-pub old_value : (ns : List Node) (n : Node) → AreBounded ns → (d t k : ℕ) → t < length ns → value_at (ns ++ n ∷ []) d t k ≡ value_at ns d t k
+pub old_value : (ns : List Node) (n : Node) → AreBounded ns → (d t k : ℕ) → t < length ns
+    → value_at (ns ++ n ∷ []) d t k ≡ value_at ns d t k
 unfolding value_at
 old_value ns n bounded zero t k lt = refl
-old_value ns n bounded (suc d) t k lt = ap (λ (u : ℕ). value_at (ns ++ n ∷ []) d u (k / 2)) (old_behind ns n t (nat_eq (k % 2) 1) lt) ∙ old_value ns n bounded d (behind ns t (nat_eq (k % 2) 1)) (k / 2) (bounded t (nat_eq (k % 2) 1))
+old_value ns n bounded (suc d) t k lt = ap (λ (u : ℕ). value_at (ns ++ n ∷ []) d u (k / 2))
+    (old_behind ns n t (nat_eq (k % 2) 1) lt) ∙ old_value ns n bounded d (behind ns t (nat_eq (k % 2) 1)) (k / 2)
+    (bounded t (nat_eq (k % 2) 1))
 
 order : (a b : ℕ) → (a ≤ b) ⊎ (b < a)
 order zero b = inl (omega arith)
@@ -38,16 +42,20 @@ side_within : (n : Node) (b : Bool) (m : ℕ) → n.even < m → n.odd < m → s
 side_within n true m e o = o
 side_within n false m e o = e
 
-both_sides : (b : Bool) (n : Node) (m : ℕ) → side_of b (Some n) < m → side_of (not b) (Some n) < m → (n.even < m) × (n.odd < m)
+both_sides : (b : Bool) (n : Node) (m : ℕ) → side_of b (Some n) < m → side_of (not b) (Some n) < m → (n.even < m)
+    × (n.odd < m)
 both_sides true n m h k = (k, h)
 both_sides false n m h k = (h, k)
 
 -- what follows the nodes still lies within with one more
-still_bounded : (ns : List Node) (n : Node) → AreBounded ns → n.even < length ns → n.odd < length ns → AreBounded (ns ++ n ∷ [])
+still_bounded : (ns : List Node) (n : Node) → AreBounded ns → n.even < length ns → n.odd < length ns
+    → AreBounded (ns ++ n ∷ [])
 still_bounded ns n bounded e o t b = elim (order (suc (length ns)) t) [
-  | inl far ↦ let z = far_behind (ns ++ n ∷ []) t b (omega (arith, length-append ns (n ∷ []))) in omega (arith, z, length-append ns (n ∷ []))
+  | inl far ↦ let z = far_behind (ns ++ n ∷ []) t b (omega (arith, length-append ns (n ∷ []))) in
+      omega (arith, z, length-append ns (n ∷ []))
   | inr near ↦ elim (order (length ns) t) [
-    | inl at ↦ let same : length ns ≡ t = omega arith in let z = ap (λ (u : ℕ). behind (ns ++ n ∷ []) u b) (sym same) ∙ new_behind ns n b in omega (arith, z, side_within n b (length ns) e o, length-append ns (n ∷ []))
+    | inl at ↦ let same : length ns ≡ t = omega arith in let z = ap (λ (u : ℕ). behind (ns ++ n ∷ []) u b) (sym same)
+        ∙ new_behind ns n b in omega (arith, z, side_within n b (length ns) e o, length-append ns (n ∷ []))
     | inr before ↦ omega (arith, old_behind ns n t b before, bounded t b, length-append ns (n ∷ []))
   ]
 ]
@@ -108,34 +116,42 @@ only_zero : (k : ℕ) → k < 2 ^ 0 → k ≡ 0
 only_zero k lt = omega arith
 
 -- no digits: a table is its value
-pub here : (old : List Node) (table number value : ℕ) → AreBounded old → value < length old → IsWith old old 0 table number value value
+pub here : (old : List Node) (table number value : ℕ) → AreBounded old → value < length old
+    → IsWith old old 0 table number value value
 unfolding value_at
 here old table number value bounded lt = record {
   bounded = bounded;
   within = lt;
   more = omega arith;
   kept = λ d t k h. refl;
-  has = λ k small small'. ap (λ (b : Bool). if b then value else table) (sym (eq-eqb k number (only_zero k small ∙ sym (only_zero number small'))));
+  has = λ k small small'. ap (λ (b : Bool). if b then value else table)
+      (sym (eq-eqb k number (only_zero k small ∙ sym (only_zero number small'))));
 }
 
 -- a node before a table with an entry changed
-module _ (old mid : List Node) (digits table number value changed : ℕ) (odd : Bool) (n : Node) (bounded : AreBounded old) (parity : odd ≡ nat_eq (number % 2) 1)
-    (w : IsWith old mid digits (behind old table odd) (number / 2) value changed) (same : side_of odd (Some n) ≡ changed) (other : side_of (not odd) (Some n) ≡ behind old table (not odd)) where
+module _ (old mid : List Node) (digits table number value changed : ℕ) (odd : Bool) (n : Node)
+    (bounded : AreBounded old) (parity : odd ≡ nat_eq (number % 2) 1)
+    (w : IsWith old mid digits (behind old table odd) (number / 2) value changed)
+    (same : side_of odd (Some n) ≡ changed) (other : side_of (not odd) (Some n) ≡ behind old table (not odd)) where
   entry : (k : ℕ) → k < 2 ^ suc digits → number < 2 ^ suc digits → (p : Bool) → nat_eq (k % 2) 1 ≡ p
-      → value_at (mid ++ n ∷ []) digits (side_of p (Some n)) (k / 2) ≡ (if nat_eq k number then value else value_at old digits (behind old table p) (k / 2))
+      → value_at (mid ++ n ∷ []) digits (side_of p (Some n)) (k / 2)
+      ≡ (if nat_eq k number then value else value_at old digits (behind old table p) (k / 2))
   entry k small small' p is = elim (either_side p odd) [
     | inl e ↦ ap (λ (q : Bool). value_at (mid ++ n ∷ []) digits (side_of q (Some n)) (k / 2)) e
         ∙ ap (λ (u : ℕ). value_at (mid ++ n ∷ []) digits u (k / 2)) same
         ∙ old_value mid n w.bounded digits changed (k / 2) w.within
         ∙ w.has (k / 2) (half_small k digits small) (half_small number digits small')
-        ∙ ap (λ (b : Bool). if b then value else value_at old digits (behind old table odd) (k / 2)) (eq_halves k number (same_digit k number (is ∙ e ∙ parity)))
+        ∙ ap (λ (b : Bool). if b then value else value_at old digits (behind old table odd) (k / 2))
+        (eq_halves k number (same_digit k number (is ∙ e ∙ parity)))
         ∙ ap (λ (q : Bool). if nat_eq k number then value else value_at old digits (behind old table q) (k / 2)) (sym e)
     | inr e ↦ ap (λ (q : Bool). value_at (mid ++ n ∷ []) digits (side_of q (Some n)) (k / 2)) e
         ∙ ap (λ (u : ℕ). value_at (mid ++ n ∷ []) digits u (k / 2)) other
-        ∙ old_value mid n w.bounded digits (behind old table (not odd)) (k / 2) (let b = bounded table (not odd) in omega (arith, b, w.more))
+        ∙ old_value mid n w.bounded digits (behind old table (not odd)) (k / 2) (let b = bounded table (not odd) in
+        omega (arith, b, w.more))
         ∙ w.kept digits (behind old table (not odd)) (k / 2) (bounded table (not odd))
         ∙ ap (λ (q : Bool). value_at old digits (behind old table q) (k / 2)) (sym e)
-        ∙ sym (ap (λ (b : Bool). if b then value else value_at old digits (behind old table p) (k / 2)) (apart k number odd parity (is ∙ e)))
+        ∙ sym (ap (λ (b : Bool). if b then value else value_at old digits (behind old table p) (k / 2))
+        (apart k number odd parity (is ∙ e)))
   ]
 
   pub above : IsWith old (mid ++ n ∷ []) (suc digits) table number value (length mid)
@@ -143,18 +159,24 @@ module _ (old mid : List Node) (digits table number value changed : ℕ) (odd : 
   above =
       let right : side_of odd (Some n) < length mid = subst (λ (u : ℕ). u < length mid) (sym same) w.within in
       let b : behind old table (not odd) < length old = bounded table (not odd) in
-      let left : side_of (not odd) (Some n) < length mid = subst (λ (u : ℕ). u < length mid) (sym other) (omega (arith, b, w.more)) in
+      let left : side_of (not odd) (Some n) < length mid = subst (λ (u : ℕ). u < length mid) (sym other)
+      (omega (arith, b, w.more)) in
       let s = both_sides odd n (length mid) right left in
       record {
         bounded = still_bounded mid n w.bounded s.0 s.1;
         within = omega (arith, length-append mid (n ∷ []));
         more = omega (arith, length-append mid (n ∷ []), w.more);
         kept = λ d t k h. old_value mid n w.bounded d t k (omega (arith, w.more, h)) ∙ w.kept d t k h;
-        has = λ k small small'. ap (λ (u : ℕ). value_at (mid ++ n ∷ []) digits u (k / 2)) (new_behind mid n (nat_eq (k % 2) 1)) ∙ entry k small small' (nat_eq (k % 2) 1) refl;
+        has = λ k small small'. ap (λ (u : ℕ). value_at (mid ++ n ∷ []) digits u (k / 2))
+            (new_behind mid n (nat_eq (k % 2) 1)) ∙ entry k small small' (nat_eq (k % 2) 1) refl;
       }
 
 -- a table that was added
-pub made : {E : Type 0} (r : Result ℕ E) (old mid new : List Node) (n : Node) (digits table number value : ℕ) → IsWith old (mid ++ n ∷ []) digits table number value (length mid)
-    → IfOk r (λ t. t ≡ length mid) → OnOk r (new ≡ mid ++ n ∷ []) → IfOk r (λ t. IsWith old new digits table number value t)
-made (Ok t) old mid new n digits table number value w is all = subst (λ (u : ℕ). IsWith old new digits table number value u) (sym is) (subst (λ (ns : List Node). IsWith old ns digits table number value (length mid)) (sym all) w)
+pub made : {E : Type 0} (r : Result ℕ E) (old mid new : List Node) (n : Node) (digits table number value : ℕ)
+    → IsWith old (mid ++ n ∷ []) digits table number value (length mid)
+    → IfOk r (λ t. t ≡ length mid) → OnOk r (new ≡ mid ++ n ∷ [])
+    → IfOk r (λ t. IsWith old new digits table number value t)
+made (Ok t) old mid new n digits table number value w is all =
+    subst (λ (u : ℕ). IsWith old new digits table number value u) (sym is)
+    (subst (λ (ns : List Node). IsWith old ns digits table number value (length mid)) (sym all) w)
 made (Err e) old mid new n digits table number value w is all = tt

@@ -12,7 +12,8 @@ use Rattle.pc_token.specs.Splitting.{HasLines, HasOnly}
 use Rattle.pc_token.proofs.OneSplit.{one_list}
 use Rattle.std.proofs.Common.{ℕ}
 
-all_ok : (ls : List Line) → all_read ls ≡ map {A = LogicalLine} {B = Result LogicalLine Refusal} (λ l. Ok l) (map line_of ls)
+all_ok : (ls : List Line) → all_read ls ≡ map {A = LogicalLine} {B = Result LogicalLine Refusal} (λ l. Ok l)
+    (map line_of ls)
 all_ok [] = refl
 all_ok (l ∷ ls) = ap (λ x. Ok (line_of l) ∷ x) (all_ok ls)
 
@@ -24,7 +25,11 @@ only text items h = (h, λ others g. one_list text others items g h)
 pub refused_after_lines : (text : List ℕ) (found : List Line) (s : Lines) (e : Fault)
     → ((items : List (Result LogicalLine Refusal)) → HasLeft s items → HasLines text (all_read found ++ items))
     → OnRefusal (λ r. HasLeft s (Err r ∷ [])) e
-    → OnRefusal (λ r. (before : List LogicalLine) × HasOnly text (map {A = LogicalLine} {B = Result LogicalLine Refusal} (λ l. Ok l) before ++ (Err r ∷ []))) e
-refused_after_lines text found s (fault.Refused r) goes h =
-    (map line_of found, only text (map (λ l. Ok l) (map line_of found) ++ (Err r ∷ [])) (subst (λ x. HasLines text (x ++ (Err r ∷ []))) (all_ok found) (goes (Err r ∷ []) h)))
+    → OnRefusal (λ r. (before : List LogicalLine) × HasOnly text
+    (map {A = LogicalLine} {B = Result LogicalLine Refusal} (λ l. Ok l) before ++ (Err r ∷ []))) e
+refused_after_lines text found s (fault.Refused r) goes h = (
+  map line_of found,
+  only text (map (λ l. Ok l) (map line_of found) ++ (Err r ∷ []))
+      (subst (λ x. HasLines text (x ++ (Err r ∷ []))) (all_ok found) (goes (Err r ∷ []) h)),
+)
 refused_after_lines text found s fault.OutOfMemory goes h = tt

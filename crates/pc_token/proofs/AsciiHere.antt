@@ -1,5 +1,6 @@
 -- An ASCII byte where the text may be cut is a character, and tells whether it may begin or continue a name.
-use Rattle.std.proofs.Common.{◌≡◌, ℕ, ◌+◌, ◌<◌, List, Bool, true, false, ◌||◌, ◌==◌, Option, Some, None, MatchOption, drop, get_or, length, sym, ap, ◌∙◌, refl, inl, inr, arith, chars, IsUtf8}
+use Rattle.std.proofs.Common.{◌≡◌, ℕ, ◌+◌, ◌<◌, List, Bool, true, false, ◌||◌, ◌==◌, Option, Some, None, MatchOption}
+use Rattle.std.proofs.Common.{drop, get_or, length, sym, ap, ◌∙◌, refl, inl, inr, arith, chars, IsUtf8}
 use Rattle.std.specs.Prelude.{slice_get}
 use Rattle.std.specs.Char.{is_ascii_alphabetic}
 use Rattle.std.specs.List.{prefix_len}
@@ -16,16 +17,19 @@ use Rattle.pc_token.proofs.Leads.{some_bytes}
 use Rattle.pc_token.proofs.Runs.{stops_at}
 use Rattle.pc_token.proofs.Slices.{first_from}
 
-module _ (text : List ℕ) (at : ℕ) (utf8 : IsUtf8 text) (boundary : IsCharBoundary text at) (ascii : get_or text at 0 < 128) where
+module _ (text : List ℕ) (at : ℕ) (utf8 : IsUtf8 text) (boundary : IsCharBoundary text at)
+    (ascii : get_or text at 0 < 128) where
   same_char : (c : ℕ) → slice_get (chars (drop at text)) 0 ≡ Some c → c ≡ get_or text at 0
   same_char c here =
       let (rest, is) = char_here text at utf8 boundary c here in
       let first = first_from text at in
       char_from_byte (drop at text) rest c is (omega (arith, first)) (some_bytes c (drop at text) rest is) ∙ first
 
-  name_begins : (o : Option ℕ) → slice_get (chars (drop at text)) 0 ≡ o → option_map_or begins_name o false ≡ (is_ascii_alphabetic (get_or text at 0) || get_or text at 0 == 95)
+  name_begins : (o : Option ℕ) → slice_get (chars (drop at text)) 0 ≡ o → option_map_or begins_name o false
+      ≡ (is_ascii_alphabetic (get_or text at 0) || get_or text at 0 == 95)
   name_begins None none =
-      let nothing : get_or text at 0 ≡ 0 = get_or_past text at 0 (let end = no_char_here text at utf8 boundary none in omega arith) in
+      let nothing : get_or text at 0 ≡ 0 = get_or_past text at 0 (let end = no_char_here text at utf8 boundary none in
+      omega arith) in
       rw nothing refl
   name_begins (Some c) here =
       let same = same_char c here in
@@ -36,7 +40,8 @@ module _ (text : List ℕ) (at : ℕ) (utf8 : IsUtf8 text) (boundary : IsCharBou
   pub ascii_begins : (is_ascii_alphabetic (get_or text at 0) || get_or text at 0 == 95) ≡ begins_word (drop at text)
   ascii_begins = sym (name_begins (slice_get (chars (drop at text)) 0) refl)
 
-  no_more : is_word_byte (get_or text at 0) ≡ false → (o : Option ℕ) → slice_get (chars (drop at text)) 0 ≡ o → MatchOption o (length text ≡ at) (λ c. is_xid_continue c ≡ false)
+  no_more : is_word_byte (get_or text at 0) ≡ false → (o : Option ℕ) → slice_get (chars (drop at text)) 0 ≡ o
+      → MatchOption o (length text ≡ at) (λ c. is_xid_continue c ≡ false)
   no_more other None none = no_char_here text at utf8 boundary none
   no_more other (Some c) here =
       let same = same_char c here in
@@ -44,11 +49,13 @@ module _ (text : List ℕ) (at : ℕ) (utf8 : IsUtf8 text) (boundary : IsCharBou
       is_xid_continue-ascii c low ∙ ap is_word_byte same ∙ other
 
   -- one that may not continue a name ends it
-  pub ascii_ends : is_word_byte (get_or text at 0) ≡ false → MatchOption (slice_get (chars (drop at text)) 0) (length text ≡ at) (λ c. is_xid_continue c ≡ false)
+  pub ascii_ends : is_word_byte (get_or text at 0) ≡ false → MatchOption (slice_get (chars (drop at text)) 0)
+      (length text ≡ at) (λ c. is_xid_continue c ≡ false)
   ascii_ends other = no_more other (slice_get (chars (drop at text)) 0) refl
 
 -- behind the ASCII bytes of a name stands none
-pub word_stops_at : (text : List ℕ) (start n : ℕ) → n ≡ prefix_len is_word_byte (drop start text) → is_word_byte (get_or text (start + n) 0) ≡ false
+pub word_stops_at : (text : List ℕ) (start n : ℕ) → n ≡ prefix_len is_word_byte (drop start text)
+    → is_word_byte (get_or text (start + n) 0) ≡ false
 word_stops_at text start n is =
     let stop = stops_at is_word_byte (drop start text) refl in
     let moved : drop n (drop start text) ≡ drop (start + n) text = drop-drop n start text in

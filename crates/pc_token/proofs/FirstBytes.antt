@@ -1,5 +1,6 @@
 -- The byte that a text begins with tells among which keywords and operators it is to be sought.
-use Rattle.std.proofs.Common.{◌≡◌, ℕ, ◌<◌, List, [], ◌∷◌, ◌++◌, Bool, true, ◌==◌, length, drop, get_or, refl, sym, ap, ◌∙◌, inl, inr, eq-eqb, lit<}
+use Rattle.std.proofs.Common.{◌≡◌, ℕ, ◌<◌, List, [], ◌∷◌, ◌++◌, Bool, true, ◌==◌, length, drop, get_or, refl, sym, ap}
+use Rattle.std.proofs.Common.{◌∙◌, inl, inr, eq-eqb, lit<}
 use Rattle.std.specs.Prelude.{find, nat_eq, bytes_eq, is_some}
 use Rattle.std.specs.List.{filter, list_any, starts_with}
 use Rattle.std.proofs.lemmas.Bool.{cases_Bool}
@@ -17,7 +18,8 @@ some_text o.Plus = lit< tt
 some_text _ = lit< tt
 
 -- what is found among those that may pass is what is found among all
-find_filtered : {X : Type 0} (p q : X → Bool) → ((x : X) → p x ≡ true → q x ≡ true) → (xs : List X) → find p (filter q xs) ≡ find p xs
+find_filtered : {X : Type 0} (p q : X → Bool) → ((x : X) → p x ≡ true → q x ≡ true) → (xs : List X)
+    → find p (filter q xs) ≡ find p xs
 find_filtered p q may [] = refl
 find_filtered p q may (x ∷ xs) = elim (cases_Bool (p x)) [
   | inl here ↦ rw (may x here, here)
@@ -34,21 +36,29 @@ any_found p (x ∷ xs) = elim (cases_Bool (p x)) [ inl here ↦ rw here | inr ot
 
 module _ (name : List ℕ) (b : ℕ) (first : b ≡ get_or name 0 0) where
   keyword_begins : (k : Keyword) → bytes_eq (keyword_text k) name ≡ true → (get_or (keyword_text k) 0 0 == b) ≡ true
-  keyword_begins k h = eq-eqb (get_or (keyword_text k) 0 0) b (ap (λ x. get_or x 0 0) ((bytes_eq-Decides (keyword_text k) name).0 h) ∙ sym first)
+  keyword_begins k h = eq-eqb (get_or (keyword_text k) 0 0) b (ap (λ x. get_or x 0 0)
+      ((bytes_eq-Decides (keyword_text k) name).0 h) ∙ sym first)
 
   -- a keyword is sought among those that begin as it does
-  pub keyword_sought : find (λ k. bytes_eq (keyword_text k) name) (filter (λ k. get_or (keyword_text k) 0 0 == b) keywords)
+  pub keyword_sought : find (λ k. bytes_eq (keyword_text k) name)
+      (filter (λ k. get_or (keyword_text k) 0 0 == b) keywords)
       ≡ find (λ k. bytes_eq (keyword_text k) name) keywords
-  keyword_sought = find_filtered (λ k. bytes_eq (keyword_text k) name) (λ k. get_or (keyword_text k) 0 0 == b) keyword_begins keywords
+  keyword_sought = find_filtered (λ k. bytes_eq (keyword_text k) name) (λ k. get_or (keyword_text k) 0 0 == b)
+      keyword_begins keywords
 
 module _ (bytes : List ℕ) (b : ℕ) (first : b ≡ get_or bytes 0 0) where
-  operator_begins : (o : Operator) → starts_with nat_eq bytes (operator_text o) ≡ true → (get_or (operator_text o) 0 0 == b) ≡ true
+  operator_begins : (o : Operator) → starts_with nat_eq bytes (operator_text o) ≡ true
+      → (get_or (operator_text o) 0 0 == b) ≡ true
   operator_begins o h =
-      let front : bytes ≡ operator_text o ++ drop (length (operator_text o)) bytes = (starts_is Decides-eqb bytes (operator_text o) (starts_with nat_eq bytes (operator_text o)) refl).0 h in
+      let front : bytes ≡ operator_text o ++ drop (length (operator_text o)) bytes =
+      (starts_is Decides-eqb bytes (operator_text o) (starts_with nat_eq bytes (operator_text o)) refl).0 h in
       eq-eqb (get_or (operator_text o) 0 0) b
-      (sym (get_or-append (operator_text o) (drop (length (operator_text o)) bytes) 0 0 (some_text o)) ∙ ap (λ x. get_or x 0 0) (sym front) ∙ sym first)
+      (sym (get_or-append (operator_text o) (drop (length (operator_text o)) bytes) 0 0 (some_text o))
+      ∙ ap (λ x. get_or x 0 0) (sym front) ∙ sym first)
 
   -- an operator is sought among those that begin as it does
-  pub operator_sought : find (λ o. starts_with nat_eq bytes (operator_text o)) (filter (λ o. get_or (operator_text o) 0 0 == b) operators)
+  pub operator_sought : find (λ o. starts_with nat_eq bytes (operator_text o))
+      (filter (λ o. get_or (operator_text o) 0 0 == b) operators)
       ≡ find (λ o. starts_with nat_eq bytes (operator_text o)) operators
-  operator_sought = find_filtered (λ o. starts_with nat_eq bytes (operator_text o)) (λ o. get_or (operator_text o) 0 0 == b) operator_begins operators
+  operator_sought = find_filtered (λ o. starts_with nat_eq bytes (operator_text o))
+      (λ o. get_or (operator_text o) 0 0 == b) operator_begins operators

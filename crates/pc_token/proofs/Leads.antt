@@ -1,5 +1,6 @@
 -- The byte at which a token begins tells of what sort it is.
-use Rattle.std.proofs.Common.{◌≡◌, ℕ, ◌<◌, ◌≤◌, List, [], ◌∷◌, ◌++◌, Bool, true, false, not, ◌&&◌, ◌||◌, ◌==◌, length, get_or, refl, ap, ◌∙◌, subst, inl, inr, arith, encode_utf8_all, length-append, ◌⊎◌}
+use Rattle.std.proofs.Common.{◌≡◌, ℕ, ◌<◌, ◌≤◌, List, [], ◌∷◌, ◌++◌, Bool, true, false, not, ◌&&◌, ◌||◌, ◌==◌, length}
+use Rattle.std.proofs.Common.{get_or, refl, ap, ◌∙◌, subst, inl, inr, arith, encode_utf8_all, length-append, ◌⊎◌}
 use Rattle.std.specs.Prelude.{nat_le, encode_utf8, bytes_eq}
 use Rattle.std.specs.Char.{is_ascii_alphabetic, is_ascii_digit}
 use Rattle.std.specs.List.{list_all}
@@ -28,7 +29,8 @@ is_letter b = is_ascii_alphabetic b || (b == 95 || nat_le 128 b)
 
 -- a byte that begins neither a word, a number, a string, a gap nor a line end
 abbrev pub is_sign : ℕ → Bool
-is_sign b = ((not (b == 0) && not (is_letter b)) && (not (is_ascii_digit b) && not (is_quote b))) && (not (is_blank b) && (not (b == 35) && not (is_line_byte b)))
+is_sign b = ((not (b == 0) && not (is_letter b)) && (not (is_ascii_digit b) && not (is_quote b)))
+    && (not (is_blank b) && (not (b == 35) && not (is_line_byte b)))
 
 abbrev pub leads : TokenKind → ℕ → Bool
 leads t.Name b = is_letter b
@@ -50,20 +52,23 @@ lead_number : (bytes : List ℕ) → is_number bytes ≡ true → is_ascii_digit
 lead_number bytes h = elim (cases_Bool (bytes_eq bytes (48 ∷ []))) [
   | inl zero_alone ↦ ap (λ x. is_ascii_digit (get_or x 0 0)) ((bytes_eq-Decides bytes (48 ∷ [])).0 zero_alone)
   | inr other ↦
-      let rest : ((is_ascii_digit (get_or bytes 0 0) && not (get_or bytes 0 0 == 48)) && (list_all is_number_byte bytes && underscores_fit bytes)) ≡ true =
+      let rest : ((is_ascii_digit (get_or bytes 0 0) && not (get_or bytes 0 0 == 48))
+      && (list_all is_number_byte bytes && underscores_fit bytes)) ≡ true =
       rw other at h in
       (and_parts _ _ (and_parts _ _ rest).0).0
 ]
 
 letter_below : (c : ℕ) → c < 128 → begins_name c ≡ true → is_letter c ≡ true
 letter_below c low h =
-    let same : (is_ascii_alphabetic c || (c == 95)) ≡ true = rw (is_xid_start-ascii c low) at h in grind (arith, nat_tests)
+    let same : (is_ascii_alphabetic c || (c == 95)) ≡ true = rw (is_xid_start-ascii c low) at h in
+    grind (arith, nat_tests)
 
 letter_above : (b : ℕ) → 128 ≤ b → is_letter b ≡ true
 letter_above b h = grind (arith, nat_tests)
 
 -- a text whose first character may begin a name begins with a letter
-pub first_letter : (c : ℕ) (bs rest : List ℕ) → bs ≡ encode_utf8 c ++ rest → 0 < length bs → begins_name c ≡ true → is_letter (get_or bs 0 0) ≡ true
+pub first_letter : (c : ℕ) (bs rest : List ℕ) → bs ≡ encode_utf8 c ++ rest → 0 < length bs → begins_name c ≡ true
+    → is_letter (get_or bs 0 0) ≡ true
 first_letter c bs rest e some begins = elim (cases_lt c 128) [
   | inl low ↦ rw (byte_from_char bs rest c e low) (letter_below c low begins)
   | inr high ↦ elim (cases_lt (get_or bs 0 0) 128) [
@@ -78,7 +83,8 @@ some_bytes c bs rest e =
     rw e (rw length-append (omega (arith, length-encode c)))
 
 pub lead_name : (bytes : List ℕ) → IsName bytes → is_letter (get_or bytes 0 0) ≡ true
-lead_name bytes (c, cs, begins, goes, is) = first_letter c bytes (encode_utf8_all cs) is (some_bytes c bytes (encode_utf8_all cs) is) begins
+lead_name bytes (c, cs, begins, goes, is) = first_letter c bytes (encode_utf8_all cs) is
+    (some_bytes c bytes (encode_utf8_all cs) is) begins
 
 lead_string : (bytes : List ℕ) → IsString bytes → is_quote (get_or bytes 0 0) ≡ true
 lead_string bytes (q, body, quote, h, is) = ap (λ x. is_quote (get_or x 0 0)) is ∙ quote
@@ -115,7 +121,8 @@ sign_no_quote b h g = grind (arith, nat_tests)
 
 module _ (bytes : List ℕ) where
   -- what begins with a digit is a number
-  pub digit_token : (kind : TokenKind) → is_ascii_digit (get_or bytes 0 0) ≡ true → IsToken kind bytes → is_number bytes ≡ true
+  pub digit_token : (kind : TokenKind) → is_ascii_digit (get_or bytes 0 0) ≡ true → IsToken kind bytes
+      → is_number bytes ≡ true
   digit_token t.Name d h = absurd (digit_no_letter (get_or bytes 0 0) d (lead_of t.Name bytes h))
   digit_token t.Int d h = h
   digit_token t.Str d h = absurd (digit_no_quote (get_or bytes 0 0) d (lead_of t.Str bytes h))
@@ -139,7 +146,8 @@ module _ (bytes : List ℕ) where
   quote_token t.End d h = absurd h
 
   -- what begins with another sign is an operator
-  pub sign_token : (kind : TokenKind) → is_sign (get_or bytes 0 0) ≡ true → IsToken kind bytes → (o : Operator) × (operator_text o ≡ bytes)
+  pub sign_token : (kind : TokenKind) → is_sign (get_or bytes 0 0) ≡ true → IsToken kind bytes → (o : Operator)
+      × (operator_text o ≡ bytes)
   sign_token t.Name d h = absurd (sign_no_letter (get_or bytes 0 0) d (lead_of t.Name bytes h))
   sign_token t.Int d h = absurd (sign_no_digit (get_or bytes 0 0) d (lead_of t.Int bytes h))
   sign_token t.Str d h = absurd (sign_no_quote (get_or bytes 0 0) d (lead_of t.Str bytes h))
@@ -151,7 +159,8 @@ module _ (bytes : List ℕ) where
   sign_token t.End d h = absurd h
 
   -- what begins with a letter is a name or a keyword
-  pub letter_token : (kind : TokenKind) → is_letter (get_or bytes 0 0) ≡ true → IsToken kind bytes → IsName bytes ⊎ ((k : Keyword) × (keyword_text k ≡ bytes))
+  pub letter_token : (kind : TokenKind) → is_letter (get_or bytes 0 0) ≡ true → IsToken kind bytes → IsName bytes
+      ⊎ ((k : Keyword) × (keyword_text k ≡ bytes))
   letter_token t.Name d h = inl h.0
   letter_token t.Int d h = absurd (digit_no_letter (get_or bytes 0 0) (lead_of t.Int bytes h) d)
   letter_token t.Str d h = absurd (quote_no_letter (get_or bytes 0 0) (lead_of t.Str bytes h) d)

@@ -1,5 +1,6 @@
 -- The first operator of the list that the text begins with is the longest.
-use Rattle.std.proofs.Common.{◌≡◌, ℕ, suc, zero, ◌+◌, ◌<◌, ◌≤◌, List, [], ◌∷◌, ◌++◌, Bool, true, ◌&&◌, Some, None, length, drop, get_or, refl, sym, ap, ◌∙◌, inl, inr, arith, length-append, append_assoc}
+use Rattle.std.proofs.Common.{◌≡◌, ℕ, suc, zero, ◌+◌, ◌<◌, ◌≤◌, List, [], ◌∷◌, ◌++◌, Bool, true, ◌&&◌, Some, None}
+use Rattle.std.proofs.Common.{length, drop, get_or, refl, sym, ap, ◌∙◌, inl, inr, arith, length-append, append_assoc}
 use Rattle.std.specs.Prelude.{nat_eq, nat_le, find, slice_get}
 use Rattle.std.specs.List.{list_all, starts_with}
 use Rattle.std.proofs.Common.{lit<}
@@ -25,13 +26,18 @@ descending (x ∷ xs) = list_all (λ y. nat_le (size y) (size x)) xs && descendi
 at_most : (a b : ℕ) → nat_le a b ≡ true → a ≤ b
 at_most a b h = grind (arith, nat_tests)
 
-shorter : (x y : Operator) (xs : List Operator) (i : ℕ) → list_all (λ z. nat_le (size z) (size x)) xs ≡ true → slice_get xs i ≡ Some y → size y ≤ size x
+shorter : (x y : Operator) (xs : List Operator) (i : ℕ) → list_all (λ z. nat_le (size z) (size x)) xs ≡ true
+    → slice_get xs i ≡ Some y → size y ≤ size x
 shorter x y [] i all e = let no : ⊥ = cc in absurd no
-shorter x y (z ∷ zs) zero all e = let same : z ≡ y = cc in let low = (and_parts (nat_le (size z) (size x)) (list_all (λ w. nat_le (size w) (size x)) zs) all).0 in rw (← same) (at_most (size z) (size x) low)
-shorter x y (z ∷ zs) (suc i) all e = shorter x y zs i (and_parts (nat_le (size z) (size x)) (list_all (λ w. nat_le (size w) (size x)) zs) all).1 e
+shorter x y (z ∷ zs) zero all e = let same : z ≡ y = cc in let low =
+    (and_parts (nat_le (size z) (size x)) (list_all (λ w. nat_le (size w) (size x)) zs) all).0 in
+    rw (← same) (at_most (size z) (size x) low)
+shorter x y (z ∷ zs) (suc i) all e = shorter x y zs i (and_parts (nat_le (size z) (size x))
+    (list_all (λ w. nat_le (size w) (size x)) zs) all).1 e
 
 module _ (p : Operator → Bool) where
-  longest_found : (xs : List Operator) (x y : Operator) (i : ℕ) → descending xs ≡ true → find p xs ≡ Some x → slice_get xs i ≡ Some y → p y ≡ true → size y ≤ size x
+  longest_found : (xs : List Operator) (x y : Operator) (i : ℕ) → descending xs ≡ true → find p xs ≡ Some x
+      → slice_get xs i ≡ Some y → p y ≡ true → size y ≤ size x
   longest_found [] x y i d f e h = let no : ⊥ = cc in absurd no
   longest_found (z ∷ zs) x y zero d f e h =
       let same : z ≡ y = cc in
@@ -40,8 +46,10 @@ module _ (p : Operator → Bool) where
       let result : z ≡ x = cc in
       let both : size y ≡ size x = ap size (sym same ∙ result) in omega arith
   longest_found (z ∷ zs) x y (suc i) d f e h = elim (cases_Bool (p z)) [
-    | inl here ↦ let found = rw here at f in let result : z ≡ x = cc in rw (← result) (shorter z y zs i (and_parts (list_all (λ w. nat_le (size w) (size z)) zs) (descending zs) d).0 e)
-    | inr other ↦ longest_found zs x y i (and_parts (list_all (λ w. nat_le (size w) (size z)) zs) (descending zs) d).1 (rw other at f) e h
+    | inl here ↦ let found = rw here at f in let result : z ≡ x = cc in
+        rw (← result) (shorter z y zs i (and_parts (list_all (λ w. nat_le (size w) (size z)) zs) (descending zs) d).0 e)
+    | inr other ↦ longest_found zs x y i (and_parts (list_all (λ w. nat_le (size w) (size z)) zs) (descending zs) d).1
+        (rw other at f) e h
   ]
 
 -- where each operator stands in the list
@@ -101,18 +109,24 @@ some_text : (x : Operator) → 0 < size x
 some_text o.Plus = lit< tt
 some_text _ = lit< tt
 
-begins : (bytes : List ℕ) (x : Operator) → starts_with nat_eq bytes (operator_text x) ≡ true → bytes ≡ operator_text x ++ drop (size x) bytes
+begins : (bytes : List ℕ) (x : Operator) → starts_with nat_eq bytes (operator_text x) ≡ true
+    → bytes ≡ operator_text x ++ drop (size x) bytes
 begins bytes x h = (starts_is Decides-eqb bytes (operator_text x) (starts_with nat_eq bytes (operator_text x)) refl).0 h
 
-begun : (bytes rest : List ℕ) (x : Operator) → bytes ≡ operator_text x ++ rest → starts_with nat_eq bytes (operator_text x) ≡ true
-begun bytes rest x e = (starts_is Decides-eqb bytes (operator_text x) (starts_with nat_eq bytes (operator_text x)) refl).1 rest e
+begun : (bytes rest : List ℕ) (x : Operator) → bytes ≡ operator_text x ++ rest
+    → starts_with nat_eq bytes (operator_text x) ≡ true
+begun bytes rest x e = (starts_is Decides-eqb bytes (operator_text x) (starts_with nat_eq bytes (operator_text x))
+    refl).1 rest e
 
 -- the operator that is found, and what follows it
-pub operator_begins : (bytes : List ℕ) (x : Operator) → find (λ y. starts_with nat_eq bytes (operator_text y)) operators ≡ Some x → bytes ≡ operator_text x ++ drop (size x) bytes
-operator_begins bytes x f = begins bytes x (found_passes (λ y. starts_with nat_eq bytes (operator_text y)) operators x f)
+pub operator_begins : (bytes : List ℕ) (x : Operator) → find (λ y. starts_with nat_eq bytes (operator_text y)) operators
+    ≡ Some x → bytes ≡ operator_text x ++ drop (size x) bytes
+operator_begins bytes x f = begins bytes x (found_passes (λ y. starts_with nat_eq bytes (operator_text y)) operators x
+    f)
 
 -- where none is found no operator begins
-pub no_operator : (bytes rest : List ℕ) (x : Operator) → find (λ y. starts_with nat_eq bytes (operator_text y)) operators ≡ None → bytes ≡ operator_text x ++ rest → ⊥
+pub no_operator : (bytes rest : List ℕ) (x : Operator) → find (λ y. starts_with nat_eq bytes (operator_text y))
+    operators ≡ None → bytes ≡ operator_text x ++ rest → ⊥
 no_operator bytes rest x f e =
     let (i, here) = place x in
     let none = none_passes (λ y. starts_with nat_eq bytes (operator_text y)) operators x i f here in
@@ -123,7 +137,8 @@ no_more [] h = refl
 no_more (x ∷ xs) h = absurd (omega arith)
 
 -- no longer token begins
-pub operator_longest : (bytes : List ℕ) (x : Operator) → find (λ y. starts_with nat_eq bytes (operator_text y)) operators ≡ Some x
+pub operator_longest : (bytes : List ℕ) (x : Operator) → find (λ y. starts_with nat_eq bytes (operator_text y))
+    operators ≡ Some x
     → IsLongest (t.Operator x) (operator_text x) (drop (size x) bytes)
 operator_longest bytes x f = record {
   token = refl;
@@ -134,7 +149,8 @@ operator_longest bytes x f = record {
       let (i, here) = place y in
       let whole : bytes ≡ operator_text y ++ after =
       operator_begins bytes x f ∙ ap (λ z. operator_text x ++ z) e ∙ (rw (is, append_assoc)) in
-      let low = longest_found (λ z. starts_with nat_eq bytes (operator_text z)) operators x y i descends f here (begun bytes after y whole) in
+      let low = longest_found (λ z. starts_with nat_eq bytes (operator_text z)) operators x y i descends f here
+      (begun bytes after y whole) in
       let sum : size y ≡ size x + length more = ap length is ∙ length-append (operator_text x) more in
       no_more more (omega arith);
 }

@@ -1,5 +1,6 @@
 -- At most one refusal stands at a place.
-use Rattle.std.proofs.Common.{◌≡◌, ℕ, zero, suc, ◌<◌, List, [], ◌∷◌, ◌++◌, true, false, ◌==◌, ◌⊎◌, length, take, get_or, refl, sym, ap, ◌∙◌, subst, inl, inr, arith, length-append, if◌then◌else◌}
+use Rattle.std.proofs.Common.{◌≡◌, ℕ, zero, suc, ◌<◌, List, [], ◌∷◌, ◌++◌, true, false, ◌==◌, ◌⊎◌, length, take, get_or}
+use Rattle.std.proofs.Common.{refl, sym, ap, ◌∙◌, subst, inl, inr, arith, length-append, if◌then◌else◌}
 use Rattle.std.specs.Char.{is_ascii_digit}
 use Rattle.std.specs.List.{prefix_len, list_all}
 use Rattle.std.proofs.lemmas.Bool.{and_parts, cases_Bool}
@@ -22,7 +23,9 @@ use Rattle.pc_token.specs.Numbers.{is_number, is_bad_number, is_bad_point}
 use Rattle.pc_token.specs.Operators.{operator_text, role_of}
 use Rattle.pc_token.proofs.Lists.{list_all-at}
 use Rattle.pc_token.proofs.OnePiece.{first_of}
-use Rattle.pc_token.proofs.Starts.{Start, Blank, Hash, Feed, Quoted, Numeric, Wordy, Signed, start_of, feed_start, quote_start, digit_start, letter_start, kind_start, operator_start, role_by_byte, role_is, some_token}
+use Rattle.pc_token.proofs.Starts.{Start, Blank, Hash, Feed, Quoted, Numeric, Wordy, Signed, start_of, feed_start}
+use Rattle.pc_token.proofs.Starts.{quote_start, digit_start, letter_start, kind_start, operator_start, role_by_byte}
+use Rattle.pc_token.proofs.Starts.{role_is, some_token}
 
 pub number_same : (a b : ℕ) → (a == b) ≡ true → a ≡ b
 number_same a b h = grind (arith, nat_tests)
@@ -46,12 +49,14 @@ abbrev pub code_at : List ℕ → RefusalCode
 code_at [] = L5
 code_at (b ∷ bs) = code_by_start (start_of b) (b ∷ bs)
 
-at_start : (text : List ℕ) (st : Start) → (length text ≡ 0 → ⊥) → start_of (get_or text 0 0) ≡ st → code_at text ≡ code_by_start st text
+at_start : (text : List ℕ) (st : Start) → (length text ≡ 0 → ⊥) → start_of (get_or text 0 0) ≡ st
+    → code_at text ≡ code_by_start st text
 at_start [] st some e = absurd (some refl)
 at_start (b ∷ bs) st some e = ap (λ x. code_by_start x (b ∷ bs)) e
 
 pub point_first : (text : List ℕ) → is_bad_point text ≡ true → get_or text 0 0 ≡ 46
-point_first text h = number_same (get_or text 0 0) 46 (and_parts (get_or text 0 0 == 46) (is_ascii_digit (get_or text 1 0)) h).0
+point_first text h = number_same (get_or text 0 0) 46 (and_parts (get_or text 0 0 == 46)
+    (is_ascii_digit (get_or text 1 0)) h).0
 
 some_by : (text : List ℕ) (b : ℕ) → get_or text 0 0 ≡ b → 0 < b → length text ≡ 0 → ⊥
 some_by [] b e h z = omega arith
@@ -74,16 +79,22 @@ tab_start c [] k h = let within = h.within in absurd (omega arith)
 tab_start c (b ∷ bs) zero h = ap start_of h.tab
 tab_start c (b ∷ bs) (suc k) h = space_blank b (and_parts (b == 32) (list_all (λ x. x == 32) (take k bs)) h.spaces).0
 
-pub operator_there : (text : List ℕ) (x : Operator) (rest : List ℕ) → text ≡ operator_text x ++ rest → (length text ≡ 0 → ⊥) × (get_or text 0 0 ≡ get_or (operator_text x) 0 0)
+pub operator_there : (text : List ℕ) (x : Operator) (rest : List ℕ) → text ≡ operator_text x ++ rest
+    → (length text ≡ 0 → ⊥) × (get_or text 0 0 ≡ get_or (operator_text x) 0 0)
 operator_there text x rest e =
-    let some = some_token (t.Operator x) (operator_text x) refl in
-    (λ none. some (omega (arith, ap length e, length-append (operator_text x) rest)), ap (λ y. get_or y 0 0) e ∙ first_of (operator_text x) rest some)
+    let some = some_token (t.Operator x) (operator_text x) refl in (
+      λ none. some (omega (arith, ap length e, length-append (operator_text x) rest)),
+      ap (λ y. get_or y 0 0) e
+          ∙ first_of (operator_text x) rest some,
+    )
 
 -- the role of the operator that stands there
-pub role_there : (text : List ℕ) (x : Operator) (rest : List ℕ) → text ≡ operator_text x ++ rest → role_by_byte (get_or text 0 0) ≡ role_of x
+pub role_there : (text : List ℕ) (x : Operator) (rest : List ℕ) → text ≡ operator_text x ++ rest
+    → role_by_byte (get_or text 0 0) ≡ role_of x
 role_there text x rest e = ap role_by_byte (operator_there text x rest e).1 ∙ sym (role_is x)
 
-signed_at : (text : List ℕ) (x : Operator) (rest : List ℕ) (role : Role) → text ≡ operator_text x ++ rest → role_of x ≡ role → code_at text ≡ code_by_role role
+signed_at : (text : List ℕ) (x : Operator) (rest : List ℕ) (role : Role) → text ≡ operator_text x ++ rest
+    → role_of x ≡ role → code_at text ≡ code_by_role role
 signed_at text x rest role e is =
     let (some, first) = operator_there text x rest e in
     at_start text Signed some (ap start_of first ∙ operator_start x) ∙ ap code_by_role (role_there text x rest e ∙ is)
@@ -118,7 +129,8 @@ digit_token_here (b ∷ bs) h s = s.no_token t.Int (b ∷ []) bs refl (one_digit
 
 point_token : (bs : List ℕ) → is_bad_point bs ≡ true → IsStray bs → ⊥
 point_token [] h s = cc
-point_token (b ∷ bs) h s = s.no_token (t.Operator o.Dot) (b ∷ []) bs refl (ap (λ x. x ∷ []) (sym (point_first (b ∷ bs) h)))
+point_token (b ∷ bs) h s = s.no_token (t.Operator o.Dot) (b ∷ []) bs refl
+    (ap (λ x. x ∷ []) (sym (point_first (b ∷ bs) h)))
 
 ended : (bs : List ℕ) → length bs ≡ 0 → L5 ≡ code_at bs
 ended [] z = refl
@@ -126,13 +138,16 @@ ended (b ∷ bs) z = absurd (omega arith)
 
 module _ (c : LexicalContext) (text : List ℕ) where
   code_2 : (k : ℕ) → IsFault c text L2 k → L2 ≡ code_at text
-  code_2 k h = let start = quote_start (get_or text 0 0) h.1.0 in sym (at_start text Quoted (quote_some text start) start)
+  code_2 k h = let start = quote_start (get_or text 0 0) h.1.0 in
+      sym (at_start text Quoted (quote_some text start) start)
 
   code_3 : IsBadDigits text → L3 ≡ code_at text
-  code_3 (inl (digit, bad)) = let start = digit_start (get_or text 0 0) digit in sym (at_start text Numeric (digit_some text start) start ∙ rw bad)
+  code_3 (inl (digit, bad)) = let start = digit_start (get_or text 0 0) digit in
+      sym (at_start text Numeric (digit_some text start) start ∙ rw bad)
   code_3 (inr point) =
       let first = point_first text point in
-      sym (at_start text Signed (some_by text 46 first (omega arith)) (ap start_of first) ∙ ap (λ b. code_by_role (role_by_byte b)) first)
+      sym (at_start text Signed (some_by text 46 first (omega arith)) (ap start_of first)
+      ∙ ap (λ b. code_by_role (role_by_byte b)) first)
 
   code_4 : (k : ℕ) → IsFault c text L4 k → L4 ≡ code_at text
   code_4 k (_, (bytes, rest, e, longest, bad)) =
@@ -153,7 +168,8 @@ module _ (c : LexicalContext) (text : List ℕ) where
   code_7 k h = sym (at_start text Blank (λ z. let within = h.within in omega arith) (tab_start c text k h))
 
   code_8 : (k : ℕ) → IsFault c text L8 k → L8 ≡ code_at text
-  code_8 k (_, (digit, good, many)) = let start = digit_start (get_or text 0 0) digit in sym (at_start text Numeric (digit_some text start) start ∙ rw good)
+  code_8 k (_, (digit, good, many)) = let start = digit_start (get_or text 0 0) digit in
+      sym (at_start text Numeric (digit_some text start) start ∙ rw good)
 
   -- a refusal but a stray character has this code
   code_is : (code : RefusalCode) (k : ℕ) → IsFault c text code k → (code ≡ L1) ⊎ (code ≡ code_at text)
@@ -198,7 +214,8 @@ module _ (c : LexicalContext) (text : List ℕ) where
   stray_alone L3 k s (_, inr point) = absurd (point_token text point s)
   stray_alone L4 k s (_, (bytes, rest, e, longest, bad)) = absurd (s.no_token t.Name bytes rest e longest.token)
   stray_alone L5 k s (_, inl (none, some)) = absurd (s.some none)
-  stray_alone L5 k s (_, inr (x, opener, rest, e, is, other)) = absurd (s.no_token (t.Operator x) (operator_text x) rest e refl)
+  stray_alone L5 k s (_, inr (x, opener, rest, e, is, other)) =
+      absurd (s.no_token (t.Operator x) (operator_text x) rest e refl)
   stray_alone L6 k s (_, (x, rest, e, is, full)) = absurd (s.no_token (t.Operator x) (operator_text x) rest e refl)
   stray_alone L7 k s h = absurd (stray_tab c text k s h)
   stray_alone L8 k s (_, (digit, good, many)) = absurd (digit_token_here text digit s)

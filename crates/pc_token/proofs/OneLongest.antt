@@ -13,7 +13,8 @@ use Rattle.pc_token.specs.Spelling.{IsToken, IsLongest}
 use Rattle.pc_token.proofs.Starts.{start_of_kind, kind_start}
 
 -- of two fronts one goes on after the other
-pub fronts : (a b r s : List ℕ) → a ++ r ≡ b ++ s → ((more : List ℕ) × (b ≡ a ++ more) × (r ≡ more ++ s)) ⊎ ((more : List ℕ) × (a ≡ b ++ more) × (s ≡ more ++ r))
+pub fronts : (a b r s : List ℕ) → a ++ r ≡ b ++ s → ((more : List ℕ) × (b ≡ a ++ more) × (r ≡ more ++ s))
+    ⊎ ((more : List ℕ) × (a ≡ b ++ more) × (s ≡ more ++ r))
 fronts [] b r s e = inl (b, refl, e)
 fronts (x ∷ a) [] r s e = inr (x ∷ a, refl, sym e)
 fronts (x ∷ a) (y ∷ b) r s e =
@@ -34,11 +35,13 @@ found_operator _ = refl
 
 same_keyword : (k l : Keyword) → keyword_text k ≡ keyword_text l → k ≡ l
 same_keyword k l e =
-    let found : Some k ≡ Some l = sym (found_keyword k) ∙ ap (λ y. find (λ x. bytes_eq (keyword_text x) y) keywords) e ∙ found_keyword l in cc
+    let found : Some k ≡ Some l = sym (found_keyword k) ∙ ap (λ y. find (λ x. bytes_eq (keyword_text x) y) keywords) e
+    ∙ found_keyword l in cc
 
 same_operator : (x y : Operator) → operator_text x ≡ operator_text y → x ≡ y
 same_operator x y e =
-    let found : Some x ≡ Some y = sym (found_operator x) ∙ ap (λ z. find (λ w. bytes_eq (operator_text w) z) operators) e ∙ found_operator y in cc
+    let found : Some x ≡ Some y = sym (found_operator x) ∙ ap (λ z. find (λ w. bytes_eq (operator_text w) z) operators)
+    e ∙ found_operator y in cc
 
 -- bytes spell a token of at most one kind
 pub one_kind : (a b : TokenKind) (bytes : List ℕ) → IsToken a bytes → IsToken b bytes → a ≡ b
@@ -72,7 +75,8 @@ one_front a b x y r s e h g = elim (fronts x y r s e) [
 ]
 
 -- two longest tokens at one place are one
-pub one_longest : (a b : TokenKind) (x y r s : List ℕ) → x ++ r ≡ y ++ s → IsLongest a x r → IsLongest b y s → (a ≡ b) × (x ≡ y)
+pub one_longest : (a b : TokenKind) (x y r s : List ℕ) → x ++ r ≡ y ++ s → IsLongest a x r → IsLongest b y s → (a ≡ b)
+    × (x ≡ y)
 one_longest a b x y r s e h g =
     let same = one_front a b x y r s e h g in
     (one_kind a b y (subst (λ z. IsToken a z) same h.token) g.token, same)

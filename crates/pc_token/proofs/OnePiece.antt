@@ -1,5 +1,6 @@
 -- At most one piece may stand at a place.
-use Rattle.std.proofs.Common.{◌≡◌, ℕ, List, [], ◌∷◌, ◌++◌, Bool, true, false, not, ◌⊎◌, length, take, get_or, refl, sym, ap, ◌∙◌, inl, inr, arith}
+use Rattle.std.proofs.Common.{◌≡◌, ℕ, List, [], ◌∷◌, ◌++◌, Bool, true, false, not, ◌⊎◌, length, take, get_or, refl, sym}
+use Rattle.std.proofs.Common.{ap, ◌∙◌, inl, inr, arith}
 use Rattle.std.specs.List.{prefix_len, list_all}
 use Rattle.std.proofs.lemmas.Bool.{and_parts}
 use Rattle.std.proofs.Math.Seq.{take-append_seam}
@@ -9,10 +10,12 @@ use Rattle.pc_token.specs.Context.{LexicalContext}
 use Rattle.pc_token.specs.Gaps.{is_blank, is_line_byte, IsBlanks, IsLineEnd}
 use Rattle.pc_token.specs.Splitting.{Sort, Blanks, Comment, LineEnd, Lexical, FitsBySort}
 use Rattle.pc_token.proofs.OneLongest.{one_longest}
-use Rattle.pc_token.proofs.Starts.{Start, Blank, Hash, Feed, start_of, start_of_kind, blank_start, hash_start, feed_start, kind_start, some_token}
+use Rattle.pc_token.proofs.Starts.{Start, Blank, Hash, Feed, start_of, start_of_kind, blank_start, hash_start}
+use Rattle.pc_token.proofs.Starts.{feed_start, kind_start, some_token}
 
 -- a run is all that passes at the front
-pub run_is : (p : ℕ → Bool) (run rest : List ℕ) → list_all p run ≡ true → (length rest ≡ 0) ⊎ (p (get_or rest 0 0) ≡ false) → prefix_len p (run ++ rest) ≡ length run
+pub run_is : (p : ℕ → Bool) (run rest : List ℕ) → list_all p run ≡ true → (length rest ≡ 0)
+    ⊎ (p (get_or rest 0 0) ≡ false) → prefix_len p (run ++ rest) ≡ length run
 run_is p [] [] all stop = refl
 run_is p [] (c ∷ rest) all (inl none) = absurd (omega arith)
 run_is p [] (c ∷ rest) all (inr stop) = rw stop
@@ -30,7 +33,8 @@ one_run p x y r s e all all' stop stop' =
 line_byte_stops : (b : ℕ) → is_line_byte b ≡ true → not (is_line_byte b) ≡ false
 line_byte_stops b h = rw h
 
-comment_stops : (rest : List ℕ) → (length rest ≡ 0) ⊎ (is_line_byte (get_or rest 0 0) ≡ true) → (length rest ≡ 0) ⊎ (not (is_line_byte (get_or rest 0 0)) ≡ false)
+comment_stops : (rest : List ℕ) → (length rest ≡ 0) ⊎ (is_line_byte (get_or rest 0 0) ≡ true) → (length rest ≡ 0)
+    ⊎ (not (is_line_byte (get_or rest 0 0)) ≡ false)
 comment_stops rest (inl none) = inl none
 comment_stops rest (inr stop) = inr (line_byte_stops (get_or rest 0 0) stop)
 
@@ -49,14 +53,16 @@ start_of_sort Comment = Hash
 start_of_sort LineEnd = Feed
 start_of_sort (Lexical kind) = start_of_kind kind
 
-pub piece_start : (c : LexicalContext) (sort : Sort) (bytes rest : List ℕ) → FitsBySort c sort bytes rest → start_of (get_or bytes 0 0) ≡ start_of_sort sort
+pub piece_start : (c : LexicalContext) (sort : Sort) (bytes rest : List ℕ) → FitsBySort c sort bytes rest
+    → start_of (get_or bytes 0 0) ≡ start_of_sort sort
 piece_start c Blanks bytes rest h = blank_start (get_or bytes 0 0) (first_blank bytes rest h.0)
 piece_start c Comment bytes rest h = hash_start (get_or bytes 0 0) h.hash
 piece_start c LineEnd bytes rest h = feed_start (get_or bytes 0 0) (first_feed bytes h)
 piece_start c (Lexical kind) bytes rest h = kind_start kind bytes h.0.token
 
 -- a piece has a byte
-pub some_piece : (c : LexicalContext) (sort : Sort) (bytes rest : List ℕ) → FitsBySort c sort bytes rest → length bytes ≡ 0 → ⊥
+pub some_piece : (c : LexicalContext) (sort : Sort) (bytes rest : List ℕ) → FitsBySort c sort bytes rest
+    → length bytes ≡ 0 → ⊥
 some_piece c Blanks bytes rest h e = h.0.some e
 some_piece c Comment [] rest h e = let hash = h.hash in cc
 some_piece c Comment (b ∷ bs) rest h e = omega arith
@@ -69,14 +75,18 @@ first_of [] rest some = absurd (some refl)
 first_of (b ∷ bs) rest some = refl
 
 -- so what stands there begins
-pub text_start : (c : LexicalContext) (sort : Sort) (bytes rest : List ℕ) → FitsBySort c sort bytes rest → start_of (get_or (bytes ++ rest) 0 0) ≡ start_of_sort sort
-text_start c sort bytes rest h = ap start_of (first_of bytes rest (some_piece c sort bytes rest h)) ∙ piece_start c sort bytes rest h
+pub text_start : (c : LexicalContext) (sort : Sort) (bytes rest : List ℕ) → FitsBySort c sort bytes rest
+    → start_of (get_or (bytes ++ rest) 0 0) ≡ start_of_sort sort
+text_start c sort bytes rest h = ap start_of (first_of bytes rest (some_piece c sort bytes rest h))
+    ∙ piece_start c sort bytes rest h
 
 one_line_end : (x y r s : List ℕ) → x ++ r ≡ y ++ s → IsLineEnd x → IsLineEnd y → x ≡ y
 one_line_end x y r s e (inl h) (inl g) = h ∙ sym g
 one_line_end x y r s e (inr h) (inr g) = h ∙ sym g
-one_line_end x y r s e (inl h) (inr g) = let first : 10 ∷ r ≡ 13 ∷ 10 ∷ s = ap (λ z. z ++ r) (sym h) ∙ e ∙ ap (λ z. z ++ s) g in let no : ◌≡◌ {A = ℕ} 10 13 = ap (λ z. get_or z 0 0) first in absurd (omega (arith, no))
-one_line_end x y r s e (inr h) (inl g) = let first : 13 ∷ 10 ∷ r ≡ 10 ∷ s = ap (λ z. z ++ r) (sym h) ∙ e ∙ ap (λ z. z ++ s) g in let no : ◌≡◌ {A = ℕ} 13 10 = ap (λ z. get_or z 0 0) first in absurd (omega (arith, no))
+one_line_end x y r s e (inl h) (inr g) = let first : 10 ∷ r ≡ 13 ∷ 10 ∷ s = ap (λ z. z ++ r) (sym h) ∙ e
+    ∙ ap (λ z. z ++ s) g in let no : ◌≡◌ {A = ℕ} 10 13 = ap (λ z. get_or z 0 0) first in absurd (omega (arith, no))
+one_line_end x y r s e (inr h) (inl g) = let first : 13 ∷ 10 ∷ r ≡ 10 ∷ s = ap (λ z. z ++ r) (sym h) ∙ e
+    ∙ ap (λ z. z ++ s) g in let no : ◌≡◌ {A = ℕ} 13 10 = ap (λ z. get_or z 0 0) first in absurd (omega (arith, no))
 
 kind_blank : (kind : TokenKind) → start_of_kind kind ≡ Blank → ⊥
 kind_blank t.Name e = cc
@@ -111,7 +121,8 @@ kind_feed t.Indent e = cc
 kind_feed t.Dedent e = cc
 kind_feed t.End e = cc
 
-pub kind_no_gap : (kind : TokenKind) → (start_of_kind kind ≡ Blank → ⊥) × (start_of_kind kind ≡ Hash → ⊥) × (start_of_kind kind ≡ Feed → ⊥)
+pub kind_no_gap : (kind : TokenKind) → (start_of_kind kind ≡ Blank → ⊥) × (start_of_kind kind ≡ Hash → ⊥)
+    × (start_of_kind kind ≡ Feed → ⊥)
 kind_no_gap kind = (kind_blank kind, kind_hash kind, kind_feed kind)
 
 module _ (c : LexicalContext) (x y r s : List ℕ) (e : x ++ r ≡ y ++ s) where
@@ -121,9 +132,14 @@ module _ (c : LexicalContext) (x y r s : List ℕ) (e : x ++ r ≡ y ++ s) where
   -- two pieces at one place are one
   pub one_piece : (a b : Sort) → FitsBySort c a x r → FitsBySort c b y s → (a ≡ b) × (x ≡ y)
   one_piece Blanks Blanks h g = (refl, one_run is_blank x y r s e h.0.blank g.0.blank (inr h.0.all) (inr g.0.all))
-  one_piece Comment Comment h g = (refl, one_run (λ b. not (is_line_byte b)) x y r s e h.inside g.inside (comment_stops r h.all) (comment_stops s g.all))
+  one_piece Comment Comment h g = (
+    refl,
+    one_run (λ b. not (is_line_byte b)) x y r s e h.inside g.inside
+        (comment_stops r h.all) (comment_stops s g.all),
+  )
   one_piece LineEnd LineEnd h g = (refl, one_line_end x y r s e h g)
-  one_piece (Lexical k) (Lexical l) h g = let (same, bytes) = one_longest k l x y r s e h.0 g.0 in (ap (λ z. Lexical z) same, bytes)
+  one_piece (Lexical k) (Lexical l) h g = let (same, bytes) = one_longest k l x y r s e h.0 g.0 in
+      (ap (λ z. Lexical z) same, bytes)
   one_piece Blanks Comment h g = let same = starts Blanks Comment h g in let no : ⊥ = cc in absurd no
   one_piece Blanks LineEnd h g = let same = starts Blanks LineEnd h g in let no : ⊥ = cc in absurd no
   one_piece Comment Blanks h g = let same = starts Comment Blanks h g in let no : ⊥ = cc in absurd no

@@ -8,7 +8,8 @@ use Rattle.pc_token.specs.Context.{LexicalContext}
 use Rattle.pc_token.specs.Faults.{IsFault}
 use Rattle.pc_token.specs.Internal.LineReading.{IsRefusedHere}
 
-module _ (c : LexicalContext) (text : List ℕ) (code : RefusalCode) (byte : ℕ) (r : Fault) (is : r ≡ fault.Refused (record { code = code; byte = byte })) where
+module _ (c : LexicalContext) (text : List ℕ) (code : RefusalCode) (byte : ℕ) (r : Fault)
+    (is : r ≡ fault.Refused (record { code = code; byte = byte })) where
   -- some bytes further on
   pub refused_after : (k : ℕ) → byte ≡ c.at + k → IsFault c (drop c.at text) code k → OnRefusal (IsRefusedHere c text) r
   refused_after k e h = rw is (k, e, h)

@@ -1,5 +1,6 @@
 -- The bytes at a text's front that pass a test.
-use Rattle.std.proofs.Common.{◌≡◌, ℕ, suc, ◌<◌, ◌≤◌, List, [], ◌∷◌, Bool, true, false, ◌&&◌, ◌⊎◌, length, take, drop, get_or, refl, ap, ◌∙◌, inl, inr, arith, add-zero, get_or-drop}
+use Rattle.std.proofs.Common.{◌≡◌, ℕ, suc, ◌<◌, ◌≤◌, List, [], ◌∷◌, Bool, true, false, ◌&&◌, ◌⊎◌, length, take, drop}
+use Rattle.std.proofs.Common.{get_or, refl, ap, ◌∙◌, inl, inr, arith, add-zero, get_or-drop}
 use Rattle.std.specs.List.{prefix_len, list_all}
 use Rattle.std.proofs.lemmas.Bool.{cases_lt}
 use Rattle.std.proofs.lemmas.List.{get_or_past, length-drop, length-take, get_or-take}
@@ -9,9 +10,11 @@ both : (a b : Bool) → a ≡ true → b ≡ true → (a && b) ≡ true
 both a b e f = ap (λ x. x && b) e ∙ f
 
 -- where each passes, all do
-pub list_all-from : (p : ℕ → Bool) (xs : List ℕ) → ((k : ℕ) → k < length xs → p (get_or xs k 0) ≡ true) → list_all p xs ≡ true
+pub list_all-from : (p : ℕ → Bool) (xs : List ℕ) → ((k : ℕ) → k < length xs → p (get_or xs k 0) ≡ true)
+    → list_all p xs ≡ true
 list_all-from p [] h = refl
-list_all-from p (x ∷ xs) h = both (p x) (list_all p xs) (h 0 (omega arith)) (list_all-from p xs (λ k l. h (suc k) (omega arith)))
+list_all-from p (x ∷ xs) h = both (p x) (list_all p xs) (h 0 (omega arith))
+    (list_all-from p xs (λ k l. h (suc k) (omega arith)))
 
 module _ (p : ℕ → Bool) (xs : List ℕ) where
   -- the first of them pass

@@ -1,5 +1,6 @@
 -- Pieces of a text.
-use Rattle.std.proofs.Common.{◌≡◌, ℕ, ◌+◌, ◌-◌, ◌<◌, ◌≤◌, List, [], ◌∷◌, ◌++◌, length, take, drop, sym, ap, ◌∙◌, arith, slice_range, get_or, get_or-drop, add-zero}
+use Rattle.std.proofs.Common.{◌≡◌, ℕ, ◌+◌, ◌-◌, ◌<◌, ◌≤◌, List, [], ◌∷◌, ◌++◌, length, take, drop, sym, ap, ◌∙◌, arith}
+use Rattle.std.proofs.Common.{slice_range, get_or, get_or-drop, add-zero}
 use Rattle.std.proofs.Math.Seq.{take-add, take-append_seam, drop-append_seam}
 use Rattle.std.proofs.lemmas.List.{drop-drop, take-append-drop, drop_more}
 
@@ -7,10 +8,12 @@ use Rattle.std.proofs.lemmas.List.{drop-drop, take-append-drop, drop_more}
 pub split_at : (text : List ℕ) (i j : ℕ) → i ≤ j → drop i text ≡ slice_range text i j ++ drop j text
 split_at text i j h =
     let e : i + (j - i) ≡ j = omega arith in
-    sym (take-append-drop (j - i) (drop i text)) ∙ ap (λ x. take (j - i) (drop i text) ++ x) (drop-drop (j - i) i text ∙ ap (λ n. drop n text) e)
+    sym (take-append-drop (j - i) (drop i text)) ∙ ap (λ x. take (j - i) (drop i text) ++ x) (drop-drop (j - i) i text
+    ∙ ap (λ n. drop n text) e)
 
 -- two pieces, one after the other
-pub joined : (text : List ℕ) (i j k : ℕ) → i ≤ j → j ≤ k → slice_range text i k ≡ slice_range text i j ++ slice_range text j k
+pub joined : (text : List ℕ) (i j k : ℕ) → i ≤ j → j ≤ k → slice_range text i k ≡ slice_range text i j ++ slice_range
+    text j k
 joined text i j k h g =
     let e : k - i ≡ (j - i) + (k - j) = omega arith in
     let d : i + (j - i) ≡ j = omega arith in
@@ -25,7 +28,8 @@ module _ (text xs rest : List ℕ) (i j : ℕ) (e : drop i text ≡ xs ++ rest) 
 
   -- and what follows it
   pub rest_is : drop j text ≡ rest
-  rest_is = ap (λ n. drop n text) at ∙ sym (drop-drop (length xs) i text) ∙ ap (drop (length xs)) e ∙ drop-append_seam xs rest
+  rest_is = ap (λ n. drop n text) at ∙ sym (drop-drop (length xs) i text) ∙ ap (drop (length xs)) e
+      ∙ drop-append_seam xs rest
 
 -- one element
 pub one_element : (text : List ℕ) (i : ℕ) → i < length text → slice_range text i (i + 1) ≡ get_or text i 0 ∷ []
@@ -34,10 +38,12 @@ one_element text i h =
     ap (λ k. take k (drop i text)) n ∙ ap (take 1) (drop_more text i 0 h)
 
 -- two elements
-pub two_elements : (text : List ℕ) (i : ℕ) → i + 1 < length text → slice_range text i (i + 2) ≡ get_or text i 0 ∷ get_or text (i + 1) 0 ∷ []
+pub two_elements : (text : List ℕ) (i : ℕ) → i + 1 < length text → slice_range text i (i + 2) ≡ get_or text i 0
+    ∷ get_or text (i + 1) 0 ∷ []
 two_elements text i h =
     let n : i + 2 - i ≡ 2 = omega arith in
-    ap (λ k. take k (drop i text)) n ∙ ap (take 2) (drop_more text i 0 (omega arith) ∙ ap (λ x. get_or text i 0 ∷ x) (drop_more text (i + 1) 0 h))
+    ap (λ k. take k (drop i text)) n ∙ ap (take 2) (drop_more text i 0 (omega arith)
+    ∙ ap (λ x. get_or text i 0 ∷ x) (drop_more text (i + 1) 0 h))
 
 -- a front is a piece
 pub front_is : (text : List ℕ) (j : ℕ) → take j text ≡ slice_range text 0 j

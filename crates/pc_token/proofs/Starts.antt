@@ -1,5 +1,6 @@
 -- The first byte of a piece tells of what sort the piece is.
-use Rattle.std.proofs.Common.{◌≡◌, ℕ, List, [], ◌∷◌, Bool, true, false, ◌||◌, ◌==◌, ◌⊎◌, length, get_or, refl, sym, ap, ◌∙◌, inl, inr, arith, if◌then◌else◌}
+use Rattle.std.proofs.Common.{◌≡◌, ℕ, List, [], ◌∷◌, Bool, true, false, ◌||◌, ◌==◌, ◌⊎◌, length, get_or, refl, sym, ap}
+use Rattle.std.proofs.Common.{◌∙◌, inl, inr, arith, if◌then◌else◌}
 use Rattle.std.specs.Char.{is_ascii_digit}
 use Rattle.std.proofs.lemmas.Bool.Decides.{nat_tests}
 use Rattle.pc_token.specs.declared.operators.Role.{Role}
@@ -48,11 +49,19 @@ feed_start b h = elim (either (b == 10) (b == 13) h) [ inl x ↦ rw (number_is b
 pub quote_start : (b : ℕ) → is_quote b ≡ true → start_of b ≡ Quoted
 quote_start b h = elim (either (b == 34) (b == 39) h) [ inl x ↦ rw (number_is b 34 x) | inr x ↦ rw (number_is b 39 x) ]
 
-digit_gap : (b : ℕ) → is_ascii_digit b ≡ true → (is_blank b ≡ false) × ((b == 35) ≡ false) × (is_line_byte b ≡ false) × (is_quote b ≡ false)
+digit_gap : (b : ℕ) → is_ascii_digit b ≡ true → (is_blank b ≡ false) × ((b == 35) ≡ false) × (is_line_byte b ≡ false)
+    × (is_quote b ≡ false)
 digit_gap b h = (grind (arith, nat_tests), grind (arith, nat_tests), grind (arith, nat_tests), grind (arith, nat_tests))
 
-letter_gap : (b : ℕ) → is_letter b ≡ true → (is_blank b ≡ false) × ((b == 35) ≡ false) × (is_line_byte b ≡ false) × (is_quote b ≡ false) × (is_ascii_digit b ≡ false)
-letter_gap b h = (grind (arith, nat_tests), grind (arith, nat_tests), grind (arith, nat_tests), grind (arith, nat_tests), grind (arith, nat_tests))
+letter_gap : (b : ℕ) → is_letter b ≡ true → (is_blank b ≡ false) × ((b == 35) ≡ false) × (is_line_byte b ≡ false)
+    × (is_quote b ≡ false) × (is_ascii_digit b ≡ false)
+letter_gap b h = (
+  grind (arith, nat_tests),
+  grind (arith, nat_tests),
+  grind (arith, nat_tests),
+  grind (arith, nat_tests),
+  grind (arith, nat_tests),
+)
 
 pub digit_start : (b : ℕ) → is_ascii_digit b ≡ true → start_of b ≡ Numeric
 digit_start b h = let (blank, hash, line, quote) = digit_gap b h in rw (blank, hash, line, quote, h)
@@ -82,7 +91,8 @@ start_of_kind t.Int = Numeric
 start_of_kind t.Str = Quoted
 start_of_kind _ = Signed
 
-pub kind_start : (kind : TokenKind) (bytes : List ℕ) → IsToken kind bytes → start_of (get_or bytes 0 0) ≡ start_of_kind kind
+pub kind_start : (kind : TokenKind) (bytes : List ℕ) → IsToken kind bytes → start_of (get_or bytes 0 0) ≡ start_of_kind
+    kind
 kind_start t.Name bytes h = letter_start (get_or bytes 0 0) (lead_of t.Name bytes h)
 kind_start t.Int bytes h = digit_start (get_or bytes 0 0) (lead_of t.Int bytes h)
 kind_start t.Str bytes h = quote_start (get_or bytes 0 0) (lead_of t.Str bytes h)

@@ -1,5 +1,6 @@
 -- The ASCII bytes at the front of a name, and the spaces at the front of blanks.
-use Rattle.std.proofs.Common.{◌≡◌, ℕ, suc, ◌+◌, ◌<◌, List, [], ◌∷◌, Bool, true, ◌&&◌, ◌==◌, take, drop, sym, ap, ◌∙◌, refl, inl, inr, arith, slice_range, IsUtf8, encode_utf8_all}
+use Rattle.std.proofs.Common.{◌≡◌, ℕ, suc, ◌+◌, ◌<◌, List, [], ◌∷◌, Bool, true, ◌&&◌, ◌==◌, take, drop, sym, ap, ◌∙◌}
+use Rattle.std.proofs.Common.{refl, inl, inr, arith, slice_range, IsUtf8, encode_utf8_all}
 use Rattle.std.specs.Prelude.{nat_lt}
 use Rattle.std.specs.List.{list_all, prefix_len}
 use Rattle.std.specs.Str.{IsCharBoundary}
@@ -28,7 +29,8 @@ goes : (bs : List ℕ) → list_all is_word_byte bs ≡ true → list_all is_xid
 goes [] h = refl
 goes (b ∷ bs) h =
     let (here, later) = and_parts (is_word_byte b) (list_all is_word_byte bs) h in
-    both (is_xid_continue b) (list_all is_xid_continue bs) (is_xid_continue-ascii b (word_byte_low b here) ∙ here) (goes bs later)
+    both (is_xid_continue b) (list_all is_xid_continue bs) (is_xid_continue-ascii b (word_byte_low b here) ∙ here)
+    (goes bs later)
 
 low : (bs : List ℕ) → list_all is_word_byte bs ≡ true → list_all (λ b. nat_lt b 128) bs ≡ true
 low [] h = refl
@@ -36,14 +38,17 @@ low (b ∷ bs) h =
     let (here, later) = and_parts (is_word_byte b) (list_all is_word_byte bs) h in
     both (nat_lt b 128) (list_all (λ x. nat_lt x 128) bs) (low_test b (word_byte_low b here)) (low bs later)
 
-module _ (text : List ℕ) (start n : ℕ) (utf8 : IsUtf8 text) (boundary : IsCharBoundary text start) (is : n ≡ prefix_len is_word_byte (drop start text)) where
+module _ (text : List ℕ) (start n : ℕ) (utf8 : IsUtf8 text) (boundary : IsCharBoundary text start)
+    (is : n ≡ prefix_len is_word_byte (drop start text)) where
   -- behind ASCII bytes of a name the text may be cut
   pub word_edge : IsCharBoundary text (start + n)
   word_edge = IsCharBoundary-from_rest text start n boundary.0
-      (rw is (IsCharBoundary-ascii_run is_word_byte (drop start text) (IsUtf8-drop text start utf8 boundary) word_byte_low))
+      (rw is (IsCharBoundary-ascii_run is_word_byte (drop start text) (IsUtf8-drop text start utf8 boundary)
+      word_byte_low))
 
   -- they are characters that may continue a name
-  pub word_run : (cs : List ℕ) × (list_all is_xid_continue cs ≡ true) × (slice_range text start (start + n) ≡ encode_utf8_all cs)
+  pub word_run : (cs : List ℕ) × (list_all is_xid_continue cs ≡ true)
+      × (slice_range text start (start + n) ≡ encode_utf8_all cs)
   word_run =
       let bs = take n (drop start text) in
       let all = front_passes is_word_byte (drop start text) n (omega arith) in
@@ -53,7 +58,8 @@ one_more : (m : ℕ) → 1 + m ≡ suc m
 one_more m = omega arith
 
 -- blanks are the spaces at the front, and the blanks behind them
-pub blanks_split : (bs : List ℕ) (m : ℕ) → m ≡ prefix_len (λ b. b == 32) bs → m + prefix_len is_blank (drop m bs) ≡ prefix_len is_blank bs
+pub blanks_split : (bs : List ℕ) (m : ℕ) → m ≡ prefix_len (λ b. b == 32) bs → m + prefix_len is_blank (drop m bs)
+    ≡ prefix_len is_blank bs
 blanks_split [] m is = rw is refl
 blanks_split (b ∷ bs) m is = elim (cases_Bool (b == 32)) [
   | inl space ↦

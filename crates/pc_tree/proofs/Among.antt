@@ -26,11 +26,13 @@ among_first x xs y h = elim (Contains-append_cases (x ∷ []) xs y h) [
 ]
 
 -- what follows from either part of a list follows from the whole
-pub either : {A P : Type 0} (xs ys : List A) (x : A) → Contains (xs ++ ys) x → (Contains xs x → P) → (Contains ys x → P) → P
+pub either : {A P : Type 0} (xs ys : List A) (x : A) → Contains (xs ++ ys) x → (Contains xs x → P) → (Contains ys x → P)
+    → P
 either xs ys x h f g = elim (Contains-append_cases xs ys x h) [ inl a ↦ f a | inr b ↦ g b ]
 
 -- a code at places is found where its place is among them
-pub in_code : (c : Code) (ps : List Place) (f : Finding) → Contains (at_code c ps) f → (f.code ≡ c) × Contains ps f.place
+pub in_code : (c : Code) (ps : List Place) (f : Finding) → Contains (at_code c ps) f → (f.code ≡ c)
+    × Contains ps f.place
 in_code c [] f h = absurd (none_among f h)
 in_code c (p ∷ ps) f h = elim (among_first (finding p c) (at_code c ps) f h) [
   | inl e ↦ (sym (ap (λ g. g.code) e), subst (Contains (p ∷ ps)) (ap (λ g. g.place) e) (first_among p ps))
@@ -40,6 +42,7 @@ in_code c (p ∷ ps) f h = elim (among_first (finding p c) (at_code c ps) f h) [
 pub to_code : (c : Code) (ps : List Place) (p : Place) → Contains ps p → Contains (at_code c ps) (finding p c)
 to_code c [] p h = absurd (none_among p h)
 to_code c (q ∷ ps) p h = elim (among_first q ps p h) [
-  | inl e ↦ subst (λ (x : Place). Contains (at_code c (q ∷ ps)) (finding x c)) e (first_among (finding q c) (at_code c ps))
+  | inl e ↦ subst (λ (x : Place). Contains (at_code c (q ∷ ps)) (finding x c)) e
+      (first_among (finding q c) (at_code c ps))
   | inr rest ↦ later_among (finding q c) (at_code c ps) (finding p c) (to_code c ps p rest)
 ]

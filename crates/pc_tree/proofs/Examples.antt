@@ -9,7 +9,9 @@ use Rattle.pc_token.specs.declared.token.Operator.{Operator}
 use Rattle.pc_token.specs.declared.token.Operator.TheVariants as sign
 use Rattle.pc_token.specs.Lexeme.{Lexeme}
 use Rattle.pc_tree.specs.declared.tree.BinaryOperator.TheVariants.{Sub, Mul}
-use Rattle.pc_tree.specs.Tree.{Name, name, binary, tuple, call, no_exprs, more_exprs, more_keywords, no_keywords, pass, evaluates, annotated, named, applied, union, more_anns, no_anns, conditional, Stmts, no_stmts, more_stmts, no_branches, more_branches, def_item, Module}
+use Rattle.pc_tree.specs.Tree.{Name, name, binary, tuple, call, no_exprs, more_exprs, more_keywords, no_keywords, pass}
+use Rattle.pc_tree.specs.Tree.{evaluates, annotated, named, applied, union, more_anns, no_anns, conditional, Stmts}
+use Rattle.pc_tree.specs.Tree.{no_stmts, more_stmts, no_branches, more_branches, def_item, Module}
 use Rattle.pc_tree.specs.Machine.{reads, refuses, run, outcome_of}
 
 -- tokens at the bytes 0, 1, 2, ..
@@ -87,72 +89,90 @@ unfolding run
 groups_left = refl
 
 -- `a(a, a = (a,))`
-calls : outcome_of (main_with (n a ∷ o sign.LeftParenthesis ∷ n a ∷ o sign.Comma ∷ n a ∷ o sign.Equal ∷ o sign.LeftParenthesis ∷ n a ∷ o sign.Comma ∷ o sign.RightParenthesis ∷ o sign.RightParenthesis ∷ nl ∷ []))
-    ≡ reads (main_of (more_stmts (evaluates (pl 12 13) (call (pl 12 23) (name (nm 12 a)) (more_exprs (name (nm 14 a)) no_exprs)
+calls : outcome_of (main_with (n a ∷ o sign.LeftParenthesis ∷ n a ∷ o sign.Comma ∷ n a ∷ o sign.Equal
+    ∷ o sign.LeftParenthesis ∷ n a ∷ o sign.Comma ∷ o sign.RightParenthesis ∷ o sign.RightParenthesis ∷ nl ∷ []))
+    ≡ reads
+    (main_of
+    (more_stmts (evaluates (pl 12 13) (call (pl 12 23) (name (nm 12 a)) (more_exprs (name (nm 14 a)) no_exprs)
     (more_keywords (nm 16 a) (tuple (pl 18 22) (more_exprs (name (nm 19 a)) no_exprs)) no_keywords))) no_stmts) 25)
 unfolding run
 calls = refl
 
 -- `a = a is not None < a`: a comparison after one
-chained : outcome_of (main_with (n a ∷ o sign.Equal ∷ n a ∷ w word.Is ∷ w word.None ∷ o sign.Less ∷ n a ∷ nl ∷ [])) ≡ refuses 17
+chained : outcome_of (main_with (n a ∷ o sign.Equal ∷ n a ∷ w word.Is ∷ w word.None ∷ o sign.Less ∷ n a ∷ nl ∷ []))
+    ≡ refuses 17
 unfolding run
 chained = refl
 
 -- `(a) = a`
-in_parentheses : outcome_of (main_with (o sign.LeftParenthesis ∷ n a ∷ o sign.RightParenthesis ∷ o sign.Equal ∷ n a ∷ nl ∷ [])) ≡ refuses 15
+in_parentheses : outcome_of (main_with (o sign.LeftParenthesis ∷ n a ∷ o sign.RightParenthesis ∷ o sign.Equal ∷ n a ∷ nl
+    ∷ [])) ≡ refuses 15
 unfolding run
 in_parentheses = refl
 
 -- `a: a[a] | a = a`
-annotates : outcome_of (main_with (n a ∷ o sign.Colon ∷ n a ∷ o sign.LeftBracket ∷ n a ∷ o sign.RightBracket ∷ o sign.Bar ∷ n a ∷ o sign.Equal ∷ n a ∷ nl ∷ []))
+annotates : outcome_of (main_with (n a ∷ o sign.Colon ∷ n a ∷ o sign.LeftBracket ∷ n a ∷ o sign.RightBracket
+    ∷ o sign.Bar ∷ n a ∷ o sign.Equal ∷ n a ∷ nl ∷ []))
     ≡ reads (main_of (more_stmts (annotated (pl 12 13) (nm 12 a)
-    (union (pl 14 20) (more_anns (applied (pl 14 18) (nm 14 a) (more_anns (named (nm 16 a)) no_anns)) (more_anns (named (nm 19 a)) no_anns)))
+    (union (pl 14 20) (more_anns (applied (pl 14 18) (nm 14 a) (more_anns (named (nm 16 a)) no_anns))
+    (more_anns (named (nm 19 a)) no_anns)))
     (Some (name (nm 21 a)))) no_stmts) 24)
 unfolding run
 annotates = refl
 
 -- `if a: pass elif a: pass else: pass`
-branches : outcome_of (main_with (w word.If ∷ n a ∷ o sign.Colon ∷ nl ∷ indent ∷ w word.Pass ∷ nl ∷ dedent ∷ w word.Elif ∷ n a ∷ o sign.Colon ∷ nl ∷ indent ∷ w word.Pass ∷ nl ∷ dedent
+branches : outcome_of (main_with (w word.If ∷ n a ∷ o sign.Colon ∷ nl ∷ indent ∷ w word.Pass ∷ nl ∷ dedent ∷ w word.Elif
+    ∷ n a ∷ o sign.Colon ∷ nl ∷ indent ∷ w word.Pass ∷ nl ∷ dedent
     ∷ w word.Else ∷ o sign.Colon ∷ nl ∷ indent ∷ w word.Pass ∷ nl ∷ dedent ∷ []))
-    ≡ reads (main_of (more_stmts (conditional (pl 12 13) (more_branches (name (nm 13 a)) (more_stmts (pass (pl 17 18)) no_stmts)
-    (more_branches (name (nm 21 a)) (more_stmts (pass (pl 25 26)) no_stmts) no_branches)) (more_stmts (pass (pl 32 33)) no_stmts)) no_stmts) 36)
+    ≡ reads
+    (main_of
+    (more_stmts (conditional (pl 12 13) (more_branches (name (nm 13 a)) (more_stmts (pass (pl 17 18)) no_stmts)
+    (more_branches (name (nm 21 a)) (more_stmts (pass (pl 25 26)) no_stmts) no_branches))
+    (more_stmts (pass (pl 32 33)) no_stmts)) no_stmts) 36)
 unfolding run
 branches = refl
 
 -- ---- near misses, each at the first token after which no module can follow
 
 -- a call of a comma: `a(,)`
-call_of_comma : outcome_of (main_with (n a ∷ o sign.LeftParenthesis ∷ o sign.Comma ∷ o sign.RightParenthesis ∷ nl ∷ [])) ≡ refuses 14
+call_of_comma : outcome_of (main_with (n a ∷ o sign.LeftParenthesis ∷ o sign.Comma ∷ o sign.RightParenthesis ∷ nl ∷ []))
+    ≡ refuses 14
 unfolding run
 call_of_comma = refl
 
 -- a keyword argument before one by position: `a(a=a, a)`
-keyword_first : outcome_of (main_with (n a ∷ o sign.LeftParenthesis ∷ n a ∷ o sign.Equal ∷ n a ∷ o sign.Comma ∷ n a ∷ o sign.RightParenthesis ∷ nl ∷ [])) ≡ refuses 19
+keyword_first : outcome_of (main_with (n a ∷ o sign.LeftParenthesis ∷ n a ∷ o sign.Equal ∷ n a ∷ o sign.Comma ∷ n a
+    ∷ o sign.RightParenthesis ∷ nl ∷ [])) ≡ refuses 19
 unfolding run
 keyword_first = refl
 
 -- `a(a.a=a)`
-keyword_attribute : outcome_of (main_with (n a ∷ o sign.LeftParenthesis ∷ n a ∷ o sign.Dot ∷ n a ∷ o sign.Equal ∷ n a ∷ o sign.RightParenthesis ∷ nl ∷ [])) ≡ refuses 17
+keyword_attribute : outcome_of (main_with (n a ∷ o sign.LeftParenthesis ∷ n a ∷ o sign.Dot ∷ n a ∷ o sign.Equal ∷ n a
+    ∷ o sign.RightParenthesis ∷ nl ∷ [])) ≡ refuses 17
 unfolding run
 keyword_attribute = refl
 
 -- `a((a)=a)`
-keyword_in_parentheses : outcome_of (main_with (n a ∷ o sign.LeftParenthesis ∷ o sign.LeftParenthesis ∷ n a ∷ o sign.RightParenthesis ∷ o sign.Equal ∷ n a ∷ o sign.RightParenthesis ∷ nl ∷ [])) ≡ refuses 17
+keyword_in_parentheses : outcome_of (main_with (n a ∷ o sign.LeftParenthesis ∷ o sign.LeftParenthesis ∷ n a
+    ∷ o sign.RightParenthesis ∷ o sign.Equal ∷ n a ∷ o sign.RightParenthesis ∷ nl ∷ [])) ≡ refuses 17
 unfolding run
 keyword_in_parentheses = refl
 
 -- `[a=a]`
-keyword_in_list : outcome_of (main_with (o sign.LeftBracket ∷ n a ∷ o sign.Equal ∷ n a ∷ o sign.RightBracket ∷ nl ∷ [])) ≡ refuses 14
+keyword_in_list : outcome_of (main_with (o sign.LeftBracket ∷ n a ∷ o sign.Equal ∷ n a ∷ o sign.RightBracket ∷ nl ∷ []))
+    ≡ refuses 14
 unfolding run
 keyword_in_list = refl
 
 -- two commas: `[a,,]`
-two_commas : outcome_of (main_with (o sign.LeftBracket ∷ n a ∷ o sign.Comma ∷ o sign.Comma ∷ o sign.RightBracket ∷ nl ∷ [])) ≡ refuses 15
+two_commas : outcome_of (main_with (o sign.LeftBracket ∷ n a ∷ o sign.Comma ∷ o sign.Comma ∷ o sign.RightBracket ∷ nl
+    ∷ [])) ≡ refuses 15
 unfolding run
 two_commas = refl
 
 -- `(,)`
-comma_alone : outcome_of (main_with (o sign.LeftParenthesis ∷ o sign.Comma ∷ o sign.RightParenthesis ∷ nl ∷ [])) ≡ refuses 13
+comma_alone : outcome_of (main_with (o sign.LeftParenthesis ∷ o sign.Comma ∷ o sign.RightParenthesis ∷ nl ∷ []))
+    ≡ refuses 13
 unfolding run
 comma_alone = refl
 
@@ -167,7 +187,8 @@ unfolding run
 set_display = refl
 
 -- `{a: a, a}`
-entry_without_value : outcome_of (main_with (o sign.LeftBrace ∷ n a ∷ o sign.Colon ∷ n a ∷ o sign.Comma ∷ n a ∷ o sign.RightBrace ∷ nl ∷ [])) ≡ refuses 18
+entry_without_value : outcome_of (main_with (o sign.LeftBrace ∷ n a ∷ o sign.Colon ∷ n a ∷ o sign.Comma ∷ n a
+    ∷ o sign.RightBrace ∷ nl ∷ [])) ≡ refuses 18
 unfolding run
 entry_without_value = refl
 
@@ -177,7 +198,8 @@ unfolding run
 empty_index = refl
 
 -- `a[a, a]`
-index_of_two : outcome_of (main_with (n a ∷ o sign.LeftBracket ∷ n a ∷ o sign.Comma ∷ n a ∷ o sign.RightBracket ∷ nl ∷ [])) ≡ refuses 15
+index_of_two : outcome_of (main_with (n a ∷ o sign.LeftBracket ∷ n a ∷ o sign.Comma ∷ n a ∷ o sign.RightBracket ∷ nl
+    ∷ [])) ≡ refuses 15
 unfolding run
 index_of_two = refl
 
@@ -217,7 +239,8 @@ unfolding run
 dot_without_name = refl
 
 -- `a() = a`
-call_as_target : outcome_of (main_with (n a ∷ o sign.LeftParenthesis ∷ o sign.RightParenthesis ∷ o sign.Equal ∷ n a ∷ nl ∷ [])) ≡ refuses 15
+call_as_target : outcome_of (main_with (n a ∷ o sign.LeftParenthesis ∷ o sign.RightParenthesis ∷ o sign.Equal ∷ n a ∷ nl
+    ∷ [])) ≡ refuses 15
 unfolding run
 call_as_target = refl
 
@@ -232,22 +255,26 @@ unfolding run
 annotated_attribute = refl
 
 -- a comma after the last annotation: `a: a[a,]`
-annotation_comma : outcome_of (main_with (n a ∷ o sign.Colon ∷ n a ∷ o sign.LeftBracket ∷ n a ∷ o sign.Comma ∷ o sign.RightBracket ∷ nl ∷ [])) ≡ refuses 18
+annotation_comma : outcome_of (main_with (n a ∷ o sign.Colon ∷ n a ∷ o sign.LeftBracket ∷ n a ∷ o sign.Comma
+    ∷ o sign.RightBracket ∷ nl ∷ [])) ≡ refuses 18
 unfolding run
 annotation_comma = refl
 
 -- `a: a[]`
-annotation_of_nothing : outcome_of (main_with (n a ∷ o sign.Colon ∷ n a ∷ o sign.LeftBracket ∷ o sign.RightBracket ∷ nl ∷ [])) ≡ refuses 16
+annotation_of_nothing : outcome_of (main_with (n a ∷ o sign.Colon ∷ n a ∷ o sign.LeftBracket ∷ o sign.RightBracket ∷ nl
+    ∷ [])) ≡ refuses 16
 unfolding run
 annotation_of_nothing = refl
 
 -- `a: (a)`
-annotation_in_parentheses : outcome_of (main_with (n a ∷ o sign.Colon ∷ o sign.LeftParenthesis ∷ n a ∷ o sign.RightParenthesis ∷ nl ∷ [])) ≡ refuses 14
+annotation_in_parentheses : outcome_of (main_with (n a ∷ o sign.Colon ∷ o sign.LeftParenthesis ∷ n a
+    ∷ o sign.RightParenthesis ∷ nl ∷ [])) ≡ refuses 14
 unfolding run
 annotation_in_parentheses = refl
 
 -- `a: a[a][a]`
-annotation_twice : outcome_of (main_with (n a ∷ o sign.Colon ∷ n a ∷ o sign.LeftBracket ∷ n a ∷ o sign.RightBracket ∷ o sign.LeftBracket ∷ n a ∷ o sign.RightBracket ∷ nl ∷ [])) ≡ refuses 18
+annotation_twice : outcome_of (main_with (n a ∷ o sign.Colon ∷ n a ∷ o sign.LeftBracket ∷ n a ∷ o sign.RightBracket
+    ∷ o sign.LeftBracket ∷ n a ∷ o sign.RightBracket ∷ nl ∷ [])) ≡ refuses 18
 unfolding run
 annotation_twice = refl
 
@@ -267,17 +294,20 @@ unfolding run
 assert_nothing = refl
 
 -- `else` without `if`
-else_alone : outcome_of (main_with (w word.Else ∷ o sign.Colon ∷ nl ∷ indent ∷ w word.Pass ∷ nl ∷ dedent ∷ [])) ≡ refuses 12
+else_alone : outcome_of (main_with (w word.Else ∷ o sign.Colon ∷ nl ∷ indent ∷ w word.Pass ∷ nl ∷ dedent ∷ []))
+    ≡ refuses 12
 unfolding run
 else_alone = refl
 
 -- `while a: pass else`
-else_on_loop : outcome_of (main_with (w word.While ∷ n a ∷ o sign.Colon ∷ nl ∷ indent ∷ w word.Pass ∷ nl ∷ dedent ∷ w word.Else ∷ [])) ≡ refuses 20
+else_on_loop : outcome_of (main_with (w word.While ∷ n a ∷ o sign.Colon ∷ nl ∷ indent ∷ w word.Pass ∷ nl ∷ dedent
+    ∷ w word.Else ∷ [])) ≡ refuses 20
 unfolding run
 else_on_loop = refl
 
 -- `for a.a in a`
-for_attribute : outcome_of (main_with (w word.For ∷ n a ∷ o sign.Dot ∷ n a ∷ w word.In ∷ n a ∷ o sign.Colon ∷ [])) ≡ refuses 14
+for_attribute : outcome_of (main_with (w word.For ∷ n a ∷ o sign.Dot ∷ n a ∷ w word.In ∷ n a ∷ o sign.Colon ∷ []))
+    ≡ refuses 14
 unfolding run
 for_attribute = refl
 

@@ -29,7 +29,8 @@ stop_refuses : (s : State) (byte : ℕ) → stop_at s ≡ refuses byte → ⊥
 stop_refuses (ended m) byte e = cc
 stop_refuses _ byte e = cc
 
-turn_refusal : (s : State) (t : Lexeme) (ts : List Lexeme) (byte : ℕ) → ((next : State) → run (at next) ts ≡ refuses byte → Refusal next ts byte)
+turn_refusal : (s : State) (t : Lexeme) (ts : List Lexeme) (byte : ℕ)
+    → ((next : State) → run (at next) ts ≡ refuses byte → Refusal next ts byte)
     → (x : Turn) → turn s t t.kind ≡ x → run (arrive x t) ts ≡ refuses byte → Refusal s (t ∷ ts) byte
 turn_refusal s t ts byte onward stuck is e = record {
   before = [];
@@ -38,7 +39,8 @@ turn_refusal s t ts byte onward stuck is e = record {
   all = refl;
   start = let here : run (lost t.place.start) ts ≡ refuses t.place.start = run_lost t.place.start ts in cc;
   front = can_end s;
-  refused = λ more m r. let gone : run (at s) (t ∷ more) ≡ refuses t.place.start = run_stuck s t more is ∙ run_lost t.place.start more in cc;
+  refused = λ more m r. let gone : run (at s) (t ∷ more) ≡ refuses t.place.start = run_stuck s t more is
+      ∙ run_lost t.place.start more in cc;
 }
 turn_refusal s t ts byte onward (go next) is e = let f = onward next e in record {
   before = t ∷ f.before;
@@ -64,17 +66,22 @@ misfit ts byte e = let f = refusal ts start byte e in record {
   all = f.all;
   start = f.start;
   front = (f.front.0, f.front.1, reads_spells (f.before ++ f.front.0) f.front.1 f.front.2);
-  refused = λ h. f.refused h.0 h.1 (ap (run (at start)) (sym (append_assoc f.before (f.token ∷ []) h.0)) ∙ spelled_reads h.1 ((f.before ++ (f.token ∷ [])) ++ h.0) h.2);
+  refused = λ h. f.refused h.0 h.1 (ap (run (at start)) (sym (append_assoc f.before (f.token ∷ []) h.0))
+      ∙ spelled_reads h.1 ((f.before ++ (f.token ∷ [])) ++ h.0) h.2);
 }
 
 -- ---- tokens that end too early
 
-turn_short : (s : State) (t : Lexeme) (ts : List Lexeme) → ((next : State) → run (at next) ts ≡ short → (more : List Lexeme) × (m : Module) × (run (at next) (ts ++ more) ≡ reads m))
-    → (x : Turn) → turn s t t.kind ≡ x → run (arrive x t) ts ≡ short → (more : List Lexeme) × (m : Module) × (run (at s) (t ∷ (ts ++ more)) ≡ reads m)
-turn_short s t ts onward stuck is e = let gone : run (lost t.place.start) ts ≡ refuses t.place.start = run_lost t.place.start ts in cc
+turn_short : (s : State) (t : Lexeme) (ts : List Lexeme) → ((next : State) → run (at next) ts ≡ short
+    → (more : List Lexeme) × (m : Module) × (run (at next) (ts ++ more) ≡ reads m))
+    → (x : Turn) → turn s t t.kind ≡ x → run (arrive x t) ts ≡ short → (more : List Lexeme) × (m : Module)
+    × (run (at s) (t ∷ (ts ++ more)) ≡ reads m)
+turn_short s t ts onward stuck is e = let gone : run (lost t.place.start) ts ≡ refuses t.place.start =
+    run_lost t.place.start ts in cc
 turn_short s t ts onward (go next) is e = let f = onward next e in (f.0, f.1, run_go s next t (ts ++ f.0) is ∙ f.2)
 
-short_ends : (ts : List Lexeme) (s : State) → run (at s) ts ≡ short → (more : List Lexeme) × (m : Module) × (run (at s) (ts ++ more) ≡ reads m)
+short_ends : (ts : List Lexeme) (s : State) → run (at s) ts ≡ short → (more : List Lexeme) × (m : Module)
+    × (run (at s) (ts ++ more) ≡ reads m)
 unfolding run
 short_ends [] s e = can_end s
 short_ends (t ∷ ts) s e = turn_short s t ts (λ next e'. short_ends ts next e') (turn s t t.kind) refl e
@@ -88,16 +95,20 @@ ends_early ts e = let f = short_ends ts start e in record {
 
 -- ---- fronts by cases
 
-turn_reaches : (ts rest : List Lexeme) (t : Lexeme) (past : List Lexeme) (m : Module) → ((next : State) → LedTo next past → run (at next) (ts ++ rest) ≡ reads m → IsFrontByCases (past ++ ts))
+turn_reaches : (ts rest : List Lexeme) (t : Lexeme) (past : List Lexeme) (m : Module)
+    → ((next : State) → LedTo next past → run (at next) (ts ++ rest) ≡ reads m → IsFrontByCases (past ++ ts))
     → (x : Turn) → Stood x past → run (arrive x t) (ts ++ rest) ≡ reads m → IsFrontByCases (past ++ ts)
-turn_reaches ts rest t past m onward stuck h e = let gone : run (lost t.place.start) (ts ++ rest) ≡ refuses t.place.start = run_lost t.place.start (ts ++ rest) in cc
+turn_reaches ts rest t past m onward stuck h e = let gone : run (lost t.place.start) (ts ++ rest)
+    ≡ refuses t.place.start = run_lost t.place.start (ts ++ rest) in cc
 turn_reaches ts rest t past m onward (go next) h e = onward next h e
 
-reaches : (ts rest past : List Lexeme) (s : State) (m : Module) → LedTo s past → run (at s) (ts ++ rest) ≡ reads m → IsFrontByCases (past ++ ts)
+reaches : (ts rest past : List Lexeme) (s : State) (m : Module) → LedTo s past → run (at s) (ts ++ rest) ≡ reads m
+    → IsFrontByCases (past ++ ts)
 unfolding run
 reaches [] rest past s m h e = (s, subst (λ z. LedTo s z) (sym (append-nil past)) h)
 reaches (t ∷ ts) rest past s m h e = subst IsFrontByCases (append_assoc past (t ∷ []) ts)
-    (turn_reaches ts rest t (past ++ (t ∷ [])) m (λ next h' e'. reaches ts rest (past ++ (t ∷ [])) next m h' e') (turn s t t.kind) (stood s t past h) e)
+    (turn_reaches ts rest t (past ++ (t ∷ [])) m (λ next h' e'. reaches ts rest (past ++ (t ∷ [])) next m h' e')
+    (turn s t t.kind) (stood s t past h) e)
 
 front_reached : (ts : List Lexeme) → IsFront ts → IsFrontByCases ts
 front_reached ts h = reaches ts h.0 [] start h.1 start_stands (spelled_reads h.1 (ts ++ h.0) h.2)

@@ -24,7 +24,8 @@ reads_then {s = s} r q fits = record {
 }
 
 -- where the first needs nothing of what follows
-pub reads_and : {H A B : Spelling} {s between next : State} → Reads Any A s between → Reads H B between next → Reads H (A ⟫ B) s next
+pub reads_and : {H A B : Spelling} {s between next : State} → Reads Any A s between → Reads H B between next
+    → Reads H (A ⟫ B) s next
 reads_and r q = reads_then r q (λ ts h rest g. tt)
 
 -- where neither does
@@ -35,25 +36,33 @@ pub reads_nothing : {G : Spelling} {s : State} → Reads G Nothing s s
 reads_nothing {s = s} = record { over = λ ts h rest g. ap (λ x. run (at s) (x ++ rest)) h }
 
 -- from a state that is as good
-pub reads_from : {G A : Spelling} {s t next : State} → ((rest : List Lexeme) → G rest → run (at s) rest ≡ run (at t) rest)
-    → ((ts : List Lexeme) → A ts → (rest : List Lexeme) → G rest → run (at s) (ts ++ rest) ≡ run (at t) (ts ++ rest)) → Reads G A t next → Reads G A s next
+pub reads_from : {G A : Spelling} {s t next : State} → ((rest : List Lexeme) → G rest
+    → run (at s) rest ≡ run (at t) rest)
+    → ((ts : List Lexeme) → A ts → (rest : List Lexeme) → G rest → run (at s) (ts ++ rest) ≡ run (at t) (ts ++ rest))
+    → Reads G A t next → Reads G A s next
 reads_from same first r = record { over = λ ts h rest g. first ts h rest g ∙ r.over ts h rest g }
 
 pub reads_just : (k : TokenKind) {s next : State} → ((t : Lexeme) → turn s t k ≡ go next) → Reads Any (Just k) s next
-reads_just k {s} {next} e = record { over = λ ts h rest g. ap (λ x. run (at s) (x ++ rest)) h.2 ∙ run_go s next h.0 rest (ap (turn s h.0) h.1 ∙ e h.0) }
+reads_just k {s} {next} e = record {
+  over = λ ts h rest g. ap (λ x. run (at s) (x ++ rest)) h.2
+      ∙ run_go s next h.0 rest (ap (turn s h.0) h.1 ∙ e h.0);
+}
 
 -- one token of a kind, where the next state keeps it
-pub token_run : (k : TokenKind) (s : State) (next : List Lexeme → State) → ((t : Lexeme) → turn s t k ≡ go (next (t ∷ [])))
+pub token_run : (k : TokenKind) (s : State) (next : List Lexeme → State)
+    → ((t : Lexeme) → turn s t k ≡ go (next (t ∷ [])))
     → (ts : List Lexeme) → Just k ts → (rest : List Lexeme) → run (at s) (ts ++ rest) ≡ run (at (next ts)) rest
 token_run k s next e ts (t, tk, is) rest =
-    ap (λ x. run (at s) (x ++ rest)) is ∙ run_go s (next (t ∷ [])) t rest (ap (turn s t) tk ∙ e t) ∙ ap (λ x. run (at (next x)) rest) (sym is)
+    ap (λ x. run (at s) (x ++ rest)) is ∙ run_go s (next (t ∷ [])) t rest (ap (turn s t) tk ∙ e t)
+    ∙ ap (λ x. run (at (next x)) rest) (sym is)
 
 -- ---- the parts of a sequence
 
 pub all_two : {A B : Spelling} {ts : List Lexeme} (h : Sequence A B ts) → ts ≡ h.front ++ h.back
 all_two h = h.all
 
-pub all_three : {A B C : Spelling} {ts : List Lexeme} (h : Sequence A (B ⟫ C) ts) → ts ≡ h.front ++ (h.right.front ++ h.right.back)
+pub all_three : {A B C : Spelling} {ts : List Lexeme} (h : Sequence A (B ⟫ C) ts)
+    → ts ≡ h.front ++ (h.right.front ++ h.right.back)
 all_three h = h.all ∙ ap (λ x. h.front ++ x) h.right.all
 
 pub all_four : {A B C D : Spelling} {ts : List Lexeme} (h : Sequence A (B ⟫ C ⟫ D) ts)
@@ -70,10 +79,12 @@ to_right h = record {
   right = record { front = h.left.back; back = h.back; all = refl; left = h.left.right; right = h.right };
 }
 
-pub map_left : {A B C : Spelling} {ts : List Lexeme} → ((us : List Lexeme) → A us → B us) → Sequence A C ts → Sequence B C ts
+pub map_left : {A B C : Spelling} {ts : List Lexeme} → ((us : List Lexeme) → A us → B us) → Sequence A C ts
+    → Sequence B C ts
 map_left f h = record { front = h.front; back = h.back; all = h.all; left = f h.front h.left; right = h.right }
 
-pub map_right : {A B C : Spelling} {ts : List Lexeme} → ((us : List Lexeme) → B us → C us) → Sequence A B ts → Sequence A C ts
+pub map_right : {A B C : Spelling} {ts : List Lexeme} → ((us : List Lexeme) → B us → C us) → Sequence A B ts
+    → Sequence A C ts
 map_right f h = record { front = h.front; back = h.back; all = h.all; left = h.left; right = f h.back h.right }
 
 -- the last of three belongs to the second

@@ -4,7 +4,13 @@ use Rattle.pc_token.specs.Lexeme.{Lexeme}
 use Rattle.pc_tree.specs.Tree.{Module}
 use Rattle.pc_tree.specs.Grammar.Modules.{SpellsModule}
 use Rattle.pc_tree.specs.Machine.Kinds.{start_of, follow_of}
-use Rattle.pc_tree.specs.Machine.States.{State, fixed, items, importing, item_named, decorator_due, class_due, class_named, base_due, members, def_due, self_read, param_due, param_named, params_read, literal_due, minus_read, literal_read, stmts, return_due, target_due, after_branch, part_due, part_named, part_read, argument_due, empty_opened, empty_closed, operand, have, denied, identified, unidentified, dotted, group_due, item_due, keyword_due, keyword_named, key_due, ended, Turn, stuck, go}
+use Rattle.pc_tree.specs.Machine.States.{State, fixed, items, importing, item_named, decorator_due, class_due}
+use Rattle.pc_tree.specs.Machine.States.{class_named, base_due, members, def_due, self_read, param_due, param_named}
+use Rattle.pc_tree.specs.Machine.States.{params_read, literal_due, minus_read, literal_read, stmts, return_due}
+use Rattle.pc_tree.specs.Machine.States.{target_due, after_branch, part_due, part_named, part_read, argument_due}
+use Rattle.pc_tree.specs.Machine.States.{empty_opened, empty_closed, operand, have, denied, identified, unidentified}
+use Rattle.pc_tree.specs.Machine.States.{dotted, group_due, item_due, keyword_due, keyword_named, key_due, ended, Turn}
+use Rattle.pc_tree.specs.Machine.States.{stuck, go}
 use Rattle.pc_tree.specs.Machine.Lines.{start}
 use Rattle.pc_tree.specs.Machine.{turn, at, lost, arrive, reads, refuses, stop_at, run, outcome_of}
 use Rattle.pc_tree.specs.Fronts.{LedTo}
@@ -12,10 +18,16 @@ use Rattle.pc_tree.proofs.Runs.{run_lost}
 use Rattle.pc_tree.proofs.Sequences.{map_right}
 use Rattle.pc_tree.proofs.Stood.{Stood, end_nothing}
 use Rattle.pc_tree.proofs.SoundExpressions.{start_means, follow_means, operand_stood}
-use Rattle.pc_tree.proofs.SoundBrackets.{have_stood, group_stood, item_stood, keyword_stood, named_stood, key_stood, dotted_stood, denied_stood, identified_stood, unidentified_stood}
-use Rattle.pc_tree.proofs.SoundAnnotations.{part_stood, part_named_stood, part_read_stood, argument_stood, empty_opened_stood, empty_closed_stood}
+use Rattle.pc_tree.proofs.SoundBrackets.{have_stood, group_stood, item_stood, keyword_stood, named_stood, key_stood}
+use Rattle.pc_tree.proofs.SoundBrackets.{dotted_stood, denied_stood, identified_stood, unidentified_stood}
+use Rattle.pc_tree.proofs.SoundAnnotations.{part_stood, part_named_stood, part_read_stood, argument_stood}
+use Rattle.pc_tree.proofs.SoundAnnotations.{empty_opened_stood, empty_closed_stood}
 use Rattle.pc_tree.proofs.SoundFinishing.{finishes, finishes_ann, no_back}
-use Rattle.pc_tree.proofs.SoundLines.{fixed_stood, stmts_stood, return_stood, target_stood, branch_stood, items_stood, importing_stood, item_named_stood, decorator_stood, class_stood, class_named_stood, base_stood, members_stood, def_stood, self_stood, param_stood, param_named_stood, params_read_stood, literal_stood, minus_stood, literal_read_stood}
+use Rattle.pc_tree.proofs.SoundLines.{fixed_stood, stmts_stood, return_stood, target_stood, branch_stood, items_stood}
+use Rattle.pc_tree.proofs.SoundLines.{importing_stood, item_named_stood, decorator_stood, class_stood}
+use Rattle.pc_tree.proofs.SoundLines.{class_named_stood, base_stood, members_stood, def_stood, self_stood, param_stood}
+use Rattle.pc_tree.proofs.SoundLines.{param_named_stood, params_read_stood, literal_stood, minus_stood}
+use Rattle.pc_tree.proofs.SoundLines.{literal_read_stood}
 
 -- Each token keeps what is known of the tokens before.
 pub stood : (s : State) (t : Lexeme) (ts : List Lexeme) → LedTo s ts → Stood (turn s t t.kind) (ts ++ (t ∷ []))
@@ -64,16 +76,20 @@ stop_spells : (s : State) (m : Module) (past : List Lexeme) → LedTo s past →
 stop_spells (ended n) m past h e = let is : n ≡ m = cc in subst (λ z. SpellsModule z past) is h
 stop_spells _ m past h e = cc
 
-turn_spells : (ts : List Lexeme) (t : Lexeme) (past : List Lexeme) (m : Module) → ((s : State) → LedTo s past → run (at s) ts ≡ reads m → SpellsModule m (past ++ ts))
+turn_spells : (ts : List Lexeme) (t : Lexeme) (past : List Lexeme) (m : Module)
+    → ((s : State) → LedTo s past → run (at s) ts ≡ reads m → SpellsModule m (past ++ ts))
     → (x : Turn) → Stood x past → run (arrive x t) ts ≡ reads m → SpellsModule m (past ++ ts)
-turn_spells ts t past m onward stuck h e = let no : run (lost t.place.start) ts ≡ refuses t.place.start = run_lost t.place.start ts in cc
+turn_spells ts t past m onward stuck h e = let no : run (lost t.place.start) ts ≡ refuses t.place.start =
+    run_lost t.place.start ts in cc
 turn_spells ts t past m onward (go s) h e = onward s h e
 
-pub run_spells : (ts past : List Lexeme) (s : State) (m : Module) → LedTo s past → run (at s) ts ≡ reads m → SpellsModule m (past ++ ts)
+pub run_spells : (ts past : List Lexeme) (s : State) (m : Module) → LedTo s past → run (at s) ts ≡ reads m
+    → SpellsModule m (past ++ ts)
 unfolding run
 run_spells [] past s m h e = subst (λ z. SpellsModule m z) (sym (append-nil past)) (stop_spells s m past h e)
 run_spells (t ∷ ts) past s m h e = subst (λ z. SpellsModule m z) (append_assoc past (t ∷ []) ts)
-    (turn_spells ts t (past ++ (t ∷ [])) m (λ next h' e'. run_spells ts (past ++ (t ∷ [])) next m h' e') (turn s t t.kind) (stood s t past h) e)
+    (turn_spells ts t (past ++ (t ∷ [])) m (λ next h' e'. run_spells ts (past ++ (t ∷ [])) next m h' e')
+    (turn s t t.kind) (stood s t past h) e)
 
 pub start_stands : LedTo start []
 start_stands = λ us f. (

@@ -1,5 +1,6 @@
 -- How the tokens that led to a state grow by one.
-use Rattle.std.proofs.Common.{◌≡◌, ℕ, ◌≤◌, nat_le, ◌&&◌, Bool, true, false, if◌then◌else◌, List, [], ◌∷◌, ◌++◌, refl, ap₂, sym, ◌∙◌, append-nil, leb-true}
+use Rattle.std.proofs.Common.{◌≡◌, ℕ, ◌≤◌, nat_le, ◌&&◌, Bool, true, false, if◌then◌else◌, List, [], ◌∷◌, ◌++◌, refl}
+use Rattle.std.proofs.Common.{ap₂, sym, ◌∙◌, append-nil, leb-true}
 use Rattle.pc_token.specs.declared.token.TokenKind.{TokenKind}
 use Rattle.pc_token.specs.declared.token.TokenKind.TheVariants as kind
 use Rattle.pc_token.specs.Lexeme.{Lexeme}
@@ -31,14 +32,18 @@ is_name t e = (t, e, refl, refl)
 
 -- ---- choices
 
-pub stood_on : (b : Bool) (s : State) (other : Turn) (ts : List Lexeme) → (b ≡ true → LedTo s ts) → Stood other ts → Stood (on b s other) ts
+pub stood_on : (b : Bool) (s : State) (other : Turn) (ts : List Lexeme) → (b ≡ true → LedTo s ts) → Stood other ts
+    → Stood (on b s other) ts
 stood_on true s other ts holds otherwise = holds refl
 stood_on false s other ts holds otherwise = otherwise
 
-pub on_kind : (t : Lexeme) (k : TokenKind) (s : State) (other : Turn) (ts : List Lexeme) → (t.kind ≡ k → LedTo s ts) → Stood other ts → Stood (on (same_kind t.kind k) s other) ts
-on_kind t k s other ts holds otherwise = stood_on (same_kind t.kind k) s other ts (λ e. holds (same_kind_is t.kind k e)) otherwise
+pub on_kind : (t : Lexeme) (k : TokenKind) (s : State) (other : Turn) (ts : List Lexeme) → (t.kind ≡ k → LedTo s ts)
+    → Stood other ts → Stood (on (same_kind t.kind k) s other) ts
+on_kind t k s other ts holds otherwise = stood_on (same_kind t.kind k) s other ts (λ e. holds (same_kind_is t.kind k e))
+    otherwise
 
-pub on_both : (t : Lexeme) (k : TokenKind) (b : Bool) (s : State) (other : Turn) (ts : List Lexeme) → (t.kind ≡ k → b ≡ true → LedTo s ts) → Stood other ts → Stood (on (same_kind t.kind k && b) s other) ts
+pub on_both : (t : Lexeme) (k : TokenKind) (b : Bool) (s : State) (other : Turn) (ts : List Lexeme)
+    → (t.kind ≡ k → b ≡ true → LedTo s ts) → Stood other ts → Stood (on (same_kind t.kind k && b) s other) ts
 on_both t k b s other ts holds otherwise = by_test (same_kind t.kind k) refl b refl
   where
     by_test : (x : Bool) → same_kind t.kind k ≡ x → (y : Bool) → b ≡ y → Stood (on (x && y) s other) ts
@@ -46,20 +51,25 @@ on_both t k b s other ts holds otherwise = by_test (same_kind t.kind k) refl b r
     by_test true e false f = otherwise
     by_test false e y f = otherwise
 
-pub on_tight : (low level : ℕ) (turn : Turn) (ts : List Lexeme) → (low ≤ level → Stood turn ts) → Stood (if_tight low level turn) ts
+pub on_tight : (low level : ℕ) (turn : Turn) (ts : List Lexeme) → (low ≤ level → Stood turn ts)
+    → Stood (if_tight low level turn) ts
 on_tight low level turn ts holds = by_test (nat_le low level) refl
   where
     by_test : (b : Bool) → nat_le low level ≡ b → Stood (if b then turn else stuck) ts
     by_test true e = holds (leb-true low level e)
     by_test false e = tt
 
-pub on_le : (low high : ℕ) (s : State) (ts : List Lexeme) → (low ≤ high → LedTo s ts) → Stood (on (nat_le low high) s stuck) ts
+pub on_le : (low high : ℕ) (s : State) (ts : List Lexeme) → (low ≤ high → LedTo s ts)
+    → Stood (on (nat_le low high) s stuck) ts
 on_le low high s ts holds = stood_on (nat_le low high) s stuck ts (λ e. holds (leb-true low high e)) tt
 
 -- ---- kept tokens
 
 pub kept_join : {A B : Spelling} (a b us : List Lexeme) → Sequence (Kept a A) (Kept b B) us → Kept (a ++ b) (A ⟫ B) us
-kept_join a b us w = (ap₂ (λ x y. x ++ y) w.left.0 w.right.0 ∙ sym w.all, record { front = w.front; back = w.back; all = w.all; left = w.left.1; right = w.right.1 })
+kept_join a b us w = (
+  ap₂ (λ x y. x ++ y) w.left.0 w.right.0 ∙ sym w.all,
+  record { front = w.front; back = w.back; all = w.all; left = w.left.1; right = w.right.1 },
+)
 
 pub kept_map : {A B : Spelling} (a us : List Lexeme) → ((ts : List Lexeme) → A ts → B ts) → Kept a A us → Kept a B us
 kept_map a us f h = (h.0, f us h.1)

@@ -1,12 +1,19 @@
 -- What the code decides is that two types meet: both ways at once, where lists and dicts want it.
-use Rattle.std.proofs.Common.{◌≡◌, ◌⊎◌, ◌+◌, Bool as Test, true, false, Some, inl, inr, refl, sym, ap, ◌∙◌, subst, ⊎_elim}
+use Rattle.std.proofs.Common.{◌≡◌, ◌⊎◌, ◌+◌, Bool as Test, true, false, Some, inl, inr, refl, sym, ap, ◌∙◌, subst}
+use Rattle.std.proofs.Common.{⊎_elim}
 use Rattle.pc_types.specs.Tree.{Tree, Trees, Any, Object, ListOf, DictOf, TupleOf, Union}
 use Rattle.pc_types.specs.Below.{Bases}
 use Rattle.pc_types.specs.Shape.{count}
 use Rattle.pc_types.specs.Normal.{member_rank, IsRankBefore, IsMember, IsAfter, IsNormal, AreNormal}
-use Rattle.pc_types.specs.Internal.HeadFlow.{Covers, c_from_any, c_to_any, c_never, c_object, c_int, c_bool, c_bool_int, c_str, c_none, c_class, c_list, c_dict, c_tuple, c_both, c_left, c_right, CoversBack}
-use Rattle.pc_types.specs.Internal.HeadFlow.{HeadFlow, EachFlow, w_from_any, w_to_any, w_never, w_object, w_int, w_bool, w_bool_int, w_str, w_none, w_class, w_list, w_dict, w_tuple, w_both, w_left, w_right, w_end, w_more}
-use Rattle.pc_types.proofs.Meets.{Meets, EachMeets, m_from_any, m_to_any, m_never, m_object, m_int, m_bool, m_bool_int, m_str, m_none, m_class, m_list, m_dict, m_tuple, m_both, m_left, m_right, m_end, m_more}
+use Rattle.pc_types.specs.Internal.HeadFlow.{Covers, c_from_any, c_to_any, c_never, c_object, c_int, c_bool, c_bool_int}
+use Rattle.pc_types.specs.Internal.HeadFlow.{c_str, c_none, c_class, c_list, c_dict, c_tuple, c_both, c_left, c_right}
+use Rattle.pc_types.specs.Internal.HeadFlow.{CoversBack}
+use Rattle.pc_types.specs.Internal.HeadFlow.{HeadFlow, EachFlow, w_from_any, w_to_any, w_never, w_object, w_int, w_bool}
+use Rattle.pc_types.specs.Internal.HeadFlow.{w_bool_int, w_str, w_none, w_class, w_list, w_dict, w_tuple, w_both}
+use Rattle.pc_types.specs.Internal.HeadFlow.{w_left, w_right, w_end, w_more}
+use Rattle.pc_types.proofs.Meets.{Meets, EachMeets, m_from_any, m_to_any, m_never, m_object, m_int, m_bool, m_bool_int}
+use Rattle.pc_types.proofs.Meets.{m_str, m_none, m_class, m_list, m_dict, m_tuple, m_both, m_left, m_right, m_end}
+use Rattle.pc_types.proofs.Meets.{m_more}
 use Rattle.pc_types.proofs.Lookup.{find, first, find_itself, find_behind, found_behind, Agrees, normal_agrees}
 use Rattle.pc_types.proofs.Sound.{same_count}
 
@@ -64,7 +71,8 @@ record Met (bases : Bases) (ts : Trees) (s : Tree) : Type 0 where
   met : EachMeets bases ts parts
   behind : (a : Tree) → IsAfter a s → IsRankBefore (member_rank a) (7, count ts)
 
-tuple_met : {bases : Bases} {ts : Trees} {s : Tree} → Meets bases (TupleOf ts) s → IsNormal s → IsTarget s → Met bases ts s
+tuple_met : {bases : Bases} {ts : Trees} {s : Tree} → Meets bases (TupleOf ts) s → IsNormal s → IsTarget s
+    → Met bases ts s
 tuple_met m_to_any n t = absurd t
 tuple_met m_object n t = absurd t
 tuple_met (m_tuple {ss = ts} {ts = ss} e) n t =
@@ -93,7 +101,8 @@ tuple_met {ts = ts} (m_right {a = a} {b = b} p) n t =
     }
 
 -- two tuples that meet each other, one of them by way of the type in which the other stands
-tuples_meet : {bases : Bases} {ss ts : Trees} (s : Tree) → count ss ≡ count ts → Meets bases (TupleOf ts) s → IsNormal s → find (7, count ss) s ≡ Some (TupleOf ss) → EachMeets bases ts ss
+tuples_meet : {bases : Bases} {ss ts : Trees} (s : Tree) → count ss ≡ count ts → Meets bases (TupleOf ts) s → IsNormal s
+    → find (7, count ss) s ≡ Some (TupleOf ss) → EachMeets bases ts ss
 tuples_meet {bases} {ss} {ts} s c m n e =
     let r = tuple_met m n (tuple_target ss s e) in
     let f : find (7, count ts) s ≡ Some (TupleOf ss) = subst (λ k. find (7, k) s ≡ Some (TupleOf ss)) c e in
@@ -103,7 +112,8 @@ tuples_meet {bases} {ss} {ts} s c m n e =
 
 -- what meets both ways flows both ways at once; the first stands in a type into which the second flows
 mutual
-  both_of : {bases : Bases} {s t : Tree} → Meets bases s t → (s' : Tree) → Meets bases t s' → IsNormal s → IsNormal t → IsNormal s' → Agrees s s' → HeadFlow bases true s t
+  both_of : {bases : Bases} {s t : Tree} → Meets bases s t → (s' : Tree) → Meets bases t s' → IsNormal s → IsNormal t
+      → IsNormal s' → Agrees s s' → HeadFlow bases true s t
   both_of m_from_any s' m l n k a = w_from_any
   both_of m_to_any s' m l n k a = w_to_any
   both_of m_never s' m l n k a = w_never
@@ -116,21 +126,26 @@ mutual
   both_of (m_class h) s' m l n k a = w_class h
   both_of (m_list {s = x} p q) s' m l n k a = w_list (both_of p x q l n l (normal_agrees x l)) (covers_of q)
   both_of (m_dict {j = x} {v = y} p q r w) s' m l n k a =
-      w_dict (both_of p x q l.1 n.1 l.1 (normal_agrees x l.1)) (covers_of q) (both_of r y w l.2 n.2 l.2 (normal_agrees y l.2)) (covers_of w)
+      w_dict (both_of p x q l.1 n.1 l.1 (normal_agrees x l.1)) (covers_of q)
+      (both_of r y w l.2 n.2 l.2 (normal_agrees y l.2)) (covers_of w)
   both_of (m_tuple e) s' m l n k a = w_tuple (each_both e (tuples_meet s' (same_count e) m k a) l n)
   both_of (m_both p q) s' m l n k a = w_both (both_of p s' m l.1 n k a.0) (both_of q s' m l.2 n k a.1)
   both_of (m_left p) s' m l n k a = w_left (both_of p s' (meets_parts m).0 l n.1 k a)
   both_of (m_right p) s' m l n k a = w_right (both_of p s' (meets_parts m).1 l n.2 k a)
 
-  each_both : {bases : Bases} {ss ts : Trees} → EachMeets bases ss ts → EachMeets bases ts ss → AreNormal ss → AreNormal ts → EachFlow bases true ss ts
+  each_both : {bases : Bases} {ss ts : Trees} → EachMeets bases ss ts → EachMeets bases ts ss → AreNormal ss
+      → AreNormal ts → EachFlow bases true ss ts
   each_both m_end q l n = w_end
-  each_both (m_more {s = s} p ps) (m_more q qs) l n = w_more (both_of p s q l.0 n.0 l.0 (normal_agrees s l.0)) (covers_of q) (each_both ps qs l.1 n.1)
+  each_both (m_more {s = s} p ps) (m_more q qs) l n = w_more (both_of p s q l.0 n.0 l.0 (normal_agrees s l.0))
+      (covers_of q) (each_both ps qs l.1 n.1)
 
-agree_of : {bases : Bases} {s t : Tree} → Meets bases s t → Meets bases t s → IsNormal s → IsNormal t → HeadFlow bases true s t
+agree_of : {bases : Bases} {s t : Tree} → Meets bases s t → Meets bases t s → IsNormal s → IsNormal t
+    → HeadFlow bases true s t
 agree_of {s = s} p q l n = both_of p s q l n l (normal_agrees s l)
 
 mutual
-  pub flow_of_meets : {bases : Bases} {s t : Tree} → Meets bases s t → IsNormal s → IsNormal t → HeadFlow bases false s t
+  pub flow_of_meets : {bases : Bases} {s t : Tree} → Meets bases s t → IsNormal s → IsNormal t
+      → HeadFlow bases false s t
   flow_of_meets m_from_any l n = w_from_any
   flow_of_meets m_to_any l n = w_to_any
   flow_of_meets m_never l n = w_never
@@ -148,14 +163,16 @@ mutual
   flow_of_meets (m_left p) l n = w_left (flow_of_meets p l n.1)
   flow_of_meets (m_right p) l n = w_right (flow_of_meets p l n.2)
 
-  each_flow_of_meets : {bases : Bases} {ss ts : Trees} → EachMeets bases ss ts → AreNormal ss → AreNormal ts → EachFlow bases false ss ts
+  each_flow_of_meets : {bases : Bases} {ss ts : Trees} → EachMeets bases ss ts → AreNormal ss → AreNormal ts
+      → EachFlow bases false ss ts
   each_flow_of_meets m_end l n = w_end
   each_flow_of_meets (m_more p ps) l n = w_more (flow_of_meets p l.0 n.0) tt (each_flow_of_meets ps l.1 n.1)
 
 -- each list, dict and tuple among the first's members stands across from one of its head, which meets it
 abbrev Backs : Bases → Tree → Tree → Type 0
 Backs bases (ListOf a) t = (b : Tree) × (find (5, 0) t ≡ Some (ListOf b)) × Meets bases (ListOf b) (ListOf a)
-Backs bases (DictOf j v) t = (k : Tree) × (w : Tree) × (find (6, 0) t ≡ Some (DictOf k w)) × Meets bases (DictOf k w) (DictOf j v)
+Backs bases (DictOf j v) t = (k : Tree) × (w : Tree) × (find (6, 0) t ≡ Some (DictOf k w))
+    × Meets bases (DictOf k w) (DictOf j v)
 Backs bases (TupleOf ss) t = (ts : Trees) × (find (7, count ss) t ≡ Some (TupleOf ts)) × EachMeets bases ts ss
 Backs bases (Union a b) t = Backs bases a t × Backs bases b t
 Backs bases _ t = Unit {0}
@@ -167,7 +184,8 @@ covers_object (c_left p) = m_left (covers_object p)
 covers_object (c_right p) = m_right (covers_object p)
 
 -- a type whose lists, dicts and tuples stand across flows back where it is covered back
-covered : {bases : Bases} {t s : Tree} → Covers bases t s → (t' : Tree) → Agrees t t' → Backs bases s t' → Meets bases t s
+covered : {bases : Bases} {t s : Tree} → Covers bases t s → (t' : Tree) → Agrees t t' → Backs bases s t'
+    → Meets bases t s
 covered c_from_any t' a b = m_from_any
 covered c_to_any t' a b = m_to_any
 covered c_never t' a b = m_never
@@ -204,7 +222,8 @@ target_or_not _ = inr (inr tt)
 back : {bases : Bases} (s t : Tree) → IsNormal t → Covers bases t s → (IsTarget t → Backs bases s t) → Meets bases t s
 back {bases} s t n c b =
     ⊎_elim (λ e. subst (λ x. Meets bases x s) (sym e) m_from_any)
-    (⊎_elim (λ e. subst (λ x. Meets bases x s) (sym e) (covers_object (subst (λ x. Covers bases x s) e c))) (λ o. covered c t (normal_agrees t n) (b o)))
+    (⊎_elim (λ e. subst (λ x. Meets bases x s) (sym e) (covers_object (subst (λ x. Covers bases x s) e c)))
+    (λ o. covered c t (normal_agrees t n) (b o)))
     (target_or_not t)
 
 backs_left : (bases : Bases) (s a b : Tree) → Backs bases s a → Backs bases s (Union a b)
@@ -216,8 +235,19 @@ backs_left bases _ a b h = tt
 
 backs_right : (bases : Bases) (s a b : Tree) → IsMember a → IsAfter a b → Backs bases s b → Backs bases s (Union a b)
 backs_right bases (ListOf x) a b m f h = (h.0, find_behind (5, 0) a b m (found_behind (5, 0) a b f h.1) ∙ h.1, h.2)
-backs_right bases (DictOf j v) a b m f h = (h.0, h.1, find_behind (6, 0) a b m (found_behind (6, 0) a b f h.2) ∙ h.2, h.3)
-backs_right bases (TupleOf ss) a b m f h = (h.0, find_behind (7, count ss) a b m (found_behind (7, count ss) a b f h.1) ∙ h.1, h.2)
+backs_right bases (DictOf j v) a b m f h = (
+  h.0,
+  h.1,
+  find_behind (6, 0) a b m (found_behind (6, 0) a b f h.2)
+      ∙ h.2,
+  h.3,
+)
+backs_right bases (TupleOf ss) a b m f h = (
+  h.0,
+  find_behind (7, count ss) a b m (found_behind (7, count ss) a b f h.1)
+      ∙ h.1,
+  h.2,
+)
 backs_right bases (Union c d) a b m f h = (backs_right bases c a b m f h.0, backs_right bases d a b m f h.1)
 backs_right bases _ a b m f h = tt
 
@@ -227,7 +257,8 @@ each_count (w_more f c fs) = ap (λ n. n + 1) (each_count fs)
 
 -- what flows both ways at once meets both ways
 mutual
-  pub meets_of_flow : {bases : Bases} {both : Test} {s t : Tree} → HeadFlow bases both s t → IsNormal s → IsNormal t → Meets bases s t
+  pub meets_of_flow : {bases : Bases} {both : Test} {s t : Tree} → HeadFlow bases both s t → IsNormal s → IsNormal t
+      → Meets bases s t
   meets_of_flow w_from_any l n = m_from_any
   meets_of_flow w_to_any l n = m_to_any
   meets_of_flow w_never l n = m_never
@@ -240,17 +271,20 @@ mutual
   meets_of_flow (w_class h) l n = m_class h
   meets_of_flow (w_list {s = a} {t = b} f c) l n = m_list (meets_of_flow f l n) (back a b n c (backs f refl l n))
   meets_of_flow (w_dict {j = j} {k = k} {v = v} {w = w} f c g d) l n =
-      m_dict (meets_of_flow f l.1 n.1) (back j k n.1 c (backs f refl l.1 n.1)) (meets_of_flow g l.2 n.2) (back v w n.2 d (backs g refl l.2 n.2))
+      m_dict (meets_of_flow f l.1 n.1) (back j k n.1 c (backs f refl l.1 n.1)) (meets_of_flow g l.2 n.2)
+      (back v w n.2 d (backs g refl l.2 n.2))
   meets_of_flow (w_tuple e) l n = m_tuple (each_meets_of_flow e l n)
   meets_of_flow (w_both f g) l n = m_both (meets_of_flow f l.1 n) (meets_of_flow g l.2 n)
   meets_of_flow (w_left f) l n = m_left (meets_of_flow f l n.1)
   meets_of_flow (w_right f) l n = m_right (meets_of_flow f l n.2)
 
-  each_meets_of_flow : {bases : Bases} {both : Test} {ss ts : Trees} → EachFlow bases both ss ts → AreNormal ss → AreNormal ts → EachMeets bases ss ts
+  each_meets_of_flow : {bases : Bases} {both : Test} {ss ts : Trees} → EachFlow bases both ss ts → AreNormal ss
+      → AreNormal ts → EachMeets bases ss ts
   each_meets_of_flow w_end l n = m_end
   each_meets_of_flow (w_more f c fs) l n = m_more (meets_of_flow f l.0 n.0) (each_meets_of_flow fs l.1 n.1)
 
-  backs : {bases : Bases} {both : Test} {s t : Tree} → HeadFlow bases both s t → both ≡ true → IsNormal s → IsNormal t → IsTarget t → Backs bases s t
+  backs : {bases : Bases} {both : Test} {s t : Tree} → HeadFlow bases both s t → both ≡ true → IsNormal s → IsNormal t
+      → IsTarget t → Backs bases s t
   backs w_from_any q l n o = tt
   backs w_to_any q l n o = absurd o
   backs w_never q l n o = tt
@@ -262,15 +296,25 @@ mutual
   backs w_none q l n o = tt
   backs (w_class h) q l n o = tt
   backs (w_list {s = a} {t = b} f c) q l n o = (b, refl, m_list (back a b n c (backs f refl l n)) (meets_of_flow f l n))
-  backs (w_dict {j = j} {k = k} {v = v} {w = w} f c g d) q l n o =
-      (k, w, refl, m_dict (back j k n.1 c (backs f refl l.1 n.1)) (meets_of_flow f l.1 n.1) (back v w n.2 d (backs g refl l.2 n.2)) (meets_of_flow g l.2 n.2))
-  backs (w_tuple {ss = ss} {ts = ts} e) q l n o =
-      (ts, subst (λ k. find (7, k) (TupleOf ts) ≡ Some (TupleOf ts)) (sym (each_count e)) (find_itself (TupleOf ts) tt), each_back e q l n)
+  backs (w_dict {j = j} {k = k} {v = v} {w = w} f c g d) q l n o = (
+    k,
+    w,
+    refl,
+    m_dict (back j k n.1 c (backs f refl l.1 n.1)) (meets_of_flow f l.1 n.1)
+        (back v w n.2 d (backs g refl l.2 n.2)) (meets_of_flow g l.2 n.2),
+  )
+  backs (w_tuple {ss = ss} {ts = ts} e) q l n o = (
+    ts,
+    subst (λ k. find (7, k) (TupleOf ts) ≡ Some (TupleOf ts)) (sym (each_count e)) (find_itself (TupleOf ts) tt),
+    each_back e q l n,
+  )
   backs (w_both f g) q l n o = (backs f q l.1 n o, backs g q l.2 n o)
   backs (w_left {s = s} {a = a} {b = b} f) q l n o = backs_left _ s a b (backs f q l n.1 (member_target a n.0))
-  backs (w_right {s = s} {a = a} {b = b} f) q l n o = backs_right _ s a b n.0 n.3 (backs f q l n.2 (after_target a b n.3))
+  backs (w_right {s = s} {a = a} {b = b} f) q l n o = backs_right _ s a b n.0 n.3
+      (backs f q l n.2 (after_target a b n.3))
 
-  each_back : {bases : Bases} {both : Test} {ss ts : Trees} → EachFlow bases both ss ts → both ≡ true → AreNormal ss → AreNormal ts → EachMeets bases ts ss
+  each_back : {bases : Bases} {both : Test} {ss ts : Trees} → EachFlow bases both ss ts → both ≡ true → AreNormal ss
+      → AreNormal ts → EachMeets bases ts ss
   each_back w_end q l n = m_end
   each_back {bases} {both} (w_more {s = s} {t = t} f c fs) q l n =
       let d : Covers bases t s = subst (λ x. CoversBack bases x s t) q c in

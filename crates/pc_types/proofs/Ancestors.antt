@@ -1,5 +1,6 @@
 -- The ancestors of a class: as many steps up as its number are enough to find each.
-use Rattle.std.proofs.Common.{◌≡◌, ◌≢◌, ◌<◌, ◌≤◌, ◌||◌, ◌&&◌, ◌==◌, not, ℕ, zero, suc, Bool as Test, true, false, Option, Some, None, refl, sym, ap, ◌∙◌, arith}
+use Rattle.std.proofs.Common.{◌≡◌, ◌≢◌, ◌<◌, ◌≤◌, ◌||◌, ◌&&◌, ◌==◌, not, ℕ, zero, suc, Bool as Test, true, false}
+use Rattle.std.proofs.Common.{Option, Some, None, refl, sym, ap, ◌∙◌, arith}
 use Rattle.std.proofs.lemmas.Bool.Decides.{nat_tests}
 use Rattle.std.specs.Option.{option_map_or}
 use Rattle.pc_types.specs.Below.{Bases, base_of, AreSmaller}
@@ -23,9 +24,11 @@ module _ (bases : Bases) (ordered : AreSmaller bases) (d : ℕ) where
       rootless : (o : Option ℕ) → base_of bases c ≡ o → option_map_or (λ b. reaches bases n b d) o false ≡ false
       rootless None e = refl
       rootless (Some b) e = let l = ordered c b e in absurd (omega arith)
-  enough (suc n) (suc m) c h k = ap (λ x. (c == d) || x) (go (λ b l. enough n m b (omega arith) (omega arith)) (base_of bases c) refl)
+  enough (suc n) (suc m) c h k = ap (λ x. (c == d) || x) (go (λ b l. enough n m b (omega arith) (omega arith))
+      (base_of bases c) refl)
     where
-      go : ((b : ℕ) → b < c → reaches bases n b d ≡ reaches bases m b d) → (o : Option ℕ) → base_of bases c ≡ o → option_map_or (λ b. reaches bases n b d) o false ≡ option_map_or (λ b. reaches bases m b d) o false
+      go : ((b : ℕ) → b < c → reaches bases n b d ≡ reaches bases m b d) → (o : Option ℕ) → base_of bases c ≡ o
+          → option_map_or (λ b. reaches bases n b d) o false ≡ option_map_or (λ b. reaches bases m b d) o false
       go f None e = refl
       go f (Some b) e = f b (ordered c b e)
 
@@ -36,18 +39,21 @@ module _ (bases : Bases) (ordered : AreSmaller bases) (d : ℕ) where
   pub reaches_base : (c b : ℕ) → base_of bases c ≡ Some b → c ≢ d → reaches bases c c d ≡ reaches bases b b d
   reaches_base zero b e n = let l = ordered zero b e in absurd (omega arith)
   reaches_base (suc c) b e n =
-      other_class (suc c) _ n ∙ ap (λ o. option_map_or (λ b. reaches bases c b d) o false) e ∙ (let l = ordered (suc c) b e in enough c b b (omega arith) (omega arith))
+      other_class (suc c) _ n ∙ ap (λ o. option_map_or (λ b. reaches bases c b d) o false) e
+      ∙ (let l = ordered (suc c) b e in enough c b b (omega arith) (omega arith))
 
 -- a class without base reaches itself alone
 pub reaches_root : (bases : Bases) (c d : ℕ) → base_of bases c ≡ None → c ≢ d → reaches bases c c d ≡ false
 reaches_root bases zero d e n = grind (arith, nat_tests)
 reaches_root bases (suc c) d e n =
     let f : (suc c == d) ≡ false = grind (arith, nat_tests) in
-    ap (λ x. x || option_map_or (λ b. reaches bases c b d) (base_of bases (suc c)) false) f ∙ ap (λ o. option_map_or (λ b. reaches bases c b d) o false) e
+    ap (λ x. x || option_map_or (λ b. reaches bases c b d) (base_of bases (suc c)) false) f
+    ∙ ap (λ o. option_map_or (λ b. reaches bases c b d) o false) e
 
 pub reaches_itself : (bases : Bases) (c d : ℕ) → c ≡ d → reaches bases c c d ≡ true
 reaches_itself bases zero d e = grind (arith, nat_tests)
-reaches_itself bases (suc c) d e = let f : (suc c == d) ≡ true = grind (arith, nat_tests) in ap (λ x. x || option_map_or (λ b. reaches bases c b d) (base_of bases (suc c)) false) f
+reaches_itself bases (suc c) d e = let f : (suc c == d) ≡ true = grind (arith, nat_tests) in
+    ap (λ x. x || option_map_or (λ b. reaches bases c b d) (base_of bases (suc c)) false) f
 
 -- a class absorbs another one where that one reaches it
 pub absorbs_other : (c d : ℕ) (x : Test) → c ≢ d → x ≡ (not (c == d) && x)

@@ -1,5 +1,6 @@
 -- What is static is assignable.
-use Rattle.pc_types.specs.Tree.{Tree, Trees, Any, Object, Never, Int, Bool, Str, NoneType, Class, ListOf, DictOf, TupleOf, Union, end, more, erase, erase_each}
+use Rattle.pc_types.specs.Tree.{Tree, Trees, Any, Object, Never, Int, Bool, Str, NoneType, Class, ListOf, DictOf}
+use Rattle.pc_types.specs.Tree.{TupleOf, Union, end, more, erase, erase_each}
 use Rattle.pc_types.specs.Below.{Bases, Static}
 use Rattle.pc_types.specs.Assignable.{Fills, FillsEach, Assignable}
 use Rattle.pc_types.specs.Assignable as fills
@@ -25,4 +26,10 @@ mutual
 
 -- what is static is assignable: its types filled as they are erased
 pub static_assignable : (bases : Bases) (s t : Tree) → Static bases s t → Assignable bases s t
-static_assignable bases s t h = record { filled_left = erase s; filled_right = erase t; fills_left = fills_erased s; fills_right = fills_erased t; is_below = h }
+static_assignable bases s t h = record {
+  filled_left = erase s;
+  filled_right = erase t;
+  fills_left = fills_erased s;
+  fills_right = fills_erased t;
+  is_below = h;
+}

@@ -1,13 +1,18 @@
 -- What the code decides is static subtyping with Any read as object, and consistent subtyping with Any as it is.
 use Rattle.std.proofs.Common.{◌≡◌, ◌↔◌, ◌+◌, true, false, refl, sym, ap, subst, subst₂}
-use Rattle.pc_types.specs.Tree.{Tree, Trees, Any, Object, Never, ListOf, DictOf, TupleOf, Union, end, more, erase, erase_each}
+use Rattle.pc_types.specs.Tree.{Tree, Trees, Any, Object, Never, ListOf, DictOf, TupleOf, Union, end, more, erase}
+use Rattle.pc_types.specs.Tree.{erase_each}
 use Rattle.pc_types.specs.Below.{Bases, Static}
 use Rattle.pc_types.specs.Assignable.{IsPlain, ArePlain, Assignable}
 use Rattle.pc_types.specs.Shape.{count}
 use Rattle.pc_types.specs.Normal.{member_rank, IsRankBefore, IsMember, IsAfter, IsKey, IsNormal, AreNormal}
 use Rattle.pc_types.specs.Internal.HeadFlow.{seen, seen_each, HeadFlow}
-use Rattle.pc_types.proofs.Meets.{Meets, EachMeets, m_from_any, m_to_any, m_never, m_object, m_int, m_bool, m_bool_int, m_str, m_none, m_class, m_list, m_dict, m_tuple, m_both, m_left, m_right, m_end, m_more}
-use Rattle.pc_types.proofs.Structural.{Sub, EachSub, s_never, s_object, s_any, s_int, s_bool, s_bool_int, s_str, s_none, s_class, s_list, s_dict, s_tuple, s_both, s_left, s_right, s_end, s_more, sub_of, below_of}
+use Rattle.pc_types.proofs.Meets.{Meets, EachMeets, m_from_any, m_to_any, m_never, m_object, m_int, m_bool, m_bool_int}
+use Rattle.pc_types.proofs.Meets.{m_str, m_none, m_class, m_list, m_dict, m_tuple, m_both, m_left, m_right, m_end}
+use Rattle.pc_types.proofs.Meets.{m_more}
+use Rattle.pc_types.proofs.Structural.{Sub, EachSub, s_never, s_object, s_any, s_int, s_bool, s_bool_int, s_str, s_none}
+use Rattle.pc_types.proofs.Structural.{s_class, s_list, s_dict, s_tuple, s_both, s_left, s_right, s_end, s_more, sub_of}
+use Rattle.pc_types.proofs.Structural.{below_of}
 use Rattle.pc_types.proofs.Sound.{plain_erase, assignable_from_meets}
 use Rattle.pc_types.proofs.Complete.{meets_from_assignable}
 use Rattle.pc_types.proofs.Agree.{flow_of_meets, meets_of_flow}
@@ -49,13 +54,15 @@ mutual
   meets_sub m_none p q = s_none
   meets_sub (m_class h) p q = sub_of h
   meets_sub (m_list a b) p q = s_list (meets_sub a p q) (meets_sub b q p)
-  meets_sub (m_dict a b c d) p q = s_dict (meets_sub a p.0 q.0) (meets_sub b q.0 p.0) (meets_sub c p.1 q.1) (meets_sub d q.1 p.1)
+  meets_sub (m_dict a b c d) p q = s_dict (meets_sub a p.0 q.0) (meets_sub b q.0 p.0) (meets_sub c p.1 q.1)
+      (meets_sub d q.1 p.1)
   meets_sub (m_tuple e) p q = s_tuple (each_meets_sub e p q)
   meets_sub (m_both a b) p q = s_both (meets_sub a p.0 q) (meets_sub b p.1 q)
   meets_sub (m_left a) p q = s_left (meets_sub a p q.0)
   meets_sub (m_right a) p q = s_right (meets_sub a p q.1)
 
-  each_meets_sub : {bases : Bases} {ss ts : Trees} → EachMeets bases ss ts → ArePlain ss → ArePlain ts → EachSub bases ss ts
+  each_meets_sub : {bases : Bases} {ss ts : Trees} → EachMeets bases ss ts → ArePlain ss → ArePlain ts
+      → EachSub bases ss ts
   each_meets_sub m_end p q = s_end
   each_meets_sub (m_more a as') p q = s_more (meets_sub a p.0 q.0) (each_meets_sub as' p.1 q.1)
 
@@ -126,17 +133,23 @@ mutual
   normal_each (more t ts) n = (normal_erase t n.0, normal_each ts n.1)
 
 -- with Any read as object, the code decides static subtyping
-pub static_is_flow : (bases : Bases) (s t : Tree) → IsNormal s → IsNormal t → HeadFlow bases false (seen false s) (seen false t) ↔ Static bases s t
+pub static_is_flow : (bases : Bases) (s t : Tree) → IsNormal s → IsNormal t
+    → HeadFlow bases false (seen false s) (seen false t) ↔ Static bases s t
 static_is_flow bases s t m n =
     let l = normal_erase s m in
     let r = normal_erase t n in (
-      λ h. below_of (meets_sub (meets_of_flow (subst₂ (HeadFlow bases false) (seen_static s) (seen_static t) h) l r) (plain_erase s) (plain_erase t)),
-      λ h. subst₂ (HeadFlow bases false) (sym (seen_static s)) (sym (seen_static t)) (flow_of_meets (sub_meets (sub_of h)) l r),
+      λ h. below_of (meets_sub (meets_of_flow (subst₂ (HeadFlow bases false) (seen_static s) (seen_static t) h) l r)
+          (plain_erase s) (plain_erase t)),
+      λ h. subst₂ (HeadFlow bases false) (sym (seen_static s)) (sym (seen_static t))
+          (flow_of_meets (sub_meets (sub_of h)) l r),
     )
 
 -- with Any as it is, the code decides consistent subtyping
-pub assignable_is_flow : (bases : Bases) (s t : Tree) → IsNormal s → IsNormal t → HeadFlow bases false (seen true s) (seen true t) ↔ Assignable bases s t
+pub assignable_is_flow : (bases : Bases) (s t : Tree) → IsNormal s → IsNormal t
+    → HeadFlow bases false (seen true s) (seen true t) ↔ Assignable bases s t
 assignable_is_flow bases s t m n = (
-  λ h. assignable_from_meets (meets_of_flow (subst₂ (HeadFlow bases false) (seen_gradual s) (seen_gradual t) h) m n) m n,
-  λ a. subst₂ (HeadFlow bases false) (sym (seen_gradual s)) (sym (seen_gradual t)) (flow_of_meets (meets_from_assignable a) m n),
+  λ h. assignable_from_meets (meets_of_flow (subst₂ (HeadFlow bases false) (seen_gradual s) (seen_gradual t) h) m n) m
+      n,
+  λ a. subst₂ (HeadFlow bases false) (sym (seen_gradual s)) (sym (seen_gradual t))
+      (flow_of_meets (meets_from_assignable a) m n),
 )

@@ -1,9 +1,14 @@
 -- What heads say of two types that are no unions.
-use Rattle.std.proofs.Common.{Box, Vec, Global, ap, ◌≡◌, ◌↔◌, ℕ, Some, Bool as Test, cond, IsTrue, true, false, refl, sym, subst, ◌⊎◌, inl, inr}
-use Rattle.pc_types.specs.Tree.{Tree, Trees, Any, Object, Never, Int, Bool, Str, NoneType, Class, ListOf, DictOf, TupleOf, Union}
+use Rattle.std.proofs.Common.{Box, Vec, Global, ap, ◌≡◌, ◌↔◌, ℕ, Some, Bool as Test, cond, IsTrue, true, false, refl}
+use Rattle.std.proofs.Common.{sym, subst, ◌⊎◌, inl, inr}
+use Rattle.pc_types.specs.Tree.{Tree, Trees, Any, Object, Never, Int, Bool, Str, NoneType, Class, ListOf, DictOf}
+use Rattle.pc_types.specs.Tree.{TupleOf, Union}
 use Rattle.pc_types.specs.Below.{Bases, base_of, Below}
-use Rattle.pc_types.specs.Internal.HeadFlow.{Covers, c_from_any, c_to_any, c_never, c_object, c_int, c_bool, c_bool_int, c_str, c_none, c_class, c_list, c_dict, c_tuple, c_both, c_left, c_right}
-use Rattle.pc_types.specs.Internal.HeadFlow.{seen, HeadFits, FlowFits, HeadFlow, w_from_any, w_to_any, w_never, w_object, w_int, w_bool, w_bool_int, w_str, w_none, w_class, w_list, w_dict, w_tuple, w_both, w_left, w_right}
+use Rattle.pc_types.specs.Internal.HeadFlow.{Covers, c_from_any, c_to_any, c_never, c_object, c_int, c_bool, c_bool_int}
+use Rattle.pc_types.specs.Internal.HeadFlow.{c_str, c_none, c_class, c_list, c_dict, c_tuple, c_both, c_left, c_right}
+use Rattle.pc_types.specs.Internal.HeadFlow.{seen, HeadFits, FlowFits, HeadFlow, w_from_any, w_to_any, w_never}
+use Rattle.pc_types.specs.Internal.HeadFlow.{w_object, w_int, w_bool, w_bool_int, w_str, w_none, w_class, w_list}
+use Rattle.pc_types.specs.Internal.HeadFlow.{w_dict, w_tuple, w_both, w_left, w_right}
 use Rattle.pc_types.specs.Join.{same_tree}
 use Rattle.pc_types.specs.Boxed.{tree_of, IsNoUnion}
 use Rattle.pc_types.specs.declared.boxed.BoxType.{BoxType, out-BoxType, roll-BoxType, roll-out-BoxType}
@@ -28,7 +33,8 @@ IsRight Any = ⊥
 IsRight (Union a b) = ⊥
 IsRight _ = Unit {0}
 
-flow_fits : {bases : Bases} {both : Test} {s t : Tree} → HeadFlow bases both s t → IsLeft s → IsRight t → FlowFits bases both s t
+flow_fits : {bases : Bases} {both : Test} {s t : Tree} → HeadFlow bases both s t → IsLeft s → IsRight t
+    → FlowFits bases both s t
 flow_fits w_from_any p q = absurd p
 flow_fits w_to_any p q = absurd q
 flow_fits w_never p q = absurd p
@@ -58,7 +64,8 @@ fits_flow bases both (DictOf j v) (DictOf k w) h = w_dict h.0 h.1 h.2 h.3
 fits_flow bases both (TupleOf ss) (TupleOf ts) h = w_tuple h
 fits_flow bases both _ _ h = absurd h
 
-pub flow_is_fits : (bases : Bases) (both : Test) (s t : Tree) → IsLeft s → IsRight t → FlowFits bases both s t ↔ HeadFlow bases both s t
+pub flow_is_fits : (bases : Bases) (both : Test) (s t : Tree) → IsLeft s → IsRight t → FlowFits bases both s t
+    ↔ HeadFlow bases both s t
 flow_is_fits bases both s t p q = (fits_flow bases both s t, λ h. flow_fits h p q)
 
 covers_fits : {bases : Bases} {s t : Tree} → Covers bases s t → IsLeft s → IsRight t → HeadFits bases s t
@@ -95,14 +102,16 @@ pub covers_is_fits : (bases : Bases) (s t : Tree) → IsLeft s → IsRight t →
 covers_is_fits bases s t p q = (fits_covers bases s t, λ h. covers_fits h p q)
 
 -- a union below, and a union above
-pub flow_parts : {bases : Bases} {both : Test} {a b u : Tree} → HeadFlow bases both (Union a b) u → HeadFlow bases both a u × HeadFlow bases both b u
+pub flow_parts : {bases : Bases} {both : Test} {a b u : Tree} → HeadFlow bases both (Union a b) u
+    → HeadFlow bases both a u × HeadFlow bases both b u
 flow_parts w_to_any = (w_to_any, w_to_any)
 flow_parts w_object = (w_object, w_object)
 flow_parts (w_both p q) = (p, q)
 flow_parts (w_left p) = let r = flow_parts p in (w_left r.0, w_left r.1)
 flow_parts (w_right p) = let r = flow_parts p in (w_right r.0, w_right r.1)
 
-pub flow_member : {bases : Bases} {both : Test} {s a b : Tree} → HeadFlow bases both s (Union a b) → IsLeft s → HeadFlow bases both s a ⊎ HeadFlow bases both s b
+pub flow_member : {bases : Bases} {both : Test} {s a b : Tree} → HeadFlow bases both s (Union a b) → IsLeft s
+    → HeadFlow bases both s a ⊎ HeadFlow bases both s b
 flow_member w_from_any p = absurd p
 flow_member w_never p = absurd p
 flow_member (w_both a b) p = absurd p
@@ -116,7 +125,8 @@ covers_parts (c_both p q) = (p, q)
 covers_parts (c_left p) = let r = covers_parts p in (c_left r.0, c_left r.1)
 covers_parts (c_right p) = let r = covers_parts p in (c_right r.0, c_right r.1)
 
-pub covers_member : {bases : Bases} {s a b : Tree} → Covers bases s (Union a b) → IsLeft s → Covers bases s a ⊎ Covers bases s b
+pub covers_member : {bases : Bases} {s a b : Tree} → Covers bases s (Union a b) → IsLeft s → Covers bases s a
+    ⊎ Covers bases s b
 covers_member c_from_any p = absurd p
 covers_member c_never p = absurd p
 covers_member (c_both a b) p = absurd p
@@ -132,14 +142,16 @@ covers_any true = c_to_any
 covers_any false = c_object
 
 -- what an arm of a match leaves
-pub is_left : (g : Test) (s : BoxType) → (IsTrue g → s ≡ ty.Any → ⊥) → (s ≡ ty.Never → ⊥) → IsNoUnion s → IsLeft (seen g (tree_of s))
+pub is_left : (g : Test) (s : BoxType) → (IsTrue g → s ≡ ty.Any → ⊥) → (s ≡ ty.Never → ⊥) → IsNoUnion s
+    → IsLeft (seen g (tree_of s))
 is_left true ty.Any a n u = absurd (a refl refl)
 is_left false ty.Any a n u = tt
 is_left _ ty.Never a n u = absurd (n refl)
 is_left _ (ty.Union' p s q t) a n u = absurd u
 is_left _ _ a n u = tt
 
-pub is_right : (g : Test) (t : BoxType) → (t ≡ ty.Any → ⊥) → (t ≡ ty.Object → ⊥) → IsNoUnion t → IsRight (seen g (tree_of t))
+pub is_right : (g : Test) (t : BoxType) → (t ≡ ty.Any → ⊥) → (t ≡ ty.Object → ⊥) → IsNoUnion t
+    → IsRight (seen g (tree_of t))
 is_right g ty.Any n m u = absurd (n refl)
 is_right g ty.Object n m u = absurd (m refl)
 is_right g (ty.Union' p a q b) n m u = absurd u
@@ -152,14 +164,17 @@ chain_class h = go (sub_of h)
     go (s_class k) = k
 
 -- a class is below its ancestors through its base
-pub base_step : {bases : Bases} {c b d : ℕ} → base_of bases c ≡ Some b → (c ≡ d → ⊥) → Below bases (Class c) (Class d) → Below bases (Class b) (Class d)
+pub base_step : {bases : Bases} {c b d : ℕ} → base_of bases c ≡ Some b → (c ≡ d → ⊥) → Below bases (Class c) (Class d)
+    → Below bases (Class b) (Class d)
 base_step {bases} {c} {b} {d} e n h = go (chain_class h) n e
   where
     go : {c d : ℕ} → Chain bases c d → (c ≡ d → ⊥) → base_of bases c ≡ Some b → Below bases (Class b) (Class d)
     go here n e = absurd (n refl)
-    go {d = d} (up {b = a} f k) n e = let same_base : a ≡ b = cc in subst (λ x. Below bases (Class x) (Class d)) same_base (chain_below k)
+    go {d = d} (up {b = a} f k) n e = let same_base : a ≡ b = cc in subst (λ x. Below bases (Class x) (Class d))
+        same_base (chain_below k)
 
-pub no_base : {bases : Bases} {c d : ℕ} → ((b : ℕ) → base_of bases c ≡ Some b → ⊥) → (c ≡ d → ⊥) → Below bases (Class c) (Class d) → ⊥
+pub no_base : {bases : Bases} {c d : ℕ} → ((b : ℕ) → base_of bases c ≡ Some b → ⊥) → (c ≡ d → ⊥)
+    → Below bases (Class c) (Class d) → ⊥
 no_base {bases} m n h = go (chain_class h) m n
   where
     go : {c d : ℕ} → Chain bases c d → ((b : ℕ) → base_of bases c ≡ Some b → ⊥) → (c ≡ d → ⊥) → ⊥
@@ -171,7 +186,8 @@ pub is_no_union : (t : BoxType) → ((x y : Box BoxType Global) → t ≡ ty.Uni
 unfolding roll-BoxType denote.Hole.Carrier.roll
 is_no_union t n = go (out-BoxType t) (roll-out-BoxType t) n
   where
-    go : (o : BoxType-F BoxType) → roll-BoxType o ≡ t → ((x y : Box BoxType Global) → t ≡ ty.Union x y → ⊥) → IsNoUnion t
+    go : (o : BoxType-F BoxType) → roll-BoxType o ≡ t → ((x y : Box BoxType Global) → t ≡ ty.Union x y → ⊥)
+        → IsNoUnion t
     go (open-ty.Union a b) e n = absurd (n a b (sym e))
     go _ e n = subst IsNoUnion e tt
 
@@ -179,26 +195,33 @@ tuple_not_any : (bases : Bases) (g : Test) (ss : Trees) → HeadFits bases (Tupl
 tuple_not_any bases true ss h = h
 tuple_not_any bases false ss h = h
 
-pub tuple_only : (bases : Bases) (g : Test) (ss : Trees) (t : BoxType) → ((x : Vec BoxType Global) → t ≡ ty.Tuple x → ⊥) → HeadFits bases (TupleOf ss) (seen g (tree_of t)) → ⊥
+pub tuple_only : (bases : Bases) (g : Test) (ss : Trees) (t : BoxType) → ((x : Vec BoxType Global) → t ≡ ty.Tuple x → ⊥)
+    → HeadFits bases (TupleOf ss) (seen g (tree_of t)) → ⊥
 unfolding roll-BoxType denote.Hole.Carrier.roll
 tuple_only bases g ss t n h = go (out-BoxType t) (roll-out-BoxType t) n h
   where
-    go : (o : BoxType-F BoxType) → roll-BoxType o ≡ t → ((x : Vec BoxType Global) → t ≡ ty.Tuple x → ⊥) → HeadFits bases (TupleOf ss) (seen g (tree_of t)) → ⊥
+    go : (o : BoxType-F BoxType) → roll-BoxType o ≡ t → ((x : Vec BoxType Global) → t ≡ ty.Tuple x → ⊥)
+        → HeadFits bases (TupleOf ss) (seen g (tree_of t)) → ⊥
     go (open-ty.Tuple v) e n h = n v (sym e)
-    go open-ty.Any e n h = tuple_not_any bases g ss (subst (λ x. HeadFits bases (TupleOf ss) (seen g (tree_of x))) (sym e) h)
+    go open-ty.Any e n h = tuple_not_any bases g ss (subst (λ x. HeadFits bases (TupleOf ss) (seen g (tree_of x)))
+        (sym e) h)
     go _ e n h = subst (λ x. HeadFits bases (TupleOf ss) (seen g (tree_of x))) (sym e) h
 
-tuple_heads : (bases : Bases) (both : Test) (ss : Trees) (t : Tree) → FlowFits bases both (TupleOf ss) t → HeadFits bases (TupleOf ss) t
+tuple_heads : (bases : Bases) (both : Test) (ss : Trees) (t : Tree) → FlowFits bases both (TupleOf ss) t
+    → HeadFits bases (TupleOf ss) t
 tuple_heads bases both ss (TupleOf ts) h = each_count h
 tuple_heads bases both ss _ h = h
 
-pub tuple_flows : (bases : Bases) (both g : Test) (ss : Trees) (t : BoxType) → ((x : Vec BoxType Global) → t ≡ ty.Tuple x → ⊥) → FlowFits bases both (TupleOf ss) (seen g (tree_of t)) → ⊥
+pub tuple_flows : (bases : Bases) (both g : Test) (ss : Trees) (t : BoxType)
+    → ((x : Vec BoxType Global) → t ≡ ty.Tuple x → ⊥) → FlowFits bases both (TupleOf ss) (seen g (tree_of t)) → ⊥
 tuple_flows bases both g ss t n h = tuple_only bases g ss t n (tuple_heads bases both ss (seen g (tree_of t)) h)
 
-pub tuple_differs : (ss : Trees) (t : BoxType) → ((x : Vec BoxType Global) → t ≡ ty.Tuple x → ⊥) → false ≡ same_tree (TupleOf ss) (tree_of t)
+pub tuple_differs : (ss : Trees) (t : BoxType) → ((x : Vec BoxType Global) → t ≡ ty.Tuple x → ⊥)
+    → false ≡ same_tree (TupleOf ss) (tree_of t)
 unfolding roll-BoxType denote.Hole.Carrier.roll
 tuple_differs ss t n = go (out-BoxType t) (roll-out-BoxType t) n
   where
-    go : (o : BoxType-F BoxType) → roll-BoxType o ≡ t → ((x : Vec BoxType Global) → t ≡ ty.Tuple x → ⊥) → false ≡ same_tree (TupleOf ss) (tree_of t)
+    go : (o : BoxType-F BoxType) → roll-BoxType o ≡ t → ((x : Vec BoxType Global) → t ≡ ty.Tuple x → ⊥)
+        → false ≡ same_tree (TupleOf ss) (tree_of t)
     go (open-ty.Tuple v) e n = absurd (n v (sym e))
     go _ e n = ap (λ x. same_tree (TupleOf ss) (tree_of x)) e

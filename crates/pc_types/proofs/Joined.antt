@@ -1,5 +1,7 @@
 -- The parts of two tuples joined one by one, and the join of equal tuples.
-use Rattle.std.proofs.Common.{◌≡◌, ◌+◌, ◌<◌, ◌≤◌, ◌++◌, ℕ, zero, suc, Bool as Test, true, false, length, get_or, drop, List, [], ◌∷◌, Option, Some, None, Result, IfOk, Vec, Global, refl, sym, ap, ◌∙◌, subst, arith, drop-cons, add-one}
+use Rattle.std.proofs.Common.{◌≡◌, ◌+◌, ◌<◌, ◌≤◌, ◌++◌, ℕ, zero, suc, Bool as Test, true, false, length, get_or, drop}
+use Rattle.std.proofs.Common.{List, [], ◌∷◌, Option, Some, None, Result, IfOk, Vec, Global, refl, sym, ap, ◌∙◌, subst}
+use Rattle.std.proofs.Common.{arith, drop-cons, add-one}
 use Rattle.std.proofs.lemmas.Bool.Decides.{nat_tests}
 use Rattle.std.specs.Prelude.{if◌then◌else◌}
 use Rattle.std.specs.Option.{option_map}
@@ -7,7 +9,8 @@ use Rattle.pc_types.specs.Tree.{Tree, Trees, Never, TupleOf, end, more}
 use Rattle.pc_types.specs.Below.{Bases}
 use Rattle.pc_types.specs.Shape.{count, union}
 use Rattle.pc_types.specs.Normal.{IsNormal, AreNormal, IsOfMembers}
-use Rattle.pc_types.specs.Join.{same_tree, same_trees, is_before, both_parts, parts_of, put_all, unabsorbed_members, by_rule, one_of, join_each, join_of}
+use Rattle.pc_types.specs.Join.{same_tree, same_trees, is_before, both_parts, parts_of, put_all, unabsorbed_members}
+use Rattle.pc_types.specs.Join.{by_rule, one_of, join_each, join_of}
 use Rattle.pc_types.specs.Boxed.{tree_of, trees_in}
 use Rattle.pc_types.specs.declared.boxed.BoxType.{BoxType}
 use Rattle.pc_types.specs.declared.boxed.BoxType.TheVariants as ty
@@ -15,7 +18,8 @@ use Rattle.pc_types.proofs.Tuples.{both_true}
 use Rattle.pc_types.proofs.Together.{put_same}
 
 -- what a call answers, said otherwise
-pub ok_as : {X Y E : Type 0} (f : X → Y) (r : Result X E) (a b : Y) → a ≡ b → IfOk r (λ o. f o ≡ a) → IfOk r (λ o. f o ≡ b)
+pub ok_as : {X Y E : Type 0} (f : X → Y) (r : Result X E) (a b : Y) → a ≡ b → IfOk r (λ o. f o ≡ a)
+    → IfOk r (λ o. f o ≡ b)
 ok_as f r a b e h = subst (λ x. IfOk r (λ o. f o ≡ x)) e h
 
 -- parts that are joined, ahead of the others
@@ -27,7 +31,8 @@ pub prefixed_none : (xs : List BoxType) → prefixed xs None ≡ None
 prefixed_none [] = refl
 prefixed_none (x ∷ xs) = ap (both_parts (Some (tree_of x))) (prefixed_none xs)
 
-pub prefixed_push : (xs : List BoxType) (x : BoxType) (o : Option Trees) → prefixed (xs ++ x ∷ []) o ≡ prefixed xs (both_parts (Some (tree_of x)) o)
+pub prefixed_push : (xs : List BoxType) (x : BoxType) (o : Option Trees)
+    → prefixed (xs ++ x ∷ []) o ≡ prefixed xs (both_parts (Some (tree_of x)) o)
 prefixed_push [] x o = refl
 prefixed_push (y ∷ ys) x o = ap (both_parts (Some (tree_of y))) (prefixed_push ys x o)
 
@@ -53,26 +58,38 @@ module _ (bases : Bases) where
   each_lengths [] (t ∷ ts) h = refl
   each_lengths (s ∷ ss) [] h = refl
   each_lengths (s ∷ ss) (t ∷ ts) h =
-      no_parts (join_of bases (tree_of s) (tree_of t)) ∙ ap (both_parts (join_of bases (tree_of s) (tree_of t))) (each_lengths ss ts (λ e. h (ap suc e)))
+      no_parts (join_of bases (tree_of s) (tree_of t)) ∙ ap (both_parts (join_of bases (tree_of s) (tree_of t)))
+      (each_lengths ss ts (λ e. h (ap suc e)))
 
   -- the parts so far are joined
   abbrev pub JoinsTo : List BoxType → List BoxType → ℕ → List BoxType → Type 0
   JoinsTo ss ts i out = each ss ts ≡ prefixed out (each (drop i ss) (drop i ts))
 
-  each_at : (ss ts : List BoxType) (i : ℕ) (s t : BoxType) → i < length ss → i < length ts → s ≡ get_or ss i s → t ≡ get_or ts i t → each (drop i ss) (drop i ts) ≡ both_parts (join_of bases (tree_of s) (tree_of t)) (each (drop (i + 1) ss) (drop (i + 1) ts))
+  each_at : (ss ts : List BoxType) (i : ℕ) (s t : BoxType) → i < length ss → i < length ts → s ≡ get_or ss i s
+      → t ≡ get_or ts i t → each (drop i ss) (drop i ts) ≡ both_parts (join_of bases (tree_of s) (tree_of t))
+      (each (drop (i + 1) ss) (drop (i + 1) ts))
   each_at ss ts i s t h k e f =
-      let p : drop i ss ≡ s ∷ drop (i + 1) ss = rw add-one (drop-cons ss i s h ∙ ap (λ x. x ∷ drop (suc i) ss) (sym e)) in
-      let q : drop i ts ≡ t ∷ drop (i + 1) ts = rw add-one (drop-cons ts i t k ∙ ap (λ x. x ∷ drop (suc i) ts) (sym f)) in
+      let p : drop i ss ≡ s ∷ drop (i + 1) ss = rw add-one (drop-cons ss i s h
+      ∙ ap (λ x. x ∷ drop (suc i) ss) (sym e)) in
+      let q : drop i ts ≡ t ∷ drop (i + 1) ts = rw add-one (drop-cons ts i t k
+      ∙ ap (λ x. x ∷ drop (suc i) ts) (sym f)) in
       λ j. each (p j) (q j)
 
-  pub joins_more : (ss ts out : List BoxType) (i : ℕ) (s t x : BoxType) → JoinsTo ss ts i out → i < length ss → i < length ts → s ≡ get_or ss i s → t ≡ get_or ts i t → Some (tree_of x) ≡ join_of bases (tree_of s) (tree_of t) → JoinsTo ss ts (i + 1) (out ++ x ∷ [])
+  pub joins_more : (ss ts out : List BoxType) (i : ℕ) (s t x : BoxType) → JoinsTo ss ts i out → i < length ss
+      → i < length ts → s ≡ get_or ss i s → t ≡ get_or ts i t → Some (tree_of x) ≡ join_of bases (tree_of s) (tree_of t)
+      → JoinsTo ss ts (i + 1) (out ++ x ∷ [])
   joins_more ss ts out i s t x j h k e f g =
-      j ∙ ap (prefixed out) (each_at ss ts i s t h k e f ∙ ap (λ o. both_parts o (each (drop (i + 1) ss) (drop (i + 1) ts))) (sym g))
+      j ∙ ap (prefixed out) (each_at ss ts i s t h k e f
+      ∙ ap (λ o. both_parts o (each (drop (i + 1) ss) (drop (i + 1) ts))) (sym g))
       ∙ sym (prefixed_push out x (each (drop (i + 1) ss) (drop (i + 1) ts)))
 
-  pub joins_none : (ss ts out : List BoxType) (i : ℕ) (s t : BoxType) → JoinsTo ss ts i out → i < length ss → i < length ts → s ≡ get_or ss i s → t ≡ get_or ts i t → None ≡ join_of bases (tree_of s) (tree_of t) → None ≡ each ss ts
+  pub joins_none : (ss ts out : List BoxType) (i : ℕ) (s t : BoxType) → JoinsTo ss ts i out → i < length ss
+      → i < length ts → s ≡ get_or ss i s → t ≡ get_or ts i t → None ≡ join_of bases (tree_of s) (tree_of t)
+      → None ≡ each ss ts
   joins_none ss ts out i s t j h k e f g =
-      sym (j ∙ ap (prefixed out) (each_at ss ts i s t h k e f ∙ ap (λ o. both_parts o (each (drop (i + 1) ss) (drop (i + 1) ts))) (sym g) ∙ no_first (each (drop (i + 1) ss) (drop (i + 1) ts))) ∙ prefixed_none out)
+      sym (j ∙ ap (prefixed out) (each_at ss ts i s t h k e f
+      ∙ ap (λ o. both_parts o (each (drop (i + 1) ss) (drop (i + 1) ts))) (sym g)
+      ∙ no_first (each (drop (i + 1) ss) (drop (i + 1) ts))) ∙ prefixed_none out)
 
   drop_end : (ss : List BoxType) (i : ℕ) → length ss ≤ i → drop i ss ≡ []
   drop_end [] zero h = refl
@@ -80,7 +97,8 @@ module _ (bases : Bases) where
   drop_end (s ∷ ss) zero h = absurd (omega arith)
   drop_end (s ∷ ss) (suc i) h = drop_end ss i (omega arith)
 
-  pub joins_all : (ss ts out : List BoxType) (i : ℕ) → JoinsTo ss ts i out → length ss ≤ i → length ts ≤ i → Some (trees_in out) ≡ each ss ts
+  pub joins_all : (ss ts out : List BoxType) (i : ℕ) → JoinsTo ss ts i out → length ss ≤ i → length ts ≤ i
+      → Some (trees_in out) ≡ each ss ts
   joins_all ss ts out i j h k =
       let p = drop_end ss i h in
       let q = drop_end ts i k in
@@ -93,36 +111,47 @@ same_join bases end (more t ts) e = cc
 same_join bases (more s ss) end e = cc
 same_join bases (more s ss) (more t ts) e =
     let r = both_true (same_tree s t) (same_trees ss ts) e in
-    ap (λ b. both_parts (if b then Some s else by_rule s t (option_map union (put_all bases t s (unabsorbed_members bases t s)))) (join_each bases ss ts)) r.0
+    ap (λ b. both_parts (if b then Some s else by_rule s t (option_map union
+    (put_all bases t s (unabsorbed_members bases t s)))) (join_each bases ss ts)) r.0
     ∙ ap (both_parts (Some s)) (same_join bases ss ts r.1)
 
 same_counts : (ss ts : Trees) → same_trees ss ts ≡ true → count ss ≡ count ts
 same_counts end end e = refl
 same_counts end (more t ts) e = cc
 same_counts (more s ss) end e = cc
-same_counts (more s ss) (more t ts) e = ap (λ n. n + 1) (same_counts ss ts (both_true (same_tree s t) (same_trees ss ts) e).1)
+same_counts (more s ss) (more t ts) e = ap (λ n. n + 1) (same_counts ss ts
+    (both_true (same_tree s t) (same_trees ss ts) e).1)
 
 equal_before : (ss ts : Trees) → count ss ≡ count ts → is_before (TupleOf ss) (TupleOf ts) ≡ false
 equal_before ss ts e = grind (arith, nat_tests)
 
-tuple_case : (bases : Bases) (ss ts : Trees) (x : Test) → same_trees ss ts ≡ x → option_map union (put_all bases (TupleOf ts) (TupleOf ss) (unabsorbed_members bases (TupleOf ts) (TupleOf ss))) ≡ if x then Some (TupleOf ss) else option_map union (put_all bases (TupleOf ts) (TupleOf ss) (unabsorbed_members bases (TupleOf ts) (TupleOf ss)))
+tuple_case : (bases : Bases) (ss ts : Trees) (x : Test) → same_trees ss ts ≡ x
+    → option_map union (put_all bases (TupleOf ts) (TupleOf ss) (unabsorbed_members bases (TupleOf ts) (TupleOf ss)))
+    ≡ if x then Some (TupleOf ss) else option_map union (put_all bases (TupleOf ts) (TupleOf ss)
+    (unabsorbed_members bases (TupleOf ts) (TupleOf ss)))
 tuple_case bases ss ts true e =
     let c = same_counts ss ts e in
-    ap (option_map union) (put_same bases (TupleOf ss) (TupleOf ts) (TupleOf ss) (TupleOf ts) (λ n. option_map TupleOf (join_each bases ss (parts_of n))) [] (equal_before ss ts c) (equal_before ts ss (sym c)))
+    ap (option_map union) (put_same bases (TupleOf ss) (TupleOf ts) (TupleOf ss) (TupleOf ts)
+    (λ n. option_map TupleOf (join_each bases ss (parts_of n))) [] (equal_before ss ts c)
+    (equal_before ts ss (sym c)))
     ∙ ap (λ o. option_map union (option_map (λ f. f ∷ []) (option_map TupleOf o))) (same_join bases ss ts e)
 tuple_case bases ss ts false e = refl
 
 -- what the rules say of a tuple is the join, equal or not
-pub tuple_rule : (bases : Bases) (ss : Trees) (t : Tree) → by_rule (TupleOf ss) t (option_map union (put_all bases t (TupleOf ss) (unabsorbed_members bases t (TupleOf ss)))) ≡ join_of bases (TupleOf ss) t
+pub tuple_rule : (bases : Bases) (ss : Trees) (t : Tree) → by_rule (TupleOf ss) t
+    (option_map union (put_all bases t (TupleOf ss) (unabsorbed_members bases t (TupleOf ss)))) ≡ join_of bases
+    (TupleOf ss) t
 tuple_rule bases ss (TupleOf ts) = tuple_case bases ss ts (same_trees ss ts) refl
 tuple_rule bases ss Never = refl
 tuple_rule bases ss _ = refl
 
 -- parts of types in normal form
-pub normal_item : (ts : List BoxType) (k : ℕ) (x : BoxType) → AreNormal (trees_in ts) → k < length ts → x ≡ get_or ts k x → IsNormal (tree_of x)
+pub normal_item : (ts : List BoxType) (k : ℕ) (x : BoxType) → AreNormal (trees_in ts) → k < length ts
+    → x ≡ get_or ts k x → IsNormal (tree_of x)
 normal_item ts k x n h e = subst (λ y. IsNormal (tree_of y)) (sym e) (go ts k x n h)
   where
-    go : (ts : List BoxType) (k : ℕ) (d : BoxType) → AreNormal (trees_in ts) → k < length ts → IsNormal (tree_of (get_or ts k d))
+    go : (ts : List BoxType) (k : ℕ) (d : BoxType) → AreNormal (trees_in ts) → k < length ts
+        → IsNormal (tree_of (get_or ts k d))
     go [] k d n h = absurd (omega arith)
     go (t ∷ ts) zero d n h = n.0
     go (t ∷ ts) (suc k) d n h = go ts k d n.1 (omega arith)
@@ -137,7 +166,8 @@ listed_of ty.Any a o n = a refl
 listed_of ty.Object a o n = o refl
 listed_of _ a o n = n
 
-pub ordinary_rule : (s t : BoxType) (o : Option Tree) → (s ≡ ty.Never → ⊥) → (s ≡ ty.Any → ⊥) → (s ≡ ty.Object → ⊥) → (t ≡ ty.Never → ⊥) → (t ≡ ty.Any → ⊥) → (t ≡ ty.Object → ⊥) → by_rule (tree_of s) (tree_of t) o ≡ o
+pub ordinary_rule : (s t : BoxType) (o : Option Tree) → (s ≡ ty.Never → ⊥) → (s ≡ ty.Any → ⊥) → (s ≡ ty.Object → ⊥)
+    → (t ≡ ty.Never → ⊥) → (t ≡ ty.Any → ⊥) → (t ≡ ty.Object → ⊥) → by_rule (tree_of s) (tree_of t) o ≡ o
 ordinary_rule ty.Never t o a b c d e f = absurd (a refl)
 ordinary_rule ty.Any t o a b c d e f = absurd (b refl)
 ordinary_rule ty.Object t o a b c d e f = absurd (c refl)
@@ -146,12 +176,17 @@ ordinary_rule s ty.Any o a b c d e f = absurd (e refl)
 ordinary_rule s ty.Object o a b c d e f = absurd (f refl)
 ordinary_rule _ _ o a b c d e f = refl
 
-pub tuple_rule_at : (bases : Bases) (s : Tree) (ss : Trees) (t : Tree) → s ≡ TupleOf ss → by_rule s t (option_map union (put_all bases t s (unabsorbed_members bases t s))) ≡ join_of bases s t
-tuple_rule_at bases s ss t e = subst (λ x. by_rule x t (option_map union (put_all bases t x (unabsorbed_members bases t x))) ≡ join_of bases x t) (sym e) (tuple_rule bases ss t)
+pub tuple_rule_at : (bases : Bases) (s : Tree) (ss : Trees) (t : Tree) → s ≡ TupleOf ss
+    → by_rule s t (option_map union (put_all bases t s (unabsorbed_members bases t s))) ≡ join_of bases s t
+tuple_rule_at bases s ss t e =
+    subst (λ x. by_rule x t (option_map union (put_all bases t x (unabsorbed_members bases t x))) ≡ join_of bases x t)
+    (sym e) (tuple_rule bases ss t)
 
 -- what a vector of parts means
 abbrev pub parts_tree : Vec BoxType Global → Trees
 parts_tree v = trees_in v.items
 
-pub one_tuple : (bases : Bases) (a : Tree) (ss : Trees) (b : Tree) (x y : Trees) → a ≡ TupleOf ss → x ≡ ss → y ≡ parts_of b → one_of bases a b ≡ option_map TupleOf (join_each bases x y)
-one_tuple bases a ss b x y e f g = ap (λ z. one_of bases z b) e ∙ (λ i. option_map TupleOf (join_each bases (sym f i) (sym g i)))
+pub one_tuple : (bases : Bases) (a : Tree) (ss : Trees) (b : Tree) (x y : Trees) → a ≡ TupleOf ss → x ≡ ss
+    → y ≡ parts_of b → one_of bases a b ≡ option_map TupleOf (join_each bases x y)
+one_tuple bases a ss b x y e f g = ap (λ z. one_of bases z b) e
+    ∙ (λ i. option_map TupleOf (join_each bases (sym f i) (sym g i)))

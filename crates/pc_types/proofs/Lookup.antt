@@ -1,5 +1,6 @@
 -- The member of a type at a place, and what a normal form says of it.
-use Rattle.std.proofs.Common.{◌≡◌, ◌⊎◌, ◌&&◌, ℕ, Bool as Test, true, false, cond, nat_eq, Option, Some, None, inl, inr, refl, ap, ◌∙◌, arith, ⊎_elim}
+use Rattle.std.proofs.Common.{◌≡◌, ◌⊎◌, ◌&&◌, ℕ, Bool as Test, true, false, cond, nat_eq, Option, Some, None, inl, inr}
+use Rattle.std.proofs.Common.{refl, ap, ◌∙◌, arith, ⊎_elim}
 use Rattle.std.proofs.lemmas.Bool.Decides.{nat_tests}
 use Rattle.pc_types.specs.Tree.{Tree, Any, Object, Never, Class, ListOf, DictOf, TupleOf, Union}
 use Rattle.pc_types.specs.Shape.{count}
@@ -53,8 +54,10 @@ before_place : (p q r : ℕ × ℕ) → same_place p q ≡ true → IsRankBefore
 before_place p q r e h = grind (arith, nat_tests)
 
 -- what is found in a type that stands after a member has its place after that member's
-pub found_behind : {m : Tree} (p : ℕ × ℕ) (a t : Tree) → IsAfter a t → find p t ≡ Some m → IsRankBefore (member_rank a) p
-found_behind p a (Union c d) h e = ⊎_elim (found_behind p a c h.0) (found_behind p a d h.1) (first_of (find p c) (find p d) e)
+pub found_behind : {m : Tree} (p : ℕ × ℕ) (a t : Tree) → IsAfter a t → find p t ≡ Some m
+    → IsRankBefore (member_rank a) p
+found_behind p a (Union c d) h e = ⊎_elim (found_behind p a c h.0) (found_behind p a d h.1)
+    (first_of (find p c) (find p d) e)
 found_behind p a Any h e = absurd h.0
 found_behind p a Object h e = absurd h.0
 found_behind p a Never h e = absurd h.0

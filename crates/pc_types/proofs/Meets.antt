@@ -1,6 +1,7 @@
 -- Two types meet where their heads do, part by part: Any meets everything, both ways.
 use Rattle.std.proofs.Common.{ℕ}
-use Rattle.pc_types.specs.Tree.{Tree, Trees, Any, Object, Never, Int, Bool, Str, NoneType, Class, ListOf, DictOf, TupleOf, Union, end, more}
+use Rattle.pc_types.specs.Tree.{Tree, Trees, Any, Object, Never, Int, Bool, Str, NoneType, Class, ListOf, DictOf}
+use Rattle.pc_types.specs.Tree.{TupleOf, Union, end, more}
 use Rattle.pc_types.specs.Below.{Bases, Below}
 
 mutual
@@ -17,7 +18,8 @@ mutual
     m_none : Meets bases NoneType NoneType
     m_class : {c d : ℕ} → Below bases (Class c) (Class d) → Meets bases (Class c) (Class d)
     m_list : {s t : Tree} → Meets bases s t → Meets bases t s → Meets bases (ListOf s) (ListOf t)
-    m_dict : {j k v w : Tree} → Meets bases j k → Meets bases k j → Meets bases v w → Meets bases w v → Meets bases (DictOf j v) (DictOf k w)
+    m_dict : {j k v w : Tree} → Meets bases j k → Meets bases k j → Meets bases v w → Meets bases w v
+        → Meets bases (DictOf j v) (DictOf k w)
     m_tuple : {ss ts : Trees} → EachMeets bases ss ts → Meets bases (TupleOf ss) (TupleOf ts)
     m_both : {a b u : Tree} → Meets bases a u → Meets bases b u → Meets bases (Union a b) u
     m_left : {s a b : Tree} → Meets bases s a → Meets bases s (Union a b)
@@ -25,4 +27,5 @@ mutual
 
   pub data EachMeets (bases : Bases) : Trees → Trees → Type 0 where
     m_end : EachMeets bases end end
-    m_more : {s t : Tree} {ss ts : Trees} → Meets bases s t → EachMeets bases ss ts → EachMeets bases (more s ss) (more t ts)
+    m_more : {s t : Tree} {ss ts : Trees} → Meets bases s t → EachMeets bases ss ts
+        → EachMeets bases (more s ss) (more t ts)

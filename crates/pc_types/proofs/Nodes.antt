@@ -1,5 +1,6 @@
 -- Nodes, members and parts: how many there are, and which part stands where.
-use Rattle.std.proofs.Common.{◌≡◌, ℕ, zero, suc, ◌+◌, ◌<◌, ◌≤◌, length, take, ◌++◌, get_or, map, List, [], ◌∷◌, Vec, Global, All, Some, Result, Ok, Err, IfOk, refl, sym, ap, ◌∙◌, subst, arith}
+use Rattle.std.proofs.Common.{◌≡◌, ℕ, zero, suc, ◌+◌, ◌<◌, ◌≤◌, length, take, ◌++◌, get_or, map, List, [], ◌∷◌, Vec}
+use Rattle.std.proofs.Common.{Global, All, Some, Result, Ok, Err, IfOk, refl, sym, ap, ◌∙◌, subst, arith}
 use Rattle.std.proofs.lemmas.List.{take_more}
 use Rattle.std.proofs.lemmas.List.Elements.{All-nil, All-cons, All-head, All-tail}
 use Rattle.std.specs.List.{slice_get}
@@ -36,21 +37,25 @@ listed_trees (t ∷ ts) = ap (λ l. t ∷ l) (listed_trees ts)
 pub tuple_parts : (t : BoxType) (v : Vec BoxType Global) → t ≡ ty.Tuple v → parts (tree_of t) ≡ map tree_of v.items
 tuple_parts t v e = ap parts (tuple_is t v e) ∙ listed_trees (map tree_of v.items)
 
-nodes_push : (ts : List BoxType) (t : BoxType) → nodes_of (trees_in (ts ++ t ∷ [])) ≡ nodes_of (trees_in ts) + nodes (tree_of t)
+nodes_push : (ts : List BoxType) (t : BoxType) → nodes_of (trees_in (ts ++ t ∷ [])) ≡ nodes_of (trees_in ts) + nodes
+    (tree_of t)
 nodes_push [] t = omega arith
 nodes_push (u ∷ ts) t = omega (arith, nodes_push ts t)
 
 -- one more of the types that a loop goes over
-pub nodes_more : (ts : List BoxType) (k : ℕ) (x : BoxType) → k < length ts → x ≡ get_or ts k x → nodes_of (trees_in (take (k + 1) ts)) ≡ nodes_of (trees_in (take k ts)) + nodes (tree_of x)
+pub nodes_more : (ts : List BoxType) (k : ℕ) (x : BoxType) → k < length ts → x ≡ get_or ts k x
+    → nodes_of (trees_in (take (k + 1) ts)) ≡ nodes_of (trees_in (take k ts)) + nodes (tree_of x)
 nodes_more ts k x h e =
-    ap (λ l. nodes_of (trees_in l)) (take_more ts k x h) ∙ nodes_push (take k ts) (get_or ts k x) ∙ ap (λ y. nodes_of (trees_in (take k ts)) + nodes (tree_of y)) (sym e)
+    ap (λ l. nodes_of (trees_in l)) (take_more ts k x h) ∙ nodes_push (take k ts) (get_or ts k x)
+    ∙ ap (λ y. nodes_of (trees_in (take k ts)) + nodes (tree_of y)) (sym e)
 
 all_normal : (ts : List BoxType) → All IsGiven ts → AreNormal (trees_in ts)
 all_normal [] h = tt
 all_normal (t ∷ ts) h = ((All-head IsGiven t ts h).normal, all_normal ts (All-tail IsGiven t ts h))
 
 -- a tuple of types that the store gave, in boxes, within the limit
-pub tuple_given : (v : Vec BoxType Global) (ts : List BoxType) → map tree_of v.items ≡ map tree_of ts → All IsGiven ts → nodes_of (trees_in ts) < 256 → IsGiven (ty.Tuple v) × (tree_of (ty.Tuple v) ≡ TupleOf (trees_in ts))
+pub tuple_given : (v : Vec BoxType Global) (ts : List BoxType) → map tree_of v.items ≡ map tree_of ts → All IsGiven ts
+    → nodes_of (trees_in ts) < 256 → IsGiven (ty.Tuple v) × (tree_of (ty.Tuple v) ≡ TupleOf (trees_in ts))
 tuple_given v ts e h l =
     let q : tree_of (ty.Tuple v) ≡ TupleOf (trees_in ts) = tuple_tree v ∙ ap (λ x. TupleOf (trees x)) e in
     let n : nodes (tree_of (ty.Tuple v)) ≡ 1 + nodes_of (trees_in ts) = ap nodes q in
@@ -66,29 +71,39 @@ only t p zero n e = let q : t ≡ p = cc in subst (IsWithin t) q (record { small
 only t p (suc k) n e = cc
 
 member_within : (t : Tree) (k : ℕ) (p : Tree) → IsNormal t → slice_get (members t) k ≡ Some p → IsWithin t p
-member_within (Union a b) zero p n e = let q : a ≡ p = cc in subst (IsWithin (Union a b)) q (record { small = omega arith; normal = n.1 })
-member_within (Union a b) (suc k) p n e = let r = member_within b k p n.2 e in let s = r.small in record { small = omega arith; normal = r.normal }
+member_within (Union a b) zero p n e = let q : a ≡ p = cc in subst (IsWithin (Union a b)) q
+    (record { small = omega arith; normal = n.1 })
+member_within (Union a b) (suc k) p n e = let r = member_within b k p n.2 e in let s = r.small in
+    record { small = omega arith; normal = r.normal }
 member_within Rattle.pc_types.specs.Tree.Never zero p n e = cc
 member_within Rattle.pc_types.specs.Tree.Never (suc k) p n e = cc
 member_within t k p n e = only t p k n e
 
-listed_within : (ts : Trees) (k : ℕ) (p : Tree) → AreNormal ts → slice_get (list_of_trees ts) k ≡ Some p → (nodes p ≤ nodes_of ts) × IsNormal p
+listed_within : (ts : Trees) (k : ℕ) (p : Tree) → AreNormal ts → slice_get (list_of_trees ts) k ≡ Some p
+    → (nodes p ≤ nodes_of ts) × IsNormal p
 listed_within end zero p n e = cc
 listed_within end (suc k) p n e = cc
-listed_within (more t ts) zero p n e = let q : t ≡ p = cc in subst (λ x. (nodes x ≤ nodes_of (more t ts)) × IsNormal x) q (omega arith, n.0)
+listed_within (more t ts) zero p n e = let q : t ≡ p = cc in subst (λ x. (nodes x ≤ nodes_of (more t ts)) × IsNormal x)
+    q (omega arith, n.0)
 listed_within (more t ts) (suc k) p n e = let r = listed_within ts k p n.1 e in (omega (arith, r.0), r.1)
 
 pub part_within : (t : Tree) (k : ℕ) (p : Tree) → IsNormal t → slice_get (parts t) k ≡ Some p → IsWithin t p
-part_within (ListOf t) k p n e = let r = only t p k n e in let s = r.small in record { small = omega arith; normal = r.normal }
-part_within (DictOf j v) zero p n e = let q : j ≡ p = cc in subst (IsWithin (DictOf j v)) q (record { small = omega arith; normal = n.1 })
-part_within (DictOf j v) (suc k) p n e = let r = only v p k n.2 e in let s = r.small in record { small = omega arith; normal = r.normal }
-part_within (TupleOf ts) k p n e = let r = listed_within ts k p n e in let s = r.0 in record { small = omega arith; normal = r.1 }
+part_within (ListOf t) k p n e = let r = only t p k n e in let s = r.small in
+    record { small = omega arith; normal = r.normal }
+part_within (DictOf j v) zero p n e = let q : j ≡ p = cc in subst (IsWithin (DictOf j v)) q
+    (record { small = omega arith; normal = n.1 })
+part_within (DictOf j v) (suc k) p n e = let r = only v p k n.2 e in let s = r.small in
+    record { small = omega arith; normal = r.normal }
+part_within (TupleOf ts) k p n e = let r = listed_within ts k p n e in let s = r.0 in
+    record { small = omega arith; normal = r.1 }
 part_within (Union a b) k p n e = member_within (Union a b) k p n e
 part_within _ zero p n e = cc
 part_within _ (suc k) p n e = cc
 
 -- a copy of a part of a type that the store gave is one that the store may give
-pub part_given : {E : Type 0} (t p : BoxType) (k : ℕ) (r : Result BoxType E) → IsGiven t → slice_get (parts (tree_of t)) k ≡ Some (tree_of p) → IfOk r (λ c. tree_of c ≡ tree_of p) → IfOk r (λ c. IsGiven c × (slice_get (parts (tree_of t)) k ≡ Some (tree_of c)))
+pub part_given : {E : Type 0} (t p : BoxType) (k : ℕ) (r : Result BoxType E) → IsGiven t
+    → slice_get (parts (tree_of t)) k ≡ Some (tree_of p) → IfOk r (λ c. tree_of c ≡ tree_of p)
+    → IfOk r (λ c. IsGiven c × (slice_get (parts (tree_of t)) k ≡ Some (tree_of c)))
 part_given t p k (Ok c) g e h =
     let q : slice_get (parts (tree_of t)) k ≡ Some (tree_of c) = e ∙ ap Some (sym h) in
     let w = part_within (tree_of t) k (tree_of c) g.normal q in
@@ -114,24 +129,30 @@ all_got P [] f = All-nil P
 all_got P (x ∷ xs) f = All-cons P x xs (f zero x refl) (all_got P xs (λ k y e. f (suc k) y e))
 
 -- types in boxes that mean what is within a type that the store gave are ones that the store may give
-given_each : (t : BoxType) (ts : List BoxType) → IsGiven t → All (IsWithin (tree_of t)) (map tree_of ts) → All IsGiven ts
+given_each : (t : BoxType) (ts : List BoxType) → IsGiven t → All (IsWithin (tree_of t)) (map tree_of ts)
+    → All IsGiven ts
 given_each t [] g h = All-nil IsGiven
 given_each t (u ∷ ts) g h =
     let w = All-head (IsWithin (tree_of t)) (tree_of u) (map tree_of ts) h in
     let s = w.small in
     let m = g.small in
-    All-cons IsGiven u ts (record { small = omega arith; normal = w.normal }) (given_each t ts g (All-tail (IsWithin (tree_of t)) (tree_of u) (map tree_of ts) h))
+    All-cons IsGiven u ts (record { small = omega arith; normal = w.normal })
+    (given_each t ts g (All-tail (IsWithin (tree_of t)) (tree_of u) (map tree_of ts) h))
 
 -- the members of a type that the store gave, in boxes
-pub members_given : {E : Type 0} (t : BoxType) (r : Result (Vec BoxType Global) E) → IsGiven t → IfOk r (λ v. map tree_of v.items ≡ members (tree_of t)) → IfOk r (λ v. All IsGiven v.items)
+pub members_given : {E : Type 0} (t : BoxType) (r : Result (Vec BoxType Global) E) → IsGiven t
+    → IfOk r (λ v. map tree_of v.items ≡ members (tree_of t)) → IfOk r (λ v. All IsGiven v.items)
 members_given t (Ok v) g e =
-    given_each t v.items g (subst (All (IsWithin (tree_of t))) (sym e) (all_got (IsWithin (tree_of t)) (members (tree_of t)) (λ k p h. member_within (tree_of t) k p g.normal h)))
+    given_each t v.items g (subst (All (IsWithin (tree_of t))) (sym e)
+    (all_got (IsWithin (tree_of t)) (members (tree_of t)) (λ k p h. member_within (tree_of t) k p g.normal h)))
 members_given t (Err x) g e = tt
 
 -- its parts
-pub parts_given : {E : Type 0} (t : BoxType) (r : Result (Vec BoxType Global) E) → IsGiven t → IfOk r (λ v. map tree_of v.items ≡ parts (tree_of t)) → IfOk r (λ v. All IsGiven v.items)
+pub parts_given : {E : Type 0} (t : BoxType) (r : Result (Vec BoxType Global) E) → IsGiven t
+    → IfOk r (λ v. map tree_of v.items ≡ parts (tree_of t)) → IfOk r (λ v. All IsGiven v.items)
 parts_given t (Ok v) g e =
-    given_each t v.items g (subst (All (IsWithin (tree_of t))) (sym e) (all_got (IsWithin (tree_of t)) (parts (tree_of t)) (λ k p h. part_within (tree_of t) k p g.normal h)))
+    given_each t v.items g (subst (All (IsWithin (tree_of t))) (sym e)
+    (all_got (IsWithin (tree_of t)) (parts (tree_of t)) (λ k p h. part_within (tree_of t) k p g.normal h)))
 parts_given t (Err x) g e = tt
 
 -- a type in boxes that means a tree in normal form within the limit is one that the store may give

@@ -1,7 +1,8 @@
 -- A type in normal form is told by its head and its parts, each of which has fewer nodes.
 use Rattle.std.proofs.Common.{◌≡◌, ℕ, zero, suc, ◌<◌, ◌≤◌, List, [], ◌∷◌, Some, refl, sym, ap, ◌∙◌, arith}
 use Rattle.std.specs.List.{slice_get}
-use Rattle.pc_types.specs.Tree.{Tree, Trees, Any, Object, Never, Int, Bool, Str, NoneType, Class, ListOf, DictOf, TupleOf, Union, end, more}
+use Rattle.pc_types.specs.Tree.{Tree, Trees, Any, Object, Never, Int, Bool, Str, NoneType, Class, ListOf, DictOf}
+use Rattle.pc_types.specs.Tree.{TupleOf, Union, end, more}
 use Rattle.pc_types.specs.Shape.{nodes, nodes_of, parts, members, list_of_trees, trees, ahead, union}
 use Rattle.pc_types.specs.Head.{head_of}
 use Rattle.pc_types.specs.Normal.{IsNormal, IsOfMembers, IsAfter}

@@ -1,11 +1,14 @@
 -- What meets is assignable: each Any is filled by what stands across from it.
 use Rattle.std.proofs.Common.{◌≡◌, ◌+◌, Option, Some, refl, sym, ap, ◌∙◌, subst, subst₂, ⊎_elim}
-use Rattle.pc_types.specs.Tree.{Tree, Trees, Any, Object, Never, Int, Bool, Str, NoneType, Class, ListOf, DictOf, TupleOf, Union, end, more, erase, erase_each}
+use Rattle.pc_types.specs.Tree.{Tree, Trees, Any, Object, Never, Int, Bool, Str, NoneType, Class, ListOf, DictOf}
+use Rattle.pc_types.specs.Tree.{TupleOf, Union, end, more, erase, erase_each}
 use Rattle.pc_types.specs.Below.{Bases, Below, EachBelow}
 use Rattle.pc_types.specs.Below as below
 use Rattle.pc_types.specs.Assignable.{IsPlain, ArePlain, Fills, FillsEach, Assignable}
 use Rattle.pc_types.specs.Assignable as fill
-use Rattle.pc_types.proofs.Meets.{Meets, EachMeets, m_from_any, m_to_any, m_never, m_object, m_int, m_bool, m_bool_int, m_str, m_none, m_class, m_list, m_dict, m_tuple, m_both, m_left, m_right, m_end, m_more}
+use Rattle.pc_types.proofs.Meets.{Meets, EachMeets, m_from_any, m_to_any, m_never, m_object, m_int, m_bool, m_bool_int}
+use Rattle.pc_types.proofs.Meets.{m_str, m_none, m_class, m_list, m_dict, m_tuple, m_both, m_left, m_right, m_end}
+use Rattle.pc_types.proofs.Meets.{m_more}
 use Rattle.pc_types.specs.Shape.{count}
 use Rattle.pc_types.specs.Normal.{IsNormal, AreNormal}
 use Rattle.pc_types.proofs.Lookup.{find, Agrees, normal_agrees, IsNotAny, any_or_not, member_not_any, after_not_any}
@@ -100,16 +103,20 @@ mutual
 
 -- what is to be shown of two types, which stand as members in two others
 abbrev Claim : Bases → Tree → Tree → Type 0
-Claim bases s t = (s' t' : Tree) → IsNotAny s → IsNotAny t → Agrees s s' → Agrees t t' → Below bases (merge s t') (merge t s')
+Claim bases s t = (s' t' : Tree) → IsNotAny s → IsNotAny t → Agrees s s' → Agrees t t'
+    → Below bases (merge s t') (merge t s')
 
 whole : (bases : Bases) (s t : Tree) → IsNormal s → IsNormal t → Claim bases s t → Below bases (merge s t) (merge t s)
-whole bases s t m n c = ⊎_elim from_any (λ x. ⊎_elim to_any (λ y. c s t x y (normal_agrees s m) (normal_agrees t n)) (any_or_not t)) (any_or_not s)
+whole bases s t m n c = ⊎_elim from_any (λ x. ⊎_elim to_any (λ y. c s t x y (normal_agrees s m) (normal_agrees t n))
+    (any_or_not t)) (any_or_not s)
   where
     from_any : s ≡ Any → Below bases (merge s t) (merge t s)
-    from_any e = subst (λ x. Below bases (merge x t) (merge t x)) (sym e) (subst (Below bases (erase t)) (sym (merge_any t)) below.same)
+    from_any e = subst (λ x. Below bases (merge x t) (merge t x)) (sym e)
+        (subst (Below bases (erase t)) (sym (merge_any t)) below.same)
 
     to_any : t ≡ Any → Below bases (merge s t) (merge t s)
-    to_any e = subst (λ x. Below bases (merge s x) (merge x s)) (sym e) (subst (λ x. Below bases x (erase s)) (sym (merge_any s)) below.same)
+    to_any e = subst (λ x. Below bases (merge s x) (merge x s)) (sym e)
+        (subst (λ x. Below bases x (erase s)) (sym (merge_any s)) below.same)
 
 pub same_count : {bases : Bases} {ss ts : Trees} → EachMeets bases ss ts → count ss ≡ count ts
 same_count m_end = refl
@@ -131,23 +138,31 @@ mutual
       subst₂ (λ u v. Below bases (ListOf (merge a (item_in u))) (ListOf (merge b (item_in v)))) (sym f) (sym e)
       (below.list (whole bases a b m n (claim p m n)) (whole bases b a n m (claim q n m)))
   claim {bases} (m_dict {j = j} {k = k} {v = v} {w = w} p q r o) m n s' t' x y e f =
-      subst₂ (λ a b. Below bases (DictOf (merge j (key_in a)) (merge v (value_in a))) (DictOf (merge k (key_in b)) (merge w (value_in b)))) (sym f) (sym e)
-      (below.dict (whole bases j k m.1 n.1 (claim p m.1 n.1)) (whole bases k j n.1 m.1 (claim q n.1 m.1)) (whole bases v w m.2 n.2 (claim r m.2 n.2)) (whole bases w v n.2 m.2 (claim o n.2 m.2)))
+      subst₂ (λ a b. Below bases (DictOf (merge j (key_in a)) (merge v (value_in a)))
+      (DictOf (merge k (key_in b)) (merge w (value_in b)))) (sym f) (sym e)
+      (below.dict (whole bases j k m.1 n.1 (claim p m.1 n.1)) (whole bases k j n.1 m.1 (claim q n.1 m.1))
+      (whole bases v w m.2 n.2 (claim r m.2 n.2)) (whole bases w v n.2 m.2 (claim o n.2 m.2)))
   claim {bases} (m_tuple {ss = ss} {ts = ts} p) m n s' t' x y e f =
       let c = same_count p in
       subst₂ (λ a b. Below bases (TupleOf (merge_each ss (parts_in a))) (TupleOf (merge_each ts (parts_in b))))
       (sym (ap (λ k. find (7, k) t') c ∙ f)) (sym (ap (λ k. find (7, k) s') (sym c) ∙ e))
       (below.tuple (each_claim p m n))
   claim (m_both {a = a} {b = b} p q) m n s' t' x y e f =
-      below.both (claim p m.1 n s' t' (member_not_any a m.0) y e.0 f) (claim q m.2 n s' t' (after_not_any a b m.3) y e.1 f)
-  claim (m_left {a = a} p) m n s' t' x y e f = below.through (claim p m n.1 s' t' x (member_not_any a n.0) e f.0) below.left
-  claim (m_right {a = a} {b = b} p) m n s' t' x y e f = below.through (claim p m n.2 s' t' x (after_not_any a b n.3) e f.1) below.right
+      below.both (claim p m.1 n s' t' (member_not_any a m.0) y e.0 f)
+      (claim q m.2 n s' t' (after_not_any a b m.3) y e.1 f)
+  claim (m_left {a = a} p) m n s' t' x y e f = below.through (claim p m n.1 s' t' x (member_not_any a n.0) e f.0)
+      below.left
+  claim (m_right {a = a} {b = b} p) m n s' t' x y e f = below.through
+      (claim p m n.2 s' t' x (after_not_any a b n.3) e f.1) below.right
 
-  each_claim : {bases : Bases} {ss ts : Trees} → EachMeets bases ss ts → AreNormal ss → AreNormal ts → EachBelow bases (merge_each ss ts) (merge_each ts ss)
+  each_claim : {bases : Bases} {ss ts : Trees} → EachMeets bases ss ts → AreNormal ss → AreNormal ts
+      → EachBelow bases (merge_each ss ts) (merge_each ts ss)
   each_claim m_end m n = below.none
-  each_claim {bases} (m_more {s = s} {t = t} p ps) m n = below.one (whole bases s t m.0 n.0 (claim p m.0 n.0)) (each_claim ps m.1 n.1)
+  each_claim {bases} (m_more {s = s} {t = t} p ps) m n = below.one (whole bases s t m.0 n.0 (claim p m.0 n.0))
+      (each_claim ps m.1 n.1)
 
-pub assignable_from_meets : {bases : Bases} {s t : Tree} → Meets bases s t → IsNormal s → IsNormal t → Assignable bases s t
+pub assignable_from_meets : {bases : Bases} {s t : Tree} → Meets bases s t → IsNormal s → IsNormal t
+    → Assignable bases s t
 assignable_from_meets {bases} {s} {t} p m n = record {
   filled_left = merge s t;
   filled_right = merge t s;

@@ -11,7 +11,8 @@ pub is_no : {X : Type 0} {r : Test} → r ≡ false → (IsTrue r ↔ X) → X �
 is_no f i x = true≢false (sym (i.1 x) ∙ f)
 
 -- both: the first test passed, and the second decides
-pub both_second : {X Y Z : Type 0} {r q : Test} → r ≡ true → (IsTrue r ↔ X) → (IsTrue q ↔ Y) → (Z → X × Y) → (X → Y → Z) → IsTrue q ↔ Z
+pub both_second : {X Y Z : Type 0} {r q : Test} → r ≡ true → (IsTrue r ↔ X) → (IsTrue q ↔ Y) → (Z → X × Y) → (X → Y → Z)
+    → IsTrue q ↔ Z
 both_second t i j f g = (λ h. g (i.0 t) (j.0 h), λ z. j.1 (f z).1)
 
 -- both: the first test failed
@@ -23,7 +24,8 @@ pub either_first : {X Z : Type 0} {r : Test} → r ≡ true → (IsTrue r ↔ X)
 either_first t i g = (λ h. g (i.0 h), λ z. t)
 
 -- either: the first test failed, and the second decides
-pub either_second : {X Y Z : Type 0} {r q : Test} → r ≡ false → (IsTrue r ↔ X) → (IsTrue q ↔ Y) → (Z → X ⊎ Y) → (Y → Z) → IsTrue q ↔ Z
+pub either_second : {X Y Z : Type 0} {r q : Test} → r ≡ false → (IsTrue r ↔ X) → (IsTrue q ↔ Y) → (Z → X ⊎ Y) → (Y → Z)
+    → IsTrue q ↔ Z
 either_second f i j s g = (λ h. g (j.0 h), λ z. ⊎_elim (λ x. absurd (is_no f i x)) j.1 (s z))
 
 -- the same fact said otherwise

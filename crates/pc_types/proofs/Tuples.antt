@@ -1,5 +1,6 @@
 -- The parts of a tuple type, as the items of its vector.
-use Rattle.std.proofs.Common.{◌≡◌, ℕ, zero, suc, ◌+◌, ◌<◌, length, get_or, map, Bool as Test, true, false, ◌&&◌, List, [], ◌∷◌, Vec, Global, refl, ap, ◌∙◌, subst₂, arith}
+use Rattle.std.proofs.Common.{◌≡◌, ℕ, zero, suc, ◌+◌, ◌<◌, length, get_or, map, Bool as Test, true, false, ◌&&◌, List}
+use Rattle.std.proofs.Common.{[], ◌∷◌, Vec, Global, refl, ap, ◌∙◌, subst₂, arith}
 use Rattle.std.specs.List.{AllZip}
 use mathlib.Core.Former.{Count}
 use Rattle.pc_types.specs.Tree.{Tree, Trees, TupleOf, more}
@@ -8,7 +9,8 @@ use Rattle.pc_types.specs.Shape.{count, trees}
 use Rattle.pc_types.specs.Internal.HeadFlow.{FlowsBack, EachFlow, w_end, w_more, seen, seen_each}
 use Rattle.pc_types.specs.Join.{same_tree, same_trees}
 use Rattle.pc_types.specs.Boxed.{tree_of, trees_of, trees_in}
-use Rattle.pc_types.specs.declared.boxed.BoxType.{BoxType, Row_of-BoxType, end_of-BoxType, more_of-BoxType, items-the_row-BoxType, items_hidden-the_row-BoxType-0}
+use Rattle.pc_types.specs.declared.boxed.BoxType.{BoxType, Row_of-BoxType, end_of-BoxType, more_of-BoxType}
+use Rattle.pc_types.specs.declared.boxed.BoxType.{items-the_row-BoxType, items_hidden-the_row-BoxType-0}
 use Rattle.pc_types.specs.declared.boxed.BoxType.TheVariants as ty
 
 trees_row : (n : _) (row : Row_of-BoxType n) → trees_of row ≡ trees (map tree_of (items-the_row-BoxType n row))
@@ -22,7 +24,8 @@ row_in _ = (_, end_of-BoxType)
 -- a tuple in boxes means the tuple of what its items mean
 pub tuple_tree : (v : Vec BoxType Global) → tree_of (ty.Tuple v) ≡ TupleOf (trees_in v.items)
 tuple_tree v =
-    let r = row_in (ty.Tuple v) in ap TupleOf (trees_row r.0 r.1) ∙ ap (λ l. TupleOf (trees_in l)) (items_hidden-the_row-BoxType-0 v)
+    let r = row_in (ty.Tuple v) in ap TupleOf (trees_row r.0 r.1)
+    ∙ ap (λ l. TupleOf (trees_in l)) (items_hidden-the_row-BoxType-0 v)
 
 pub count_seen : (g : Test) (ts : Trees) → count (seen_each g ts) ≡ count ts
 count_seen g Rattle.pc_types.specs.Tree.end = refl
@@ -37,13 +40,15 @@ module _ (bases : Bases) (g both : Test) where
   abbrev pub PartFlows : BoxType → BoxType → Type 0
   PartFlows s t = FlowsBack bases both (seen g (tree_of s)) (seen g (tree_of t))
 
-  pub each_zip : (xs ys : List BoxType) → EachFlow bases both (seen_each g (trees_in xs)) (seen_each g (trees_in ys)) → AllZip PartFlows xs ys
+  pub each_zip : (xs ys : List BoxType) → EachFlow bases both (seen_each g (trees_in xs)) (seen_each g (trees_in ys))
+      → AllZip PartFlows xs ys
   each_zip [] [] h = tt
   each_zip [] (y ∷ ys) h = elim h [ ]
   each_zip (x ∷ xs) [] h = elim h [ ]
   each_zip (x ∷ xs) (y ∷ ys) (w_more f c fs) = ((f, c), each_zip xs ys fs)
 
-  pub zip_each : (xs ys : List BoxType) → AllZip PartFlows xs ys → EachFlow bases both (seen_each g (trees_in xs)) (seen_each g (trees_in ys))
+  pub zip_each : (xs ys : List BoxType) → AllZip PartFlows xs ys → EachFlow bases both (seen_each g (trees_in xs))
+      (seen_each g (trees_in ys))
   zip_each [] [] h = w_end
   zip_each [] (y ∷ ys) h = absurd h
   zip_each (x ∷ xs) [] h = absurd h
@@ -56,7 +61,11 @@ module _ (bases : Bases) (g both : Test) where
   zip_from [] [] e h = tt
   zip_from [] (y ∷ ys) e h = absurd (omega arith)
   zip_from (x ∷ xs) [] e h = absurd (omega arith)
-  zip_from (x ∷ xs) (y ∷ ys) e h = (h 0 x y (omega arith), zip_from xs ys (omega arith) (λ k a b l. h (suc k) a b (omega arith)))
+  zip_from (x ∷ xs) (y ∷ ys) e h = (
+    h 0 x y (omega arith),
+    zip_from xs ys (omega arith)
+        (λ k a b l. h (suc k) a b (omega arith)),
+  )
 
 -- so does one that a match found to be a tuple
 pub tuple_is : (t : BoxType) (v : Vec BoxType Global) → t ≡ ty.Tuple v → tree_of t ≡ TupleOf (trees_in v.items)
@@ -76,12 +85,15 @@ same_zip [] (y ∷ ys) e = cc
 same_zip (x ∷ xs) [] e = cc
 same_zip (x ∷ xs) (y ∷ ys) e = let r = both_true _ _ e in (r.0, same_zip xs ys r.1)
 
-pub zip_same : (xs ys : List BoxType) → length xs ≡ length ys → ((k : ℕ) → k < length xs → (d e : BoxType) → AreEqual (get_or xs k d) (get_or ys k e)) → same_trees (trees_in xs) (trees_in ys) ≡ true
+pub zip_same : (xs ys : List BoxType) → length xs ≡ length ys
+    → ((k : ℕ) → k < length xs → (d e : BoxType) → AreEqual (get_or xs k d) (get_or ys k e))
+    → same_trees (trees_in xs) (trees_in ys) ≡ true
 zip_same [] [] e h = refl
 zip_same [] (y ∷ ys) e h = absurd (omega arith)
 zip_same (x ∷ xs) [] e h = absurd (omega arith)
 zip_same (x ∷ xs) (y ∷ ys) e h =
-    ap (λ b. b && same_trees (trees_in xs) (trees_in ys)) (h 0 (omega arith) x y) ∙ zip_same xs ys (omega arith) (λ k l. h (suc k) (omega arith))
+    ap (λ b. b && same_trees (trees_in xs) (trees_in ys)) (h 0 (omega arith) x y)
+    ∙ zip_same xs ys (omega arith) (λ k l. h (suc k) (omega arith))
 
 -- a test that is not passed fails
 pub not_true : (x : Test) → (x ≡ true → ⊥) → false ≡ x
@@ -94,5 +106,7 @@ same_default (x ∷ xs) zero d e h = refl
 same_default (x ∷ xs) (suc i) d e h = same_default xs i d e (omega arith)
 
 -- what holds of two items that were read holds at their index
-pub at_index : (P : BoxType → BoxType → Type 0) (xs ys : List BoxType) (i : ℕ) (x y : BoxType) → i < length xs → i < length ys → x ≡ get_or xs i x → y ≡ get_or ys i y → P x y → (d e : BoxType) → P (get_or xs i d) (get_or ys i e)
+pub at_index : (P : BoxType → BoxType → Type 0) (xs ys : List BoxType) (i : ℕ) (x y : BoxType) → i < length xs
+    → i < length ys → x ≡ get_or xs i x → y ≡ get_or ys i y → P x y → (d e : BoxType)
+    → P (get_or xs i d) (get_or ys i e)
 at_index P xs ys i x y h k f g p d e = subst₂ P (f ∙ same_default xs i x d h) (g ∙ same_default ys i y e k) p

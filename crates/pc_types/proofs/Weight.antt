@@ -1,10 +1,12 @@
 -- A measure of types and of slices of types, for recursions that go from a type to its parts.
-use Rattle.std.proofs.Common.{◌≡◌, ℕ, zero, suc, ◌+◌, ◌<◌, ◌≤◌, length, List, [], ◌∷◌, get_or, arith, Vec, Global, refl, sym, ap, subst, ◌∙◌}
+use Rattle.std.proofs.Common.{◌≡◌, ℕ, zero, suc, ◌+◌, ◌<◌, ◌≤◌, length, List, [], ◌∷◌, get_or, arith, Vec, Global, refl}
+use Rattle.std.proofs.Common.{sym, ap, subst, ◌∙◌}
 use mathlib.Core.Former.{Count}
 use Rattle.pc_types.specs.Tree.{Tree, Trees, Never, ListOf, DictOf, TupleOf, Union, end, more}
 use Rattle.pc_types.specs.Join.{IsSplit, parts_of}
 use Rattle.pc_types.specs.Boxed.{tree_of, trees_in}
-use Rattle.pc_types.specs.declared.boxed.BoxType.{BoxType, Row_of-BoxType, end_of-BoxType, more_of-BoxType, items-the_row-BoxType, items_hidden-the_row-BoxType-0}
+use Rattle.pc_types.specs.declared.boxed.BoxType.{BoxType, Row_of-BoxType, end_of-BoxType, more_of-BoxType}
+use Rattle.pc_types.specs.declared.boxed.BoxType.{items-the_row-BoxType, items_hidden-the_row-BoxType-0}
 use Rattle.pc_types.specs.declared.boxed.BoxType.TheVariants as ty
 
 abbrev mutual
@@ -34,7 +36,8 @@ row_in _ = (_, end_of-BoxType)
 -- a tuple weighs one more than its parts
 pub weight_tuple : (t : BoxType) (v : Vec BoxType Global) → t ≡ ty.Tuple v → weight t ≡ 1 + weights v.items
 weight_tuple t v e =
-    let r = row_in (ty.Tuple v) in ap weight e ∙ ap (λ k. 1 + k) (row_weight r.0 r.1) ∙ ap (λ l. 1 + weights l) (items_hidden-the_row-BoxType-0 v)
+    let r = row_in (ty.Tuple v) in ap weight e ∙ ap (λ k. 1 + k) (row_weight r.0 r.1)
+    ∙ ap (λ l. 1 + weights l) (items_hidden-the_row-BoxType-0 v)
 
 -- a part of a slice weighs no more than the slice
 pub weight_item : (ts : List BoxType) (k : ℕ) (x : BoxType) → k < length ts → x ≡ get_or ts k x → weight x ≤ weights ts
@@ -59,14 +62,16 @@ abbrev mutual
   trees_weight end = 0
   trees_weight (more t ts) = tree_weight t + trees_weight ts
 
-split_single : (t a rest : Tree) → 0 < tree_weight t → (a ≡ t) × (rest ≡ Never) → (tree_weight rest < tree_weight t) × (tree_weight a ≤ tree_weight t)
+split_single : (t a rest : Tree) → 0 < tree_weight t → (a ≡ t) × (rest ≡ Never) → (tree_weight rest < tree_weight t)
+    × (tree_weight a ≤ tree_weight t)
 split_single t a rest h e =
     let f : tree_weight a ≡ tree_weight t = ap tree_weight e.0 in
     let g : tree_weight rest ≡ 0 = ap tree_weight e.1 in
     (omega arith, omega arith)
 
 -- the other members of a type weigh less than the type, and the first one no more
-pub split_weight : (t a rest : Tree) → IsSplit t a rest → (tree_weight rest < tree_weight t) × (tree_weight a ≤ tree_weight t)
+pub split_weight : (t a rest : Tree) → IsSplit t a rest → (tree_weight rest < tree_weight t)
+    × (tree_weight a ≤ tree_weight t)
 split_weight Never a rest e = absurd e
 split_weight (Union c d) a rest e =
     let f : tree_weight a ≡ tree_weight c = ap tree_weight e.0 in
@@ -86,10 +91,12 @@ parts_weight (Union a b) = omega arith
 parts_weight _ = omega arith
 
 -- a part of several types weighs no more than they
-pub tree_weight_item : (ts : List BoxType) (k : ℕ) (x : BoxType) → k < length ts → x ≡ get_or ts k x → tree_weight (tree_of x) ≤ trees_weight (trees_in ts)
+pub tree_weight_item : (ts : List BoxType) (k : ℕ) (x : BoxType) → k < length ts → x ≡ get_or ts k x
+    → tree_weight (tree_of x) ≤ trees_weight (trees_in ts)
 tree_weight_item ts k x h e = subst (λ y. tree_weight (tree_of y) ≤ trees_weight (trees_in ts)) (sym e) (go ts k x h)
   where
-    go : (ts : List BoxType) (k : ℕ) (d : BoxType) → k < length ts → tree_weight (tree_of (get_or ts k d)) ≤ trees_weight (trees_in ts)
+    go : (ts : List BoxType) (k : ℕ) (d : BoxType) → k < length ts → tree_weight (tree_of (get_or ts k d)) ≤
+        trees_weight (trees_in ts)
     go [] k d h = absurd (omega arith)
     go (t ∷ ts) zero d h = omega arith
     go (t ∷ ts) (suc k) d h = omega (arith, go ts k d (omega arith))

@@ -1,5 +1,6 @@
 -- Lists of the program against lists of the model.
-use Rattle.std.proofs.Common.{◌≡◌, ℕ, zero, suc, ◌-◌, ◌<◌, ◌≤◌, List, [], ◌∷◌, ◌++◌, map, length, get_or, take, refl, sym, ap, ◌∙◌, arith}
+use Rattle.std.proofs.Common.{◌≡◌, ℕ, zero, suc, ◌-◌, ◌<◌, ◌≤◌, List, [], ◌∷◌, ◌++◌, map, length, get_or, take, refl}
+use Rattle.std.proofs.Common.{sym, ap, ◌∙◌, arith}
 use Rattle.std.specs.Prelude.{slice_set, slice_get, Option, Some, None, Result, Ok, Err, OnOk, OnErr}
 use Rattle.pc_value.specs.declared.value.Value.{Value as RustValue}
 use Rattle.pc_value.specs.declared.value.Cell.{Cell as RustCell}
@@ -9,7 +10,8 @@ use Rattle.pc_value.specs.Meaning.{value_of, cell_of}
 use Rattle.pc_value.specs.Containers.{last_of}
 use Rattle.pc_value.specs.Internal.Changes.{Change, change_result, changed_at, heap_changed, pop_result}
 
-pub map_set : {A B : Type 0} (f : A → B) (xs : List A) (i : ℕ) (v : A) → map f (slice_set xs i v) ≡ slice_set (map f xs) i (f v)
+pub map_set : {A B : Type 0} (f : A → B) (xs : List A) (i : ℕ) (v : A) → map f (slice_set xs i v) ≡ slice_set (map f xs)
+    i (f v)
 map_set f [] i v = refl
 map_set f (x ∷ xs) zero v = refl
 map_set f (x ∷ xs) (suc i) v = ap (λ ys. f x ∷ ys) (map_set f xs i v)
@@ -19,7 +21,8 @@ set_past [] i v h = refl
 set_past (x ∷ xs) zero v h = absurd (omega arith)
 set_past (x ∷ xs) (suc i) v h = ap (λ ys. x ∷ ys) (set_past xs i v (omega arith))
 
-pub get_map : {A B : Type 0} (f : A → B) (xs : List A) (i : ℕ) (d : A) → i < length xs → slice_get (map f xs) i ≡ Some (f (get_or xs i d))
+pub get_map : {A B : Type 0} (f : A → B) (xs : List A) (i : ℕ) (d : A) → i < length xs
+    → slice_get (map f xs) i ≡ Some (f (get_or xs i d))
 get_map f [] i d h = absurd (omega arith)
 get_map f (x ∷ xs) zero d h = refl
 get_map f (x ∷ xs) (suc i) d h = get_map f xs i d (omega arith)
@@ -51,22 +54,39 @@ one_less : {A B : Type 0} (f : A → B) (xs : List A) (v : A) → length (map f 
 one_less f xs v = let e = count_of f xs v in omega arith
 
 -- what a list is after it lost its last item
-pub pop_after : (xs rest : List RustValue) (v : RustValue) → xs ≡ rest ++ v ∷ [] → list_cell (map value_of rest) ≡ (pop_result (map value_of xs) (last_of (map value_of xs))).cell
-pop_after xs rest v e = rw (e, one_less value_of rest v, last_at value_of rest v, one_less value_of rest v, front_of value_of rest v) refl
+pub pop_after : (xs rest : List RustValue) (v : RustValue) → xs ≡ rest ++ v ∷ [] → list_cell (map value_of rest)
+    ≡ (pop_result (map value_of xs) (last_of (map value_of xs))).cell
+pop_after xs rest v e = rw (
+  e,
+  one_less value_of rest v,
+  last_at value_of rest v,
+  one_less value_of rest v,
+  front_of value_of rest v,
+) refl
 
 -- a change at a location, and none
-pub change_there : (cells : List RustCell) (place : ℕ) (old new : RustCell) (change : Change) → place < length cells → old ≡ get_or cells place old → cell_of new ≡ (change_result change (cell_of old)).cell → map cell_of (slice_set cells place new) ≡ (heap_changed (map cell_of cells) place change).heap
+pub change_there : (cells : List RustCell) (place : ℕ) (old new : RustCell) (change : Change) → place < length cells
+    → old ≡ get_or cells place old → cell_of new ≡ (change_result change (cell_of old)).cell
+    → map cell_of (slice_set cells place new) ≡ (heap_changed (map cell_of cells) place change).heap
 change_there cells place old new change lt is e =
-    let there : slice_get (map cell_of cells) place ≡ Some (cell_of old) = get_map cell_of cells place old lt ∙ ap (λ (c : RustCell). Some (cell_of c)) (sym is) in
-    map_set cell_of cells place new ∙ ap (λ (c : Cell). slice_set (map cell_of cells) place c) e ∙ ap (λ (o : Option Cell). (changed_at (map cell_of cells) place change o).heap) (sym there)
+    let there : slice_get (map cell_of cells) place ≡ Some (cell_of old) = get_map cell_of cells place old lt
+    ∙ ap (λ (c : RustCell). Some (cell_of c)) (sym is) in
+    map_set cell_of cells place new ∙ ap (λ (c : Cell). slice_set (map cell_of cells) place c) e
+    ∙ ap (λ (o : Option Cell). (changed_at (map cell_of cells) place change o).heap) (sym there)
 
-pub same_there : (cells : List RustCell) (place : ℕ) (old new : RustCell) → place < length cells → old ≡ get_or cells place old → cell_of new ≡ cell_of old → map cell_of (slice_set cells place new) ≡ map cell_of cells
+pub same_there : (cells : List RustCell) (place : ℕ) (old new : RustCell) → place < length cells
+    → old ≡ get_or cells place old → cell_of new ≡ cell_of old → map cell_of (slice_set cells place new) ≡ map cell_of
+    cells
 same_there cells place old new lt is e =
-    let there : slice_get (map cell_of cells) place ≡ Some (cell_of old) = get_map cell_of cells place old lt ∙ ap (λ (c : RustCell). Some (cell_of c)) (sym is) in
-    map_set cell_of cells place new ∙ ap (λ (c : Cell). slice_set (map cell_of cells) place c) e ∙ set_same (map cell_of cells) place (cell_of old) there
+    let there : slice_get (map cell_of cells) place ≡ Some (cell_of old) = get_map cell_of cells place old lt
+    ∙ ap (λ (c : RustCell). Some (cell_of c)) (sym is) in
+    map_set cell_of cells place new ∙ ap (λ (c : Cell). slice_set (map cell_of cells) place c) e
+    ∙ set_same (map cell_of cells) place (cell_of old) there
 
-pub nothing_there : (cells : List RustCell) (place : ℕ) (change : Change) → length cells ≤ place → stops Outside ≡ (heap_changed (map cell_of cells) place change).outcome
-nothing_there cells place change h = ap (λ (o : Option Cell). (changed_at (map cell_of cells) place change o).outcome) (sym (get_past cell_of cells place h))
+pub nothing_there : (cells : List RustCell) (place : ℕ) (change : Change) → length cells ≤ place
+    → stops Outside ≡ (heap_changed (map cell_of cells) place change).outcome
+nothing_there cells place change h = ap (λ (o : Option Cell). (changed_at (map cell_of cells) place change o).outcome)
+    (sym (get_past cell_of cells place h))
 
 -- a fact of an Ok or an Err gives another one
 pub on_ok : {A E P Q : Type 0} (r : Result A E) → (P → Q) → OnOk r P → OnOk r Q

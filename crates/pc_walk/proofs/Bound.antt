@@ -87,7 +87,10 @@ module _ {Store Ty : Type 0} (has : Store → Ty → Type 0) (tree : Ty → Tree
       (slice_set (env_of tree types) x (Some (tree d)))
   set_gives types x d h k = let a = assigned_gives has tree store types x d (env_of tree types) h.given
       (record { given = k.given; is = refl }) in record {
-        holds = record { given = a.given; well_formed = set_well_formed tree bases types x d h.well_formed k.well_formed };
+        holds = record {
+          given = a.given;
+          well_formed = set_well_formed tree bases types x d h.well_formed k.well_formed;
+        };
         is = a.is;
       }
 

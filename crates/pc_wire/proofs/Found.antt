@@ -1,5 +1,6 @@
 -- What was found of a message, from its header and its bytes.
-use Rattle.std.proofs.Common.{◌≡◌, ℕ, ◌<◌, ◌≤◌, List, ◌++◌, length, take, length-append, sym, ap, subst, ◌∙◌, inl, inr, refl, true, false, below_more, arith}
+use Rattle.std.proofs.Common.{◌≡◌, ℕ, ◌<◌, ◌≤◌, List, ◌++◌, length, take, length-append, sym, ap, subst, ◌∙◌, inl, inr}
+use Rattle.std.proofs.Common.{refl, true, false, below_more, arith}
 use Rattle.std.specs.Prelude.{Option, Ok, ◌+◌, Bool}
 use Rattle.pc_source.specs.Devices.{failures_after}
 use Rattle.std.proofs.KnownBytes.{Consumes-trans}
@@ -22,13 +23,18 @@ unended_more header more one here before k lt =
     let all : take (length header) header ≡ header = take_all (length header) header (omega arith) in
     let near : k < length header + 1 = omega (arith, length-append header more) in
     let within : k ≤ length header = omega arith in
-    let known : ends_header (take k header) ≡ false = below_more P (length header) before (ap ends_header all ∙ here) k near in
+    let known : ends_header (take k header) ≡ false = below_more P (length header) before (ap ends_header all ∙ here) k
+    near in
     ap ends_header (take-append-le k header more within) ∙ known
 
 module _ {D : Type 0} (remaining : D → Option (List ℕ)) where
   gives_trans : (xs ys : List ℕ) (old mid new : Counted D) → Gives remaining xs old mid → Gives remaining ys mid new
       → Gives remaining (xs ++ ys) old new
-  gives_trans xs ys old mid new a b = (Consumes-trans (remaining old.device) (remaining mid.device) (remaining new.device) xs ys a.0 b.0, b.1 ∙ a.1)
+  gives_trans xs ys old mid new a b = (
+    Consumes-trans (remaining old.device) (remaining mid.device)
+        (remaining new.device) xs ys a.0 b.0,
+    b.1 ∙ a.1,
+  )
 
   pub header_broken : (bytes : List ℕ) (old new : Counted D) (fault : FrameFault)
       → OnHeaderFault remaining bytes old new fault → IsBroken remaining fault old new
@@ -49,12 +55,21 @@ module _ {D : Type 0} (remaining : D → Option (List ℕ)) where
       → Gives remaining header old mid → IsHeader header → length_in header ≡ Ok len
       → OnBodyFault remaining len part mid new fault → IsBroken remaining fault old new
   body_broken header part len old mid new OutOfMemory given is_header named h = absurd h
-  body_broken header part len old mid new Read given is_header named h = subst (λ (n : ℕ). new.failures ≡ failures_after true n) given.1 h
+  body_broken header part len old mid new Read given is_header named h =
+      subst (λ (n : ℕ). new.failures ≡ failures_after true n) given.1 h
   body_broken header part len old mid new Cut given is_header named h = (
     (
       header ++ part,
       gives_trans header part old mid new given h.0,
-      inr (record { header = header; part = part; named = len; is_header = is_header; names = named; less = h.1; spelled = refl }),
+      inr (record {
+        header = header;
+        part = part;
+        named = len;
+        is_header = is_header;
+        names = named;
+        less = h.1;
+        spelled = refl;
+      }),
     ),
     h.2,
   )

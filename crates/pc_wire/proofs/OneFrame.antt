@@ -1,5 +1,6 @@
 -- Bytes have one framed message at their front, and are one list of framed messages.
-use Rattle.std.proofs.Common.{◌≡◌, ℕ, ◌<◌, List, [], ◌∷◌, ◌++◌, length, take, sym, ap, ap₂, subst, ◌∙◌, inl, inr, false, refl, append_assoc, length-append, ◌+◌, arith}
+use Rattle.std.proofs.Common.{◌≡◌, ℕ, ◌<◌, List, [], ◌∷◌, ◌++◌, length, take, sym, ap, ap₂, subst, ◌∙◌, inl, inr, false}
+use Rattle.std.proofs.Common.{refl, append_assoc, length-append, ◌+◌, arith}
 use Rattle.std.specs.Prelude.{Ok, Result}
 use Rattle.std.specs.Result.{result_unwrap_or}
 use Rattle.std.proofs.Math.Seq.{take-append_seam}
@@ -14,16 +15,20 @@ no_front : (first other rest more : List ℕ) → first ++ rest ≡ other ++ mor
     → length first < length other → ⊥
 no_front first other rest more e f o lt =
     let front : take (length first) other ≡ first =
-    sym (take-append-le (length first) other more (omega arith)) ∙ (ap (λ (bs : List ℕ). take (length first) bs) (sym e) ∙ take-append_seam first rest) in
-    let none : ends_header first ≡ false = subst (λ (bs : List ℕ). ends_header bs ≡ false) front (o.first (length first) lt) in
+    sym (take-append-le (length first) other more (omega arith))
+    ∙ (ap (λ (bs : List ℕ). take (length first) bs) (sym e) ∙ take-append_seam first rest) in
+    let none : ends_header first ≡ false = subst (λ (bs : List ℕ). ends_header bs ≡ false) front
+    (o.first (length first) lt) in
     true≢false (sym f.ended ∙ none)
 
 -- fronts of the same bytes of the same length are the same
-same_front : (first other rest more : List ℕ) → first ++ rest ≡ other ++ more → length first ≡ length other → first ≡ other
+same_front : (first other rest more : List ℕ) → first ++ rest ≡ other ++ more → length first ≡ length other
+    → first ≡ other
 same_front first other rest more e same =
     sym (take-append_seam first rest) ∙ (ap₂ (λ (n : ℕ) (bs : List ℕ). take n bs) same e ∙ take-append_seam other more)
 
-same_header : (first other rest more : List ℕ) → first ++ rest ≡ other ++ more → IsHeader first → IsHeader other → first ≡ other
+same_header : (first other rest more : List ℕ) → first ++ rest ≡ other ++ more → IsHeader first → IsHeader other
+    → first ≡ other
 same_header first other rest more e f o =
     elim (cases_order (length first) (length other)) [
       | inl same ↦ same_front first other rest more e same
@@ -34,7 +39,8 @@ same_header first other rest more e f o =
     ]
 
 -- the messages of two framed messages with one header have one length
-same_length : (header message next : List ℕ) → length_in header ≡ Ok (length message) → length_in header ≡ Ok (length next)
+same_length : (header message next : List ℕ) → length_in header ≡ Ok (length message)
+    → length_in header ≡ Ok (length next)
     → length message ≡ length next
 same_length header message next a b = ap (λ (r : Result ℕ HeaderFault). result_unwrap_or r 0) (sym a ∙ b)
 
@@ -42,12 +48,17 @@ pub one_frame_of : (first other rest more message next : List ℕ) → first ++ 
     → IsFrame other next → (first ≡ other) × (message ≡ next)
 one_frame_of first other rest more message next e f o =
     let spelled : f.header ++ (message ++ rest) ≡ o.header ++ (next ++ more) =
-    sym (append_assoc f.header message rest) ∙ (ap (λ (bs : List ℕ). bs ++ rest) (sym f.spelled) ∙ (e ∙ (ap (λ (bs : List ℕ). bs ++ more) o.spelled ∙ append_assoc o.header next more))) in
-    let header : f.header ≡ o.header = same_header f.header o.header (message ++ rest) (next ++ more) spelled f.is_header o.is_header in
+    sym (append_assoc f.header message rest) ∙ (ap (λ (bs : List ℕ). bs ++ rest) (sym f.spelled)
+    ∙ (e ∙ (ap (λ (bs : List ℕ). bs ++ more) o.spelled ∙ append_assoc o.header next more))) in
+    let header : f.header ≡ o.header = same_header f.header o.header (message ++ rest) (next ++ more) spelled
+    f.is_header o.is_header in
     let bodies : message ++ rest ≡ next ++ more =
-    append_cancel_left o.header (message ++ rest) (next ++ more) (subst (λ (bs : List ℕ). bs ++ (message ++ rest) ≡ o.header ++ (next ++ more)) header spelled) in
-    let named : length_in o.header ≡ Ok (length message) = subst (λ (bs : List ℕ). length_in bs ≡ Ok (length message)) header f.named in
-    let same : message ≡ next = same_front message next rest more bodies (same_length o.header message next named o.named) in
+    append_cancel_left o.header (message ++ rest) (next ++ more)
+    (subst (λ (bs : List ℕ). bs ++ (message ++ rest) ≡ o.header ++ (next ++ more)) header spelled) in
+    let named : length_in o.header ≡ Ok (length message) = subst (λ (bs : List ℕ). length_in bs ≡ Ok (length message))
+    header f.named in
+    let same : message ≡ next = same_front message next rest more bodies
+    (same_length o.header message next named o.named) in
     (f.spelled ∙ (ap₂ (λ (bs : List ℕ) (cs : List ℕ). bs ++ cs) header same ∙ sym o.spelled), same)
 
 -- a framed message is not empty
@@ -55,7 +66,8 @@ some_bytes : (bytes message rest : List ℕ) → IsFrame bytes message → [] �
 some_bytes bytes message rest f e =
     let size : 0 ≡ length bytes + length rest = ap length e ∙ length-append bytes rest in
     let none : length bytes ≡ 0 = omega arith in
-    let of_header : length f.header + length message ≡ 0 = sym (length-append f.header message) ∙ (ap length (sym f.spelled) ∙ none) in
+    let of_header : length f.header + length message ≡ 0 = sym (length-append f.header message)
+    ∙ (ap length (sym f.spelled) ∙ none) in
     let no_header : length f.header ≡ 0 = omega arith in
     let ended : ends_header f.header ≡ false = ap ends_header (nil_from_length f.header no_header) in
     true≢false (sym f.is_header.ended ∙ ended)

@@ -1,5 +1,6 @@
 -- What the header of a message says. Language Server Protocol 3.17, "Header Part".
-use Rattle.std.specs.Prelude.{ℕ, ◌+◌, ◌-◌, ◌*◌, ◌^◌, Bool, ◌==◌, ◌||◌, ◌&&◌, List, [], ◌∷◌, length, take, drop, map, nat_lt}
+use Rattle.std.specs.Prelude.{ℕ, ◌+◌, ◌-◌, ◌*◌, ◌^◌, Bool, ◌==◌, ◌||◌, ◌&&◌, List, [], ◌∷◌, length, take, drop, map}
+use Rattle.std.specs.Prelude.{nat_lt}
 use Rattle.std.specs.Prelude.{codes, Option, None, Some, Result, Ok, Err, if◌then◌else◌, bytes_eq, option_and_then}
 use Rattle.std.specs.List.{slice_split, before_first, after_first, prefix_len, suffix_len, position_or_len}
 use Rattle.std.specs.Char.{to_ascii_lowercase, is_ascii_digit}
@@ -21,7 +22,8 @@ trimmed text = take (length (without_front text) - suffix_len is_blank (without_
 -- the number that a digit more makes of a number, if it is a digit and the number fits 64 bits
 abbrev pub with_digit : ℕ → ℕ → Option ℕ
 with_digit number byte =
-    if is_ascii_digit byte && nat_lt (number * 10 + (byte - 48)) (2 ^ 64) then Some (number * 10 + (byte - 48)) else None
+    if is_ascii_digit byte && nat_lt (number * 10 + (byte - 48)) (2 ^ 64) then Some (number * 10 + (byte - 48))
+    else None
 
 -- the same, where there is a number
 abbrev pub after_digit : Option ℕ → ℕ → Option ℕ

@@ -57,7 +57,8 @@ module _ (agreed : Agreed) (text : List ℕ) where
       (range_data agreed.encoding text finding.place.start finding.place.end)
       (severity_of agreed.dynamic_severity finding.code) (text_of finding.code) message
 
-  items_said : (items : List Item) → map (item_data agreed text) items ≡ map (said_data agreed text) (map said_by_item items)
+  items_said : (items : List Item) → map (item_data agreed text) items ≡ map (said_data agreed text)
+      (map said_by_item items)
   items_said [] = refl
   items_said (item ∷ items) =
       ap₂ (λ x xs. x ∷ xs) (ap (of_finding item.finding) (item_text item.finding.code item.flow)) (items_said items)

@@ -967,7 +967,8 @@ typing::label_binary-type_expr-requires-in-Binary g t c κs within = (
     (
       within.1,
       (
-        stands_kept (g.S.TypeStore.has _) (g.S.TypeStore.has _) c.type_expr.ensures.goes_on.kept g.S.TypeStore.tree c.args.setting.now
+        stands_kept (g.S.TypeStore.has _) (g.S.TypeStore.has _) c.type_expr.ensures.goes_on.kept g.S.TypeStore.tree
+            c.args.setting.now
             c.args.env.now c.requires.given,
         search rules,
       ),
@@ -984,7 +985,8 @@ typing::label_binary-type_expr-requires-in-Compare-2 g t c κs within = (
     (
       within.1,
       (
-        stands_kept (g.S.TypeStore.has _) (g.S.TypeStore.has _) c.type_expr-in-Compare.ensures.goes_on.kept g.S.TypeStore.tree c.args.setting.now
+        stands_kept (g.S.TypeStore.has _) (g.S.TypeStore.has _) c.type_expr-in-Compare.ensures.goes_on.kept
+            g.S.TypeStore.tree c.args.setting.now
             c.args.env.now c.requires.given,
         search rules,
       ),
@@ -1001,7 +1003,8 @@ typing::label_binary-type_expr-requires-in-Index-2 g t c κs within = (
     (
       within.1,
       (
-        stands_kept (g.S.TypeStore.has _) (g.S.TypeStore.has _) c.type_expr-in-Index.ensures.goes_on.kept g.S.TypeStore.tree c.args.setting.now
+        stands_kept (g.S.TypeStore.has _) (g.S.TypeStore.has _) c.type_expr-in-Index.ensures.goes_on.kept
+            g.S.TypeStore.tree c.args.setting.now
             c.args.env.now c.requires.given,
         search rules,
       ),
@@ -1018,7 +1021,8 @@ displays::type_entries-type_seated-requires-in-loop-entry g t c κs within = (
     (
       within.1,
       (
-        stands_kept (g.S.TypeStore.has _) (g.S.TypeStore.has _) c.type_seated.ensures.goes_on.kept g.S.TypeStore.tree c.args.setting.now
+        stands_kept (g.S.TypeStore.has _) (g.S.TypeStore.has _) c.type_seated.ensures.goes_on.kept g.S.TypeStore.tree
+            c.args.setting.now
             c.args.env.now c.loop-entry.invariant.given,
         search rules,
       ),
@@ -1035,7 +1039,8 @@ calls::type_tested-type_expr-requires-2 g t c κs within = (
     (
       within.1,
       (
-        stands_kept (g.S.TypeStore.has _) (g.S.TypeStore.has _) c.type_expr.ensures.goes_on.kept g.S.TypeStore.tree c.args.setting.now
+        stands_kept (g.S.TypeStore.has _) (g.S.TypeStore.has _) c.type_expr.ensures.goes_on.kept g.S.TypeStore.tree
+            c.args.setting.now
             c.args.env.now c.requires.given,
         search rules,
       ),
@@ -1045,8 +1050,10 @@ calls::type_tested-type_expr-requires-2 g t c κs within = (
 
 pub calls::label_called-type_arguments-requires : goal.calls::label_called-type_arguments-requires
 calls::label_called-type_arguments-requires g t c κs within =
-    let offers : All (HasCallOffer (g.S.TypeStore.has c.label_callee.new.checker.store.now)) c.deref-in-Call-8.result.now =
-    subst (All (HasCallOffer (g.S.TypeStore.has c.label_callee.new.checker.store.now))) (sym c.deref-in-Call-8.ensures.value)
+    let offers : All (HasCallOffer (g.S.TypeStore.has c.label_callee.new.checker.store.now))
+    c.deref-in-Call-8.result.now =
+    subst (All (HasCallOffer (g.S.TypeStore.has c.label_callee.new.checker.store.now)))
+    (sym c.deref-in-Call-8.ensures.value)
     c.in_ok-called-in-Call.ensures.called.held in
     let two : c.is_test-is_test.result ≡ true → length c.deref-in-Call-9.result.now ≡ 2 =
     λ h. ap length (c.deref-in-Call-9.ensures.value ∙ sym c.deref-in-Call-6.ensures.value)
@@ -1057,7 +1064,8 @@ calls::label_called-type_arguments-requires g t c κs within =
         (
           within.1,
           (
-            stands_kept (g.S.TypeStore.has _) (g.S.TypeStore.has _) c.label_callee.ensures.goes_on.kept g.S.TypeStore.tree
+            stands_kept (g.S.TypeStore.has _) (g.S.TypeStore.has _) c.label_callee.ensures.goes_on.kept
+                g.S.TypeStore.tree
                 c.args.setting.now c.args.env.now c.requires.given,
             (offers, two),
           ),
@@ -1067,8 +1075,10 @@ calls::label_called-type_arguments-requires g t c κs within =
 
 pub calls::label_called-type_keywords-requires : goal.calls::label_called-type_keywords-requires
 calls::label_called-type_keywords-requires g t c κs within =
-    let offers : All (HasCallOffer (g.S.TypeStore.has c.type_arguments.new.checker.store.now)) c.deref-in-Call-10.result.now =
-    subst (All (HasCallOffer (g.S.TypeStore.has c.type_arguments.new.checker.store.now))) (sym c.deref-in-Call-10.ensures.value)
+    let offers : All (HasCallOffer (g.S.TypeStore.has c.type_arguments.new.checker.store.now))
+    c.deref-in-Call-10.result.now =
+    subst (All (HasCallOffer (g.S.TypeStore.has c.type_arguments.new.checker.store.now)))
+    (sym c.deref-in-Call-10.ensures.value)
     (offers_kept g.S.TypeStore.has _ _ c.type_arguments.ensures.goes_on.kept c.in_ok-called-in-Call.called.offers.items
     c.in_ok-called-in-Call.ensures.called.held) in (
       first_of (search (rules, the_lemmas), grind (the_lemmas, arith)),
@@ -1077,7 +1087,8 @@ calls::label_called-type_keywords-requires g t c κs within =
         (
           within.1,
           (
-            stands_kept (g.S.TypeStore.has _) (g.S.TypeStore.has _) (keeps_both g.S.TypeStore.has _ _ _ c.label_callee.ensures.goes_on.kept
+            stands_kept (g.S.TypeStore.has _) (g.S.TypeStore.has _)
+                (keeps_both g.S.TypeStore.has _ _ _ c.label_callee.ensures.goes_on.kept
                 c.type_arguments.ensures.goes_on.kept) g.S.TypeStore.tree c.args.setting.now c.args.env.now
                 c.requires.given,
             offers,

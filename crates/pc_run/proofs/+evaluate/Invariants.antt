@@ -110,37 +110,48 @@ decreases-loops::run_for l = 16 * l.machine.now.fuel + 1
 abbrev pub invariant-evaluate::eval_all-loop-item : goal.invariant-evaluate::eval_all-loop-item
 invariant-evaluate::eval_all-loop-item l = record {
   fuel : l.machine.fuel ≤ l.fn.machine.fuel;
-  run : (n : ℕ) → l.fn.machine.fuel < n → all_of n (exprs_of_list l.items) (progress_of l.fn.machine) ≡ and_then (all_of n (exprs_of_list (drop l.item-index l.items)) (progress_of l.machine)) (λ vs. Came (map value_of l.values.items ++ vs));
+  run : (n : ℕ) → l.fn.machine.fuel < n → all_of n (exprs_of_list l.items) (progress_of l.fn.machine)
+      ≡ and_then (all_of n (exprs_of_list (drop l.item-index l.items)) (progress_of l.machine))
+      (λ vs. Came (map value_of l.values.items ++ vs));
 }
 
 abbrev pub invariant-evaluate::eval_entries-loop-item : goal.invariant-evaluate::eval_entries-loop-item
 invariant-evaluate::eval_entries-loop-item l = record {
   fuel : l.machine.fuel ≤ l.fn.machine.fuel;
-  run : (n : ℕ) → l.fn.machine.fuel < n → entries_in n (entries_of_list l.items) (progress_of l.fn.machine) ≡ and_then (entries_in n (entries_of_list (drop l.item-index l.items)) (progress_of l.machine)) (λ es. Came (map entry_of l.entries.items ++ es));
+  run : (n : ℕ) → l.fn.machine.fuel < n → entries_in n (entries_of_list l.items) (progress_of l.fn.machine)
+      ≡ and_then (entries_in n (entries_of_list (drop l.item-index l.items)) (progress_of l.machine))
+      (λ es. Came (map entry_of l.entries.items ++ es));
 }
 
 abbrev pub invariant-evaluate::eval_keywords-loop-argument : goal.invariant-evaluate::eval_keywords-loop-argument
 invariant-evaluate::eval_keywords-loop-argument l = record {
   fuel : l.machine.fuel ≤ l.fn.machine.fuel;
-  run : (n : ℕ) → l.fn.machine.fuel < n → keywords_in n (keywords_of_list l.by_name) (progress_of l.fn.machine) ≡ and_then (keywords_in n (keywords_of_list (drop l.argument-index l.by_name)) (progress_of l.machine)) (λ vs. Came (map named_of l.named.items ++ vs));
+  run : (n : ℕ) → l.fn.machine.fuel < n → keywords_in n (keywords_of_list l.by_name) (progress_of l.fn.machine)
+      ≡ and_then (keywords_in n (keywords_of_list (drop l.argument-index l.by_name)) (progress_of l.machine))
+      (λ vs. Came (map named_of l.named.items ++ vs));
 }
 
 abbrev pub invariant-statements::exec-loop-statement : goal.invariant-statements::exec-loop-statement
 invariant-statements::exec-loop-statement l = record {
   fuel : l.machine.fuel + l.statement-index ≤ l.fn.machine.fuel;
-  run : (n : ℕ) → l.fn.machine.fuel < n → (plain_parts n).exec (stmts_of_list l.body) (progress_of l.fn.machine) ≡ (plain_parts n).exec (stmts_of_list (drop l.statement-index l.body)) (progress_of l.machine);
+  run : (n : ℕ) → l.fn.machine.fuel < n → (plain_parts n).exec (stmts_of_list l.body) (progress_of l.fn.machine)
+      ≡ (plain_parts n).exec (stmts_of_list (drop l.statement-index l.body)) (progress_of l.machine);
 }
 
 abbrev pub invariant-statements::exec_branches-loop-branch : goal.invariant-statements::exec_branches-loop-branch
 invariant-statements::exec_branches-loop-branch l = record {
   fuel : l.machine.fuel ≤ l.fn.machine.fuel;
-  run : (n : ℕ) → l.fn.machine.fuel < n → branches_in n (branches_of_list l.branches) (stmts_of_list l.otherwise) (progress_of l.fn.machine) ≡ branches_in n (branches_of_list (drop l.branch-index l.branches)) (stmts_of_list l.otherwise) (progress_of l.machine);
+  run : (n : ℕ) → l.fn.machine.fuel < n → branches_in n (branches_of_list l.branches) (stmts_of_list l.otherwise)
+      (progress_of l.fn.machine) ≡ branches_in n (branches_of_list (drop l.branch-index l.branches))
+      (stmts_of_list l.otherwise) (progress_of l.machine);
 }
 
 abbrev pub invariant-loops::run_while-loop-v : goal.invariant-loops::run_while-loop-v
 invariant-loops::run_while-loop-v l = record {
   fuel : l.machine.fuel ≤ l.fn.machine.fuel;
-  run : (n : ℕ) → l.fn.machine.fuel < n → Above l.machine.fuel (expr_of l.condition) (stmts_of_list l.body) (progress_of l.machine) ((plain_parts n).again (expr_of l.condition) (stmts_of_list l.body) (progress_of l.fn.machine));
+  run : (n : ℕ) → l.fn.machine.fuel < n → Above l.machine.fuel (expr_of l.condition) (stmts_of_list l.body)
+      (progress_of l.machine) ((plain_parts n).again (expr_of l.condition) (stmts_of_list l.body)
+      (progress_of l.fn.machine));
 }
 
 abbrev pub decreases-loops::run_while-loop-v : goal.decreases-loops::run_while-loop-v
@@ -150,7 +161,9 @@ abbrev pub invariant-loops::run_for-loop-turn : goal.invariant-loops::run_for-lo
 invariant-loops::run_for-loop-turn l = record {
   fuel : l.machine.fuel + turn_index l.turn ≤ l.fn.machine.fuel;
   turn : l.turn ≡ rust_action.Turn l.fn.over (turn_index l.turn);
-  run : (n : ℕ) → l.fn.machine.fuel < n → Turns l.machine.fuel (iteration_of l.fn.over) (turn_index l.turn) l.name (stmts_of_list l.body) (progress_of l.machine) ((plain_parts n).turns (iteration_of l.fn.over) 0 l.name (stmts_of_list l.body) (progress_of l.fn.machine));
+  run : (n : ℕ) → l.fn.machine.fuel < n → Turns l.machine.fuel (iteration_of l.fn.over) (turn_index l.turn) l.name
+      (stmts_of_list l.body) (progress_of l.machine) ((plain_parts n).turns (iteration_of l.fn.over) 0 l.name
+      (stmts_of_list l.body) (progress_of l.fn.machine));
 }
 
 abbrev pub decreases-loops::run_for-loop-turn : goal.decreases-loops::run_for-loop-turn

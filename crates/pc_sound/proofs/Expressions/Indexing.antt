@@ -267,7 +267,10 @@ number_read p parts digits s s' events v (inr r) = absurd (gives_not_stops r.is)
 over_reads : (parts : Parts Step) → ReadsNumbers (eval_over Step free parts)
 over_reads parts = record {
   number = λ p digits s s' events v r.
-      elim r [ inl w ↦ number_read p parts digits w.middle s' w.late v w.after | inr w ↦ absurd (gives_not_stops w.is) ];
+      elim r [
+        | inl w ↦ number_read p parts digits w.middle s' w.late v w.after
+        | inr w ↦ absurd (gives_not_stops w.is)
+      ];
 }
 
 pub steps_read_numbers : (n : ℕ) → ReadsNumbers (steps Step free n).eval

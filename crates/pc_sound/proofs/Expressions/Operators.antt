@@ -417,7 +417,8 @@ module _ (around : Around) (ctx : Context) (fits : IsContextOf around ctx) (part
       λ u. act_safe around env _ value_out (action.binary o v w) _ λ f k s h st. (
         refl,
         pairs_end around.bases k s.heap fits.smaller m.here (takes_kind o) kind_type Any (type_of l m.left)
-            (type_of r m.right) v w here h.1 h.0.0.1 h.0.1 (value_out (binary_outcome o (seen s.heap v) (seen s.heap w)))
+            (type_of r m.right) v w here h.1 h.0.0.1 h.0.1 (value_out
+            (binary_outcome o (seen s.heap v) (seen s.heap w)))
             λ a b x y e. binary_ends around.bases k s.heap o a b v w x y e,
       )
 

@@ -195,7 +195,13 @@ module _ (m : Module) (labels : Labelling m) (lawful : IsLawful m labels) (clean
             lawful = lawful;
             found =
                 inr
-                (inl (findings.base c class (record { is = is }) (record { named = n; base = named; none = e; is = refl })));
+                (inl (findings.base c class (record { is = is }) (record {
+                  named = n;
+                  base = named;
+                  none = e;
+                  is =
+                      refl;
+                })));
           }) refl)
 
   -- ---- no field without default after one with default

@@ -304,7 +304,8 @@ module _ (m : Module) where
           | inl a ↦ or_left (list_any (is_field_of w) hs) (list_any (is_field_of w) (own_members [] hs class.members))
               (covers.fields w a)
           | inr b ↦ or_right (list_any (is_field_of w) hs) (list_any (is_field_of w) (own_members [] hs class.members))
-              (ap (list_any (is_field_of w)) (all_held [] hs class.members clear) ∙ own_field_held base [] class.members w
+              (ap (list_any (is_field_of w)) (all_held [] hs class.members clear) ∙ own_field_held base [] class.members
+              w
               b)
         ];
     methods = λ w h. list_any-append (λ x. bytes_eq x.text w) hs (own_members [] hs class.members)

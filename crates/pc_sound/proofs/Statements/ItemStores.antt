@@ -68,7 +68,8 @@ module _ (bases : Bases) (k : HeapTyping) where
           has = c.has;
           clean = c.clean;
           takes = λ w t. c.takes w (each_right bases k (offer m).takes (flat_map (λ o. o.takes) (map offer ms)) w t);
-          stores = λ w t. c.stores w (each_right bases k (offer m).stores (flat_map (λ o. o.stores) (map offer ms)) w t);
+          stores = λ w t. c.stores w (each_right bases k (offer m).stores (flat_map (λ o. o.stores) (map offer ms)) w
+              t);
         }
   ]
 

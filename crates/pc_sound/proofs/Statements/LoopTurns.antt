@@ -285,7 +285,8 @@ module _ (around : Around) (ctx : Context) (fits : IsContextOf around ctx) where
           (λ k s at. record {
             stands = stands_with around ctx fits env labels.head k s at.stands
                 (subst (λ e. HasLocals around.bases k around.names around.declared e s.frame) (sym law.head)
-                (into_head around.bases around.names around.declared (binds_number ctx.resolve (bound_by b)) env k s.frame
+                (into_head around.bases around.names around.declared (binds_number ctx.resolve (bound_by b)) env k
+                s.frame
                 at.stands.locals));
             known = at.known;
           })

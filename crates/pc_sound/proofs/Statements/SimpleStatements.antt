@@ -326,7 +326,10 @@ module _ (around : Around) (ctx : Context) (fits : IsContextOf around ctx) (m : 
       (exec_node Step free parts (annotated p n a None))
   annotated_none_runs p n a = record {
     runs = λ seen env labels out law covered keyed more lasts. leads_comes around _
-        (Gives next) _ λ k s at. (record { env = env; is = law.is ∙ ap Some law.binding.2; stands = at.stands }, at.known);
+        (Gives next) _ λ k s at. (
+          record { env = env; is = law.is ∙ ap Some law.binding.2; stands = at.stands },
+          at.known,
+        );
   }
 
   pub annotated_runs : (p : Place) (n : Name) (a : Ann) (e : Expr)

@@ -135,7 +135,11 @@ module _ (around : Around) where
   }
   shows_emits before p (c ∷ cs) allowed = record {
     run = λ k s s' events o well b r.
-        inl (record { place = p; is = allowed; event = subst (λ l. Contains l p) (sym r.event) (0, omega arith, refl) });
+        inl (record {
+          place = p;
+          is = allowed;
+          event = subst (λ l. Contains l p) (sym r.event) (0, omega arith, refl);
+        });
   }
 
   -- an action that leaves the heap as it is

@@ -105,7 +105,8 @@ module _ (around : Around) (ctx : Context) (eval : Expr → Step Value) (good : 
       elim (settled_flows around (place_of e) (whole_label e m) (is_punctual around e m covered) ts cs flows allowed) [
         | inl all ↦ weaken around env known (λ k. Unit {0}) (eval e) (λ k v. HasType around.bases k (type_of e m) v)
             (λ k v. HasType around.bases k (type_of e m) v × HasEach around.bases k ts v) (λ k h. tt)
-            (λ k v h. (h, each_static around.bases k (type_of e m) ts v all h)) (good.safe env want e m law covered keyed)
+            (λ k v h. (h, each_static around.bases k (type_of e m) ts v all h))
+            (good.safe env want e m law covered keyed)
         | inr l ↦ record { run = dynamic_run l }
       ]
     where

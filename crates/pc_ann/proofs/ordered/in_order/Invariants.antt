@@ -7,7 +7,8 @@ abbrev pub invariant-loop-ty : goal.invariant-loop-ty
 invariant-loop-ty g l = record {
   left : All (g.S.TypeStore.has l.store) l.types.items;
   held : All (g.S.TypeStore.has l.store) l.ordered.items;
-  placed : placed_each (map g.S.TypeStore.tree l.types.items) (map g.S.TypeStore.tree l.ordered.items) ≡ in_union_order (map g.S.TypeStore.tree l.fn.types.items);
+  placed : placed_each (map g.S.TypeStore.tree l.types.items) (map g.S.TypeStore.tree l.ordered.items) ≡ in_union_order
+      (map g.S.TypeStore.tree l.fn.types.items);
 }
 
 abbrev pub decreases-loop-ty : goal.decreases-loop-ty

@@ -5,4 +5,5 @@ use Rattle.pc_ann.proofs.ordered.place.Given as goal
 abbrev pub invariant-loop-i : goal.invariant-loop-i
 invariant-loop-i g l =
     let tree = g.S.TypeStore.tree in
-    insert_member (tree l.ty) (map tree l.types) ≡ map tree (take l.i l.types) ++ insert_member (tree l.ty) (map tree (drop l.i l.types))
+    insert_member (tree l.ty) (map tree l.types) ≡ map tree (take l.i l.types) ++ insert_member (tree l.ty)
+    (map tree (drop l.i l.types))

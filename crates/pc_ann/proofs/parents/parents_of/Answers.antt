@@ -10,10 +10,13 @@ use Rattle.pc_ann.proofs.parents.parents_of.Goals as goal
 pub unreachable-requires : goal.unreachable-requires
 unfolding bases_of
 unreachable-requires c =
-    let e : c.loop-item.bases.items ≡ bases_of (module_of c.args.tree.now) = all_walked (module_of c.args.tree.now) c.deref-item-items.result.now _ c.loop-item.bases.items c.loop-item.item-index c.deref-item-items.ensures.value c.loop-item-test.false c.loop-item.invariant in
+    let e : c.loop-item.bases.items ≡ bases_of (module_of c.args.tree.now) = all_walked (module_of c.args.tree.now)
+    c.deref-item-items.result.now _ c.loop-item.bases.items c.loop-item.item-index c.deref-item-items.ensures.value
+    c.loop-item-test.false c.loop-item.invariant in
     c.in-None.ensures (subst AreSmaller (sym e) (smaller (module_of c.args.tree.now)))
 
 pub returns : goal.returns
 unfolding bases_of
 returns c =
-    c.in-Some.ensures.1 ∙ all_walked (module_of c.args.tree.now) c.deref-item-items.result.now _ c.loop-item.bases.items c.loop-item.item-index c.deref-item-items.ensures.value c.loop-item-test.false c.loop-item.invariant
+    c.in-Some.ensures.1 ∙ all_walked (module_of c.args.tree.now) c.deref-item-items.result.now _ c.loop-item.bases.items
+    c.loop-item.item-index c.deref-item-items.ensures.value c.loop-item-test.false c.loop-item.invariant

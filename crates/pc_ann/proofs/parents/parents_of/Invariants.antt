@@ -7,4 +7,5 @@ use Rattle.pc_ann.proofs.parents.parents_of.Given as goal
 
 abbrev pub invariant-loop-item : goal.invariant-loop-item
 invariant-loop-item l =
-    bases_with (module_of l.tree) l.bases.items (map item_of (drop l.item-index l.item-items)) ≡ bases_from (module_of l.tree) 0 (classes_in (map item_of l.item-items))
+    bases_with (module_of l.tree) l.bases.items (map item_of (drop l.item-index l.item-items))
+    ≡ bases_from (module_of l.tree) 0 (classes_in (map item_of l.item-items))

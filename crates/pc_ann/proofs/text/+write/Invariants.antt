@@ -15,4 +15,5 @@ decreases-write_parts g l = 3 * nodes (g.S.TypeStore.tree l.ty.now)
 
 abbrev pub invariant-write_parts-loop-i : goal.invariant-write_parts-loop-i
 invariant-write_parts-loop-i g l =
-    string_bytes l.out ≡ string_bytes l.fn.out ++ with_separator l.separator (map (λ t. type_text (module_of l.tree) (g.S.TypeStore.tree t)) (take l.i l.parts.items))
+    string_bytes l.out ≡ string_bytes l.fn.out ++ with_separator l.separator
+    (map (λ t. type_text (module_of l.tree) (g.S.TypeStore.tree t)) (take l.i l.parts.items))

@@ -6,4 +6,5 @@ use Rattle.pc_ann.proofs.text.class_name.Given as goal
 
 abbrev pub invariant-loop-item : goal.invariant-loop-item
 invariant-loop-item l =
-    slice_get (classes_in (map item_of (drop l.item-index l.item-items))) l.before ≡ slice_get (classes_in (map item_of l.item-items)) l.number
+    slice_get (classes_in (map item_of (drop l.item-index l.item-items))) l.before
+    ≡ slice_get (classes_in (map item_of l.item-items)) l.number

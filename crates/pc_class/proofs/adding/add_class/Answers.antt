@@ -1,4 +1,5 @@
-use Rattle.std.proofs.Common.{◌≡◌, ◌∙◌, ◌++◌, [], List, map, length, sym, ap, subst, refl, rules, arith, append_assoc, append-nil}
+use Rattle.std.proofs.Common.{◌≡◌, ◌∙◌, ◌++◌, [], List, map, length, sym, ap, subst, refl, rules, arith, append_assoc}
+use Rattle.std.proofs.Common.{append-nil}
 use Rattle.pc_tree.specs.Tree.{class_of, member_of}
 use Rattle.pc_tree.specs.declared.tree.Member.{Member as RustMember}
 use Rattle.pc_tree.specs.declared.code.Code.TheVariants.{E06, E08}
@@ -9,14 +10,17 @@ use Rattle.pc_ann.specs.Bases.{base_named, bases_of}
 use Rattle.pc_class.specs.declared.entries.Entry.{Entry as RustEntry}
 use Rattle.pc_class.specs.declared.parts.ClassNode.{ClassNode}
 use Rattle.pc_class.specs.declared.parts.TableParts.{TableParts}
-use Rattle.pc_class.specs.Entries.{MemberEntry, HasMaps, inherited_in, inherited_by, entries_of, entry_seen, class_entries, clash_places, late_places, defaulted_in}
-use Rattle.pc_class.specs.Outlines.{IsMapOf, field_name, method_name as class_method_name, own_field, own_method, all_own, AreNew}
+use Rattle.pc_class.specs.Entries.{MemberEntry, HasMaps, inherited_in, inherited_by, entries_of, entry_seen}
+use Rattle.pc_class.specs.Entries.{class_entries, clash_places, late_places, defaulted_in}
+use Rattle.pc_class.specs.Outlines.{IsMapOf, field_name, method_name as class_method_name, own_field, own_method}
+use Rattle.pc_class.specs.Outlines.{all_own, AreNew}
 use Rattle.pc_class.specs.Tables.{inherited_entry, HasParameter, HasMethod, parameter_with, method_with}
 use Rattle.pc_class.specs.Parts.{parameter_name, stored_method_name, inherited_node, entries_in}
 use Rattle.pc_ann.specs.ModuleOutlines.{module_in}
 use Rattle.pc_class.specs.Built.{Added}
 use Rattle.pc_class.proofs.ClassesBuilt.{base_here}
-use Rattle.pc_class.proofs.ClassAdded.{table_new, classes_new, given_new, held, base_class, entries_are, fields_new, methods_new, base_defaulted, held_on, node_same}
+use Rattle.pc_class.proofs.ClassAdded.{table_new, classes_new, given_new, held, base_class, entries_are, fields_new}
+use Rattle.pc_class.proofs.ClassAdded.{methods_new, base_defaulted, held_on, node_same}
 use Rattle.pc_class.proofs.adding.add_class.Goals as goal
 
 pub entries-requires : goal.entries-requires
@@ -32,12 +36,16 @@ entries-requires g c =
     let es = entries_in p in
     let base = c.base-base.result in
     let number : c.len-class.result ≡ length ns = search rules in
-    let based : base ≡ base_named m (length ns) class.base = c.base-base.ensures.value ∙ ap (λ (bs : Bases). base_of bs c.len-class.result) c.requires.outline.parents ∙ ap (base_of (bases_of m)) number ∙ base_here m (length ns) class c.requires.class in
+    let based : base ≡ base_named m (length ns) class.base = c.base-base.ensures.value
+    ∙ ap (λ (bs : Bases). base_of bs c.len-class.result) c.requires.outline.parents
+    ∙ ap (base_of (bases_of m)) number ∙ base_here m (length ns) class c.requires.class in
     let o = c.inherited-inherited.result in
-    let o_is : o ≡ inherited_node ns base = c.inherited-inherited.ensures ∙ ap (λ (xs : List ClassNode). inherited_node xs base) c.deref.ensures.value in
+    let o_is : o ≡ inherited_node ns base = c.inherited-inherited.ensures
+    ∙ ap (λ (xs : List ClassNode). inherited_node xs base) c.deref.ensures.value in
     let I = inherited_entry es base in
     let H = held tree m d F M ns es c.requires.table class c.requires.class base based in
-    subst (λ (x : ClassNode). HasMaps d x.held) (sym o_is) (record { fields = H.fields.is_map; methods = H.methods.is_map })
+    subst (λ (x : ClassNode). HasMaps d x.held) (sym o_is)
+    (record { fields = H.fields.is_map; methods = H.methods.is_map })
 
 pub add_fields-requires-clause-map : goal.add_fields-requires-clause-map
 add_fields-requires-clause-map g c =
@@ -52,12 +60,16 @@ add_fields-requires-clause-map g c =
     let es = entries_in p in
     let base = c.base-base.result in
     let number : c.len-class.result ≡ length ns = search rules in
-    let based : base ≡ base_named m (length ns) class.base = c.base-base.ensures.value ∙ ap (λ (bs : Bases). base_of bs c.len-class.result) c.requires.outline.parents ∙ ap (base_of (bases_of m)) number ∙ base_here m (length ns) class c.requires.class in
+    let based : base ≡ base_named m (length ns) class.base = c.base-base.ensures.value
+    ∙ ap (λ (bs : Bases). base_of bs c.len-class.result) c.requires.outline.parents
+    ∙ ap (base_of (bases_of m)) number ∙ base_here m (length ns) class c.requires.class in
     let o = c.inherited-inherited.result in
-    let o_is : o ≡ inherited_node ns base = c.inherited-inherited.ensures ∙ ap (λ (xs : List ClassNode). inherited_node xs base) c.deref.ensures.value in
+    let o_is : o ≡ inherited_node ns base = c.inherited-inherited.ensures
+    ∙ ap (λ (xs : List ClassNode). inherited_node xs base) c.deref.ensures.value in
     let I = inherited_entry es base in
     let H = held tree m d F M ns es c.requires.table class c.requires.class base based in
-    (subst (λ (x : ClassNode). HasMaps d x.held) (sym o_is) (record { fields = H.fields.is_map; methods = H.methods.is_map })).fields
+    (subst (λ (x : ClassNode). HasMaps d x.held) (sym o_is)
+    (record { fields = H.fields.is_map; methods = H.methods.is_map })).fields
 
 pub add_methods-requires-clause-map : goal.add_methods-requires-clause-map
 add_methods-requires-clause-map g c =
@@ -72,12 +84,16 @@ add_methods-requires-clause-map g c =
     let es = entries_in p in
     let base = c.base-base.result in
     let number : c.len-class.result ≡ length ns = search rules in
-    let based : base ≡ base_named m (length ns) class.base = c.base-base.ensures.value ∙ ap (λ (bs : Bases). base_of bs c.len-class.result) c.requires.outline.parents ∙ ap (base_of (bases_of m)) number ∙ base_here m (length ns) class c.requires.class in
+    let based : base ≡ base_named m (length ns) class.base = c.base-base.ensures.value
+    ∙ ap (λ (bs : Bases). base_of bs c.len-class.result) c.requires.outline.parents
+    ∙ ap (base_of (bases_of m)) number ∙ base_here m (length ns) class c.requires.class in
     let o = c.inherited-inherited.result in
-    let o_is : o ≡ inherited_node ns base = c.inherited-inherited.ensures ∙ ap (λ (xs : List ClassNode). inherited_node xs base) c.deref.ensures.value in
+    let o_is : o ≡ inherited_node ns base = c.inherited-inherited.ensures
+    ∙ ap (λ (xs : List ClassNode). inherited_node xs base) c.deref.ensures.value in
     let I = inherited_entry es base in
     let H = held tree m d F M ns es c.requires.table class c.requires.class base based in
-    let h = (subst (λ (x : ClassNode). HasMaps d x.held) (sym o_is) (record { fields = H.fields.is_map; methods = H.methods.is_map })).methods in
+    let h = (subst (λ (x : ClassNode). HasMaps d x.held) (sym o_is)
+    (record { fields = H.fields.is_map; methods = H.methods.is_map })).methods in
     let more = c.in_ok-fields.ensures.kept.more in
     omega arith
 
@@ -94,30 +110,49 @@ returns-clause-table g c =
     let es = entries_in p in
     let base = c.base-base.result in
     let number : c.len-class.result ≡ length ns = search rules in
-    let based : base ≡ base_named m (length ns) class.base = c.base-base.ensures.value ∙ ap (λ (bs : Bases). base_of bs c.len-class.result) c.requires.outline.parents ∙ ap (base_of (bases_of m)) number ∙ base_here m (length ns) class c.requires.class in
+    let based : base ≡ base_named m (length ns) class.base = c.base-base.ensures.value
+    ∙ ap (λ (bs : Bases). base_of bs c.len-class.result) c.requires.outline.parents
+    ∙ ap (base_of (bases_of m)) number ∙ base_here m (length ns) class c.requires.class in
     let o = c.inherited-inherited.result in
-    let o_is : o ≡ inherited_node ns base = c.inherited-inherited.ensures ∙ ap (λ (xs : List ClassNode). inherited_node xs base) c.deref.ensures.value in
+    let o_is : o ≡ inherited_node ns base = c.inherited-inherited.ensures
+    ∙ ap (λ (xs : List ClassNode). inherited_node xs base) c.deref.ensures.value in
     let I = inherited_entry es base in
     let H = held tree m d F M ns es c.requires.table class c.requires.class base based in
     let BC = base_class tree m d F M ns es c.requires.table class c.requires.class base based in
     let xs = class_entries (inherited_by BC) class in
     let found_entries : map entry_seen c.in_ok-members.members.items ≡ xs =
-    c.in_ok-members.ensures ∙ ap (λ (ys : List RustMember). entries_of (inherited_in d o.held) [] 0 (map member_of ys)) c.deref-2.ensures.value
+    c.in_ok-members.ensures ∙ ap (λ (ys : List RustMember). entries_of (inherited_in d o.held) [] 0 (map member_of ys))
+    c.deref-2.ensures.value
     ∙ ap (λ (n : ClassNode). entries_of (inherited_in d n.held) [] 0 class.members) o_is
     ∙ entries_are tree m d F M ns es c.requires.table class c.requires.class base based in
-    let entries4 : map entry_seen c.deref-4.result.now ≡ xs = ap (λ (ys : List RustEntry). map entry_seen ys) c.deref-4.ensures.value ∙ found_entries in
-    let entries5 : map entry_seen c.deref-5.result.now ≡ xs = ap (λ (ys : List RustEntry). map entry_seen ys) c.deref-5.ensures.value ∙ found_entries in
-    let entries6 : map entry_seen c.deref-6.result.now ≡ xs = ap (λ (ys : List RustEntry). map entry_seen ys) c.deref-6.ensures.value ∙ found_entries in
+    let entries4 : map entry_seen c.deref-4.result.now ≡ xs = ap (λ (ys : List RustEntry). map entry_seen ys)
+    c.deref-4.ensures.value ∙ found_entries in
+    let entries5 : map entry_seen c.deref-5.result.now ≡ xs = ap (λ (ys : List RustEntry). map entry_seen ys)
+    c.deref-5.ensures.value ∙ found_entries in
+    let entries6 : map entry_seen c.deref-6.result.now ≡ xs = ap (λ (ys : List RustEntry). map entry_seen ys)
+    c.deref-6.ensures.value ∙ found_entries in
     let has = g.S.TypeStore.has c.add_fields.new.store in
     let has2 = g.S.TypeStore.has c.add_methods.new.store in
-    let f = subst (λ (ys : List MemberEntry). Added parameter_name (HasParameter has) (parameter_with tree) c.add_fields.new.named F c.add_fields.new.fields.items c.in_ok-fields.fields I.fields [] (all_own (own_field m) ys)) entries5
-    (c.in_ok-fields.ensures.added I.fields [] (subst (IsMapOf parameter_name d F o.held.fields) (sym (append-nil I.fields)) (subst (λ (n : ClassNode). IsMapOf parameter_name d F n.held.fields I.fields) (sym o_is) H.fields))
-    (subst (AreNew field_name (own_field m) (map (parameter_with tree) I.fields)) (sym entries5) (fields_new tree m d F M ns es c.requires.table class c.requires.class base based))) in
-    let k = subst (λ j. Added stored_method_name (HasMethod has2) (method_with tree) c.add_methods.new.named M c.add_methods.new.methods.items c.in_ok-methods.methods [] I.methods (all_own (own_method m j) xs)) number
-    (subst (λ (ys : List MemberEntry). Added stored_method_name (HasMethod has2) (method_with tree) c.add_methods.new.named M c.add_methods.new.methods.items c.in_ok-methods.methods [] I.methods (all_own (own_method m c.len-class.result) ys)) entries6
-    (c.in_ok-methods.ensures.added [] I.methods (held_on stored_method_name d c.add_fields.new.named M o.held.methods I.methods (subst (λ (n : ClassNode). IsMapOf stored_method_name d M n.held.methods I.methods) (sym o_is) H.methods) c.in_ok-fields.ensures.kept)
-    (subst (AreNew class_method_name (own_method m c.len-class.result) []) (sym entries6) (methods_new tree m d F M ns es c.requires.table class c.requires.class base based c.len-class.result)))) in
-    let b_is = c.in_ok-defaulted.ensures.defaulted ∙ ap (defaulted_in o.defaulted) entries4 ∙ ap (λ (n : ClassNode). defaulted_in n.defaulted xs) o_is in
+    let f = subst (λ (ys : List MemberEntry). Added parameter_name (HasParameter has) (parameter_with tree)
+    c.add_fields.new.named F c.add_fields.new.fields.items c.in_ok-fields.fields I.fields []
+    (all_own (own_field m) ys)) entries5
+    (c.in_ok-fields.ensures.added I.fields [] (subst (IsMapOf parameter_name d F o.held.fields)
+    (sym (append-nil I.fields)) (subst (λ (n : ClassNode). IsMapOf parameter_name d F n.held.fields I.fields)
+    (sym o_is) H.fields))
+    (subst (AreNew field_name (own_field m) (map (parameter_with tree) I.fields)) (sym entries5)
+    (fields_new tree m d F M ns es c.requires.table class c.requires.class base based))) in
+    let k = subst (λ j. Added stored_method_name (HasMethod has2) (method_with tree) c.add_methods.new.named M
+    c.add_methods.new.methods.items c.in_ok-methods.methods [] I.methods (all_own (own_method m j) xs)) number
+    (subst (λ (ys : List MemberEntry). Added stored_method_name (HasMethod has2) (method_with tree)
+    c.add_methods.new.named M c.add_methods.new.methods.items c.in_ok-methods.methods [] I.methods
+    (all_own (own_method m c.len-class.result) ys)) entries6
+    (c.in_ok-methods.ensures.added [] I.methods (held_on stored_method_name d c.add_fields.new.named M o.held.methods
+    I.methods (subst (λ (n : ClassNode). IsMapOf stored_method_name d M n.held.methods I.methods) (sym o_is)
+    H.methods) c.in_ok-fields.ensures.kept)
+    (subst (AreNew class_method_name (own_method m c.len-class.result) []) (sym entries6)
+    (methods_new tree m d F M ns es c.requires.table class c.requires.class base based c.len-class.result)))) in
+    let b_is = c.in_ok-defaulted.ensures.defaulted ∙ ap (defaulted_in o.defaulted) entries4
+    ∙ ap (λ (n : ClassNode). defaulted_in n.defaulted xs) o_is in
     let fs0 : c.len-fields_start.result ≡ length F = search rules in
     let fs = c.places_between.ensures.start ∙ fs0 in
     let fe0 : c.len-fields_end.result ≡ length c.add_fields.new.fields.items = search rules in
@@ -126,9 +161,19 @@ returns-clause-table g c =
     let ms = c.places_between-2.ensures.start ∙ ms0 in
     let me0 : c.len-methods_end.result ≡ length c.add_methods.new.methods.items = search rules in
     let me = c.places_between-2.ensures.end ∙ me0 in
-    let n_is = node_same base c.in_ok-fields.fields c.in_ok-methods.methods c.in_ok-defaulted.defaulted _ _ _ _ _ _ _ _ fs fe ms me in
-    let q : TableParts _ = record { named = c.add_methods.new.named; classes = c.push.new.self; fields = c.add_fields.new.fields; methods = c.add_methods.new.methods } in
-    table_new tree m p q c.requires.table class c.requires.class base based c.add_fields.new.named c.in_ok-fields.ensures.kept c.in_ok-methods.ensures.kept c.in_ok-fields.fields c.in_ok-methods.methods (g.S.TypeStore.has c.args.store.now) has has2 xs refl c.in_ok-defaulted.defaulted b_is f k _ n_is c.in_ok-push.ensures.items
+    let n_is = node_same base c.in_ok-fields.fields c.in_ok-methods.methods c.in_ok-defaulted.defaulted _ _ _ _ _ _ _ _
+    fs fe ms me in
+    let q : TableParts _ = record {
+      named = c.add_methods.new.named;
+      classes = c.push.new.self;
+      fields =
+          c.add_fields.new.fields;
+      methods = c.add_methods.new.methods;
+    } in
+    table_new tree m p q c.requires.table class c.requires.class base based c.add_fields.new.named
+    c.in_ok-fields.ensures.kept c.in_ok-methods.ensures.kept c.in_ok-fields.fields c.in_ok-methods.methods
+    (g.S.TypeStore.has c.args.store.now) has has2 xs refl c.in_ok-defaulted.defaulted b_is f k _ n_is
+    c.in_ok-push.ensures.items
 
 pub returns-clause-given : goal.returns-clause-given
 returns-clause-given g c =
@@ -143,30 +188,49 @@ returns-clause-given g c =
     let es = entries_in p in
     let base = c.base-base.result in
     let number : c.len-class.result ≡ length ns = search rules in
-    let based : base ≡ base_named m (length ns) class.base = c.base-base.ensures.value ∙ ap (λ (bs : Bases). base_of bs c.len-class.result) c.requires.outline.parents ∙ ap (base_of (bases_of m)) number ∙ base_here m (length ns) class c.requires.class in
+    let based : base ≡ base_named m (length ns) class.base = c.base-base.ensures.value
+    ∙ ap (λ (bs : Bases). base_of bs c.len-class.result) c.requires.outline.parents
+    ∙ ap (base_of (bases_of m)) number ∙ base_here m (length ns) class c.requires.class in
     let o = c.inherited-inherited.result in
-    let o_is : o ≡ inherited_node ns base = c.inherited-inherited.ensures ∙ ap (λ (xs : List ClassNode). inherited_node xs base) c.deref.ensures.value in
+    let o_is : o ≡ inherited_node ns base = c.inherited-inherited.ensures
+    ∙ ap (λ (xs : List ClassNode). inherited_node xs base) c.deref.ensures.value in
     let I = inherited_entry es base in
     let H = held tree m d F M ns es c.requires.table class c.requires.class base based in
     let BC = base_class tree m d F M ns es c.requires.table class c.requires.class base based in
     let xs = class_entries (inherited_by BC) class in
     let found_entries : map entry_seen c.in_ok-members.members.items ≡ xs =
-    c.in_ok-members.ensures ∙ ap (λ (ys : List RustMember). entries_of (inherited_in d o.held) [] 0 (map member_of ys)) c.deref-2.ensures.value
+    c.in_ok-members.ensures ∙ ap (λ (ys : List RustMember). entries_of (inherited_in d o.held) [] 0 (map member_of ys))
+    c.deref-2.ensures.value
     ∙ ap (λ (n : ClassNode). entries_of (inherited_in d n.held) [] 0 class.members) o_is
     ∙ entries_are tree m d F M ns es c.requires.table class c.requires.class base based in
-    let entries4 : map entry_seen c.deref-4.result.now ≡ xs = ap (λ (ys : List RustEntry). map entry_seen ys) c.deref-4.ensures.value ∙ found_entries in
-    let entries5 : map entry_seen c.deref-5.result.now ≡ xs = ap (λ (ys : List RustEntry). map entry_seen ys) c.deref-5.ensures.value ∙ found_entries in
-    let entries6 : map entry_seen c.deref-6.result.now ≡ xs = ap (λ (ys : List RustEntry). map entry_seen ys) c.deref-6.ensures.value ∙ found_entries in
+    let entries4 : map entry_seen c.deref-4.result.now ≡ xs = ap (λ (ys : List RustEntry). map entry_seen ys)
+    c.deref-4.ensures.value ∙ found_entries in
+    let entries5 : map entry_seen c.deref-5.result.now ≡ xs = ap (λ (ys : List RustEntry). map entry_seen ys)
+    c.deref-5.ensures.value ∙ found_entries in
+    let entries6 : map entry_seen c.deref-6.result.now ≡ xs = ap (λ (ys : List RustEntry). map entry_seen ys)
+    c.deref-6.ensures.value ∙ found_entries in
     let has = g.S.TypeStore.has c.add_fields.new.store in
     let has2 = g.S.TypeStore.has c.add_methods.new.store in
-    let f = subst (λ (ys : List MemberEntry). Added parameter_name (HasParameter has) (parameter_with tree) c.add_fields.new.named F c.add_fields.new.fields.items c.in_ok-fields.fields I.fields [] (all_own (own_field m) ys)) entries5
-    (c.in_ok-fields.ensures.added I.fields [] (subst (IsMapOf parameter_name d F o.held.fields) (sym (append-nil I.fields)) (subst (λ (n : ClassNode). IsMapOf parameter_name d F n.held.fields I.fields) (sym o_is) H.fields))
-    (subst (AreNew field_name (own_field m) (map (parameter_with tree) I.fields)) (sym entries5) (fields_new tree m d F M ns es c.requires.table class c.requires.class base based))) in
-    let k = subst (λ j. Added stored_method_name (HasMethod has2) (method_with tree) c.add_methods.new.named M c.add_methods.new.methods.items c.in_ok-methods.methods [] I.methods (all_own (own_method m j) xs)) number
-    (subst (λ (ys : List MemberEntry). Added stored_method_name (HasMethod has2) (method_with tree) c.add_methods.new.named M c.add_methods.new.methods.items c.in_ok-methods.methods [] I.methods (all_own (own_method m c.len-class.result) ys)) entries6
-    (c.in_ok-methods.ensures.added [] I.methods (held_on stored_method_name d c.add_fields.new.named M o.held.methods I.methods (subst (λ (n : ClassNode). IsMapOf stored_method_name d M n.held.methods I.methods) (sym o_is) H.methods) c.in_ok-fields.ensures.kept)
-    (subst (AreNew class_method_name (own_method m c.len-class.result) []) (sym entries6) (methods_new tree m d F M ns es c.requires.table class c.requires.class base based c.len-class.result)))) in
-    let b_is = c.in_ok-defaulted.ensures.defaulted ∙ ap (defaulted_in o.defaulted) entries4 ∙ ap (λ (n : ClassNode). defaulted_in n.defaulted xs) o_is in
+    let f = subst (λ (ys : List MemberEntry). Added parameter_name (HasParameter has) (parameter_with tree)
+    c.add_fields.new.named F c.add_fields.new.fields.items c.in_ok-fields.fields I.fields []
+    (all_own (own_field m) ys)) entries5
+    (c.in_ok-fields.ensures.added I.fields [] (subst (IsMapOf parameter_name d F o.held.fields)
+    (sym (append-nil I.fields)) (subst (λ (n : ClassNode). IsMapOf parameter_name d F n.held.fields I.fields)
+    (sym o_is) H.fields))
+    (subst (AreNew field_name (own_field m) (map (parameter_with tree) I.fields)) (sym entries5)
+    (fields_new tree m d F M ns es c.requires.table class c.requires.class base based))) in
+    let k = subst (λ j. Added stored_method_name (HasMethod has2) (method_with tree) c.add_methods.new.named M
+    c.add_methods.new.methods.items c.in_ok-methods.methods [] I.methods (all_own (own_method m j) xs)) number
+    (subst (λ (ys : List MemberEntry). Added stored_method_name (HasMethod has2) (method_with tree)
+    c.add_methods.new.named M c.add_methods.new.methods.items c.in_ok-methods.methods [] I.methods
+    (all_own (own_method m c.len-class.result) ys)) entries6
+    (c.in_ok-methods.ensures.added [] I.methods (held_on stored_method_name d c.add_fields.new.named M o.held.methods
+    I.methods (subst (λ (n : ClassNode). IsMapOf stored_method_name d M n.held.methods I.methods) (sym o_is)
+    H.methods) c.in_ok-fields.ensures.kept)
+    (subst (AreNew class_method_name (own_method m c.len-class.result) []) (sym entries6)
+    (methods_new tree m d F M ns es c.requires.table class c.requires.class base based c.len-class.result)))) in
+    let b_is = c.in_ok-defaulted.ensures.defaulted ∙ ap (defaulted_in o.defaulted) entries4
+    ∙ ap (λ (n : ClassNode). defaulted_in n.defaulted xs) o_is in
     let fs0 : c.len-fields_start.result ≡ length F = search rules in
     let fs = c.places_between.ensures.start ∙ fs0 in
     let fe0 : c.len-fields_end.result ≡ length c.add_fields.new.fields.items = search rules in
@@ -175,9 +239,20 @@ returns-clause-given g c =
     let ms = c.places_between-2.ensures.start ∙ ms0 in
     let me0 : c.len-methods_end.result ≡ length c.add_methods.new.methods.items = search rules in
     let me = c.places_between-2.ensures.end ∙ me0 in
-    let n_is = node_same base c.in_ok-fields.fields c.in_ok-methods.methods c.in_ok-defaulted.defaulted _ _ _ _ _ _ _ _ fs fe ms me in
-    let q : TableParts _ = record { named = c.add_methods.new.named; classes = c.push.new.self; fields = c.add_fields.new.fields; methods = c.add_methods.new.methods } in
-    given_new tree m p q c.requires.table class c.requires.class base based c.add_fields.new.named c.in_ok-fields.ensures.kept c.in_ok-methods.ensures.kept c.in_ok-fields.fields c.in_ok-methods.methods (g.S.TypeStore.has c.args.store.now) has has2 xs refl c.in_ok-defaulted.defaulted b_is f k _ n_is c.in_ok-push.ensures.items c.requires.given (λ t h. c.add_methods.ensures.store t (c.add_fields.ensures.store t h)) c.add_methods.ensures.store
+    let n_is = node_same base c.in_ok-fields.fields c.in_ok-methods.methods c.in_ok-defaulted.defaulted _ _ _ _ _ _ _ _
+    fs fe ms me in
+    let q : TableParts _ = record {
+      named = c.add_methods.new.named;
+      classes = c.push.new.self;
+      fields =
+          c.add_fields.new.fields;
+      methods = c.add_methods.new.methods;
+    } in
+    given_new tree m p q c.requires.table class c.requires.class base based c.add_fields.new.named
+    c.in_ok-fields.ensures.kept c.in_ok-methods.ensures.kept c.in_ok-fields.fields c.in_ok-methods.methods
+    (g.S.TypeStore.has c.args.store.now) has has2 xs refl c.in_ok-defaulted.defaulted b_is f k _ n_is
+    c.in_ok-push.ensures.items c.requires.given (λ t h. c.add_methods.ensures.store t
+    (c.add_fields.ensures.store t h)) c.add_methods.ensures.store
 
 pub returns-clause-classes : goal.returns-clause-classes
 returns-clause-classes g c =
@@ -192,30 +267,49 @@ returns-clause-classes g c =
     let es = entries_in p in
     let base = c.base-base.result in
     let number : c.len-class.result ≡ length ns = search rules in
-    let based : base ≡ base_named m (length ns) class.base = c.base-base.ensures.value ∙ ap (λ (bs : Bases). base_of bs c.len-class.result) c.requires.outline.parents ∙ ap (base_of (bases_of m)) number ∙ base_here m (length ns) class c.requires.class in
+    let based : base ≡ base_named m (length ns) class.base = c.base-base.ensures.value
+    ∙ ap (λ (bs : Bases). base_of bs c.len-class.result) c.requires.outline.parents
+    ∙ ap (base_of (bases_of m)) number ∙ base_here m (length ns) class c.requires.class in
     let o = c.inherited-inherited.result in
-    let o_is : o ≡ inherited_node ns base = c.inherited-inherited.ensures ∙ ap (λ (xs : List ClassNode). inherited_node xs base) c.deref.ensures.value in
+    let o_is : o ≡ inherited_node ns base = c.inherited-inherited.ensures
+    ∙ ap (λ (xs : List ClassNode). inherited_node xs base) c.deref.ensures.value in
     let I = inherited_entry es base in
     let H = held tree m d F M ns es c.requires.table class c.requires.class base based in
     let BC = base_class tree m d F M ns es c.requires.table class c.requires.class base based in
     let xs = class_entries (inherited_by BC) class in
     let found_entries : map entry_seen c.in_ok-members.members.items ≡ xs =
-    c.in_ok-members.ensures ∙ ap (λ (ys : List RustMember). entries_of (inherited_in d o.held) [] 0 (map member_of ys)) c.deref-2.ensures.value
+    c.in_ok-members.ensures ∙ ap (λ (ys : List RustMember). entries_of (inherited_in d o.held) [] 0 (map member_of ys))
+    c.deref-2.ensures.value
     ∙ ap (λ (n : ClassNode). entries_of (inherited_in d n.held) [] 0 class.members) o_is
     ∙ entries_are tree m d F M ns es c.requires.table class c.requires.class base based in
-    let entries4 : map entry_seen c.deref-4.result.now ≡ xs = ap (λ (ys : List RustEntry). map entry_seen ys) c.deref-4.ensures.value ∙ found_entries in
-    let entries5 : map entry_seen c.deref-5.result.now ≡ xs = ap (λ (ys : List RustEntry). map entry_seen ys) c.deref-5.ensures.value ∙ found_entries in
-    let entries6 : map entry_seen c.deref-6.result.now ≡ xs = ap (λ (ys : List RustEntry). map entry_seen ys) c.deref-6.ensures.value ∙ found_entries in
+    let entries4 : map entry_seen c.deref-4.result.now ≡ xs = ap (λ (ys : List RustEntry). map entry_seen ys)
+    c.deref-4.ensures.value ∙ found_entries in
+    let entries5 : map entry_seen c.deref-5.result.now ≡ xs = ap (λ (ys : List RustEntry). map entry_seen ys)
+    c.deref-5.ensures.value ∙ found_entries in
+    let entries6 : map entry_seen c.deref-6.result.now ≡ xs = ap (λ (ys : List RustEntry). map entry_seen ys)
+    c.deref-6.ensures.value ∙ found_entries in
     let has = g.S.TypeStore.has c.add_fields.new.store in
     let has2 = g.S.TypeStore.has c.add_methods.new.store in
-    let f = subst (λ (ys : List MemberEntry). Added parameter_name (HasParameter has) (parameter_with tree) c.add_fields.new.named F c.add_fields.new.fields.items c.in_ok-fields.fields I.fields [] (all_own (own_field m) ys)) entries5
-    (c.in_ok-fields.ensures.added I.fields [] (subst (IsMapOf parameter_name d F o.held.fields) (sym (append-nil I.fields)) (subst (λ (n : ClassNode). IsMapOf parameter_name d F n.held.fields I.fields) (sym o_is) H.fields))
-    (subst (AreNew field_name (own_field m) (map (parameter_with tree) I.fields)) (sym entries5) (fields_new tree m d F M ns es c.requires.table class c.requires.class base based))) in
-    let k = subst (λ j. Added stored_method_name (HasMethod has2) (method_with tree) c.add_methods.new.named M c.add_methods.new.methods.items c.in_ok-methods.methods [] I.methods (all_own (own_method m j) xs)) number
-    (subst (λ (ys : List MemberEntry). Added stored_method_name (HasMethod has2) (method_with tree) c.add_methods.new.named M c.add_methods.new.methods.items c.in_ok-methods.methods [] I.methods (all_own (own_method m c.len-class.result) ys)) entries6
-    (c.in_ok-methods.ensures.added [] I.methods (held_on stored_method_name d c.add_fields.new.named M o.held.methods I.methods (subst (λ (n : ClassNode). IsMapOf stored_method_name d M n.held.methods I.methods) (sym o_is) H.methods) c.in_ok-fields.ensures.kept)
-    (subst (AreNew class_method_name (own_method m c.len-class.result) []) (sym entries6) (methods_new tree m d F M ns es c.requires.table class c.requires.class base based c.len-class.result)))) in
-    let b_is = c.in_ok-defaulted.ensures.defaulted ∙ ap (defaulted_in o.defaulted) entries4 ∙ ap (λ (n : ClassNode). defaulted_in n.defaulted xs) o_is in
+    let f = subst (λ (ys : List MemberEntry). Added parameter_name (HasParameter has) (parameter_with tree)
+    c.add_fields.new.named F c.add_fields.new.fields.items c.in_ok-fields.fields I.fields []
+    (all_own (own_field m) ys)) entries5
+    (c.in_ok-fields.ensures.added I.fields [] (subst (IsMapOf parameter_name d F o.held.fields)
+    (sym (append-nil I.fields)) (subst (λ (n : ClassNode). IsMapOf parameter_name d F n.held.fields I.fields)
+    (sym o_is) H.fields))
+    (subst (AreNew field_name (own_field m) (map (parameter_with tree) I.fields)) (sym entries5)
+    (fields_new tree m d F M ns es c.requires.table class c.requires.class base based))) in
+    let k = subst (λ j. Added stored_method_name (HasMethod has2) (method_with tree) c.add_methods.new.named M
+    c.add_methods.new.methods.items c.in_ok-methods.methods [] I.methods (all_own (own_method m j) xs)) number
+    (subst (λ (ys : List MemberEntry). Added stored_method_name (HasMethod has2) (method_with tree)
+    c.add_methods.new.named M c.add_methods.new.methods.items c.in_ok-methods.methods [] I.methods
+    (all_own (own_method m c.len-class.result) ys)) entries6
+    (c.in_ok-methods.ensures.added [] I.methods (held_on stored_method_name d c.add_fields.new.named M o.held.methods
+    I.methods (subst (λ (n : ClassNode). IsMapOf stored_method_name d M n.held.methods I.methods) (sym o_is)
+    H.methods) c.in_ok-fields.ensures.kept)
+    (subst (AreNew class_method_name (own_method m c.len-class.result) []) (sym entries6)
+    (methods_new tree m d F M ns es c.requires.table class c.requires.class base based c.len-class.result)))) in
+    let b_is = c.in_ok-defaulted.ensures.defaulted ∙ ap (defaulted_in o.defaulted) entries4
+    ∙ ap (λ (n : ClassNode). defaulted_in n.defaulted xs) o_is in
     let fs0 : c.len-fields_start.result ≡ length F = search rules in
     let fs = c.places_between.ensures.start ∙ fs0 in
     let fe0 : c.len-fields_end.result ≡ length c.add_fields.new.fields.items = search rules in
@@ -224,9 +318,19 @@ returns-clause-classes g c =
     let ms = c.places_between-2.ensures.start ∙ ms0 in
     let me0 : c.len-methods_end.result ≡ length c.add_methods.new.methods.items = search rules in
     let me = c.places_between-2.ensures.end ∙ me0 in
-    let n_is = node_same base c.in_ok-fields.fields c.in_ok-methods.methods c.in_ok-defaulted.defaulted _ _ _ _ _ _ _ _ fs fe ms me in
-    let q : TableParts _ = record { named = c.add_methods.new.named; classes = c.push.new.self; fields = c.add_fields.new.fields; methods = c.add_methods.new.methods } in
-    classes_new tree m p q c.requires.table class c.requires.class base based c.add_fields.new.named c.in_ok-fields.ensures.kept c.in_ok-methods.ensures.kept c.in_ok-fields.fields c.in_ok-methods.methods (g.S.TypeStore.has c.args.store.now) has has2 xs refl c.in_ok-defaulted.defaulted b_is f k _ n_is c.in_ok-push.ensures.items
+    let n_is = node_same base c.in_ok-fields.fields c.in_ok-methods.methods c.in_ok-defaulted.defaulted _ _ _ _ _ _ _ _
+    fs fe ms me in
+    let q : TableParts _ = record {
+      named = c.add_methods.new.named;
+      classes = c.push.new.self;
+      fields =
+          c.add_fields.new.fields;
+      methods = c.add_methods.new.methods;
+    } in
+    classes_new tree m p q c.requires.table class c.requires.class base based c.add_fields.new.named
+    c.in_ok-fields.ensures.kept c.in_ok-methods.ensures.kept c.in_ok-fields.fields c.in_ok-methods.methods
+    (g.S.TypeStore.has c.args.store.now) has has2 xs refl c.in_ok-defaulted.defaulted b_is f k _ n_is
+    c.in_ok-push.ensures.items
 
 pub returns-clause-found : goal.returns-clause-found
 returns-clause-found g c =
@@ -241,23 +345,35 @@ returns-clause-found g c =
     let es = entries_in p in
     let base = c.base-base.result in
     let number : c.len-class.result ≡ length ns = search rules in
-    let based : base ≡ base_named m (length ns) class.base = c.base-base.ensures.value ∙ ap (λ (bs : Bases). base_of bs c.len-class.result) c.requires.outline.parents ∙ ap (base_of (bases_of m)) number ∙ base_here m (length ns) class c.requires.class in
+    let based : base ≡ base_named m (length ns) class.base = c.base-base.ensures.value
+    ∙ ap (λ (bs : Bases). base_of bs c.len-class.result) c.requires.outline.parents
+    ∙ ap (base_of (bases_of m)) number ∙ base_here m (length ns) class c.requires.class in
     let o = c.inherited-inherited.result in
-    let o_is : o ≡ inherited_node ns base = c.inherited-inherited.ensures ∙ ap (λ (xs : List ClassNode). inherited_node xs base) c.deref.ensures.value in
+    let o_is : o ≡ inherited_node ns base = c.inherited-inherited.ensures
+    ∙ ap (λ (xs : List ClassNode). inherited_node xs base) c.deref.ensures.value in
     let I = inherited_entry es base in
     let H = held tree m d F M ns es c.requires.table class c.requires.class base based in
     let BC = base_class tree m d F M ns es c.requires.table class c.requires.class base based in
     let xs = class_entries (inherited_by BC) class in
     let found_entries : map entry_seen c.in_ok-members.members.items ≡ xs =
-    c.in_ok-members.ensures ∙ ap (λ (ys : List RustMember). entries_of (inherited_in d o.held) [] 0 (map member_of ys)) c.deref-2.ensures.value
+    c.in_ok-members.ensures ∙ ap (λ (ys : List RustMember). entries_of (inherited_in d o.held) [] 0 (map member_of ys))
+    c.deref-2.ensures.value
     ∙ ap (λ (n : ClassNode). entries_of (inherited_in d n.held) [] 0 class.members) o_is
     ∙ entries_are tree m d F M ns es c.requires.table class c.requires.class base based in
-    let entries3 : map entry_seen c.deref-3.result.now ≡ xs = ap (λ (ys : List RustEntry). map entry_seen ys) c.deref-3.ensures.value ∙ found_entries in
-    let entries4 : map entry_seen c.deref-4.result.now ≡ xs = ap (λ (ys : List RustEntry). map entry_seen ys) c.deref-4.ensures.value ∙ found_entries in
+    let entries3 : map entry_seen c.deref-3.result.now ≡ xs = ap (λ (ys : List RustEntry). map entry_seen ys)
+    c.deref-3.ensures.value ∙ found_entries in
+    let entries4 : map entry_seen c.deref-4.result.now ≡ xs = ap (λ (ys : List RustEntry). map entry_seen ys)
+    c.deref-4.ensures.value ∙ found_entries in
     c.in_ok-defaulted.ensures.found
-    ∙ ap (λ (fs : List Finding). fs ++ at_code E08 (late_places o.defaulted (map entry_seen c.deref-4.result.now))) c.in_ok-find_clashes.ensures
-    ∙ append_assoc c.args.found.now.items (at_code E06 (clash_places (map entry_seen c.deref-3.result.now))) (at_code E08 (late_places o.defaulted (map entry_seen c.deref-4.result.now)))
-    ∙ ap (λ (ys : List MemberEntry). c.args.found.now.items ++ (at_code E06 (clash_places ys) ++ at_code E08 (late_places o.defaulted (map entry_seen c.deref-4.result.now)))) entries3
-    ∙ ap (λ (ys : List MemberEntry). c.args.found.now.items ++ (at_code E06 (clash_places xs) ++ at_code E08 (late_places o.defaulted ys))) entries4
-    ∙ ap (λ (n : ClassNode). c.args.found.now.items ++ (at_code E06 (clash_places xs) ++ at_code E08 (late_places n.defaulted xs))) o_is
-    ∙ ap (λ b. c.args.found.now.items ++ (at_code E06 (clash_places xs) ++ at_code E08 (late_places b xs))) (base_defaulted tree m d F M ns es c.requires.table class c.requires.class base based)
+    ∙ ap (λ (fs : List Finding). fs ++ at_code E08 (late_places o.defaulted (map entry_seen c.deref-4.result.now)))
+    c.in_ok-find_clashes.ensures
+    ∙ append_assoc c.args.found.now.items (at_code E06 (clash_places (map entry_seen c.deref-3.result.now)))
+    (at_code E08 (late_places o.defaulted (map entry_seen c.deref-4.result.now)))
+    ∙ ap (λ (ys : List MemberEntry). c.args.found.now.items ++ (at_code E06 (clash_places ys) ++ at_code E08
+    (late_places o.defaulted (map entry_seen c.deref-4.result.now)))) entries3
+    ∙ ap (λ (ys : List MemberEntry). c.args.found.now.items ++ (at_code E06 (clash_places xs) ++ at_code E08
+    (late_places o.defaulted ys))) entries4
+    ∙ ap (λ (n : ClassNode). c.args.found.now.items ++ (at_code E06 (clash_places xs) ++ at_code E08
+    (late_places n.defaulted xs))) o_is
+    ∙ ap (λ b. c.args.found.now.items ++ (at_code E06 (clash_places xs) ++ at_code E08 (late_places b xs)))
+    (base_defaulted tree m d F M ns es c.requires.table class c.requires.class base based)

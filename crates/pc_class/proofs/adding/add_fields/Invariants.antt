@@ -14,6 +14,10 @@ invariant-loop-entry g l = record {
   within : IsMap l.named l.at;
   kept : KeepsNamed l.fn.named l.named;
   store : KeepsTypes g.S.TypeStore.has l.fn.store l.store;
-  added : (front back : List _) → IsMapOf parameter_name l.fn.named l.fn.fields.items l.inherited (front ++ back) → AreNew field_name (own_field (module_in l.outline)) (map (parameter_with g.S.TypeStore.tree) front) (map entry_seen l.entries)
-      → Walk parameter_name field_name (parameter_with g.S.TypeStore.tree) (own_field (module_in l.outline)) (HasParameter (g.S.TypeStore.has l.store)) l.named l.fn.fields.items l.fields.items l.at front back (map entry_seen l.entries) (map entry_seen (drop l.entry-index l.entries));
+  added : (front back : List _) → IsMapOf parameter_name l.fn.named l.fn.fields.items l.inherited (front ++ back)
+      → AreNew field_name (own_field (module_in l.outline)) (map (parameter_with g.S.TypeStore.tree) front)
+      (map entry_seen l.entries)
+      → Walk parameter_name field_name (parameter_with g.S.TypeStore.tree) (own_field (module_in l.outline))
+      (HasParameter (g.S.TypeStore.has l.store)) l.named l.fn.fields.items l.fields.items l.at front back
+      (map entry_seen l.entries) (map entry_seen (drop l.entry-index l.entries));
 }

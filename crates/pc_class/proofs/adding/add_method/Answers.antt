@@ -10,9 +10,12 @@ pub returns-clause-held : goal.returns-clause-held
 returns-clause-held g c front back h none =
     let x = c.args.method in
     let long : c.len-number.result ≡ length c.args.methods.now.items = search rules in
-    subst (λ (ys : List _). IsMapOf stored_method_name c.put.new.self ys c.in_ok-new.new ((front ++ x ∷ []) ++ back)) (sym c.in_ok-push.ensures.items)
-    (held_more stored_method_name c.args.named.now c.put.new.self c.args.methods.now.items c.args.at c.in_ok-new.new (front ++ back) ((front ++ x ∷ []) ++ back) x h c.in_ok-new.ensures.within
+    subst (λ (ys : List _). IsMapOf stored_method_name c.put.new.self ys c.in_ok-new.new ((front ++ x ∷ []) ++ back))
+    (sym c.in_ok-push.ensures.items)
+    (held_more stored_method_name c.args.named.now c.put.new.self c.args.methods.now.items c.args.at c.in_ok-new.new
+    (front ++ back) ((front ++ x ∷ []) ++ back) x h c.in_ok-new.ensures.within
     (λ n. c.in_ok-new.ensures.value n
-    ∙ ap (λ (t : List ℕ). if bytes_eq n t then Some c.len-number.result else named_at c.args.named.now c.args.at n) c.as_str.ensures.value
+    ∙ ap (λ (t : List ℕ). if bytes_eq n t then Some c.len-number.result else named_at c.args.named.now c.args.at n)
+    c.as_str.ensures.value
     ∙ ap (λ i. if bytes_eq n (stored_method_name x) then Some i else named_at c.args.named.now c.args.at n) long)
     (named_ahead stored_method_name front back x none))

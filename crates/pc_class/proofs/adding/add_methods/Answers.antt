@@ -18,7 +18,10 @@ loop-entry-init g c =
       within = c.requires.map;
       kept = named_same c.args.named.now;
       store = λ t h. h;
-      added = λ front back h new. walk_start stored_method_name class_method_name (method_with tree) (λ x. refl) (own_method (module_in c.args.outline.now) c.args.class) (HasMethod (g.S.TypeStore.has c.args.store.now)) c.args.named.now c.args.methods.now.items c.args.inherited front back (map entry_seen c.args.entries.now) h new;
+      added = λ front back h new. walk_start stored_method_name class_method_name (method_with tree) (λ x. refl)
+          (own_method (module_in c.args.outline.now) c.args.class) (HasMethod (g.S.TypeStore.has c.args.store.now))
+          c.args.named.now c.args.methods.now.items c.args.inherited front back (map entry_seen c.args.entries.now) h
+          new;
     }
 
 pub loop-entry-preserved : goal.loop-entry-preserved
@@ -36,8 +39,15 @@ loop-entry-preserved g c =
       within = c.in_ok-at.ensures.within;
       kept = named_on _ _ _ c.loop-entry.invariant.kept c.in_ok-at.ensures.kept;
       store = λ t h. k t (c.loop-entry.invariant.store t h);
-      added = λ front back h new. walk_next stored_method_name class_method_name (method_with tree) (λ x. refl) (own_method (module_in c.args.outline.now) c.args.class) has has2 (λ x h. record { params = λ i d l. k _ (h.params i d l); ret = k _ h.ret }) c.loop-entry.named c.add_own_method.new.named c.args.methods.now.items c.loop-entry.methods.items c.add_own_method.new.methods.items c.loop-entry.at c.in_ok-at.at front back (map entry_seen entries) e rest
-          (subst (λ (es : List RustEntry). Walk stored_method_name class_method_name (method_with tree) (own_method (module_in c.args.outline.now) c.args.class) has c.loop-entry.named c.args.methods.now.items c.loop-entry.methods.items c.loop-entry.at front back (map entry_seen entries) (map entry_seen es)) cons (c.loop-entry.invariant.added front back h new))
+      added = λ front back h new. walk_next stored_method_name class_method_name (method_with tree) (λ x. refl)
+          (own_method (module_in c.args.outline.now) c.args.class) has has2
+          (λ x h. record { params = λ i d l. k _ (h.params i d l); ret = k _ h.ret }) c.loop-entry.named
+          c.add_own_method.new.named c.args.methods.now.items c.loop-entry.methods.items
+          c.add_own_method.new.methods.items c.loop-entry.at c.in_ok-at.at front back (map entry_seen entries) e rest
+          (subst (λ (es : List RustEntry). Walk stored_method_name class_method_name (method_with tree)
+          (own_method (module_in c.args.outline.now) c.args.class) has c.loop-entry.named c.args.methods.now.items
+          c.loop-entry.methods.items c.loop-entry.at front back (map entry_seen entries) (map entry_seen es)) cons
+          (c.loop-entry.invariant.added front back h new))
           (λ these. c.in_ok-at.ensures.added these back);
     }
 
@@ -46,5 +56,10 @@ returns-clause-added g c front back h new =
     let tree = g.S.TypeStore.tree in
     let entries = c.args.entries.now in
     let has = HasMethod (g.S.TypeStore.has c.loop-entry.store) in
-    walk_end stored_method_name class_method_name (method_with tree) (λ x. refl) (own_method (module_in c.args.outline.now) c.args.class) has c.loop-entry.named c.args.methods.now.items c.loop-entry.methods.items c.loop-entry.at front back (map entry_seen entries)
-    (subst (λ (es : List RustEntry). Walk stored_method_name class_method_name (method_with tree) (own_method (module_in c.args.outline.now) c.args.class) has c.loop-entry.named c.args.methods.now.items c.loop-entry.methods.items c.loop-entry.at front back (map entry_seen entries) (map entry_seen es)) (drop_of_length-le entries c.loop-entry-test.false) (c.loop-entry.invariant.added front back h new))
+    walk_end stored_method_name class_method_name (method_with tree) (λ x. refl)
+    (own_method (module_in c.args.outline.now) c.args.class) has c.loop-entry.named c.args.methods.now.items
+    c.loop-entry.methods.items c.loop-entry.at front back (map entry_seen entries)
+    (subst (λ (es : List RustEntry). Walk stored_method_name class_method_name (method_with tree)
+    (own_method (module_in c.args.outline.now) c.args.class) has c.loop-entry.named c.args.methods.now.items
+    c.loop-entry.methods.items c.loop-entry.at front back (map entry_seen entries) (map entry_seen es))
+    (drop_of_length-le entries c.loop-entry-test.false) (c.loop-entry.invariant.added front back h new))

@@ -14,6 +14,10 @@ invariant-loop-entry g l = record {
   within : IsMap l.named l.at;
   kept : KeepsNamed l.fn.named l.named;
   store : KeepsTypes g.S.TypeStore.has l.fn.store l.store;
-  added : (front back : List _) → IsMapOf stored_method_name l.fn.named l.fn.methods.items l.inherited (front ++ back) → AreNew class_method_name (own_method (module_in l.outline) l.class) (map (method_with g.S.TypeStore.tree) front) (map entry_seen l.entries)
-      → Walk stored_method_name class_method_name (method_with g.S.TypeStore.tree) (own_method (module_in l.outline) l.class) (HasMethod (g.S.TypeStore.has l.store)) l.named l.fn.methods.items l.methods.items l.at front back (map entry_seen l.entries) (map entry_seen (drop l.entry-index l.entries));
+  added : (front back : List _) → IsMapOf stored_method_name l.fn.named l.fn.methods.items l.inherited (front ++ back)
+      → AreNew class_method_name (own_method (module_in l.outline) l.class) (map (method_with g.S.TypeStore.tree) front)
+      (map entry_seen l.entries)
+      → Walk stored_method_name class_method_name (method_with g.S.TypeStore.tree)
+      (own_method (module_in l.outline) l.class) (HasMethod (g.S.TypeStore.has l.store)) l.named l.fn.methods.items
+      l.methods.items l.at front back (map entry_seen l.entries) (map entry_seen (drop l.entry-index l.entries));
 }

@@ -21,19 +21,23 @@ loop-item-init g c =
     let has = g.S.TypeStore.has c.args.store.now in
     let p = c.in_ok-parts.parts in
     let all = classes_in (map item_of c.as_slice-items.result.now) in
-    let none : entries_in p ≡ [] = entries_are_behind p ∙ ap (entries_behind p.fields.items p.methods.items []) c.in_ok-parts.ensures.classes in
+    let none : entries_in p ≡ [] = entries_are_behind p ∙ ap (entries_behind p.fields.items p.methods.items [])
+    c.in_ok-parts.ensures.classes in
     let long : length p.classes.items ≡ 0 = ap length c.in_ok-parts.ensures.classes in
     let same : classes_with tree (entries_in p) ≡ [] = ap (classes_with tree) none in
     record {
       store = λ t h. h;
       table = c.in_ok-parts.ensures.table;
       given = record {
-        fields = All-same (HasParameter has) p.fields.items [] c.in_ok-parts.ensures.fields (All-nil (HasParameter has));
+        fields = All-same (HasParameter has) p.fields.items [] c.in_ok-parts.ensures.fields
+            (All-nil (HasParameter has));
         methods = All-same (HasMethod has) p.methods.items [] c.in_ok-parts.ensures.methods (All-nil (HasMethod has));
       };
       ahead = λ j. ap (λ n. slice_get all (n + j)) long ∙ ap (slice_get all) (zero-add j);
-      classes = ap (λ (e : List ClassFacts). classes_behind m e (length p.classes.items) all) same ∙ ap (λ n. classes_behind m [] n all) long;
-      found = ap (λ (e : List ClassFacts). c.args.found.now.items ++ found_behind m e (length p.classes.items) all) same ∙ ap (λ n. c.args.found.now.items ++ found_behind m [] n all) long;
+      classes = ap (λ (e : List ClassFacts). classes_behind m e (length p.classes.items) all) same
+          ∙ ap (λ n. classes_behind m [] n all) long;
+      found = ap (λ (e : List ClassFacts). c.args.found.now.items ++ found_behind m e (length p.classes.items) all) same
+          ∙ ap (λ n. c.args.found.now.items ++ found_behind m [] n all) long;
     }
 
 pub add_item-requires-clause-class : goal.add_item-requires-clause-class
@@ -42,7 +46,9 @@ add_item-requires-clause-class g c class e =
     let x = c.item-item.result in
     let i = c.loop-item.item-index in
     let n = length c.loop-item.parts.classes.items in
-    ap (λ (xs : List RustItem). slice_get (classes_in (map item_of xs)) n) (sym c.as_slice-items.ensures.value) ∙ item_ahead (classes_in (map item_of items)) n items i x c.loop-item-test.true c.item-item.is c.loop-item.invariant.ahead class e
+    ap (λ (xs : List RustItem). slice_get (classes_in (map item_of xs)) n) (sym c.as_slice-items.ensures.value)
+    ∙ item_ahead (classes_in (map item_of items)) n items i x c.loop-item-test.true c.item-item.is
+    c.loop-item.invariant.ahead class e
 
 pub loop-item-preserved : goal.loop-item-preserved
 loop-item-preserved g c =
@@ -66,7 +72,8 @@ loop-item-preserved g c =
       given = c.in_ok-add_item.ensures.given;
       ahead = items_ahead all n items i x less is inv.ahead k more;
       classes = classes_next m e n items i x less is e2 c.in_ok-add_item.ensures.classes k more _ inv.classes;
-      found = found_next m e n items i x less is e2 c.in_ok-add_item.ensures.classes k more c.loop-item.found.items c.add_item.new.found.items _ inv.found c.in_ok-add_item.ensures.found;
+      found = found_next m e n items i x less is e2 c.in_ok-add_item.ensures.classes k more c.loop-item.found.items
+          c.add_item.new.found.items _ inv.found c.in_ok-add_item.ensures.found;
     }
 
 pub returns-clause-classes : goal.returns-clause-classes
@@ -76,7 +83,8 @@ returns-clause-classes g c =
     let items = c.as_slice-items.result.now in
     let n = length c.loop-item.parts.classes.items in
     let e = classes_with tree (entries_in c.loop-item.parts) in
-    ap (λ (xs : List RustItem). classes_behind m e n (classes_in (map item_of xs))) (sym (drop_of_length-le items c.loop-item-test.false))
+    ap (λ (xs : List RustItem). classes_behind m e n (classes_in (map item_of xs)))
+    (sym (drop_of_length-le items c.loop-item-test.false))
     ∙ c.loop-item.invariant.classes
     ∙ ap (λ (xs : List RustItem). classes_behind m [] 0 (classes_in (map item_of xs))) c.as_slice-items.ensures.value
     ∙ sym (classes_are_behind m)
@@ -89,6 +97,8 @@ returns-clause-found g c =
     let n = length c.loop-item.parts.classes.items in
     let e = classes_with tree (entries_in c.loop-item.parts) in
     sym (append-nil c.loop-item.found.items)
-    ∙ ap (λ (xs : List RustItem). c.loop-item.found.items ++ found_behind m e n (classes_in (map item_of xs))) (sym (drop_of_length-le items c.loop-item-test.false))
+    ∙ ap (λ (xs : List RustItem). c.loop-item.found.items ++ found_behind m e n (classes_in (map item_of xs)))
+    (sym (drop_of_length-le items c.loop-item-test.false))
     ∙ c.loop-item.invariant.found
-    ∙ ap (λ (xs : List RustItem). c.args.found.now.items ++ found_behind m [] 0 (classes_in (map item_of xs))) c.as_slice-items.ensures.value
+    ∙ ap (λ (xs : List RustItem). c.args.found.now.items ++ found_behind m [] 0 (classes_in (map item_of xs)))
+    c.as_slice-items.ensures.value

@@ -15,7 +15,12 @@ invariant-loop-item g l = record {
   store : KeepsTypes g.S.TypeStore.has l.fn.store l.store;
   table : IsClassTable l.parts;
   given : HasParts (g.S.TypeStore.has l.store) l.parts;
-  ahead : AreAhead (classes_in (map item_of l.items)) (length l.parts.classes.items) (classes_in (map item_of (drop l.item-index l.items)));
-  classes : classes_behind (module_in l.outline) (classes_with g.S.TypeStore.tree (entries_in l.parts)) (length l.parts.classes.items) (classes_in (map item_of (drop l.item-index l.items))) ≡ classes_behind (module_in l.outline) [] 0 (classes_in (map item_of l.items));
-  found : l.found.items ++ found_behind (module_in l.outline) (classes_with g.S.TypeStore.tree (entries_in l.parts)) (length l.parts.classes.items) (classes_in (map item_of (drop l.item-index l.items))) ≡ l.fn.found.items ++ found_behind (module_in l.outline) [] 0 (classes_in (map item_of l.items));
+  ahead : AreAhead (classes_in (map item_of l.items)) (length l.parts.classes.items)
+      (classes_in (map item_of (drop l.item-index l.items)));
+  classes : classes_behind (module_in l.outline) (classes_with g.S.TypeStore.tree (entries_in l.parts))
+      (length l.parts.classes.items) (classes_in (map item_of (drop l.item-index l.items))) ≡ classes_behind
+      (module_in l.outline) [] 0 (classes_in (map item_of l.items));
+  found : l.found.items ++ found_behind (module_in l.outline) (classes_with g.S.TypeStore.tree (entries_in l.parts))
+      (length l.parts.classes.items) (classes_in (map item_of (drop l.item-index l.items))) ≡ l.fn.found.items
+      ++ found_behind (module_in l.outline) [] 0 (classes_in (map item_of l.items));
 }

@@ -24,15 +24,18 @@ returns-clause-found g c =
     let cs = classes_in m.items in
     c.in_ok-parts.ensures.found
     ∙ ap (λ (fs : List Finding). fs ++ found_behind m [] 0 cs) (c.in_ok-find_missing_bases.ensures
-    ∙ ap (λ (xs : List RustItem). old ++ at_code E07 (missing_bases c.in_ok-parents.parents 0 (classes_in (map item_of xs)))) c.deref.ensures.value
+    ∙ ap (λ (xs : List RustItem). old ++ at_code E07 (missing_bases c.in_ok-parents.parents 0
+    (classes_in (map item_of xs)))) c.deref.ensures.value
     ∙ ap (λ (bs : Bases). old ++ at_code E07 (missing_bases bs 0 cs)) c.in_ok-parents.ensures)
     ∙ append_assoc old (at_code E07 (missing_bases (bases_of m) 0 cs)) (found_behind m [] 0 cs)
     ∙ ap (λ (fs : List Finding). old ++ (at_code E07 (missing_bases (bases_of m) 0 cs) ++ fs)) (found_listed m)
 
 pub returns-clause-given : goal.returns-clause-given
-returns-clause-given g c = subst (HasEntries (g.S.TypeStore.has c.all_classes.new.store)) (sym c.of.ensures) (table_given (g.S.TypeStore.has c.all_classes.new.store) c.in_ok-parts.parts c.in_ok-parts.ensures.given)
+returns-clause-given g c = subst (HasEntries (g.S.TypeStore.has c.all_classes.new.store)) (sym c.of.ensures)
+    (table_given (g.S.TypeStore.has c.all_classes.new.store) c.in_ok-parts.parts c.in_ok-parts.ensures.given)
 
 pub of-requires-clause-parents : goal.of-requires-clause-parents
 of-requires-clause-parents g c =
-    c.in_ok-parents.ensures ∙ sym (bases_are (module_of c.args.tree.now)) ∙ ap (map (λ (x : ClassFacts). x.base)) (sym c.in_ok-parts.ensures.classes)
+    c.in_ok-parents.ensures ∙ sym (bases_are (module_of c.args.tree.now))
+    ∙ ap (map (λ (x : ClassFacts). x.base)) (sym c.in_ok-parts.ensures.classes)
     ∙ bases_there g.S.TypeStore.tree (entries_in c.in_ok-parts.parts)

@@ -12,8 +12,14 @@ use Rattle.pc_class.proofs.overriding.code_of.Given as goal
 abbrev pub invariant-loop-at : goal.invariant-loop-at
 invariant-loop-at g l = record {
   store : KeepsTypes g.S.TypeStore.has l.fn.store l.store;
-  good : list_all (is_good_to l.judging.parents.now (method_with g.S.TypeStore.tree l.method)) (overridden (methods_above l.judging l.fn.base) (string_bytes l.method.name)) ≡ list_all (is_good_to l.judging.parents.now (method_with g.S.TypeStore.tree l.method)) (overridden (methods_above l.judging l.at) (string_bytes l.method.name));
-  static : list_all (is_static_to l.judging.parents.now (method_with g.S.TypeStore.tree l.method)) (overridden (methods_above l.judging l.fn.base) (string_bytes l.method.name)) ≡ (list_all (is_static_to l.judging.parents.now (method_with g.S.TypeStore.tree l.method)) (overridden (methods_above l.judging l.at) (string_bytes l.method.name)) && l.is_static);
+  good : list_all (is_good_to l.judging.parents.now (method_with g.S.TypeStore.tree l.method))
+      (overridden (methods_above l.judging l.fn.base) (string_bytes l.method.name))
+      ≡ list_all (is_good_to l.judging.parents.now (method_with g.S.TypeStore.tree l.method))
+      (overridden (methods_above l.judging l.at) (string_bytes l.method.name));
+  static : list_all (is_static_to l.judging.parents.now (method_with g.S.TypeStore.tree l.method))
+      (overridden (methods_above l.judging l.fn.base) (string_bytes l.method.name))
+      ≡ (list_all (is_static_to l.judging.parents.now (method_with g.S.TypeStore.tree l.method))
+      (overridden (methods_above l.judging l.at) (string_bytes l.method.name)) && l.is_static);
 }
 
 abbrev pub decreases-loop-at : goal.decreases-loop-at

@@ -8,5 +8,7 @@ use Rattle.pc_class.proofs.overriding.find_class_overrides.Given as goal
 abbrev pub invariant-loop-method : goal.invariant-loop-method
 invariant-loop-method g l = record {
   store : KeepsTypes g.S.TypeStore.has l.fn.store l.store;
-  found : l.found.items ++ found_at_methods l.judging.parents.now (methods_above l.judging l.base) (map (method_with g.S.TypeStore.tree) (drop l.method-index l.methods)) ≡ l.fn.found.items ++ found_at_methods l.judging.parents.now (methods_above l.judging l.base) (map (method_with g.S.TypeStore.tree) l.methods);
+  found : l.found.items ++ found_at_methods l.judging.parents.now (methods_above l.judging l.base)
+      (map (method_with g.S.TypeStore.tree) (drop l.method-index l.methods)) ≡ l.fn.found.items ++ found_at_methods
+      l.judging.parents.now (methods_above l.judging l.base) (map (method_with g.S.TypeStore.tree) l.methods);
 }

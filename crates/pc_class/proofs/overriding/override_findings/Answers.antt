@@ -1,4 +1,5 @@
-use Rattle.std.proofs.Common.{◌≡◌, ◌∙◌, ◌++◌, ◌+◌, ◌≤◌, ◌<◌, List, [], ◌∷◌, drop, length, map, refl, sym, ap, subst, rules, arith, append-nil, length-append}
+use Rattle.std.proofs.Common.{◌≡◌, ◌∙◌, ◌++◌, ◌+◌, ◌≤◌, ◌<◌, List, [], ◌∷◌, drop, length, map, refl, sym, ap, subst}
+use Rattle.std.proofs.Common.{rules, arith, append-nil, length-append}
 use Rattle.std.specs.Prelude.{◌==◌}
 use Rattle.std.proofs.lemmas.Bool.{eqb-true}
 use Rattle.std.proofs.Math.ListN.{drop_of_length-le}
@@ -23,10 +24,12 @@ find_class_overrides-requires-clause-judging g c = record {
 pub find_class_overrides-requires-clause-table : goal.find_class_overrides-requires-clause-table
 find_class_overrides-requires-clause-table g c =
     let has = g.S.TypeStore.has in
-    entries_keep (has c.args.store.now) (has c.loop-class.store) c.args.classes.now c.loop-class.invariant.store c.requires.given
+    entries_keep (has c.args.store.now) (has c.loop-class.store) c.args.classes.now c.loop-class.invariant.store
+    c.requires.given
 
 pub find_class_overrides-requires-clause-clean : goal.find_class_overrides-requires-clause-clean
-find_class_overrides-requires-clause-clean g c = subst (AreClean (module_of c.args.tree.now)) (sym c.deref.ensures.value) c.loop-class.invariant.clean
+find_class_overrides-requires-clause-clean g c = subst (AreClean (module_of c.args.tree.now))
+    (sym c.deref.ensures.value) c.loop-class.invariant.clean
 
 pub loop-class-init : goal.loop-class-init
 loop-class-init g c = record {
@@ -56,11 +59,14 @@ loop-class-preserved g c =
     let longer = ap length c.in_ok-push.ensures.items in
     record {
       store = λ t h. c.find_class_overrides.ensures.kept t (c.loop-class.invariant.store t h);
-      found = classes_next m i more.class c.loop-class.found.items c.find_class_overrides.new.found.items _ (overrides_from m i (drop i cs)) (overrides_from m (i + 1) (drop (i + 1) cs))
+      found = classes_next m i more.class c.loop-class.found.items c.find_class_overrides.new.found.items _
+          (overrides_from m i (drop i cs)) (overrides_from m (i + 1) (drop (i + 1) cs))
           c.loop-class.invariant.found more.next here;
       clean = subst (AreClean m) (sym c.in_ok-push.ensures.items)
-          (clean_next m c.loop-class.clean.items (c.len.result == c.len-before.result) i more.class c.loop-class.invariant.clean kept more.is
-          (λ same. none_more old (class_overrides m i more.class) new here (sym after ∙ eqb-true c.len.result c.len-before.result same ∙ before)));
+          (clean_next m c.loop-class.clean.items (c.len.result == c.len-before.result) i more.class
+          c.loop-class.invariant.clean kept more.is
+          (λ same. none_more old (class_overrides m i more.class) new here
+          (sym after ∙ eqb-true c.len.result c.len-before.result same ∙ before)));
       many = omega (arith, longer, pushed, kept);
     }
 

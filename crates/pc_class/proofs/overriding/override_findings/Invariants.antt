@@ -9,7 +9,9 @@ use Rattle.pc_class.proofs.overriding.override_findings.Given as goal
 abbrev pub invariant-loop-class : goal.invariant-loop-class
 invariant-loop-class g l = record {
   store : KeepsTypes g.S.TypeStore.has l.fn.store l.store;
-  found : l.found.items ++ overrides_from (module_of l.tree) l.class (drop l.class (classes_in (module_of l.tree).items)) ≡ l.fn.found.items ++ overrides_from (module_of l.tree) 0 (classes_in (module_of l.tree).items);
+  found : l.found.items ++ overrides_from (module_of l.tree) l.class
+      (drop l.class (classes_in (module_of l.tree).items)) ≡ l.fn.found.items ++ overrides_from (module_of l.tree) 0
+      (classes_in (module_of l.tree).items);
   clean : AreClean (module_of l.tree) l.clean.items;
   many : length l.clean.items ≡ l.class;
 }

@@ -34,13 +34,15 @@ loop-param-preserved g c =
     let has2 = HasParameter (g.S.TypeStore.has c.read_param.new.store) in
     record {
       store = λ t h. k t (c.loop-param.invariant.store t h);
-      given = rw c.in_ok-push.ensures.items (All-push has2 all p (All-weaker has has2 (λ x h. k _ h) all c.loop-param.invariant.given) c.in_ok-parameter.ensures.given);
+      given = rw c.in_ok-push.ensures.items (All-push has2 all p
+          (All-weaker has has2 (λ x h. k _ h) all c.loop-param.invariant.given) c.in_ok-parameter.ensures.given);
       means =
           ap (λ xs. parameters_with tree xs ++ rest) c.in_ok-push.ensures.items
           ∙ ap (λ (ys : List TypedParameter). ys ++ rest) (map-append (parameter_with tree) all (p ∷ []))
           ∙ append_assoc (parameters_with tree all) (parameter_with tree p ∷ []) rest
           ∙ ap (λ y. parameters_with tree all ++ y ∷ rest) c.in_ok-parameter.ensures.means
-          ∙ ap (λ (ps : List RustParam). parameters_with tree all ++ parameters_of m (map param_of ps)) (sym (cons_at params i c.param-item.result c.loop-param-test.true c.param-item.is))
+          ∙ ap (λ (ps : List RustParam). parameters_with tree all ++ parameters_of m (map param_of ps))
+          (sym (cons_at params i c.param-item.result c.loop-param-test.true c.param-item.is))
           ∙ c.loop-param.invariant.means;
     }
 
@@ -50,5 +52,6 @@ returns-clause-means g c =
     let tree = g.S.TypeStore.tree in
     let params = c.args.params.now in
     sym (append-nil (parameters_with tree c.loop-param.all.items))
-    ∙ ap (λ (ps : List RustParam). parameters_with tree c.loop-param.all.items ++ parameters_of m (map param_of ps)) (sym (drop_of_length-le params c.loop-param-test.false))
+    ∙ ap (λ (ps : List RustParam). parameters_with tree c.loop-param.all.items ++ parameters_of m (map param_of ps))
+    (sym (drop_of_length-le params c.loop-param-test.false))
     ∙ c.loop-param.invariant.means

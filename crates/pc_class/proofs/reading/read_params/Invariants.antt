@@ -10,5 +10,6 @@ abbrev pub invariant-loop-param : goal.invariant-loop-param
 invariant-loop-param g l = record {
   store : KeepsTypes g.S.TypeStore.has l.fn.store l.store;
   given : All (HasParameter (g.S.TypeStore.has l.store)) l.all.items;
-  means : parameters_with g.S.TypeStore.tree l.all.items ++ parameters_of (module_in l.outline) (map param_of (drop l.param-index l.params)) ≡ parameters_of (module_in l.outline) (map param_of l.params);
+  means : parameters_with g.S.TypeStore.tree l.all.items ++ parameters_of (module_in l.outline)
+      (map param_of (drop l.param-index l.params)) ≡ parameters_of (module_in l.outline) (map param_of l.params);
 }

@@ -1,4 +1,5 @@
-use Rattle.std.proofs.Common.{◌≡◌, ◌∙◌, ◌++◌, ◌≤◌, ℕ, suc, List, length, map, reverse, refl, sym, ap, subst, rules, arith}
+use Rattle.std.proofs.Common.{◌≡◌, ◌∙◌, ◌++◌, ◌≤◌, ℕ, suc, List, length, map, reverse, refl, sym, ap, subst, rules}
+use Rattle.std.proofs.Common.{arith}
 use Rattle.std.specs.Prelude.{Option, None}
 use Rattle.indexmap.proofs.ReorderLemmas.{map-reverse}
 use Rattle.std.proofs.lemmas.Option.{slice_get_read}
@@ -38,10 +39,15 @@ loop-at-preserved g c =
     let node = c.requires.table.each number n is in
     record {
       below = λ b e. let l = node.before b e in omega arith;
-      so_far = up_next _ (inherited_entry (entries_in p) n.base).fields (part p.fields.items n.fields) (map lent_parameter c.loop-at.all.items) (map lent_parameter c.push_backwards.new.all.items)
-          (c.loop-at.invariant.so_far ∙ ap (λ (o : Option ℕ). (inherited_entry (entries_in p) o).fields ++ reverse (map lent_parameter c.loop-at.all.items)) c.in-Some.is
-          ∙ ap (λ (xs : List _). xs ++ reverse (map lent_parameter c.loop-at.all.items)) (fields_over p.named p.fields.items p.methods.items p.classes.items (entries_in p) c.requires.table number n is))
-          (c.in_ok-push_backwards.ensures ∙ ap (λ (xs : List _). map lent_parameter c.loop-at.all.items ++ reverse (part xs n.fields)) c.deref.ensures.value);
+      so_far = up_next _ (inherited_entry (entries_in p) n.base).fields (part p.fields.items n.fields)
+          (map lent_parameter c.loop-at.all.items) (map lent_parameter c.push_backwards.new.all.items)
+          (c.loop-at.invariant.so_far ∙ ap (λ (o : Option ℕ). (inherited_entry (entries_in p) o).fields
+          ++ reverse (map lent_parameter c.loop-at.all.items)) c.in-Some.is
+          ∙ ap (λ (xs : List _). xs ++ reverse (map lent_parameter c.loop-at.all.items))
+          (fields_over p.named p.fields.items p.methods.items p.classes.items (entries_in p) c.requires.table number
+          n is))
+          (c.in_ok-push_backwards.ensures ∙ ap (λ (xs : List _). map lent_parameter c.loop-at.all.items
+          ++ reverse (part xs n.fields)) c.deref.ensures.value);
     }
 
 pub returns : goal.returns
@@ -49,4 +55,5 @@ returns g c =
     let p = c.args.parts.now in
     let none : c.loop-at.at ≡ None = search rules in
     ap (map lent_parameter) c.reverse.ensures.items ∙ map-reverse lent_parameter c.loop-at.all.items
-    ∙ sym (c.loop-at.invariant.so_far ∙ ap (λ (o : Option ℕ). (inherited_entry (entries_in p) o).fields ++ reverse (map lent_parameter c.loop-at.all.items)) none)
+    ∙ sym (c.loop-at.invariant.so_far ∙ ap (λ (o : Option ℕ). (inherited_entry (entries_in p) o).fields
+    ++ reverse (map lent_parameter c.loop-at.all.items)) none)

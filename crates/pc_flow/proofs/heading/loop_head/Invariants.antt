@@ -8,4 +8,6 @@ use Rattle.pc_flow.proofs.heading.loop_head.Given as goal
 abbrev pub invariant-loop-local : goal.invariant-loop-local
 invariant-loop-local g l =
     KeepsTypes g.S.TypeStore.has l.fn.store l.store
-    × GivesEnv g.S.TypeStore.has g.S.TypeStore.tree l.store l.head (loop_head (is_among (take l.local-index l.bound)) (declared_of g.S.TypeStore.tree l.declared) (env_of g.S.TypeStore.tree l.env))
+    × GivesEnv g.S.TypeStore.has g.S.TypeStore.tree l.store l.head
+    (loop_head (is_among (take l.local-index l.bound)) (declared_of g.S.TypeStore.tree l.declared)
+    (env_of g.S.TypeStore.tree l.env))

@@ -9,19 +9,28 @@ use Rattle.pc_flow.proofs.joining.join_some.Goals as goal
 
 pub loop-local-init : goal.loop-local-init
 loop-local-init g c =
-    let few : c.min.result ≡ min (length c.args.declarations.now.declared.now) (length c.args.b.now) = c.min.ensures ∙ (λ i. min (length (c.types.ensures i)) (c.len.ensures i)) in
-    ((λ ty h. h), join_begins g.S.TypeStore.has g.S.TypeStore.tree c.args.declarations.now.parents.now c.args.declarations.now.declared.now c.args.a c.args.b.now c.args.store.now (is_among (take 0 c.args.locals.now)) c.min.result c.first-met.result (λ x. refl) few c.first-met.ensures c.requires.left)
+    let few : c.min.result ≡ min (length c.args.declarations.now.declared.now) (length c.args.b.now) = c.min.ensures
+    ∙ (λ i. min (length (c.types.ensures i)) (c.len.ensures i)) in (
+      (λ ty h. h),
+      join_begins g.S.TypeStore.has g.S.TypeStore.tree c.args.declarations.now.parents.now
+          c.args.declarations.now.declared.now c.args.a c.args.b.now c.args.store.now
+          (is_among (take 0 c.args.locals.now)) c.min.result c.first-met.result (λ x. refl) few c.first-met.ensures
+          c.requires.left,
+    )
 
 pub set_joined-requires-clause-declared : goal.set_joined-requires-clause-declared
-set_joined-requires-clause-declared g c = each_kept g.S.TypeStore.has _ _ c.loop-local.invariant.0 c.args.declarations.now.declared.now c.requires.declared
+set_joined-requires-clause-declared g c = each_kept g.S.TypeStore.has _ _ c.loop-local.invariant.0
+    c.args.declarations.now.declared.now c.requires.declared
 
 pub set_joined-requires-clause-left : goal.set_joined-requires-clause-left
 set_joined-requires-clause-left g c =
     let copy : c.in_ok-before.before ≡ c.args.a = c.in_ok-before.ensures in
-    subst (λ (types : List (Option g.row.S-Ty.Denot)). HasEach (g.S.TypeStore.has c.loop-local.store) types) (sym copy) (each_kept g.S.TypeStore.has _ _ c.loop-local.invariant.0 c.args.a c.requires.left)
+    subst (λ (types : List (Option g.row.S-Ty.Denot)). HasEach (g.S.TypeStore.has c.loop-local.store) types) (sym copy)
+    (each_kept g.S.TypeStore.has _ _ c.loop-local.invariant.0 c.args.a c.requires.left)
 
 pub set_joined-requires-clause-right : goal.set_joined-requires-clause-right
-set_joined-requires-clause-right g c = each_kept g.S.TypeStore.has _ _ c.loop-local.invariant.0 c.args.b.now c.requires.right
+set_joined-requires-clause-right g c = each_kept g.S.TypeStore.has _ _ c.loop-local.invariant.0 c.args.b.now
+    c.requires.right
 
 pub loop-local-preserved : goal.loop-local-preserved
 loop-local-preserved g c =
@@ -33,9 +42,19 @@ loop-local-preserved g c =
     let i = c.loop-local.local-index in
     let x = get_or l i 0 in
     let copy : c.in_ok-before.before ≡ c.args.a = c.in_ok-before.ensures in
-    let next = subst (λ (a : List (Option g.row.S-Ty.Denot)). GivesEnv has tree c.set_joined.new.store c.set_joined.new.met (slice_set (env_of tree c.loop-local.met) x (join_local c.args.declarations.now.parents.now (declared_type (declared_of tree ds) x) (current (env_of tree a) x) (current (env_of tree b) x)))) copy c.in_ok-set_joined.ensures.value in
-    (keeps_both has _ _ _ c.loop-local.invariant.0 c.set_joined.ensures.kept, join_goes_on has tree c.args.declarations.now.parents.now ds c.args.a b c.loop-local.store c.set_joined.new.store (is_among (take i l)) (is_among (take (i + 1) l)) x c.loop-local.met c.set_joined.new.met (one_more_among l i 0 x c.loop-local-test.true refl) c.loop-local.invariant.1 next)
+    let next = subst (λ (a : List (Option g.row.S-Ty.Denot)). GivesEnv has tree c.set_joined.new.store
+    c.set_joined.new.met (slice_set (env_of tree c.loop-local.met) x
+    (join_local c.args.declarations.now.parents.now (declared_type (declared_of tree ds) x)
+    (current (env_of tree a) x) (current (env_of tree b) x)))) copy c.in_ok-set_joined.ensures.value in (
+      keeps_both has _ _ _ c.loop-local.invariant.0 c.set_joined.ensures.kept,
+      join_goes_on has tree c.args.declarations.now.parents.now ds c.args.a b c.loop-local.store
+          c.set_joined.new.store (is_among (take i l)) (is_among (take (i + 1) l)) x c.loop-local.met c.set_joined.new.met
+          (one_more_among l i 0 x c.loop-local-test.true refl) c.loop-local.invariant.1 next,
+    )
 
 pub returns-clause-value : goal.returns-clause-value
 returns-clause-value g c =
-    join_ends_at g.S.TypeStore.has g.S.TypeStore.tree c.args.declarations.now.parents.now c.args.declarations.now.declared.now c.args.a c.args.b.now c.loop-local.store c.loop-local.met c.args.locals.now c.loop-local.local-index c.loop-local-test.false c.requires.well_formed c.requires.agree c.loop-local.invariant.1
+    join_ends_at g.S.TypeStore.has g.S.TypeStore.tree c.args.declarations.now.parents.now
+    c.args.declarations.now.declared.now c.args.a c.args.b.now c.loop-local.store c.loop-local.met c.args.locals.now
+    c.loop-local.local-index c.loop-local-test.false c.requires.well_formed c.requires.agree
+    c.loop-local.invariant.1

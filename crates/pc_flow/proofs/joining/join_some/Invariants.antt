@@ -8,4 +8,7 @@ use Rattle.pc_flow.proofs.joining.join_some.Given as goal
 abbrev pub invariant-loop-local : goal.invariant-loop-local
 invariant-loop-local g l =
     KeepsTypes g.S.TypeStore.has l.fn.store l.store
-    × GivesEnv g.S.TypeStore.has g.S.TypeStore.tree l.store l.met (join_where l.declarations.parents.now (is_among (take l.local-index l.locals)) (declared_of g.S.TypeStore.tree l.declarations.declared.now) (env_of g.S.TypeStore.tree l.fn.a) (env_of g.S.TypeStore.tree l.b))
+    × GivesEnv g.S.TypeStore.has g.S.TypeStore.tree l.store l.met
+    (join_where l.declarations.parents.now (is_among (take l.local-index l.locals))
+    (declared_of g.S.TypeStore.tree l.declarations.declared.now) (env_of g.S.TypeStore.tree l.fn.a)
+    (env_of g.S.TypeStore.tree l.b))

@@ -18,10 +18,21 @@ returns-clause-value g c =
     let met = c.args.met.now in
     let x = c.args.local in
     let store = c.join_local.new.store in
-    let joined = join_local c.args.declarations.now.parents.now (declared_type (declared_of tree ds) x) (current (env_of tree a) x) (current (env_of tree b) x) in
-    let e0 : declared_one tree (option_copied c.declared-declared.result) ≡ declared_type (declared_of tree ds) x = ap (declared_one tree) c.declared-declared.ensures ∙ sym (declared_at tree ds x) in
-    let e1 : option_map tree (option_copied c.current.result) ≡ current (env_of tree a) x = ap (option_map tree) c.current.ensures ∙ sym (current_env tree a x) in
-    let e2 : option_map tree (option_copied c.current-2.result) ≡ current (env_of tree b) x = ap (option_map tree) c.current-2.ensures ∙ sym (current_env tree b x) in
-    let one : GivesOne has tree store c.in_ok-joined.joined joined = record { given = c.in_ok-joined.ensures.value.given; is = c.in_ok-joined.ensures.value.is ∙ (λ i. join_local c.args.declarations.now.parents.now (e0 i) (e1 i) (e2 i)) } in
-    let whole = set_gives has tree store met x c.in_ok-joined.joined joined one (each_kept has _ _ c.join_local.ensures.kept met c.requires.met) in
-    on_ok_weaker c.set.result (λ e. subst (λ (types : List (Option g.row.S-Ty.Denot)). GivesEnv has tree store types (slice_set (env_of tree met) x joined)) (sym e) whole) c.set.ensures.set
+    let joined = join_local c.args.declarations.now.parents.now (declared_type (declared_of tree ds) x)
+    (current (env_of tree a) x) (current (env_of tree b) x) in
+    let e0 : declared_one tree (option_copied c.declared-declared.result) ≡ declared_type (declared_of tree ds) x =
+    ap (declared_one tree) c.declared-declared.ensures ∙ sym (declared_at tree ds x) in
+    let e1 : option_map tree (option_copied c.current.result) ≡ current (env_of tree a) x =
+    ap (option_map tree) c.current.ensures ∙ sym (current_env tree a x) in
+    let e2 : option_map tree (option_copied c.current-2.result) ≡ current (env_of tree b) x =
+    ap (option_map tree) c.current-2.ensures ∙ sym (current_env tree b x) in
+    let one : GivesOne has tree store c.in_ok-joined.joined joined =
+    record {
+      given = c.in_ok-joined.ensures.value.given;
+      is = c.in_ok-joined.ensures.value.is
+          ∙ (λ i. join_local c.args.declarations.now.parents.now (e0 i) (e1 i) (e2 i));
+    } in
+    let whole = set_gives has tree store met x c.in_ok-joined.joined joined one
+    (each_kept has _ _ c.join_local.ensures.kept met c.requires.met) in
+    on_ok_weaker c.set.result (λ e. subst (λ (types : List (Option g.row.S-Ty.Denot)). GivesEnv has tree store types
+    (slice_set (env_of tree met) x joined)) (sym e) whole) c.set.ensures.set

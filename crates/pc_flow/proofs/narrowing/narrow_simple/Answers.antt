@@ -14,6 +14,14 @@ returns-in-Call-clause-value g c =
     let tree = g.S.TypeStore.tree in
     let d = c.args.declarations.now in
     let ds = declared_of tree d.declared.now in
-    rw c.in-Call.is (subst (λ (x : Expr). IfOk c.narrow_instance.result (λ n. GivesBoth has tree c.narrow_instance.new.store n (λ holds. narrow d.parents.now ds (meanings d.names.now) holds x (env_of tree c.args.env))))
+    rw c.in-Call.is (subst (λ (x : Expr). IfOk c.narrow_instance.result
+    (λ n. GivesBoth has tree c.narrow_instance.new.store n (λ holds. narrow d.parents.now ds (meanings d.names.now)
+    holds x (env_of tree c.args.env))))
     (sym (call_tree c.in-Call.field-0 c.in-Call.callee c.in-Call.arguments c.in-Call.by_name))
-    (rw (c.is_instance_test-is_test.ensures, c.deref-in-Call.ensures, c.deref-in-Call-2.ensures.value, c.deref-in-Call-3.ensures.value, c.deref-in-Call-4.ensures.value) at (c.narrow_instance.ensures.value ds)))
+    (rw (
+      c.is_instance_test-is_test.ensures,
+      c.deref-in-Call.ensures,
+      c.deref-in-Call-2.ensures.value,
+      c.deref-in-Call-3.ensures.value,
+      c.deref-in-Call-4.ensures.value,
+    ) at (c.narrow_instance.ensures.value ds)))

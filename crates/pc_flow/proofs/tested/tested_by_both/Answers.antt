@@ -13,8 +13,12 @@ pub returns : goal.returns
 returns c x =
     let resolve = meanings c.args.names.now in
     let second = tested_locals resolve (expr_of c.args.right.now) in
-    let all : c.add_tested-2.new.tested.items ≡ tested_locals resolve (expr_of c.args.left.now) ++ second = c.in_ok-add_tested-2.ensures ∙ ap (λ (xs : List ℕ). xs ++ second) (c.in_ok-add_tested.ensures ∙ ap (λ (xs : List ℕ). xs ++ tested_locals resolve (expr_of c.args.left.now)) c.new-tested.ensures.items) in
-    ap (λ (xs : List ℕ). is_among xs x) (dedup_is eqb c.sort_unstable.new.self.items c.dedup.new.self.items c.dedup.ensures.filtered)
+    let all : c.add_tested-2.new.tested.items ≡ tested_locals resolve (expr_of c.args.left.now) ++ second =
+    c.in_ok-add_tested-2.ensures ∙ ap (λ (xs : List ℕ). xs ++ second) (c.in_ok-add_tested.ensures
+    ∙ ap (λ (xs : List ℕ). xs ++ tested_locals resolve (expr_of c.args.left.now)) c.new-tested.ensures.items) in
+    ap (λ (xs : List ℕ). is_among xs x) (dedup_is eqb c.sort_unstable.new.self.items c.dedup.new.self.items
+    c.dedup.ensures.filtered)
     ∙ among_dedup x c.sort_unstable.new.self.items
-    ∙ sym (list_any-IsPermutation (nat_eq x) c.add_tested-2.new.tested.items c.sort_unstable.new.self.items c.sort_unstable.ensures.permutation)
+    ∙ sym (list_any-IsPermutation (nat_eq x) c.add_tested-2.new.tested.items c.sort_unstable.new.self.items
+    c.sort_unstable.ensures.permutation)
     ∙ ap (λ (xs : List ℕ). is_among xs x) all

@@ -21,10 +21,16 @@ returns-in-None c =
     let p = c.index-parameters-i.result in
     let ls = map local_of c.loop-i.locals.items in
     let rest = filled_parameters (map parameter_of (drop (i + 1) ps)) (map value_of (drop (i + 1) vs)) ns in
-    let by_name = ap option_value (c.copied.ensures ∙ c.get-in-loop-i.ensures.value) ∙ c.in_ok-by_name.ensures p.name.now in
+    let by_name = ap option_value (c.copied.ensures ∙ c.get-in-loop-i.ensures.value)
+    ∙ c.in_ok-by_name.ensures p.name.now in
     let by_position = at_position _ vs i c.get.result c.get.ensures.lookup.1 c.get.ensures.lookup.3 in
-    let takes = c.in_ok-value.ensures ∙ ap (λ (o : Option Value). value_taken (parameter_of p) o (option_value c.copied.result)) by_position ∙ ap (value_taken (parameter_of p) (option_map value_of (slice_get vs i))) by_name in
-    rw (← c.in_ok-are_parameters.ensures, c.if-not-branch.false) (sym (sym c.loop-i.invariant ∙ ap (before ls) (next_filled ps vs ns i p c.loop-i-test.true c.index-parameters-i.is) ∙ ap (λ (o : Option Value). before ls (and_others (parameter_of p) o rest)) (sym takes ∙ ap value_if_any c.in-None.is)))
+    let takes = c.in_ok-value.ensures ∙ ap (λ (o : Option Value). value_taken (parameter_of p) o
+    (option_value c.copied.result)) by_position
+    ∙ ap (value_taken (parameter_of p) (option_map value_of (slice_get vs i))) by_name in
+    rw (← c.in_ok-are_parameters.ensures, c.if-not-branch.false)
+    (sym (sym c.loop-i.invariant ∙ ap (before ls) (next_filled ps vs ns i p c.loop-i-test.true
+    c.index-parameters-i.is) ∙ ap (λ (o : Option Value). before ls (and_others (parameter_of p) o rest))
+    (sym takes ∙ ap value_if_any c.in-None.is)))
 
 pub loop-i-preserved : goal.loop-i-preserved
 loop-i-preserved c =
@@ -35,15 +41,22 @@ loop-i-preserved c =
     let p = c.index-parameters-i.result in
     let ls = map local_of c.loop-i.locals.items in
     let rest = filled_parameters (map parameter_of (drop (i + 1) ps)) (map value_of (drop (i + 1) vs)) ns in
-    let by_name = ap option_value (c.copied.ensures ∙ c.get-in-loop-i.ensures.value) ∙ c.in_ok-by_name.ensures p.name.now in
+    let by_name = ap option_value (c.copied.ensures ∙ c.get-in-loop-i.ensures.value)
+    ∙ c.in_ok-by_name.ensures p.name.now in
     let by_position = at_position _ vs i c.get.result c.get.ensures.lookup.1 c.get.ensures.lookup.3 in
-    let takes = c.in_ok-value.ensures ∙ ap (λ (o : Option Value). value_taken (parameter_of p) o (option_value c.copied.result)) by_position ∙ ap (value_taken (parameter_of p) (option_map value_of (slice_get vs i))) by_name in
-    ap (λ (xs : List Local). before xs rest) (ap (map local_of) c.in_ok-push-in-Some.ensures.items ∙ map-append local_of c.loop-i.locals.items _)
+    let takes = c.in_ok-value.ensures ∙ ap (λ (o : Option Value). value_taken (parameter_of p) o
+    (option_value c.copied.result)) by_position
+    ∙ ap (value_taken (parameter_of p) (option_map value_of (slice_get vs i))) by_name in
+    ap (λ (xs : List Local). before xs rest) (ap (map local_of) c.in_ok-push-in-Some.ensures.items
+    ∙ map-append local_of c.loop-i.locals.items _)
     ∙ sym (value_before ls (parameter_of p) (value_of c.in-Some.value) rest)
-    ∙ ap (λ (o : Option Value). before ls (and_others (parameter_of p) o rest)) (sym (ap value_if_any c.in-Some.is) ∙ takes)
+    ∙ ap (λ (o : Option Value). before ls (and_others (parameter_of p) o rest)) (sym (ap value_if_any c.in-Some.is)
+    ∙ takes)
     ∙ sym (ap (before ls) (next_filled ps vs ns i p c.loop-i-test.true c.index-parameters-i.is))
     ∙ c.loop-i.invariant
 
 pub returns-then-values-parameters : goal.returns-then-values-parameters
 returns-then-values-parameters c =
-    rw (← c.in_ok-are_parameters.ensures, c.if-not-branch.false) (sym (sym c.loop-i.invariant ∙ too_many c.args.parameters.now c.args.values.now (map named_of c.args.named.now) (map local_of c.loop-i.locals.items) c.loop-i.i (omega arith) (omega arith)))
+    rw (← c.in_ok-are_parameters.ensures, c.if-not-branch.false)
+    (sym (sym c.loop-i.invariant ∙ too_many c.args.parameters.now c.args.values.now (map named_of c.args.named.now)
+    (map local_of c.loop-i.locals.items) c.loop-i.i (omega arith) (omega arith)))

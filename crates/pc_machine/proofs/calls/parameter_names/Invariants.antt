@@ -7,4 +7,5 @@ use Rattle.pc_machine.specs.Machine.{parameter_of}
 use Rattle.pc_machine.proofs.calls.parameter_names.Given as goal
 
 abbrev pub invariant-loop-parameter : goal.invariant-loop-parameter
-invariant-loop-parameter l = (name : List ℕ) → (is_among (texts_in l.names) name || is_parameter name (map parameter_of (drop l.parameter-index l.parameters))) ≡ is_parameter name (map parameter_of l.parameters)
+invariant-loop-parameter l = (name : List ℕ) → (is_among (texts_in l.names) name || is_parameter name
+    (map parameter_of (drop l.parameter-index l.parameters))) ≡ is_parameter name (map parameter_of l.parameters)

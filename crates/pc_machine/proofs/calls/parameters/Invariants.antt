@@ -4,4 +4,5 @@ use Rattle.pc_machine.specs.Machine.{parameter_of, parameter_of_param}
 use Rattle.pc_machine.proofs.calls.parameters.Given as goal
 
 abbrev pub invariant-loop-param : goal.invariant-loop-param
-invariant-loop-param l = map parameter_of l.parameters.items ++ map parameter_of_param (map param_of (drop l.param-index l.params)) ≡ map parameter_of_param (map param_of l.params)
+invariant-loop-param l = map parameter_of l.parameters.items ++ map parameter_of_param
+    (map param_of (drop l.param-index l.params)) ≡ map parameter_of_param (map param_of l.params)

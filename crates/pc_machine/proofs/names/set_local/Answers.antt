@@ -9,4 +9,6 @@ use Rattle.pc_machine.proofs.names.set_local.Goals as goal
 pub returns-then-is_same : goal.returns-then-is_same
 returns-then-is_same c =
     let h : same_text (get_or c.loop-i.frame c.loop-i.i c.index-frame-i.result).name.now c.args.name.now ≡ true = cc in
-    set_here c.args.name.now c.args.value c.loop-i.frame c.loop-i.i c.index-frame-i.result (omega arith) h ∙ c.loop-i.invariant.run ∙ ap (λ ls. with_local c.args.name.now (value_of c.args.value) (map local_seen ls)) c.loop-i.invariant.same
+    set_here c.args.name.now c.args.value c.loop-i.frame c.loop-i.i c.index-frame-i.result (omega arith) h
+    ∙ c.loop-i.invariant.run ∙ ap (λ ls. with_local c.args.name.now (value_of c.args.value) (map local_seen ls))
+    c.loop-i.invariant.same

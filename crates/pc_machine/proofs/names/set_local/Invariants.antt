@@ -7,5 +7,6 @@ use Rattle.pc_machine.proofs.names.set_local.Given as goal
 abbrev pub invariant-loop-i : goal.invariant-loop-i
 invariant-loop-i l = record {
   same : l.frame ≡ l.fn.frame;
-  run : map local_seen (take l.i l.frame) ++ with_local l.name (value_of l.value) (map local_seen (drop l.i l.frame)) ≡ with_local l.name (value_of l.value) (map local_seen l.frame);
+  run : map local_seen (take l.i l.frame) ++ with_local l.name (value_of l.value) (map local_seen (drop l.i l.frame))
+      ≡ with_local l.name (value_of l.value) (map local_seen l.frame);
 }

@@ -5,4 +5,5 @@ use Rattle.pc_machine.specs.Machine.{local_of}
 use Rattle.pc_machine.proofs.perform.slots_of.Given as goal
 
 abbrev pub invariant-loop-local : goal.invariant-loop-local
-invariant-loop-local l = map slot_of l.slots.items ++ slots_of (map local_of (drop l.local-index l.locals)) ≡ slots_of (map local_of l.locals)
+invariant-loop-local l = map slot_of l.slots.items ++ slots_of (map local_of (drop l.local-index l.locals))
+    ≡ slots_of (map local_of l.locals)

@@ -8,9 +8,11 @@ pub returns-in_default : goal.returns-in_default
 returns-in_default c = λ entries has. left_out entries c.args.entry.now c.args.flows.now c.in_default.is has
 
 pub returns-then-contains_key : goal.returns-then-contains_key
-returns-then-contains_key c = λ entries has. known_place entries c.args.entry.now c.args.flows.now (sym c.contains_key.ensures ∙ c.if-contains_key.true) has
+returns-then-contains_key c = λ entries has. known_place entries c.args.entry.now c.args.flows.now
+    (sym c.contains_key.ensures ∙ c.if-contains_key.true) has
 
 pub returns : goal.returns
 returns c =
-    λ entries has. new_place entries c.args.entry.now (record { ref_ptr = _; now = c.in-Some.flow }) c.args.flows.now c.insert.new.self c.in-Some.is (subst (λ o. IfSome o IsGivenFlow) c.in-Some.is c.requires)
+    λ entries has. new_place entries c.args.entry.now (record { ref_ptr = _; now = c.in-Some.flow }) c.args.flows.now
+    c.insert.new.self c.in-Some.is (subst (λ o. IfSome o IsGivenFlow) c.in-Some.is c.requires)
     (sym c.contains_key.ensures ∙ c.if-contains_key.false) c.in_ok-insert.ensures.updates.0 has

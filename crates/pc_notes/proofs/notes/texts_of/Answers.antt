@@ -14,11 +14,15 @@ Pair = Place × Bor Flow
 
 pub loop-entry-init : goal.loop-entry-init
 loop-entry-init c =
-    let all : c.into_iter-entry-iterator.result ≡ c.args.flows.now.entries = c.into_iter-entry-iterator.ensures.into_iter_gives ∙ c.iter-entry-items.ensures.rest in
+    let all : c.into_iter-entry-iterator.result ≡ c.args.flows.now.entries =
+    c.into_iter-entry-iterator.ensures.into_iter_gives ∙ c.iter-entry-items.ensures.rest in
     record {
-      places = ap (λ (l : List FlowText). places_of l ++ map (λ (e : Pair). e.0) c.into_iter-entry-iterator.result) c.new-texts.ensures.items ∙ ap (map (λ (e : Pair). e.0)) all;
-      each = λ notes has. subst (AllByRecursion (IsFlowText (module_of c.args.tree.now) notes)) (sym c.new-texts.ensures.items) tt;
-      left = subst (AllByRecursion (IsPairOf c.args.flows.now)) (sym all) (pairs_found c.args.flows.now c.args.flows.now.entries c.iter-entry-items.ensures.found);
+      places = ap (λ (l : List FlowText). places_of l ++ map (λ (e : Pair). e.0) c.into_iter-entry-iterator.result)
+          c.new-texts.ensures.items ∙ ap (map (λ (e : Pair). e.0)) all;
+      each = λ notes has. subst (AllByRecursion (IsFlowText (module_of c.args.tree.now) notes))
+          (sym c.new-texts.ensures.items) tt;
+      left = subst (AllByRecursion (IsPairOf c.args.flows.now)) (sym all)
+          (pairs_found c.args.flows.now c.args.flows.now.entries c.iter-entry-items.ensures.found);
       given = c.requires;
     }
 
@@ -31,12 +35,17 @@ loop-entry-preserved c =
     let text : FlowText = (c.in-Some.entry.0.now, c.in_ok-from.from, c.in_ok-into.into) in
     let after : c.push.new.self.items ≡ before ++ text ∷ [] = c.in_ok-push.ensures.items in
     let left : c.loop-entry.entry-iterator ≡ pair ∷ rest = search rules in
-    let pairs : AllByRecursion (IsPairOf flows) (pair ∷ rest) = subst (AllByRecursion (IsPairOf flows)) left c.loop-entry.invariant.left in
+    let pairs : AllByRecursion (IsPairOf flows) (pair ∷ rest) = subst (AllByRecursion (IsPairOf flows)) left
+    c.loop-entry.invariant.left in
     record {
-      places = ap (λ (l : List FlowText). places_of l ++ map (λ (e : Pair). e.0) rest) after ∙ places_more before text (map (λ (e : Pair). e.0) rest) ∙ ap (λ (l : List Pair). places_of before ++ map (λ (e : Pair). e.0) l) (sym left) ∙ c.loop-entry.invariant.places;
+      places = ap (λ (l : List FlowText). places_of l ++ map (λ (e : Pair). e.0) rest) after
+          ∙ places_more before text (map (λ (e : Pair). e.0) rest)
+          ∙ ap (λ (l : List Pair). places_of before ++ map (λ (e : Pair). e.0) l) (sym left)
+          ∙ c.loop-entry.invariant.places;
       each = λ notes has. subst (AllByRecursion (IsFlowText (module_of c.args.tree.now) notes)) (sym after)
           (all_more (IsFlowText (module_of c.args.tree.now) notes) before text (c.loop-entry.invariant.each notes has)
-          (text_of_pair (module_of c.args.tree.now) flows notes has pair pairs.0 text refl c.in_ok-from.ensures c.in_ok-into.ensures));
+          (text_of_pair (module_of c.args.tree.now) flows notes has pair pairs.0 text refl c.in_ok-from.ensures
+          c.in_ok-into.ensures));
       left = pairs.1;
       given = c.requires;
     }

@@ -9,7 +9,8 @@ use Rattle.pc_notes.proofs.notes.texts_of.Given as goal
 abbrev pub invariant-loop-entry : goal.invariant-loop-entry
 invariant-loop-entry l = record {
   places : places_of l.texts.items ++ map (λ e. e.0) l.entry-iterator ≡ map (λ e. e.0) l.flows.entries;
-  each : (notes : List Note) → HasFirstFlows notes l.flows → AllByRecursion (IsFlowText (module_of l.tree) notes) l.texts.items;
+  each : (notes : List Note) → HasFirstFlows notes l.flows → AllByRecursion (IsFlowText (module_of l.tree) notes)
+      l.texts.items;
   left : AllByRecursion (IsPairOf l.flows) l.entry-iterator;
   given : HasGivenFlows l.flows;
 }

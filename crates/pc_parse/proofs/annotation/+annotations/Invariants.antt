@@ -18,7 +18,9 @@ abbrev pub invariant-arguments-loop-arguments : goal.invariant-arguments-loop-ar
 invariant-arguments-loop-arguments g l = record {
   ready : IsReady g.I.Iterator.can_next g.I.Iterator.remaining l.reader;
   later : left_in g.I.Iterator.remaining l.reader ≤ left_in g.I.Iterator.remaining l.fn.reader;
-  arguments : (ts : List Lexeme) → Starts ts l.fn.head.place.start → ArgumentsSoFar g.X.AsStr.text g.I.Iterator.next_gives g.I.Iterator.can_next g.I.Iterator.remaining l.fn.reader l.reader l.arguments l.fn.head ts;
+  arguments : (ts : List Lexeme) → Starts ts l.fn.head.place.start
+      → ArgumentsSoFar g.X.AsStr.text g.I.Iterator.next_gives g.I.Iterator.can_next g.I.Iterator.remaining l.fn.reader
+      l.reader l.arguments l.fn.head ts;
 }
 
 abbrev pub decreases-arguments-loop-arguments : goal.decreases-arguments-loop-arguments
@@ -28,7 +30,8 @@ abbrev pub invariant-union-loop-parts : goal.invariant-union-loop-parts
 invariant-union-loop-parts g l = record {
   ready : IsReady g.I.Iterator.can_next g.I.Iterator.remaining l.reader;
   later : left_in g.I.Iterator.remaining l.reader < left_in g.I.Iterator.remaining l.fn.reader;
-  parts : PartsSoFar g.X.AsStr.text g.I.Iterator.next_gives g.I.Iterator.can_next g.I.Iterator.remaining l.fn.reader l.reader l.parts l.start;
+  parts : PartsSoFar g.X.AsStr.text g.I.Iterator.next_gives g.I.Iterator.can_next g.I.Iterator.remaining l.fn.reader
+      l.reader l.parts l.start;
 }
 
 abbrev pub decreases-union-loop-parts : goal.decreases-union-loop-parts

@@ -4,4 +4,5 @@ use Rattle.pc_tree.specs.Grammar.{decoded, characters_of}
 use Rattle.pc_reader.proofs.name.characters.Given as goal
 
 abbrev pub invariant-loop-character : goal.invariant-loop-character
-invariant-loop-character l = string_bytes l.characters ++ decoded l.escaped (chars_rest l.character-iterator) ≡ characters_of l.fn.text
+invariant-loop-character l = string_bytes l.characters ++ decoded l.escaped (chars_rest l.character-iterator)
+    ≡ characters_of l.fn.text

@@ -15,12 +15,23 @@ loop-start-preserved c = record {
         back = l.last ∷ v.back;
         all = v.all ∙ ap (λ z. z ++ v.back) l.is ∙ append_assoc l.front (l.last ∷ []) v.back;
         starts = l.starts;
-        keeps = c.in_ok-operand.ensures.1 (applied_all (prefix_of c.args.prefix) v.back p) v.keeps _ (record { head = l.last; tail = (applied_all (prefix_of c.args.prefix) v.back p).tokens; is = refl; start = l.start }) (ends_more (l.last ∷ []) v.keeps.ends);
+        keeps = c.in_ok-operand.ensures.1 (applied_all (prefix_of c.args.prefix) v.back p) v.keeps _
+            (record {
+              head = l.last;
+              tail = (applied_all (prefix_of c.args.prefix) v.back p).tokens;
+              is = refl;
+              start =
+                  l.start;
+            }) (ends_more (l.last ∷ []) v.keeps.ends);
         level_is = c.in_ok-operand.ensures.0;
       };
 }
 
 pub returns : goal.returns
-returns c = λ ts p e k. let v = c.loop-start.invariant.wrapped ts p e k in let n : c.loop-start.signs.items ≡ [] = search rules in
-    let f = no_signs v.front (v.starts ∙ n) in let a : ts ≡ v.back = v.all ∙ ap (λ z. z ++ v.back) f in
-    (subst (λ z. KeepsPart c.loop-start.operand (applied_all (prefix_of c.args.prefix) z p)) (sym a) v.keeps, v.level_is ∙ ap (λ z. wrapped_level (prefix_of c.args.prefix) z c.args.operand.level) (sym a))
+returns c = λ ts p e k. let v = c.loop-start.invariant.wrapped ts p e k in let n : c.loop-start.signs.items ≡ [] =
+    search rules in
+    let f = no_signs v.front (v.starts ∙ n) in let a : ts ≡ v.back = v.all ∙ ap (λ z. z ++ v.back) f in (
+      subst (λ z. KeepsPart c.loop-start.operand (applied_all (prefix_of c.args.prefix) z p)) (sym a) v.keeps,
+      v.level_is
+          ∙ ap (λ z. wrapped_level (prefix_of c.args.prefix) z c.args.operand.level) (sym a),
+    )

@@ -8,7 +8,8 @@ use Rattle.pc_reader.proofs.operators.wrap_all.Given as goal
 abbrev pub invariant-loop-start : goal.invariant-loop-start
 invariant-loop-start l = record {
   depth : l.operand.depth ≤ 65;
-  wrapped : (ts : List Lexeme) (p : Part) → starts_of ts ≡ l.fn.signs.items → KeepsPart l.fn.operand p → HasAppliedSigns (prefix_of l.prefix) ts p l.fn.operand l.signs.items l.operand;
+  wrapped : (ts : List Lexeme) (p : Part) → starts_of ts ≡ l.fn.signs.items → KeepsPart l.fn.operand p
+      → HasAppliedSigns (prefix_of l.prefix) ts p l.fn.operand l.signs.items l.operand;
 }
 
 abbrev pub decreases-loop-start : goal.decreases-loop-start

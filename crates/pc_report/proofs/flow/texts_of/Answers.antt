@@ -9,13 +9,15 @@ use Rattle.pc_report.proofs.flow.texts_of.Goals as goal
 pub returns-in-None : goal.returns-in-None
 returns-in-None c = λ listed has a l.
     let p = c.args.finding.place in
-    (subst (λ (o : Option (Bor FlowEntry)). MatchOption o (¬ (IsListed listed p)) (λ f. Contains listed f.now × (f.now.0 ≡ p))) (sym c.in-None.ensures.value) (has p)) l
+    (subst (λ (o : Option (Bor FlowEntry)). MatchOption o (¬ (IsListed listed p)) (λ f. Contains listed f.now
+    × (f.now.0 ≡ p))) (sym c.in-None.ensures.value) (has p)) l
 
 pub returns-in_ok-clone-in-Some-2 : goal.returns-in_ok-clone-in-Some-2
 returns-in_ok-clone-in-Some-2 c = λ listed has.
     let p = c.args.finding.place in
     let f : Bor FlowEntry = c.in-Some.field-0.now in
     let v : Some f ≡ get place_cmp c.args.flows.now p = c.in-Some.ensures.value in
-    let found : Contains listed f.now × (f.now.0 ≡ p) = subst (λ (o : Option (Bor FlowEntry)). MatchOption o (¬ (IsListed listed p)) (λ f. Contains listed f.now × (f.now.0 ≡ p))) (sym v) (has p) in
+    let found : Contains listed f.now × (f.now.0 ≡ p) = subst (λ (o : Option (Bor FlowEntry)). MatchOption o
+    (¬ (IsListed listed p)) (λ f. Contains listed f.now × (f.now.0 ≡ p))) (sym v) (has p) in
     let code : c.args.finding.code ≡ A1 = search rules in
     (code, (f.now, found.0, found.1, c.in_ok-clone-in-Some.ensures.cases, c.in_ok-clone-in-Some-2.ensures.cases))

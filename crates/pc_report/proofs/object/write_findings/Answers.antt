@@ -17,4 +17,5 @@ returns-after-loop-row-clause-text c =
     let later = λ (rows : List Row). flat_map (λ (row : Row). 44 ∷ finding_json (shown_flow format row) row) rows in
     c.loop-row.invariant.text ∙ ap₂ (λ x rows. x ++ later rows) c.in_ok-write_finding.ensures.text all
     ∙ append_assoc old (finding_json (shown_flow format first) first) (later others)
-    ∙ ap (λ x. old ++ x) (sym (findings_later format first others) ∙ ap (findings_json format) (sym c.in-Some.ensures.cases.0))
+    ∙ ap (λ x. old ++ x) (sym (findings_later format first others)
+    ∙ ap (findings_json format) (sym c.in-Some.ensures.cases.0))

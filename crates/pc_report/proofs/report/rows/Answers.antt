@@ -18,15 +18,27 @@ loop-finding-preserved c =
     let none : Finding = record { place = record { start = 0; end = 0 }; code = A1 } in
     let finding : Finding = get_or xs i none in
     let position = c.position_of-position.result in
-    let row : Row = record { finding = finding; line = position.line; column = position.column; flow = c.in_ok-texts_of.field-0 } in
+    let row : Row = record {
+      finding = finding;
+      line = position.line;
+      column = position.column;
+      flow =
+          c.in_ok-texts_of.field-0;
+    } in
     let after : c.push.new.self.items ≡ before ++ row ∷ [] = c.in_ok-push.ensures.items in
     let more : take (i + 1) xs ≡ take i xs ++ finding ∷ [] = take_more xs i none (omega arith) in
-    let line = subst (λ (t : List ℕ). position.line ≡ line_of t finding.place.start) c.loop-finding.invariant.text c.position_of-position.ensures.line in
-    let column = subst (λ (t : List ℕ). position.column ≡ column_of t finding.place.start) c.loop-finding.invariant.text c.position_of-position.ensures.column in
+    let line = subst (λ (t : List ℕ). position.line ≡ line_of t finding.place.start) c.loop-finding.invariant.text
+    c.position_of-position.ensures.line in
+    let column = subst (λ (t : List ℕ). position.column ≡ column_of t finding.place.start) c.loop-finding.invariant.text
+    c.position_of-position.ensures.column in
     record {
-      findings = ap row_findings after ∙ (map-append (λ (r : Row). r.finding) before (row ∷ []) ∙ (ap (λ (l : List Finding). l ++ finding ∷ []) c.loop-finding.invariant.findings ∙ sym more));
-      placed = subst (λ (l : List Row). AllByRecursion (IsPlaced c.args.source.now) l) (sym after) (all_more (IsPlaced c.args.source.now) before row c.loop-finding.invariant.placed (line, column));
-      explained = λ listed has. subst (λ (l : List Row). AllByRecursion (λ r. IsExplained listed r.finding r.flow) l) (sym after) (all_more (λ r. IsExplained listed r.finding r.flow) before row (c.loop-finding.invariant.explained listed has) (c.in_ok-texts_of.ensures listed has));
+      findings = ap row_findings after ∙ (map-append (λ (r : Row). r.finding) before (row ∷ [])
+          ∙ (ap (λ (l : List Finding). l ++ finding ∷ []) c.loop-finding.invariant.findings ∙ sym more));
+      placed = subst (λ (l : List Row). AllByRecursion (IsPlaced c.args.source.now) l) (sym after)
+          (all_more (IsPlaced c.args.source.now) before row c.loop-finding.invariant.placed (line, column));
+      explained = λ listed has. subst (λ (l : List Row). AllByRecursion (λ r. IsExplained listed r.finding r.flow) l)
+          (sym after) (all_more (λ r. IsExplained listed r.finding r.flow) before row
+          (c.loop-finding.invariant.explained listed has) (c.in_ok-texts_of.ensures listed has));
       text = search rules;
       line = search rules;
       column = search rules;

@@ -19,7 +19,8 @@ returns-clause-exact c =
     let is : left ≡ dedup finding_eq moved = dedup_is finding_eq moved left c.dedup.ensures.filtered in
     let moves = c.sort_unstable.ensures.permutation in
     λ f. (
-      (λ h. subst (λ (l : List Finding). Contains l f) copy (Contains-permutation moved copied f (IsPermutation-sym copied moved moves)
+      (λ h. subst (λ (l : List Finding). Contains l f) copy (Contains-permutation moved copied f
+          (IsPermutation-sym copied moved moves)
           (Contains-from_dedup finding_eq moved f (subst (λ (l : List Finding). Contains l f) is h)))),
       (λ h. subst (λ (l : List Finding). Contains l f) (sym is) (Contains-dedup laws-law same_finding moved f
           (Contains-permutation copied moved f moves (subst (λ (l : List Finding). Contains l f) (sym copy) h)))),

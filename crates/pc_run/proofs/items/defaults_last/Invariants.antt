@@ -5,4 +5,5 @@ use Rattle.std.specs.Prelude.{if◌then◌else◌}
 use Rattle.pc_run.proofs.items.defaults_last.Given as goal
 
 abbrev pub invariant-loop-field : goal.invariant-loop-field
-invariant-loop-field l = (if l.defaulted then all_have_defaults (map parameter_of (drop l.field-index l.fields)) else defaults_last (map parameter_of (drop l.field-index l.fields))) ≡ defaults_last (map parameter_of l.fields)
+invariant-loop-field l = (if l.defaulted then all_have_defaults (map parameter_of (drop l.field-index l.fields))
+    else defaults_last (map parameter_of (drop l.field-index l.fields))) ≡ defaults_last (map parameter_of l.fields)

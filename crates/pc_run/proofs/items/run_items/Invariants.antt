@@ -7,5 +7,7 @@ use Rattle.pc_run.proofs.items.run_items.Given as goal
 abbrev pub invariant-loop-item : goal.invariant-loop-item
 invariant-loop-item l = record {
   fuel : l.machine.fuel ≤ l.fn.machine.fuel;
-  run : (n : ℕ) → l.fn.machine.fuel < n → items_in n l.imports_dataclass (map item_of l.items) (progress_of l.fn.machine) ≡ items_in n l.imports_dataclass (map item_of (drop l.item-index l.items)) (progress_of l.machine);
+  run : (n : ℕ) → l.fn.machine.fuel < n → items_in n l.imports_dataclass (map item_of l.items)
+      (progress_of l.fn.machine) ≡ items_in n l.imports_dataclass (map item_of (drop l.item-index l.items))
+      (progress_of l.machine);
 }

@@ -15,7 +15,13 @@ none_counted [] n e = sym (eq-eqb n 0 e)
 none_counted (x ∷ xs) n e = sym (ap (λ (k : ℕ). nat_eq k 0) e ∙ eqb-suc-zero (length xs))
 
 pub returns-then-not-is_empty : goal.returns-then-not-is_empty
-returns-then-not-is_empty c = never_runs (module_of c.args.program.now) c.args.fuel c.args.choices.now _ (sym c.in_ok-found.ensures.none ∙ none_counted c.in_ok-found.found.items (vec_len c.in_ok-found.found) (omega arith) ∙ sym c.is_empty.ensures ∙ c.if-not-is_empty.true) (search rules)
+returns-then-not-is_empty c = never_runs (module_of c.args.program.now) c.args.fuel c.args.choices.now _
+    (sym c.in_ok-found.ensures.none ∙ none_counted c.in_ok-found.found.items (vec_len c.in_ok-found.found) (omega arith)
+    ∙ sym c.is_empty.ensures ∙ c.if-not-is_empty.true) (search rules)
 
 pub returns : goal.returns
-returns c = run_from (module_of c.args.program.now) c.args.fuel c.args.choices.now c.trace_of.result (sym c.in_ok-found.ensures.none ∙ none_counted c.in_ok-found.found.items (vec_len c.in_ok-found.found) (omega arith) ∙ sym c.is_empty.ensures ∙ c.if-not-is_empty.false) (progress_of c.begin-machine.result) c.begin-machine.ensures (λ n lt. c.trace_of.ensures (plain_module n (module_of c.args.program.now) (progress_of c.begin-machine.result)) (c.run_module-ended.ensures.plain n lt))
+returns c = run_from (module_of c.args.program.now) c.args.fuel c.args.choices.now c.trace_of.result
+    (sym c.in_ok-found.ensures.none ∙ none_counted c.in_ok-found.found.items (vec_len c.in_ok-found.found) (omega arith)
+    ∙ sym c.is_empty.ensures ∙ c.if-not-is_empty.false) (progress_of c.begin-machine.result) c.begin-machine.ensures
+    (λ n lt. c.trace_of.ensures (plain_module n (module_of c.args.program.now) (progress_of c.begin-machine.result))
+    (c.run_module-ended.ensures.plain n lt))

@@ -11,7 +11,9 @@ returns c text =
     let old = c.args.globals.now.entries in
     let key = c.in_ok-from_str.field-0 in
     let same = c.in_ok-from_str.ensures.ok in
-    let absent = none_at (lookup (λ k. bytes_eq c.args.name.now (string_bytes k)) old) (sym c.contains_key.ensures ∙ c.if-contains_key.false) in
+    let absent = none_at (lookup (λ k. bytes_eq c.args.name.now (string_bytes k)) old) (sym c.contains_key.ensures
+    ∙ c.if-contains_key.false) in
     ap (lookup (λ k. bytes_eq text (string_bytes k))) c.in_ok-insert.ensures.entries
-    ∙ put_new string_bytes old key c.args.meaning text (ap (λ (t : List ℕ). lookup (λ k. bytes_eq t (string_bytes k)) old) same ∙ absent)
+    ∙ put_new string_bytes old key c.args.meaning text
+    (ap (λ (t : List ℕ). lookup (λ k. bytes_eq t (string_bytes k)) old) same ∙ absent)
     ∙ ap (λ (t : List ℕ). first_of (at_text c.args.globals.now text) (bound_as t c.args.meaning text)) same

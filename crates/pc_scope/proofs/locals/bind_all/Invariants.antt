@@ -5,4 +5,6 @@ use Rattle.pc_scope.specs.Internal.WalkViews.{with_new_local}
 use Rattle.pc_scope.proofs.locals.bind_all.Given as goal
 
 abbrev pub invariant-loop-name : goal.invariant-loop-name
-invariant-loop-name l = fold with_new_local (map string_bytes l.locals.keys) (texts (map name_seen (drop l.name-index l.names))) ≡ fold with_new_local (map string_bytes l.fn.locals.keys) (texts (map name_seen l.names))
+invariant-loop-name l = fold with_new_local (map string_bytes l.locals.keys)
+    (texts (map name_seen (drop l.name-index l.names))) ≡ fold with_new_local (map string_bytes l.fn.locals.keys)
+    (texts (map name_seen l.names))

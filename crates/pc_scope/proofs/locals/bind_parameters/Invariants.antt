@@ -5,4 +5,6 @@ use Rattle.pc_scope.specs.Internal.WalkViews.{with_new_local}
 use Rattle.pc_scope.proofs.locals.bind_parameters.Given as goal
 
 abbrev pub invariant-loop-param : goal.invariant-loop-param
-invariant-loop-param l = fold with_new_local (map string_bytes l.locals.keys) (texts (param_names (map param_of (drop l.param-index l.params)))) ≡ fold with_new_local (map string_bytes l.fn.locals.keys) (texts (param_names (map param_of l.params)))
+invariant-loop-param l = fold with_new_local (map string_bytes l.locals.keys)
+    (texts (param_names (map param_of (drop l.param-index l.params)))) ≡ fold with_new_local
+    (map string_bytes l.fn.locals.keys) (texts (param_names (map param_of l.params)))

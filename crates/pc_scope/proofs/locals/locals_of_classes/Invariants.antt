@@ -6,4 +6,5 @@ use Rattle.pc_scope.specs.Internal.WalkViews.{methods_texts}
 use Rattle.pc_scope.proofs.locals.locals_of_classes.Given as goal
 
 abbrev pub invariant-loop-item : goal.invariant-loop-item
-invariant-loop-item l = map methods_texts l.all.items ++ map methods_locals (classes_in (map item_of (drop l.item-index l.items))) ≡ map methods_locals (classes_in (map item_of l.items))
+invariant-loop-item l = map methods_texts l.all.items ++ map methods_locals
+    (classes_in (map item_of (drop l.item-index l.items))) ≡ map methods_locals (classes_in (map item_of l.items))

@@ -6,4 +6,6 @@ use Rattle.pc_scope.specs.Internal.WalkViews.{texts_in}
 use Rattle.pc_scope.proofs.locals.locals_of_functions.Given as goal
 
 abbrev pub invariant-loop-item : goal.invariant-loop-item
-invariant-loop-item l = map texts_in l.all.items ++ map (locals_by false) (functions_in (map item_of (drop l.item-index l.items))) ≡ map (locals_by false) (functions_in (map item_of l.items))
+invariant-loop-item l = map texts_in l.all.items ++ map (locals_by false)
+    (functions_in (map item_of (drop l.item-index l.items))) ≡ map (locals_by false)
+    (functions_in (map item_of l.items))

@@ -6,4 +6,6 @@ use Rattle.pc_scope.specs.Internal.WalkViews.{texts_in}
 use Rattle.pc_scope.proofs.locals.locals_of_methods.Given as goal
 
 abbrev pub invariant-loop-member : goal.invariant-loop-member
-invariant-loop-member l = map texts_in l.all.items ++ map (locals_by true) (methods_in (map member_of (drop l.member-index l.members))) ≡ map (locals_by true) (methods_in (map member_of l.members))
+invariant-loop-member l = map texts_in l.all.items ++ map (locals_by true)
+    (methods_in (map member_of (drop l.member-index l.members))) ≡ map (locals_by true)
+    (methods_in (map member_of l.members))

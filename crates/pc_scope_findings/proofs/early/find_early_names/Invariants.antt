@@ -8,4 +8,7 @@ use Rattle.pc_scope_findings.specs.Internal.FindingLists.{early_in}
 use Rattle.pc_scope_findings.proofs.early.find_early_names.Given as goal
 
 abbrev pub invariant-loop-item : goal.invariant-loop-item
-invariant-loop-item l = (l.constants ≤ l.item-index) × (l.classes ≤ l.item-index) × (l.found.items ++ at_code E03 (early_in l.constants l.classes (meaning_by_tables l.scopes.tables owners.Module) (map item_of (drop l.item-index l.items))) ≡ l.fn.found.items ++ at_code E03 (early_in 0 0 (meaning_by_tables l.scopes.tables owners.Module) (map item_of l.items)))
+invariant-loop-item l = (l.constants ≤ l.item-index) × (l.classes ≤ l.item-index)
+    × (l.found.items ++ at_code E03 (early_in l.constants l.classes (meaning_by_tables l.scopes.tables owners.Module)
+    (map item_of (drop l.item-index l.items))) ≡ l.fn.found.items ++ at_code E03
+    (early_in 0 0 (meaning_by_tables l.scopes.tables owners.Module) (map item_of l.items)))

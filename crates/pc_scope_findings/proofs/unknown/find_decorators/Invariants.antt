@@ -6,4 +6,5 @@ use Rattle.pc_scope_findings.specs.Internal.FindingLists.{decorators_in}
 use Rattle.pc_scope_findings.proofs.unknown.find_decorators.Given as goal
 
 abbrev pub invariant-loop-item : goal.invariant-loop-item
-invariant-loop-item l = l.found.items ++ at_code E02 (decorators_in (map item_of (drop l.item-index l.items))) ≡ l.fn.found.items ++ at_code E02 (decorators_in (map item_of l.items))
+invariant-loop-item l = l.found.items ++ at_code E02 (decorators_in (map item_of (drop l.item-index l.items)))
+    ≡ l.fn.found.items ++ at_code E02 (decorators_in (map item_of l.items))

@@ -8,4 +8,7 @@ use Rattle.pc_scope_findings.specs.Internal.FindingLists.{unknown_in_bodies}
 use Rattle.pc_scope_findings.proofs.unknown.find_unknown_in_bodies.Given as goal
 
 abbrev pub invariant-loop-item : goal.invariant-loop-item
-invariant-loop-item l = (l.functions ≤ l.item-index) × (l.classes ≤ l.item-index) × (l.found.items ++ at_code E02 (unknown_in_bodies (meaning_by_tables l.scopes.tables) l.functions l.classes (map item_of (drop l.item-index l.items))) ≡ l.fn.found.items ++ at_code E02 (unknown_in_bodies (meaning_by_tables l.scopes.tables) 0 0 (map item_of l.items)))
+invariant-loop-item l = (l.functions ≤ l.item-index) × (l.classes ≤ l.item-index)
+    × (l.found.items ++ at_code E02 (unknown_in_bodies (meaning_by_tables l.scopes.tables) l.functions l.classes
+    (map item_of (drop l.item-index l.items))) ≡ l.fn.found.items ++ at_code E02
+    (unknown_in_bodies (meaning_by_tables l.scopes.tables) 0 0 (map item_of l.items)))

@@ -8,4 +8,6 @@ use Rattle.pc_scope_findings.specs.Internal.FindingLists.{unknown_in_constants}
 use Rattle.pc_scope_findings.proofs.unknown.find_unknown_in_constants.Given as goal
 
 abbrev pub invariant-loop-item : goal.invariant-loop-item
-invariant-loop-item l = l.found.items ++ at_code E02 (unknown_in_constants (meaning_by_tables l.scopes.tables owners.Module) (map item_of (drop l.item-index l.items))) ≡ l.fn.found.items ++ at_code E02 (unknown_in_constants (meaning_by_tables l.scopes.tables owners.Module) (map item_of l.items))
+invariant-loop-item l = l.found.items ++ at_code E02 (unknown_in_constants
+    (meaning_by_tables l.scopes.tables owners.Module) (map item_of (drop l.item-index l.items))) ≡ l.fn.found.items
+    ++ at_code E02 (unknown_in_constants (meaning_by_tables l.scopes.tables owners.Module) (map item_of l.items))

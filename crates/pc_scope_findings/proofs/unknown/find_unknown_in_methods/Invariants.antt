@@ -8,4 +8,7 @@ use Rattle.pc_scope_findings.specs.Internal.FindingLists.{unknown_in_methods}
 use Rattle.pc_scope_findings.proofs.unknown.find_unknown_in_methods.Given as goal
 
 abbrev pub invariant-loop-member : goal.invariant-loop-member
-invariant-loop-member l = (l.methods ≤ l.member-index) × (l.found.items ++ at_code E02 (unknown_in_methods (meaning_by_tables l.scopes.tables) l.class l.methods (map member_of (drop l.member-index l.members))) ≡ l.fn.found.items ++ at_code E02 (unknown_in_methods (meaning_by_tables l.scopes.tables) l.class 0 (map member_of l.members)))
+invariant-loop-member l = (l.methods ≤ l.member-index)
+    × (l.found.items ++ at_code E02 (unknown_in_methods (meaning_by_tables l.scopes.tables) l.class l.methods
+    (map member_of (drop l.member-index l.members))) ≡ l.fn.found.items ++ at_code E02
+    (unknown_in_methods (meaning_by_tables l.scopes.tables) l.class 0 (map member_of l.members)))

@@ -20,11 +20,15 @@ find_unreached-loop-statement-preserved t c =
     let i = c.loop-statement.statement-index in
     let rest = stmts_of_list (drop (i + 1) c.args.body.now) in
     let front = c.loop-statement.found.items in
-    ap (λ (r : Bool). c.find_unreached_in.new.found.items ++ at_code E30 (behind r rest)) (c.completes-reached.ensures s.first)
-    ∙ ap (λ (fs : List Finding). fs ++ at_code E30 (behind (completes (stmt_of s)) rest)) (c.in_ok-find_unreached_in.ensures s.first)
+    ap (λ (r : Bool). c.find_unreached_in.new.found.items ++ at_code E30 (behind r rest))
+    (c.completes-reached.ensures s.first)
+    ∙ ap (λ (fs : List Finding). fs ++ at_code E30 (behind (completes (stmt_of s)) rest))
+    (c.in_ok-find_unreached_in.ensures s.first)
     ∙ joined E30 front (unreached_in (stmt_of s)) (behind (completes (stmt_of s)) rest)
-    ∙ ap (λ (b : Stmts). front ++ at_code E30 (unreached_places b)) (sym (stmts_next c.args.body.now i s c.loop-statement-test.true c.statement-item.is))
-    ∙ ap (λ (r : Bool). front ++ at_code E30 (behind r (stmts_of_list (drop i c.args.body.now)))) (sym c.if-not-reached.false)
+    ∙ ap (λ (b : Stmts). front ++ at_code E30 (unreached_places b))
+    (sym (stmts_next c.args.body.now i s c.loop-statement-test.true c.statement-item.is))
+    ∙ ap (λ (r : Bool). front ++ at_code E30 (behind r (stmts_of_list (drop i c.args.body.now))))
+    (sym c.if-not-reached.false)
     ∙ c.loop-statement.invariant
 
 pub find_unreached-returns-then-not-reached : goal.find_unreached-returns-then-not-reached
@@ -33,28 +37,46 @@ find_unreached-returns-then-not-reached t c =
     let i = c.loop-statement.statement-index in
     let front = c.loop-statement.found.items in
     let e = ap (λ (p : Place). front ++ at_code E30 (p ∷ [])) (sym (first_is s.first s.kind))
-    ∙ ap (λ (b : Stmts). front ++ at_code E30 (first_places b)) (sym (stmts_next c.args.body.now i s c.loop-statement-test.true c.statement-item.is))
-    ∙ ap (λ (r : Bool). front ++ at_code E30 (behind r (stmts_of_list (drop i c.args.body.now)))) (sym c.if-not-reached.true)
+    ∙ ap (λ (b : Stmts). front ++ at_code E30 (first_places b))
+    (sym (stmts_next c.args.body.now i s c.loop-statement-test.true c.statement-item.is))
+    ∙ ap (λ (r : Bool). front ++ at_code E30 (behind r (stmts_of_list (drop i c.args.body.now))))
+    (sym c.if-not-reached.true)
     ∙ c.loop-statement.invariant in
     subst (λ (fs : List Finding). OnOk c.find.result (c.find.new.found.items ≡ fs)) e c.find.ensures
 
 pub find_unreached_in-returns-in-While : goal.find_unreached_in-returns-in-While
-find_unreached_in-returns-in-While t c p = rw c.in-While.is (subst (λ (s : Stmt). OnOk c.find_unreached.result (c.find_unreached.new.found.items ≡ c.args.found.now.items ++ at_code E30 (unreached_in s))) (sym (while_tree p c.in-While.field-0 c.in-While.body)) (rw c.deref.ensures.value at c.find_unreached.ensures))
+find_unreached_in-returns-in-While t c p = rw c.in-While.is
+    (subst (λ (s : Stmt). OnOk c.find_unreached.result (c.find_unreached.new.found.items ≡ c.args.found.now.items
+    ++ at_code E30 (unreached_in s))) (sym (while_tree p c.in-While.field-0 c.in-While.body))
+    (rw c.deref.ensures.value at c.find_unreached.ensures))
 
 pub find_unreached_in-returns-in-For : goal.find_unreached_in-returns-in-For
-find_unreached_in-returns-in-For t c p = rw c.in-For.is (subst (λ (s : Stmt). OnOk c.find_unreached-in-For.result (c.find_unreached-in-For.new.found.items ≡ c.args.found.now.items ++ at_code E30 (unreached_in s))) (sym (for_tree p c.in-For.field-0 c.in-For.field-1 c.in-For.body)) (rw c.deref-in-For.ensures.value at c.find_unreached-in-For.ensures))
+find_unreached_in-returns-in-For t c p =
+    rw c.in-For.is (subst (λ (s : Stmt). OnOk c.find_unreached-in-For.result
+    (c.find_unreached-in-For.new.found.items ≡ c.args.found.now.items ++ at_code E30 (unreached_in s)))
+    (sym (for_tree p c.in-For.field-0 c.in-For.field-1 c.in-For.body))
+    (rw c.deref-in-For.ensures.value at c.find_unreached-in-For.ensures))
 
-pub find_unreached_in-returns-in_ok-find_unreached_among-in-If : goal.find_unreached_in-returns-in_ok-find_unreached_among-in-If
+pub
+    find_unreached_in-returns-in_ok-find_unreached_among-in-If : goal.find_unreached_in-returns-in_ok-find_unreached_among-in-If
 find_unreached_in-returns-in_ok-find_unreached_among-in-If t c p =
     let first = unreached_in_branches (branches_of_list c.in-If.branches.items) in
     let second = unreached_places (stmts_of_list c.in-If.otherwise.items) in
-    let e = ap (λ (fs : List Finding). fs ++ at_code E30 second) (rw c.deref-in-If.ensures.value at c.in_ok-find_unreached_among-in-If.ensures) ∙ joined E30 c.args.found.now.items first second in
-    rw c.in-If.is (subst (λ (s : Stmt). OnOk c.find_unreached-in-If.result (c.find_unreached-in-If.new.found.items ≡ c.args.found.now.items ++ at_code E30 (unreached_in s))) (sym (if_tree p c.in-If.branches c.in-If.otherwise))
-    (subst (λ (fs : List Finding). OnOk c.find_unreached-in-If.result (c.find_unreached-in-If.new.found.items ≡ fs)) e (rw c.deref-in-If-2.ensures.value at c.find_unreached-in-If.ensures)))
+    let e = ap (λ (fs : List Finding). fs ++ at_code E30 second)
+    (rw c.deref-in-If.ensures.value at c.in_ok-find_unreached_among-in-If.ensures)
+    ∙ joined E30 c.args.found.now.items first second in
+    rw c.in-If.is (subst (λ (s : Stmt). OnOk c.find_unreached-in-If.result
+    (c.find_unreached-in-If.new.found.items ≡ c.args.found.now.items ++ at_code E30 (unreached_in s)))
+    (sym (if_tree p c.in-If.branches c.in-If.otherwise))
+    (subst (λ (fs : List Finding). OnOk c.find_unreached-in-If.result (c.find_unreached-in-If.new.found.items ≡ fs)) e
+    (rw c.deref-in-If-2.ensures.value at c.find_unreached-in-If.ensures)))
 
 pub find_unreached_among-loop-branch-preserved : goal.find_unreached_among-loop-branch-preserved
 find_unreached_among-loop-branch-preserved t c =
     let body = unreached_places (stmts_of_list (out-Branch c.branch-item.result).body.items) in
     let rest = unreached_in_branches (branches_of_list (drop (c.loop-branch.branch-index + 1) c.args.branches.now)) in
     let front = c.loop-branch.found.items in
-    ap (λ (fs : List Finding). fs ++ at_code E30 rest) (rw c.deref.ensures.value at c.in_ok-find_unreached.ensures) ∙ joined E30 front body rest ∙ ap (λ (b : Branches). front ++ at_code E30 (unreached_in_branches b)) (sym (branches_next c.args.branches.now c.loop-branch.branch-index c.branch-item.result c.loop-branch-test.true c.branch-item.is)) ∙ c.loop-branch.invariant
+    ap (λ (fs : List Finding). fs ++ at_code E30 rest) (rw c.deref.ensures.value at c.in_ok-find_unreached.ensures)
+    ∙ joined E30 front body rest ∙ ap (λ (b : Branches). front ++ at_code E30 (unreached_in_branches b))
+    (sym (branches_next c.args.branches.now c.loop-branch.branch-index c.branch-item.result c.loop-branch-test.true
+    c.branch-item.is)) ∙ c.loop-branch.invariant

@@ -6,4 +6,5 @@ use Rattle.pc_scope_findings.specs.Internal.FindingLists.{unreached_in_defs}
 use Rattle.pc_scope_findings.proofs.unreached.find_unreached_in_defs.Given as goal
 
 abbrev pub invariant-loop-item : goal.invariant-loop-item
-invariant-loop-item l = l.found.items ++ at_code E30 (unreached_in_defs (map item_of (drop l.item-index l.items))) ≡ l.fn.found.items ++ at_code E30 (unreached_in_defs (map item_of l.items))
+invariant-loop-item l = l.found.items ++ at_code E30 (unreached_in_defs (map item_of (drop l.item-index l.items)))
+    ≡ l.fn.found.items ++ at_code E30 (unreached_in_defs (map item_of l.items))

@@ -1,11 +1,13 @@
 use Rattle.std.proofs.Common.{arith, rules}
 use Rattle.pc_source.proofs.CodingComments.{comment_is, no_comment}
 use Rattle.pc_source.proofs.coding.coding_comment.Goals as goal
-use Rattle.pc_source.proofs.coding.coding_comment.Goals.{else-hash-line-via-then-hash-line+else-names_other_after, else-hash-line-via-else-hash-line}
+use Rattle.pc_source.proofs.coding.coding_comment.Goals.{else-hash-line-via-then-hash-line+else-names_other_after}
+use Rattle.pc_source.proofs.coding.coding_comment.Goals.{else-hash-line-via-else-hash-line}
 
 pub returns-then-names_other_after : goal.returns-then-names_other_after
 returns-then-names_other_after c =
-    comment_is c.args.line.now c.first_place-hash.result c.first_place-hash.ensures.place c.if-hash-line.true (search rules)
+    comment_is c.args.line.now c.first_place-hash.result c.first_place-hash.ensures.place c.if-hash-line.true
+    (search rules)
 
 pub returns-else-hash-line : goal.returns-else-hash-line
 returns-else-hash-line c =

@@ -2,7 +2,8 @@ use Rattle.std.proofs.Common.{ℕ, ◌<◌, ◌≤◌, ◌≢◌, length, get_or
 use Rattle.pc_source.proofs.source.last_line.Given as goal
 
 abbrev pub invariant-loop-start : goal.invariant-loop-start
-invariant-loop-start l = (l.start ≤ length l.bytes) × ((k : ℕ) → l.start ≤ k → k < length l.bytes → get_or l.bytes k 0 ≢ 10)
+invariant-loop-start l = (l.start ≤ length l.bytes) × ((k : ℕ) → l.start ≤ k → k < length l.bytes
+    → get_or l.bytes k 0 ≢ 10)
 
 abbrev pub decreases-loop-start : goal.decreases-loop-start
 decreases-loop-start l = l.start

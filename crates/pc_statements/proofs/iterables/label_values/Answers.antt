@@ -26,7 +26,8 @@ returns-clause-labelled g c =
     subst (λ (m : Label). GivesLabel S.has S.tree bases store l m)
     (ap (λ (x : Label). item x.type) c.in_ok-label.ensures.labelled.label.is
     ∙ ap (λ (x : RustBodyContext _). offers_label x.globals.now.outline.now.parents.now
-    (map (iterate_member x.globals.now.outline.now.parents.now) (members (label_in (standing_in S c.args.walk.now c.args.env.now)
+    (map (iterate_member x.globals.now.outline.now.parents.now)
+    (members (label_in (standing_in S c.args.walk.now c.args.env.now)
     None e).type))) c.type_in.ensures.goes_on.context)
     (record {
       label = c.in_ok-item.ensures.label;

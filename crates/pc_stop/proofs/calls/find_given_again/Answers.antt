@@ -20,8 +20,12 @@ loop-argument-preserved c =
     let text = string_bytes k.name.text in
     let rest = keywords_of_list (drop (i + 1) c.args.by_name.now) in
     let later = given_again (text ∷ before) rest in
-    ap (λ (ps : List Place). c.find_if.new.found.items ++ at_code E01 ps) (same_given (texts_in c.put.new.names) (text ∷ before) (rw c.as_str.ensures.value at c.in_ok-again.ensures.now) rest)
-    ∙ stepped E01 c.loop-argument.found.items c.find_if.new.found.items (one_if c.in_ok-again.again k.name.place) later (given_again before (keywords_of_list (drop i c.args.by_name.now))) c.in_ok-find_if.ensures
-    (ap (λ (ys : List RustKeyword). given_again before (keywords_of_list ys)) (cons_at c.args.by_name.now i k c.loop-argument-test.true c.argument-item.is)
+    ap (λ (ps : List Place). c.find_if.new.found.items ++ at_code E01 ps)
+    (same_given (texts_in c.put.new.names) (text ∷ before) (rw c.as_str.ensures.value at c.in_ok-again.ensures.now)
+    rest)
+    ∙ stepped E01 c.loop-argument.found.items c.find_if.new.found.items (one_if c.in_ok-again.again k.name.place) later
+    (given_again before (keywords_of_list (drop i c.args.by_name.now))) c.in_ok-find_if.ensures
+    (ap (λ (ys : List RustKeyword). given_again before (keywords_of_list ys))
+    (cons_at c.args.by_name.now i k c.loop-argument-test.true c.argument-item.is)
     ∙ ap (λ (b : Bool). one_if b k.name.place ++ later) (sym (rw c.as_str.ensures.value at c.in_ok-again.ensures.was)))
     ∙ c.loop-argument.invariant

@@ -7,4 +7,6 @@ use Rattle.pc_tree.specs.Names.{texts_in}
 use Rattle.pc_stop.proofs.calls.find_given_again.Given as goal
 
 abbrev pub invariant-loop-argument : goal.invariant-loop-argument
-invariant-loop-argument l = l.found.items ++ at_code E01 (given_again (texts_in l.before) (keywords_of_list (drop l.argument-index l.by_name))) ≡ l.fn.found.items ++ at_code E01 (given_again [] (keywords_of_list l.by_name))
+invariant-loop-argument l = l.found.items ++ at_code E01 (given_again (texts_in l.before)
+    (keywords_of_list (drop l.argument-index l.by_name))) ≡ l.fn.found.items ++ at_code E01
+    (given_again [] (keywords_of_list l.by_name))

@@ -6,4 +6,5 @@ use Rattle.pc_tree.specs.Code.{at_code}
 use Rattle.pc_stop.proofs.calls.find_given_in_constants.Given as goal
 
 abbrev pub invariant-loop-item : goal.invariant-loop-item
-invariant-loop-item l = l.found.items ++ at_code E01 (given_in_constants (map item_of (drop l.item-index l.items))) ≡ l.fn.found.items ++ at_code E01 (given_in_constants (map item_of l.items))
+invariant-loop-item l = l.found.items ++ at_code E01 (given_in_constants (map item_of (drop l.item-index l.items)))
+    ≡ l.fn.found.items ++ at_code E01 (given_in_constants (map item_of l.items))

@@ -5,4 +5,6 @@ use Rattle.pc_stop.specs.Found.{code_of, in_defs}
 use Rattle.pc_stop.proofs.defs.find_in_defs.Given as goal
 
 abbrev pub invariant-loop-item : goal.invariant-loop-item
-invariant-loop-item l = l.found.items ++ at_code (code_of l.rule) (in_defs l.rule (map item_of (drop l.item-index l.items))) ≡ l.fn.found.items ++ at_code (code_of l.rule) (in_defs l.rule (map item_of l.items))
+invariant-loop-item l = l.found.items ++ at_code (code_of l.rule)
+    (in_defs l.rule (map item_of (drop l.item-index l.items))) ≡ l.fn.found.items ++ at_code (code_of l.rule)
+    (in_defs l.rule (map item_of l.items))

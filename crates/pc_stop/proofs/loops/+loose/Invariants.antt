@@ -7,7 +7,11 @@ use Rattle.pc_tree.specs.Code.{at_code}
 use Rattle.pc_stop.proofs.loops.+loose.Given as goal
 
 abbrev pub invariant-find_loose-loop-statement : goal.invariant-find_loose-loop-statement
-invariant-find_loose-loop-statement l = l.found.items ++ at_code E05 (loose_in (stmts_of_list (drop l.statement-index l.body))) ≡ l.fn.found.items ++ at_code E05 (loose_in (stmts_of_list l.body))
+invariant-find_loose-loop-statement l = l.found.items ++ at_code E05
+    (loose_in (stmts_of_list (drop l.statement-index l.body))) ≡ l.fn.found.items ++ at_code E05
+    (loose_in (stmts_of_list l.body))
 
 abbrev pub invariant-find_loose_in-loop-branch : goal.invariant-find_loose_in-loop-branch
-invariant-find_loose_in-loop-branch l = l.found.items ++ at_code E05 (loose_in_branches (branches_of_list (drop l.branch-index l.branches))) ≡ l.fn.found.items ++ at_code E05 (loose_in_branches (branches_of_list l.branches))
+invariant-find_loose_in-loop-branch l = l.found.items ++ at_code E05
+    (loose_in_branches (branches_of_list (drop l.branch-index l.branches))) ≡ l.fn.found.items ++ at_code E05
+    (loose_in_branches (branches_of_list l.branches))

@@ -11,4 +11,5 @@ use Rattle.pc_stop.proofs.members.base_table.Goals as goal
 pub returns-in-Some-get : goal.returns-in-Some-get
 returns-in-Some-get c =
     let found = sym (ap option_copied c.in-Some-get.is) ∙ rw c.as_str.ensures.value at c.get.ensures.value in
-    ap (λ (o : Option ℕ). unwrap_or o 0) found ∙ sym (ap (λ (b : Option RustName). base_at c.args.bound.now (option_text (option_name_of b))) c.in-Some.is)
+    ap (λ (o : Option ℕ). unwrap_or o 0) found
+    ∙ sym (ap (λ (b : Option RustName). base_at c.args.bound.now (option_text (option_name_of b))) c.in-Some.is)

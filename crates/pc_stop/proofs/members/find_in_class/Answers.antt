@@ -16,7 +16,8 @@ loop-member-init c =
     record {
       keeps = record { ready = c.requires; kept = λ t hs h. h };
       found = λ hs h. ap (λ (b : List (List ℕ)). c.args.found.now.items ++ at_code E06 (clashes_among b hs ms)) none;
-      owns = λ hs h. owns_first c.args.holdings.now c.args.inherited hs ms (texts_in c.with_hasher-before.result) none h;
+      owns = λ hs h. owns_first c.args.holdings.now c.args.inherited hs ms (texts_in c.with_hasher-before.result) none
+          h;
     }
 
 pub loop-member-preserved : goal.loop-member-preserved
@@ -31,25 +32,35 @@ loop-member-preserved c =
     record {
       keeps = record { ready = ens.keeps.ready; kept = λ t hs h. ens.keeps.kept t hs (inv.keeps.kept t hs h) };
       found = λ hs h.
-          ap (λ (ps : List Place). c.find_member.new.found.items ++ at_code E06 ps) (same_clashing (texts_in c.find_member.new.before) (text ∷ b) ens.passed hs rest)
-          ∙ stepped E06 c.loop-member.found.items c.find_member.new.found.items (clashes_among b hs (member_of m ∷ [])) (clashes_among (text ∷ b) hs rest) (clashes_among b hs (map member_of (drop i c.args.members.now)))
-          (ens.found hs (inv.keeps.kept c.args.inherited hs h)) (clash_next b hs c.args.members.now i m c.loop-member-test.true c.member-item.is)
+          ap (λ (ps : List Place). c.find_member.new.found.items ++ at_code E06 ps)
+          (same_clashing (texts_in c.find_member.new.before) (text ∷ b) ens.passed hs rest)
+          ∙ stepped E06 c.loop-member.found.items c.find_member.new.found.items (clashes_among b hs (member_of m ∷ []))
+          (clashes_among (text ∷ b) hs rest) (clashes_among b hs (map member_of (drop i c.args.members.now)))
+          (ens.found hs (inv.keeps.kept c.args.inherited hs h)) (clash_next b hs c.args.members.now i m
+          c.loop-member-test.true c.member-item.is)
           ∙ inv.found hs h;
       owns = λ hs h.
           let o = inv.owns hs h in
-          owns_more c.loop-member.holdings c.find_member.new.holdings c.loop-member.table c.in_ok-table.table b (texts_in c.find_member.new.before) hs (own_members [] hs (map member_of c.args.members.now)) c.args.members.now i m
-          c.loop-member-test.true c.member-item.is ens.passed o (ens.has hs (hs ++ o.own) (inv.keeps.kept c.args.inherited hs h) o.has);
+          owns_more c.loop-member.holdings c.find_member.new.holdings c.loop-member.table c.in_ok-table.table b
+          (texts_in c.find_member.new.before) hs (own_members [] hs (map member_of c.args.members.now))
+          c.args.members.now i m
+          c.loop-member-test.true c.member-item.is ens.passed o (ens.has hs (hs ++ o.own)
+          (inv.keeps.kept c.args.inherited hs h) o.has);
     }
 
 pub returns-clause-found : goal.returns-clause-found
 returns-clause-found c hs h =
     let b = texts_in c.loop-member.before in
     sym (append-nil c.loop-member.found.items)
-    ∙ ap (λ ms. c.loop-member.found.items ++ at_code E06 (clashes_among b hs ms)) (sym (none_left member_of c.args.members.now c.loop-member.member-index (omega arith)))
+    ∙ ap (λ ms. c.loop-member.found.items ++ at_code E06 (clashes_among b hs ms))
+    (sym (none_left member_of c.args.members.now c.loop-member.member-index (omega arith)))
     ∙ c.loop-member.invariant.found hs h
 
 pub returns-clause-has : goal.returns-clause-has
 returns-clause-has c hs h =
     let b = texts_in c.loop-member.before in
     let all = own_members [] hs (map member_of c.args.members.now) in
-    owns_all c.loop-member.holdings c.loop-member.table b hs all (subst (λ ms. Owns c.loop-member.holdings c.loop-member.table b hs ms all) (none_left member_of c.args.members.now c.loop-member.member-index (omega arith)) (c.loop-member.invariant.owns hs h))
+    owns_all c.loop-member.holdings c.loop-member.table b hs all
+    (subst (λ ms. Owns c.loop-member.holdings c.loop-member.table b hs ms all)
+    (none_left member_of c.args.members.now c.loop-member.member-index (omega arith))
+    (c.loop-member.invariant.owns hs h))

@@ -11,6 +11,10 @@ use Rattle.pc_stop.proofs.members.find_in_class.Given as goal
 abbrev pub invariant-loop-member : goal.invariant-loop-member
 invariant-loop-member l = record {
   keeps : Keeps l.fn.holdings l.holdings;
-  found : (hs : List HeldMember) → HasIn l.fn.holdings l.inherited hs → l.found.items ++ at_code E06 (clashes_among (texts_in l.before) hs (map member_of (drop l.member-index l.members))) ≡ l.fn.found.items ++ at_code E06 (clashes_among [] hs (map member_of l.members));
-  owns : (hs : List HeldMember) → HasIn l.fn.holdings l.inherited hs → Owns l.holdings l.table (texts_in l.before) hs (map member_of (drop l.member-index l.members)) (own_members [] hs (map member_of l.members));
+  found : (hs : List HeldMember) → HasIn l.fn.holdings l.inherited hs
+      → l.found.items ++ at_code E06 (clashes_among (texts_in l.before) hs
+      (map member_of (drop l.member-index l.members))) ≡ l.fn.found.items ++ at_code E06
+      (clashes_among [] hs (map member_of l.members));
+  owns : (hs : List HeldMember) → HasIn l.fn.holdings l.inherited hs → Owns l.holdings l.table (texts_in l.before) hs
+      (map member_of (drop l.member-index l.members)) (own_members [] hs (map member_of l.members));
 }

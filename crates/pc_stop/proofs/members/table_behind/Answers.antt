@@ -11,5 +11,7 @@ pub returns-clause-has : goal.returns-clause-has
 returns-clause-has c =
     let m = member_of c.args.member.now in
     if_ok c.hold.result (λ t held all small at h.
-    subst (λ (b : Bool). HasIn c.hold.new.self t (all ++ held_unless b m)) (sym (ap (λ (b : Bool). b || c.args.clash) (sym c.has_reserved_name.ensures ∙ c.if-has_reserved_name.false) ∙ c.if-clash.false)) (held all small at h))
+    subst (λ (b : Bool). HasIn c.hold.new.self t (all ++ held_unless b m))
+    (sym (ap (λ (b : Bool). b || c.args.clash) (sym c.has_reserved_name.ensures ∙ c.if-has_reserved_name.false)
+    ∙ c.if-clash.false)) (held all small at h))
     c.hold.ensures.held

@@ -5,4 +5,5 @@ use Rattle.pc_tree.specs.Lists.{name_seen}
 use Rattle.pc_stop.proofs.names.add_params.Given as goal
 
 abbrev pub invariant-loop-param : goal.invariant-loop-param
-invariant-loop-param l = map name_seen l.names.items ++ map name_of_param (map param_of (drop l.param-index l.params)) ≡ map name_seen l.fn.names.items ++ map name_of_param (map param_of l.params)
+invariant-loop-param l = map name_seen l.names.items ++ map name_of_param (map param_of (drop l.param-index l.params))
+    ≡ map name_seen l.fn.names.items ++ map name_of_param (map param_of l.params)

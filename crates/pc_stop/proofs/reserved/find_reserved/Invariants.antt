@@ -6,4 +6,5 @@ use Rattle.pc_tree.specs.Lists.{name_seen}
 use Rattle.pc_stop.proofs.reserved.find_reserved.Given as goal
 
 abbrev pub invariant-loop-name : goal.invariant-loop-name
-invariant-loop-name l = l.found.items ++ at_code E29 (reserved_among (map name_seen (drop l.name-index l.names))) ≡ l.fn.found.items ++ at_code E29 (reserved_among (map name_seen l.names))
+invariant-loop-name l = l.found.items ++ at_code E29 (reserved_among (map name_seen (drop l.name-index l.names)))
+    ≡ l.fn.found.items ++ at_code E29 (reserved_among (map name_seen l.names))

@@ -6,4 +6,5 @@ use Rattle.pc_tree.specs.Code.{at_code}
 use Rattle.pc_stop.proofs.reserved.find_reserved_in_classes.Given as goal
 
 abbrev pub invariant-loop-item : goal.invariant-loop-item
-invariant-loop-item l = l.found.items ++ at_code E29 (reserved_in_classes (map item_of (drop l.item-index l.items))) ≡ l.fn.found.items ++ at_code E29 (reserved_in_classes (map item_of l.items))
+invariant-loop-item l = l.found.items ++ at_code E29 (reserved_in_classes (map item_of (drop l.item-index l.items)))
+    ≡ l.fn.found.items ++ at_code E29 (reserved_in_classes (map item_of l.items))

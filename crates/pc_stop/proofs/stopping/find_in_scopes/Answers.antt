@@ -19,7 +19,8 @@ returns c =
     let three = at_code E28 (no_main m) in
     let four = at_code E29 (reserved_bound m) in
     let five = at_code E31 (default_order m) in
-    behind r c.args.found.now.items a new (at_code E01 (twice m)) (two ++ (three ++ (four ++ five))) c.in_ok-find_twice.ensures
+    behind r c.args.found.now.items a new (at_code E01 (twice m)) (two ++ (three ++ (four ++ five)))
+    c.in_ok-find_twice.ensures
     (behind r a b new two (three ++ (four ++ five)) (rw c.deref.ensures.value at c.in_ok-find_in_defs.ensures)
     (behind r b d new three (four ++ five) c.in_ok-find_no_main.ensures
     (behind r d e new four five c.in_ok-find_reserved.ensures

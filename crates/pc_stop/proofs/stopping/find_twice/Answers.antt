@@ -19,7 +19,10 @@ returns c =
     let two = in_defs rule.ParametersAgain items in
     let three = given_in_constants items in
     let four = in_defs rule.GivenAgain items in
-    joined r E01 c.args.found.now.items a e one (two ++ (three ++ four)) (one ++ (two ++ (three ++ four))) (rw c.as_slice-items.ensures.value at c.in_ok-find_items_again.ensures) refl
-    (joined r E01 a b e two (three ++ four) (two ++ (three ++ four)) (rw c.as_slice-items.ensures.value at c.in_ok-find_in_defs.ensures) refl
-    (joined r E01 b d e three four (three ++ four) (rw c.as_slice-items.ensures.value at c.in_ok-find_given_in_constants.ensures) refl
+    joined r E01 c.args.found.now.items a e one (two ++ (three ++ four)) (one ++ (two ++ (three ++ four)))
+    (rw c.as_slice-items.ensures.value at c.in_ok-find_items_again.ensures) refl
+    (joined r E01 a b e two (three ++ four) (two ++ (three ++ four))
+    (rw c.as_slice-items.ensures.value at c.in_ok-find_in_defs.ensures) refl
+    (joined r E01 b d e three four (three ++ four) (rw c.as_slice-items.ensures.value at
+    c.in_ok-find_given_in_constants.ensures) refl
     (rw c.as_slice-items.ensures.value at c.find_in_defs-2.ensures)))

@@ -4,7 +4,8 @@ use Rattle.pc_stop.proofs.tables.+value_in.Goals as goal
 
 pub returns-then-digits-eq0 : goal.returns-then-digits-eq0
 unfolding value_at
-returns-then-digits-eq0 t c = let e : c.args.digits ≡ 0 = omega arith in sym (ap (λ (d : ℕ). value_at c.args.nodes.now d c.args.table c.args.number) e)
+returns-then-digits-eq0 t c = let e : c.args.digits ≡ 0 = omega arith in
+    sym (ap (λ (d : ℕ). value_at c.args.nodes.now d c.args.table c.args.number) e)
 
 pub returns : goal.returns
 unfolding value_at

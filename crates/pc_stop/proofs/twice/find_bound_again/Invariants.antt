@@ -7,4 +7,6 @@ use Rattle.pc_tree.specs.Names.{texts_in}
 use Rattle.pc_stop.proofs.twice.find_bound_again.Given as goal
 
 abbrev pub invariant-loop-name : goal.invariant-loop-name
-invariant-loop-name l = l.found.items ++ at_code E01 (bound_again (texts_in l.before) (map name_seen (drop l.name-index l.names))) ≡ l.fn.found.items ++ at_code E01 (bound_again (texts_in l.fn.before) (map name_seen l.names))
+invariant-loop-name l = l.found.items ++ at_code E01 (bound_again (texts_in l.before)
+    (map name_seen (drop l.name-index l.names))) ≡ l.fn.found.items ++ at_code E01
+    (bound_again (texts_in l.fn.before) (map name_seen l.names))

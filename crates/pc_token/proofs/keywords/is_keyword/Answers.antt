@@ -5,4 +5,5 @@ use Rattle.pc_token.proofs.FirstBytes.{any_found}
 use Rattle.pc_token.proofs.keywords.is_keyword.Goals as goal
 
 pub returns : goal.returns
-returns c = c.is_some.ensures ∙ ap is_some c.keyword_of.ensures ∙ any_found (λ k. bytes_eq (keyword_text k) c.args.name.now) keywords
+returns c = c.is_some.ensures ∙ ap is_some c.keyword_of.ensures
+    ∙ any_found (λ k. bytes_eq (keyword_text k) c.args.name.now) keywords

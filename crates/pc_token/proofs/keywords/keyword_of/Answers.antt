@@ -7,4 +7,5 @@ use Rattle.pc_token.proofs.keywords.keyword_of.Goals as goal
 pub returns : goal.returns
 returns c =
     c.first_spelled.ensures ∙ ap (find (λ k. bytes_eq (keyword_text k) c.args.name.now)) c.beginning_with.ensures
-    ∙ keyword_sought c.args.name.now c.byte_at-first.result (c.byte_at-first.ensures ∙ ap (λ x. get_or x 0 0) c.as_bytes.ensures.value)
+    ∙ keyword_sought c.args.name.now c.byte_at-first.result (c.byte_at-first.ensures
+    ∙ ap (λ x. get_or x 0 0) c.as_bytes.ensures.value)

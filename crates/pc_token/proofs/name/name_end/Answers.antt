@@ -12,7 +12,8 @@ bytes_from-rest-requires c = omega (arith, c.requires.0, c.as_bytes-bytes.ensure
 
 pub loop-c-init : goal.loop-c-init
 loop-c-init c =
-    let is = c.ascii_len-len.ensures.len ∙ ap (prefix_len is_word_byte) (c.bytes_from-rest.ensures.value ∙ ap (drop c.args.start) c.as_bytes-bytes.ensures.value) in
+    let is = c.ascii_len-len.ensures.len ∙ ap (prefix_len is_word_byte) (c.bytes_from-rest.ensures.value
+    ∙ ap (drop c.args.start) c.as_bytes-bytes.ensures.value) in
     record {
       boundary = word_edge c.args.text.now c.args.start c.ascii_len-len.result c.utf8.text c.requires is;
       later = omega arith;
@@ -33,7 +34,8 @@ loop-c-preserved c =
     rw len (record {
       boundary = next_boundary c.args.text.now c.loop-c.end c.utf8.text c.loop-c.invariant.boundary c.in-Some.c here;
       later = omega (arith, c.loop-c.invariant.later);
-      run = run_more c.args.text.now c.loop-c.end c.utf8.text c.loop-c.invariant.boundary c.args.start c.in-Some.c c.loop-c.invariant.later here (search rules) c.loop-c.invariant.run;
+      run = run_more c.args.text.now c.loop-c.end c.utf8.text c.loop-c.invariant.boundary c.args.start c.in-Some.c
+          c.loop-c.invariant.later here (search rules) c.loop-c.invariant.run;
     })
 
 pub returns-clause-all : goal.returns-clause-all
@@ -46,13 +48,16 @@ returns-then-next-lt128 c =
     let text = c.args.text.now in
     let start = c.args.start in
     let n = c.ascii_len-len.result in
-    let is = c.ascii_len-len.ensures.len ∙ ap (prefix_len is_word_byte) (c.bytes_from-rest.ensures.value ∙ ap (drop start) c.as_bytes-bytes.ensures.value) in
+    let is = c.ascii_len-len.ensures.len ∙ ap (prefix_len is_word_byte) (c.bytes_from-rest.ensures.value
+    ∙ ap (drop start) c.as_bytes-bytes.ensures.value) in
     let edge = word_edge text start n c.utf8.text c.requires is in
-    let same : c.byte_at-next.result ≡ get_or text (start + n) 0 = c.byte_at-next.ensures ∙ ap (λ x. get_or x (start + n) 0) c.as_bytes-bytes.ensures.value in
+    let same : c.byte_at-next.result ≡ get_or text (start + n) 0 = c.byte_at-next.ensures
+    ∙ ap (λ x. get_or x (start + n) 0) c.as_bytes-bytes.ensures.value in
     record {
       utf8 = c.utf8.text;
       boundary = edge;
       later = omega arith;
       run = word_run text start n c.utf8.text c.requires is;
-      all = ascii_ends text (start + n) c.utf8.text edge (omega (arith, same, c.if-next-lt128.true)) (word_stops_at text start n is);
+      all = ascii_ends text (start + n) c.utf8.text edge (omega (arith, same, c.if-next-lt128.true))
+          (word_stops_at text start n is);
     }

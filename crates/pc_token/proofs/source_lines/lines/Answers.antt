@@ -12,4 +12,5 @@ pub returns-clause-one : goal.returns-clause-one
 returns-clause-one c = one_list c.args.source.now
 
 pub returns-clause-within : goal.returns-clause-within
-returns-clause-within c = lines_within c.args.source.now _ (λ items h. subst (λ t. HasLines t items) c.text.ensures.text h)
+returns-clause-within c = lines_within c.args.source.now _ (λ items h. subst (λ t. HasLines t items) c.text.ensures.text
+    h)

@@ -14,7 +14,8 @@ pub returns-clause-was : goal.returns-clause-was
 returns-clause-was c =
     let keys = c.args.names.now.keys in
     let text = c.args.name.now in
-    ap not c.in_ok-added.ensures.added ∙ not_not (list_any (λ k. bytes_eq text (text_seen k)) keys) ∙ has text_seen text keys
+    ap not c.in_ok-added.ensures.added ∙ not_not (list_any (λ k. bytes_eq text (text_seen k)) keys)
+    ∙ has text_seen text keys
 
 pub returns-clause-now : goal.returns-clause-now
 returns-clause-now c other =

@@ -7,9 +7,11 @@ use Rattle.pc_types.proofs.Truth.{through_is, same_test}
 use Rattle.pc_types.proofs.flow.is_assignable.Goals as goal
 
 pub returns-clause-value : goal.returns-clause-value
-returns-clause-value c = through_is c.flows.ensures (assignable_is_flow c.args.parents.now _ _ c.requires.left c.requires.right)
+returns-clause-value c = through_is c.flows.ensures (assignable_is_flow c.args.parents.now _ _ c.requires.left
+    c.requires.right)
 
 pub returns-clause-test : goal.returns-clause-test
 returns-clause-test c =
-    let v : IsTrue c.flows.result ↔ Assignable c.args.parents.now (tree_of c.args.s.now) (tree_of c.args.t.now) = through_is c.flows.ensures (assignable_is_flow c.args.parents.now _ _ c.requires.left c.requires.right) in
+    let v : IsTrue c.flows.result ↔ Assignable c.args.parents.now (tree_of c.args.s.now) (tree_of c.args.t.now) =
+    through_is c.flows.ensures (assignable_is_flow c.args.parents.now _ _ c.requires.left c.requires.right) in
     same_test _ _ v (assignable_decided c.args.parents.now _ _ c.ordered.ensures c.requires.left c.requires.right)

@@ -6,14 +6,17 @@ use Rattle.pc_types.specs.Join.{is_before, kept_with, one_with, join_of}
 use Rattle.pc_types.specs.Boxed.{tree_of, trees_in}
 use Rattle.pc_types.proofs.Tuples.{tuple_is, tuple_tree}
 use Rattle.pc_types.proofs.Weight.{tree_weight, trees_weight, split_weight, parts_weight, tree_weight_item}
-use Rattle.pc_types.proofs.Together.{Behind, split_of, split_behind, before_of, first_left, first_right, first_both, never_behind}
-use Rattle.pc_types.proofs.Joined.{JoinsTo, ok_as, each_lengths, joins_more, joins_none, joins_all, tuple_rule_at, one_tuple, parts_tree, ordinary_rule, normal_item, normal_parts}
+use Rattle.pc_types.proofs.Together.{Behind, split_of, split_behind, before_of, first_left, first_right, first_both}
+use Rattle.pc_types.proofs.Together.{never_behind}
+use Rattle.pc_types.proofs.Joined.{JoinsTo, ok_as, each_lengths, joins_more, joins_none, joins_all, tuple_rule_at}
+use Rattle.pc_types.proofs.Joined.{one_tuple, parts_tree, ordinary_rule, normal_item, normal_parts}
 use Rattle.pc_types.proofs.join.+join.Goals as goal
 
 pub joined-returns-in-Tuple : goal.joined-returns-in-Tuple
 joined-returns-in-Tuple t c =
     let e = tuple_is c.args.s.now c.in-Tuple.field-0 c.in-Tuple.is in
-    ok_as (option_map tree_of) c.ruled.result _ _ (tuple_rule_at c.args.parents.now (tree_of c.args.s.now) (trees_in c.in-Tuple.field-0.items) (tree_of c.args.t.now) e) c.ruled.ensures
+    ok_as (option_map tree_of) c.ruled.result _ _ (tuple_rule_at c.args.parents.now (tree_of c.args.s.now)
+    (trees_in c.in-Tuple.field-0.items) (tree_of c.args.t.now) e) c.ruled.ensures
 
 pub joined_parts-returns-then-ss-ts : goal.joined_parts-returns-then-ss-ts
 joined_parts-returns-then-ss-ts t c = each_lengths _ _ _ c.if-ss-ts.true
@@ -22,16 +25,24 @@ pub joined_parts-joined-requires : goal.joined_parts-joined-requires
 joined_parts-joined-requires t c =
     let l : c.loop-i.i < length c.args.ts.now = omega arith in
     let w = tree_weight_item c.args.ss.now c.loop-i.i c.index-ss-i.result c.loop-i-test.true c.index-ss-i.is in
-    let v = tree_weight_item c.args.ts.now c.loop-i.i c.index-ts-i.result l c.index-ts-i.is in
-    (omega (arith, w, v, c.decreases), (normal_item _ c.loop-i.i _ c.requires.left c.loop-i-test.true c.index-ss-i.is, normal_item _ c.loop-i.i _ c.requires.right l c.index-ts-i.is))
+    let v = tree_weight_item c.args.ts.now c.loop-i.i c.index-ts-i.result l c.index-ts-i.is in (
+      omega (arith, w, v, c.decreases),
+      (
+        normal_item _ c.loop-i.i _ c.requires.left c.loop-i-test.true c.index-ss-i.is,
+        normal_item _ c.loop-i.i _ c.requires.right l c.index-ts-i.is,
+      ),
+    )
 
 pub joined_parts-returns-in-None : goal.joined_parts-returns-in-None
 joined_parts-returns-in-None t c =
-    let g : None ≡ join_of c.args.parents.now (tree_of c.index-ss-i.result) (tree_of c.index-ts-i.result) = ap (option_map tree_of) (sym c.in-None.is) ∙ c.in_ok-joined.ensures in
-    joins_none c.args.parents.now c.args.ss.now c.args.ts.now c.loop-i.parts.items c.loop-i.i c.index-ss-i.result c.index-ts-i.result c.loop-i.invariant.1 c.loop-i-test.true (omega arith) c.index-ss-i.is c.index-ts-i.is g
+    let g : None ≡ join_of c.args.parents.now (tree_of c.index-ss-i.result) (tree_of c.index-ts-i.result) =
+    ap (option_map tree_of) (sym c.in-None.is) ∙ c.in_ok-joined.ensures in
+    joins_none c.args.parents.now c.args.ss.now c.args.ts.now c.loop-i.parts.items c.loop-i.i c.index-ss-i.result
+    c.index-ts-i.result c.loop-i.invariant.1 c.loop-i-test.true (omega arith) c.index-ss-i.is c.index-ts-i.is g
 
 pub joined_parts-returns : goal.joined_parts-returns
-joined_parts-returns t c = joins_all c.args.parents.now c.args.ss.now c.args.ts.now c.loop-i.parts.items c.loop-i.i c.loop-i.invariant.1 (omega arith) (omega arith)
+joined_parts-returns t c = joins_all c.args.parents.now c.args.ss.now c.args.ts.now c.loop-i.parts.items c.loop-i.i
+    c.loop-i.invariant.1 (omega arith) (omega arith)
 
 pub merged-merged-requires : goal.merged-merged-requires
 merged-merged-requires t c =
@@ -76,66 +87,104 @@ merged-one_ahead-requires t c =
 pub merged-returns-in_ok-rest-in-None-split-2 : goal.merged-returns-in_ok-rest-in-None-split-2
 merged-returns-in_ok-rest-in-None-split-2 t c =
     let b : Behind (tree_of c.in-Some.a.now) (tree_of c.args.t.now) = never_behind _ _ c.in-None-split-2.ensures in
-    let e = first_left c.args.parents.now (tree_of c.args.sides.now.left.now) (tree_of c.args.sides.now.right.now) (tree_of c.args.s.now) (tree_of c.args.t.now) (tree_of c.in-Some.a.now) (tree_of c.in-Some.others.now) c.in-Some.ensures c.requires.left c.requires.right b in
-    let f = ap (kept_with c.args.parents.now (tree_of c.in-Some.a.now) (tree_of c.args.sides.now.right.now)) c.in_ok-rest-in-None-split-2.ensures in
+    let e = first_left c.args.parents.now (tree_of c.args.sides.now.left.now) (tree_of c.args.sides.now.right.now)
+    (tree_of c.args.s.now) (tree_of c.args.t.now) (tree_of c.in-Some.a.now) (tree_of c.in-Some.others.now)
+    c.in-Some.ensures c.requires.left c.requires.right b in
+    let f = ap (kept_with c.args.parents.now (tree_of c.in-Some.a.now) (tree_of c.args.sides.now.right.now))
+    c.in_ok-rest-in-None-split-2.ensures in
     ok_as (option_map tree_of) c.kept_ahead-in-None-split-2.result _ _ (f ∙ sym e) c.kept_ahead-in-None-split-2.ensures
 
 pub merged-returns-in_ok-rest-in-Some-split-2 : goal.merged-returns-in_ok-rest-in-Some-split-2
 merged-returns-in_ok-rest-in-Some-split-2 t c =
-    let h : IsRankBefore (member_rank (tree_of c.in-Some.a.now)) (member_rank (tree_of c.in-Some-split-2.b.now)) = before_of _ _ (sym c.stands_before.ensures ∙ c.if-stands_before.true) in
-    let b = split_behind (tree_of c.args.t.now) (tree_of c.in-Some.a.now) (tree_of c.in-Some-split-2.b.now) (tree_of c.in-Some-split-2.bs.now) c.in-Some-split-2.ensures c.requires.right h in
-    let e = first_left c.args.parents.now (tree_of c.args.sides.now.left.now) (tree_of c.args.sides.now.right.now) (tree_of c.args.s.now) (tree_of c.args.t.now) (tree_of c.in-Some.a.now) (tree_of c.in-Some.others.now) c.in-Some.ensures c.requires.left c.requires.right b in
-    let f = ap (kept_with c.args.parents.now (tree_of c.in-Some.a.now) (tree_of c.args.sides.now.right.now)) c.in_ok-rest-in-Some-split-2.ensures in
-    ok_as (option_map tree_of) c.kept_ahead-then-stands_before.result _ _ (f ∙ sym e) c.kept_ahead-then-stands_before.ensures
+    let h : IsRankBefore (member_rank (tree_of c.in-Some.a.now)) (member_rank (tree_of c.in-Some-split-2.b.now)) =
+    before_of _ _ (sym c.stands_before.ensures ∙ c.if-stands_before.true) in
+    let b = split_behind (tree_of c.args.t.now) (tree_of c.in-Some.a.now) (tree_of c.in-Some-split-2.b.now)
+    (tree_of c.in-Some-split-2.bs.now) c.in-Some-split-2.ensures c.requires.right h in
+    let e = first_left c.args.parents.now (tree_of c.args.sides.now.left.now) (tree_of c.args.sides.now.right.now)
+    (tree_of c.args.s.now) (tree_of c.args.t.now) (tree_of c.in-Some.a.now) (tree_of c.in-Some.others.now)
+    c.in-Some.ensures c.requires.left c.requires.right b in
+    let f = ap (kept_with c.args.parents.now (tree_of c.in-Some.a.now) (tree_of c.args.sides.now.right.now))
+    c.in_ok-rest-in-Some-split-2.ensures in
+    ok_as (option_map tree_of) c.kept_ahead-then-stands_before.result _ _ (f ∙ sym e)
+    c.kept_ahead-then-stands_before.ensures
 
 pub merged-returns-in_ok-rest-in-Some-split-2-2 : goal.merged-returns-in_ok-rest-in-Some-split-2-2
 merged-returns-in_ok-rest-in-Some-split-2-2 t c =
-    let h : IsRankBefore (member_rank (tree_of c.in-Some-split-2.b.now)) (member_rank (tree_of c.in-Some.a.now)) = before_of _ _ (sym c.stands_before-else-stands_before.ensures ∙ c.if-stands_before-2.true) in
-    let b = split_behind (tree_of c.args.s.now) (tree_of c.in-Some-split-2.b.now) (tree_of c.in-Some.a.now) (tree_of c.in-Some.others.now) c.in-Some.ensures c.requires.left h in
-    let e = first_right c.args.parents.now (tree_of c.args.sides.now.left.now) (tree_of c.args.sides.now.right.now) (tree_of c.args.s.now) (tree_of c.args.t.now) (tree_of c.in-Some-split-2.b.now) (tree_of c.in-Some-split-2.bs.now) c.in-Some-split-2.ensures c.requires.right b in
-    let f = ap (kept_with c.args.parents.now (tree_of c.in-Some-split-2.b.now) (tree_of c.args.sides.now.left.now)) c.in_ok-rest-in-Some-split-2-2.ensures in
-    ok_as (option_map tree_of) c.kept_ahead-then-stands_before-2.result _ _ (f ∙ sym e) c.kept_ahead-then-stands_before-2.ensures
+    let h : IsRankBefore (member_rank (tree_of c.in-Some-split-2.b.now)) (member_rank (tree_of c.in-Some.a.now)) =
+    before_of _ _ (sym c.stands_before-else-stands_before.ensures ∙ c.if-stands_before-2.true) in
+    let b = split_behind (tree_of c.args.s.now) (tree_of c.in-Some-split-2.b.now) (tree_of c.in-Some.a.now)
+    (tree_of c.in-Some.others.now) c.in-Some.ensures c.requires.left h in
+    let e = first_right c.args.parents.now (tree_of c.args.sides.now.left.now) (tree_of c.args.sides.now.right.now)
+    (tree_of c.args.s.now) (tree_of c.args.t.now) (tree_of c.in-Some-split-2.b.now)
+    (tree_of c.in-Some-split-2.bs.now) c.in-Some-split-2.ensures c.requires.right b in
+    let f = ap (kept_with c.args.parents.now (tree_of c.in-Some-split-2.b.now) (tree_of c.args.sides.now.left.now))
+    c.in_ok-rest-in-Some-split-2-2.ensures in
+    ok_as (option_map tree_of) c.kept_ahead-then-stands_before-2.result _ _ (f ∙ sym e)
+    c.kept_ahead-then-stands_before-2.ensures
 
 pub merged-returns-in_ok-rest-in-Some-split-2-3 : goal.merged-returns-in_ok-rest-in-Some-split-2-3
 merged-returns-in_ok-rest-in-Some-split-2-3 t c =
-    let h : is_before (tree_of c.in-Some.a.now) (tree_of c.in-Some-split-2.b.now) ≡ false = sym c.stands_before.ensures ∙ c.if-stands_before.false in
-    let k : is_before (tree_of c.in-Some-split-2.b.now) (tree_of c.in-Some.a.now) ≡ false = sym c.stands_before-else-stands_before.ensures ∙ c.if-stands_before-2.false in
-    let e = first_both c.args.parents.now (tree_of c.args.sides.now.left.now) (tree_of c.args.sides.now.right.now) (tree_of c.args.s.now) (tree_of c.args.t.now) (tree_of c.in-Some.a.now) (tree_of c.in-Some.others.now) (tree_of c.in-Some-split-2.b.now) (tree_of c.in-Some-split-2.bs.now) c.in-Some.ensures c.requires.left c.in-Some-split-2.ensures c.requires.right h k in
-    let f = ap (one_with c.args.parents.now (tree_of c.args.sides.now.left.now) (tree_of c.args.sides.now.right.now) (tree_of c.in-Some.a.now) (tree_of c.in-Some-split-2.b.now)) c.in_ok-rest-in-Some-split-2-3.ensures in
+    let h : is_before (tree_of c.in-Some.a.now) (tree_of c.in-Some-split-2.b.now) ≡ false = sym c.stands_before.ensures
+    ∙ c.if-stands_before.false in
+    let k : is_before (tree_of c.in-Some-split-2.b.now) (tree_of c.in-Some.a.now) ≡ false =
+    sym c.stands_before-else-stands_before.ensures ∙ c.if-stands_before-2.false in
+    let e = first_both c.args.parents.now (tree_of c.args.sides.now.left.now) (tree_of c.args.sides.now.right.now)
+    (tree_of c.args.s.now) (tree_of c.args.t.now) (tree_of c.in-Some.a.now) (tree_of c.in-Some.others.now)
+    (tree_of c.in-Some-split-2.b.now) (tree_of c.in-Some-split-2.bs.now) c.in-Some.ensures c.requires.left
+    c.in-Some-split-2.ensures c.requires.right h k in
+    let f = ap (one_with c.args.parents.now (tree_of c.args.sides.now.left.now) (tree_of c.args.sides.now.right.now)
+    (tree_of c.in-Some.a.now) (tree_of c.in-Some-split-2.b.now)) c.in_ok-rest-in-Some-split-2-3.ensures in
     ok_as (option_map tree_of) c.one_ahead.result _ _ (f ∙ sym e) c.one_ahead.ensures
 
 pub one-joined_parts-requires : goal.one-joined_parts-requires
 one-joined_parts-requires t c =
     let a : tree_of c.args.a.now ≡ TupleOf (trees_in c.in-Tuple.ss.items) = tuple_is _ _ c.in-Tuple.is in
     let s : trees_in c.deref.result.now ≡ trees_in c.in-Tuple.ss.items = ap trees_in c.deref.ensures.value in
-    let w : tree_weight (tree_of c.args.a.now) ≡ 1 + trees_weight (trees_in c.deref.result.now) = ap tree_weight a ∙ ap (λ x. 1 + trees_weight x) (sym s) in
-    let v : trees_weight (trees_in c.parts_of.result.now) ≤ tree_weight (tree_of c.args.b.now) = rw c.parts_of.ensures (parts_weight (tree_of c.args.b.now)) in (
+    let w : tree_weight (tree_of c.args.a.now) ≡ 1 + trees_weight (trees_in c.deref.result.now) = ap tree_weight a
+    ∙ ap (λ x. 1 + trees_weight x) (sym s) in
+    let v : trees_weight (trees_in c.parts_of.result.now) ≤ tree_weight (tree_of c.args.b.now) =
+    rw c.parts_of.ensures (parts_weight (tree_of c.args.b.now)) in (
       omega (arith, w, v, c.decreases),
-      (rw s (subst IsNormal a c.requires.left), rw c.parts_of.ensures (normal_parts (tree_of c.args.b.now) c.requires.right)),
+      (
+        rw s (subst IsNormal a c.requires.left),
+        rw c.parts_of.ensures
+            (normal_parts (tree_of c.args.b.now) c.requires.right),
+      ),
     )
 
 pub one-returns-in-None : goal.one-returns-in-None
 one-returns-in-None t c =
     let a = tuple_is c.args.a.now c.in-Tuple.ss c.in-Tuple.is in
     let s : trees_in c.deref.result.now ≡ trees_in c.in-Tuple.ss.items = ap trees_in c.deref.ensures.value in
-    let e = one_tuple c.args.parents.now (tree_of c.args.a.now) (trees_in c.in-Tuple.ss.items) (tree_of c.args.b.now) _ _ a s c.parts_of.ensures in
-    ap (option_map TupleOf) (ap (option_map parts_tree) (sym c.in-None.is) ∙ c.in_ok-joined_parts-in-Tuple.ensures) ∙ sym e
+    let e = one_tuple c.args.parents.now (tree_of c.args.a.now) (trees_in c.in-Tuple.ss.items) (tree_of c.args.b.now) _
+    _ a s c.parts_of.ensures in
+    ap (option_map TupleOf) (ap (option_map parts_tree) (sym c.in-None.is) ∙ c.in_ok-joined_parts-in-Tuple.ensures)
+    ∙ sym e
 
 pub one-returns-in-Some : goal.one-returns-in-Some
 one-returns-in-Some t c =
     let a = tuple_is c.args.a.now c.in-Tuple.ss c.in-Tuple.is in
     let s : trees_in c.deref.result.now ≡ trees_in c.in-Tuple.ss.items = ap trees_in c.deref.ensures.value in
-    let e = one_tuple c.args.parents.now (tree_of c.args.a.now) (trees_in c.in-Tuple.ss.items) (tree_of c.args.b.now) _ _ a s c.parts_of.ensures in
+    let e = one_tuple c.args.parents.now (tree_of c.args.a.now) (trees_in c.in-Tuple.ss.items) (tree_of c.args.b.now) _
+    _ a s c.parts_of.ensures in
     ap Some (tuple_tree c.in-Some.parts)
-    ∙ ap (option_map TupleOf) (ap (option_map parts_tree) (sym c.in-Some.is) ∙ c.in_ok-joined_parts-in-Tuple.ensures) ∙ sym e
+    ∙ ap (option_map TupleOf) (ap (option_map parts_tree) (sym c.in-Some.is) ∙ c.in_ok-joined_parts-in-Tuple.ensures)
+    ∙ sym e
 
 pub ruled-returns-in_default-t-2 : goal.ruled-returns-in_default-t-2
 ruled-returns-in_default-t-2 t c =
-    let e = ordinary_rule c.args.s.now c.args.t.now _ c.in_default.not-Never c.in_default.not-Any c.in_default.not-Object c.in_default-t-2.not-Never c.in_default-t-2.not-Any c.in_default-t-2.not-Object in
+    let e = ordinary_rule c.args.s.now c.args.t.now _ c.in_default.not-Never c.in_default.not-Any
+    c.in_default.not-Object c.in_default-t-2.not-Never c.in_default-t-2.not-Any c.in_default-t-2.not-Object in
     ok_as (option_map tree_of) c.merged.result _ _ (sym e) c.merged.ensures
 
 pub joined_parts-loop-i-preserved : goal.joined_parts-loop-i-preserved
 joined_parts-loop-i-preserved t c =
-    let g : Some (tree_of c.in-Some.part) ≡ join_of c.args.parents.now (tree_of c.index-ss-i.result) (tree_of c.index-ts-i.result) = ap (option_map tree_of) (sym c.in-Some.is) ∙ c.in_ok-joined.ensures in
-    let j = joins_more c.args.parents.now c.args.ss.now c.args.ts.now c.loop-i.parts.items c.loop-i.i c.index-ss-i.result c.index-ts-i.result c.in-Some.part c.loop-i.invariant.1 c.loop-i-test.true (omega arith) c.index-ss-i.is c.index-ts-i.is g in
-    (c.loop-i.invariant.0, subst (JoinsTo c.args.parents.now c.args.ss.now c.args.ts.now (c.loop-i.i + 1)) (sym c.in_ok-push-in-Some.ensures.items) j)
+    let g : Some (tree_of c.in-Some.part) ≡ join_of c.args.parents.now (tree_of c.index-ss-i.result)
+    (tree_of c.index-ts-i.result) = ap (option_map tree_of) (sym c.in-Some.is) ∙ c.in_ok-joined.ensures in
+    let j = joins_more c.args.parents.now c.args.ss.now c.args.ts.now c.loop-i.parts.items c.loop-i.i
+    c.index-ss-i.result c.index-ts-i.result c.in-Some.part c.loop-i.invariant.1 c.loop-i-test.true (omega arith)
+    c.index-ss-i.is c.index-ts-i.is g in (
+      c.loop-i.invariant.0,
+      subst (JoinsTo c.args.parents.now c.args.ss.now c.args.ts.now (c.loop-i.i + 1))
+          (sym c.in_ok-push-in-Some.ensures.items) j,
+    )

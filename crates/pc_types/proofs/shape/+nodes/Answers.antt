@@ -12,6 +12,8 @@ count_each-loop-t-preserved t c =
 
 pub count_nodes-returns-in-Tuple : goal.count_nodes-returns-in-Tuple
 count_nodes-returns-in-Tuple t c =
-    let n : nodes (tree_of c.args.t.now) ≡ 1 + nodes_of (trees_in c.in-Tuple.parts.items) = ap nodes (tuple_is _ _ c.in-Tuple.is) in
-    let e : nodes_of (trees_in c.deref-in-Tuple.result.now) ≡ nodes_of (trees_in c.in-Tuple.parts.items) = ap (λ l. nodes_of (trees_in l)) c.deref-in-Tuple.ensures.value in
+    let n : nodes (tree_of c.args.t.now) ≡ 1 + nodes_of (trees_in c.in-Tuple.parts.items) =
+    ap nodes (tuple_is _ _ c.in-Tuple.is) in
+    let e : nodes_of (trees_in c.deref-in-Tuple.result.now) ≡ nodes_of (trees_in c.in-Tuple.parts.items) =
+    ap (λ l. nodes_of (trees_in l)) c.deref-in-Tuple.ensures.value in
     omega (arith, n, e, c.capped-in-Tuple.ensures, c.count_each.ensures)

@@ -9,12 +9,14 @@ use Rattle.pc_types.proofs.shape.part.Goals as goal
 
 pub index-requires : goal.index-requires
 index-requires c =
-    let n : length (parts (tree_of c.args.t.now)) ≡ length c.in-Tuple.parts.items = ap length (tuple_parts _ _ c.in-Tuple.is) ∙ length-map c.in-Tuple.parts.items tree_of in
+    let n : length (parts (tree_of c.args.t.now)) ≡ length c.in-Tuple.parts.items =
+    ap length (tuple_parts _ _ c.in-Tuple.is) ∙ length-map c.in-Tuple.parts.items tree_of in
     omega (arith, n, c.in-Tuple.parts.ok.0)
 
 pub returns-in-Tuple : goal.returns-in-Tuple
 returns-in-Tuple c =
-    let n : length (parts (tree_of c.args.t.now)) ≡ length c.in-Tuple.parts.items = ap length (tuple_parts _ _ c.in-Tuple.is) ∙ length-map c.in-Tuple.parts.items tree_of in
+    let n : length (parts (tree_of c.args.t.now)) ≡ length c.in-Tuple.parts.items =
+    ap length (tuple_parts _ _ c.in-Tuple.is) ∙ length-map c.in-Tuple.parts.items tree_of in
     let l : c.args.number < length c.in-Tuple.parts.items = omega (arith, n) in
     rw (tuple_parts _ _ c.in-Tuple.is)
     (slice_get-map tree_of c.in-Tuple.parts.items c.args.number

@@ -5,4 +5,5 @@ use Rattle.pc_types.proofs.shape.parts.Goals as goal
 
 pub returns-in-Tuple : goal.returns-in-Tuple
 returns-in-Tuple c =
-    subst (λ ps. IfOk c.copies.result (λ v. map tree_of v.items ≡ ps)) (ap (map tree_of) c.deref-in-Tuple.ensures.value ∙ sym (tuple_parts _ _ c.in-Tuple.is)) c.copies.ensures
+    subst (λ ps. IfOk c.copies.result (λ v. map tree_of v.items ≡ ps)) (ap (map tree_of) c.deref-in-Tuple.ensures.value
+    ∙ sym (tuple_parts _ _ c.in-Tuple.is)) c.copies.ensures

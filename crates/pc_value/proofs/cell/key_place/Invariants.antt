@@ -4,4 +4,5 @@ use Rattle.pc_value.specs.Internal.Changes.{key_place}
 use Rattle.pc_value.proofs.cell.key_place.Given as goal
 
 abbrev pub invariant-loop-i : goal.invariant-loop-i
-invariant-loop-i l = key_place (value_of l.key) (map entry_of l.entries) ≡ l.i + key_place (value_of l.key) (map entry_of (drop l.i l.entries))
+invariant-loop-i l = key_place (value_of l.key) (map entry_of l.entries) ≡ l.i + key_place (value_of l.key)
+    (map entry_of (drop l.i l.entries))

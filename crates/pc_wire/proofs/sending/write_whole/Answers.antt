@@ -12,5 +12,6 @@ loop-at-preserved g c =
     record {
       within = within;
       taken = takes_more _ _ _ bytes at count within c.loop-at.invariant.taken c.in-Ok.ensures.bytes;
-      failures = c.in-Ok.ensures.failures ∙ (counts_none _ count c.loop-at.device.failures some ∙ c.loop-at.invariant.failures);
+      failures = c.in-Ok.ensures.failures ∙ (counts_none _ count c.loop-at.device.failures some
+          ∙ c.loop-at.invariant.failures);
     }

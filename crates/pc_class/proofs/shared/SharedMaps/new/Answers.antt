@@ -5,7 +5,9 @@ use Rattle.pc_class.proofs.SharedParts.{nothing_held, none_below}
 use Rattle.pc_class.proofs.shared.SharedMaps.new.Goals as goal
 
 pub returns-clause-empty : goal.returns-clause-empty
-returns-clause-empty c key = ap (λ (l : List Node). held_at l 0 key) (c.in_ok-push.ensures.items ∙ ap (λ (l : List Node). l ++ empty_node ∷ []) c.new-nodes.ensures.items) ∙ nothing_held key
+returns-clause-empty c key = ap (λ (l : List Node). held_at l 0 key) (c.in_ok-push.ensures.items
+    ∙ ap (λ (l : List Node). l ++ empty_node ∷ []) c.new-nodes.ensures.items) ∙ nothing_held key
 
 pub returns-clause-below : goal.returns-clause-below
-returns-clause-below c = subst (HasBelow 0) (sym (c.in_ok-push.ensures.items ∙ ap (λ (l : List Node). l ++ empty_node ∷ []) c.new-nodes.ensures.items)) none_below
+returns-clause-below c = subst (HasBelow 0) (sym (c.in_ok-push.ensures.items
+    ∙ ap (λ (l : List Node). l ++ empty_node ∷ []) c.new-nodes.ensures.items)) none_below

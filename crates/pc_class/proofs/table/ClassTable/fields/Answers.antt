@@ -21,4 +21,5 @@ returns-clause-listed g c =
     let long = c.len.ensures in
     let less = c.if-class-len.false in
     subst (λ (xs : List (ClassEntry _)). All (IsLent xs) c.in_ok-all.all.items) c.self.view_is
-    (lent_listed es (inherited_entry es (Some c.args.class)) (entry_listed es c.args.class empty_entry (omega arith)) c.in_ok-all.all.items (λ x h. subst (λ (fs : List _). Contains fs x) c.in_ok-all.ensures h))
+    (lent_listed es (inherited_entry es (Some c.args.class)) (entry_listed es c.args.class empty_entry (omega arith))
+    c.in_ok-all.all.items (λ x h. subst (λ (fs : List _). Contains fs x) c.in_ok-all.ensures h))

@@ -27,7 +27,8 @@ items_within-requires-clause-within g c =
     let many = c.self.invariant.0.many in
     let less : c.args.class < length p.classes.items = omega arith in
     let is = slice_get_read p.classes.items (length p.classes.items) c.args.class n refl less c.index-node.ensures in
-    subst (λ k. n.methods.end ≤ k) (sym (ap length c.deref.ensures.value)) (c.self.invariant.0.each c.args.class n is).own_methods.within
+    subst (λ k. n.methods.end ≤ k) (sym (ap length c.deref.ensures.value))
+    (c.self.invariant.0.each c.args.class n is).own_methods.within
 
 pub returns : goal.returns
 returns g c =
@@ -40,5 +41,9 @@ returns g c =
     let less : c.args.class < length p.classes.items = omega arith in
     let is = slice_get_read p.classes.items (length p.classes.items) c.args.class n refl less c.index-node.ensures in
     let same = c.items_within.ensures ∙ ap (λ (xs : List (RustMethod _)). part xs n.methods) c.deref.ensures.value in
-    let over = methods_over p.named p.fields.items p.methods.items p.classes.items (entries_in p) c.self.invariant.0 c.args.class n is own same in
-    record { over = subst (λ (es : List (ClassEntry _)). (slice_index_or es c.args.class empty_entry).methods ≡ own ++ (inherited_entry es (slice_index_or es c.args.class empty_entry).base).methods) c.self.view_is over }
+    let over = methods_over p.named p.fields.items p.methods.items p.classes.items (entries_in p) c.self.invariant.0
+    c.args.class n is own same in
+    record {
+      over = subst (λ (es : List (ClassEntry _)). (slice_index_or es c.args.class empty_entry).methods ≡ own
+          ++ (inherited_entry es (slice_index_or es c.args.class empty_entry).base).methods) c.self.view_is over;
+    }

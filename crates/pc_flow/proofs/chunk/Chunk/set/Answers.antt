@@ -10,6 +10,8 @@ pub returns-then-local-len : goal.returns-then-local-len
 returns-then-local-len g c =
     let e = map-set (option_map rc_value) c.self.inside.types.items c.args.local c.args.ty in
     elim c.match-index_mut-ty.branch [
-      | in-Some-1 w ↦ w.self-is ∙ (e ∙ ap (λ l. slice_set l c.args.local (option_map rc_value c.args.ty)) c.self.view_is)
-      | in-None-1 w ↦ w.self-is ∙ (e ∙ ap (λ l. slice_set l c.args.local (option_map rc_value c.args.ty)) c.self.view_is)
+      | in-Some-1 w ↦ w.self-is ∙ (e ∙ ap (λ l. slice_set l c.args.local (option_map rc_value c.args.ty))
+          c.self.view_is)
+      | in-None-1 w ↦ w.self-is ∙ (e ∙ ap (λ l. slice_set l c.args.local (option_map rc_value c.args.ty))
+          c.self.view_is)
     ]

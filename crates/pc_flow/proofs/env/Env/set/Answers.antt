@@ -11,9 +11,13 @@ returns g c =
     let at = c.index_mut-chunk.ensures.value in
     record {
       set = on_ok_weaker c.set_in.result
-          (λ e. row_assign rc_value c.self.inside.width c.self.inside.locals c.self.inside.chunks.items c.args.local chunk c.set_in.new.chunk c.args.ty c.self.invariant c.if-local-self.false (e ∙ ap (λ k. slice_set (rc_value k) (c.args.local % c.self.inside.width) c.args.ty) at) ∙ ap (λ (types : List (Option g.row.Ty.Denot)). slice_set types c.args.local c.args.ty) c.self.view_is)
+          (λ e. row_assign rc_value c.self.inside.width c.self.inside.locals c.self.inside.chunks.items c.args.local
+          chunk c.set_in.new.chunk c.args.ty c.self.invariant c.if-local-self.false
+          (e ∙ ap (λ k. slice_set (rc_value k) (c.args.local % c.self.inside.width) c.args.ty) at)
+          ∙ ap (λ (types : List (Option g.row.Ty.Denot)). slice_set types c.args.local c.args.ty) c.self.view_is)
           c.set_in.ensures.set;
       unchanged = on_err_weaker c.set_in.result
-          (λ e. row_unchanged rc_value c.self.inside.width c.self.inside.locals c.self.inside.chunks.items (c.args.local / c.self.inside.width) chunk c.set_in.new.chunk (e ∙ ap rc_value at) ∙ c.self.view_is)
+          (λ e. row_unchanged rc_value c.self.inside.width c.self.inside.locals c.self.inside.chunks.items
+          (c.args.local / c.self.inside.width) chunk c.set_in.new.chunk (e ∙ ap rc_value at) ∙ c.self.view_is)
           c.set_in.ensures.unchanged;
     }

@@ -5,16 +5,20 @@ use Rattle.pc_intern.proofs.store.InternStore.made.Goals as goal
 
 pub invariant_of-self : goal.invariant_of-self
 invariant_of-self c =
-    all_right_stays c.self.inside.parents c.self.inside.table c.intern.new.self c.self.inside.memo.places.items c.in_err-number.ensures.grows c.self.invariant
+    all_right_stays c.self.inside.parents c.self.inside.table c.intern.new.self c.self.inside.memo.places.items
+    c.in_err-number.ensures.grows c.self.invariant
 
 pub returns-in_err-number-clause-kept : goal.returns-in_err-number-clause-kept
 returns-in_err-number-clause-kept c =
-    λ ty h. held_stays c.self.inside.table c.intern.new.self c.in_err-number.ensures.grows ty (subst (λ l. IsHeld l ty) (sym c.self.view_is) h)
+    λ ty h. held_stays c.self.inside.table c.intern.new.self c.in_err-number.ensures.grows ty
+    (subst (λ l. IsHeld l ty) (sym c.self.view_is) h)
 
 pub invariant_of-self-2 : goal.invariant_of-self-2
 invariant_of-self-2 c =
-    all_right_stays c.self.inside.parents c.self.inside.table c.intern.new.self c.self.inside.memo.places.items c.in_ok-number.ensures.grows c.self.invariant
+    all_right_stays c.self.inside.parents c.self.inside.table c.intern.new.self c.self.inside.memo.places.items
+    c.in_ok-number.ensures.grows c.self.invariant
 
 pub returns-clause-kept : goal.returns-clause-kept
 returns-clause-kept c =
-    λ ty h. held_stays c.self.inside.table c.intern.new.self c.in_ok-number.ensures.grows ty (subst (λ l. IsHeld l ty) (sym c.self.view_is) h)
+    λ ty h. held_stays c.self.inside.table c.intern.new.self c.in_ok-number.ensures.grows ty
+    (subst (λ l. IsHeld l ty) (sym c.self.view_is) h)

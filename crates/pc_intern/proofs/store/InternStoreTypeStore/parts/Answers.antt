@@ -11,20 +11,28 @@ use Rattle.pc_intern.proofs.store.InternStoreTypeStore.parts.Goals as goal
 pub held-requires : goal.held-requires
 held-requires c =
     let ps = c.parts-number-items.result.now in
-    let n = part_numbers c.args.self.now c.args.ty.now ps c.requires (rw (← c.self.view_is) c.parts-number-items.ensures) in
-    let u = number_in c.args.self.now ps (parts (meaning c.args.ty.now)) c.loop-number.number-index n c.loop-number-test.true in
+    let n = part_numbers c.args.self.now c.args.ty.now ps c.requires
+    (rw (← c.self.view_is) c.parts-number-items.ensures) in
+    let u = number_in c.args.self.now ps (parts (meaning c.args.ty.now)) c.loop-number.number-index n
+    c.loop-number-test.true in
     within c.args.self.now (get_or ps c.loop-number.number-index 0) u.0 u.2
 
 pub loop-number-preserved : goal.loop-number-preserved
 loop-number-preserved c =
     record {
-      held = subst (All (IsHeld c.args.self.now)) (sym c.in_ok-push.ensures.items) (All-push (IsHeld c.args.self.now) c.loop-number.parts.items c.held.result c.loop-number.invariant.held c.held.ensures.held);
-      same = rw c.in_ok-push.ensures.items (more_parts c.args.self.now c.loop-number.parts.items c.held.result c.parts-number-items.result.now c.loop-number.number-index c.loop-number.invariant.same c.loop-number-test.true c.held.ensures.held c.held.ensures.number);
+      held = subst (All (IsHeld c.args.self.now)) (sym c.in_ok-push.ensures.items)
+          (All-push (IsHeld c.args.self.now) c.loop-number.parts.items c.held.result c.loop-number.invariant.held
+          c.held.ensures.held);
+      same = rw c.in_ok-push.ensures.items (more_parts c.args.self.now c.loop-number.parts.items c.held.result
+          c.parts-number-items.result.now c.loop-number.number-index c.loop-number.invariant.same
+          c.loop-number-test.true c.held.ensures.held c.held.ensures.number);
     }
 
 pub returns-clause-value : goal.returns-clause-value
 returns-clause-value c =
     let ps = c.parts-number-items.result.now in
-    let n = part_numbers c.args.self.now c.args.ty.now ps c.requires (rw (← c.self.view_is) c.parts-number-items.ensures) in
+    let n = part_numbers c.args.self.now c.args.ty.now ps c.requires
+    (rw (← c.self.view_is) c.parts-number-items.ensures) in
     same_items (map meaning c.loop-number.parts.items) (parts (meaning c.args.ty.now))
-    (c.loop-number.invariant.same ∙ ap (map (tree_at c.args.self.now)) (take_all c.loop-number.number-index ps c.loop-number-test.false) ∙ n)
+    (c.loop-number.invariant.same ∙ ap (map (tree_at c.args.self.now))
+    (take_all c.loop-number.number-index ps c.loop-number-test.false) ∙ n)

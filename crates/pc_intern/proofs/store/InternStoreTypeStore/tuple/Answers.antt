@@ -6,4 +6,5 @@ use Rattle.pc_intern.proofs.store.InternStoreTypeStore.tuple.Goals as goal
 pub returns-in-Some-clause-value : goal.returns-in-Some-clause-value
 returns-in-Some-clause-value c =
     let us = map meaning c.args.parts.now in
-    known_as c.args.self.now c.in-Some.known _ us c.in-Some.ensures.held c.in-Some.ensures.head (c.in-Some.ensures.parts us c.in_ok-numbers.ensures)
+    known_as c.args.self.now c.in-Some.known _ us c.in-Some.ensures.held c.in-Some.ensures.head
+    (c.in-Some.ensures.parts us c.in_ok-numbers.ensures)

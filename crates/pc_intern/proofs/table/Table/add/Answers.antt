@@ -11,33 +11,48 @@ use Rattle.pc_intern.proofs.table.Table.add.Goals as goal
 
 pub returns-in-Some-clause-value : goal.returns-in-Some-clause-value
 returns-in-Some-clause-value c =
-    let w = found c.self.inside.entries.entries c.args.node (c.in-Some.field-0-1.now, c.in-Some.field-0-2.now) c.in-Some.number c.self.invariant c.in-Some.ensures.entry (passes (node_eq c.args.node) c.self.inside.entries.entries c.in-Some.field-0-1.now (sym c.in-Some.ensures.key)) in
+    let w = found c.self.inside.entries.entries c.args.node (c.in-Some.field-0-1.now, c.in-Some.field-0-2.now)
+    c.in-Some.number c.self.invariant c.in-Some.ensures.entry
+    (passes (node_eq c.args.node) c.self.inside.entries.entries c.in-Some.field-0-1.now
+    (sym c.in-Some.ensures.key)) in
     let q : values_of c.self.inside.entries.entries ≡ c.args.self.now = c.self.view_is in
-    let h : IsNode (values_of c.self.inside.entries.entries) c.args.node (tree_of c.args.ty.now) = subst (λ l. IsNode l c.args.node (tree_of c.args.ty.now)) (sym q) c.requires.node in
-    subst (λ l. tree_at l c.in-Some.number ≡ Some (tree_of c.args.ty.now)) q (found_tree (values_of c.self.inside.entries.entries) c.args.node c.in-Some.number c.args.ty.now w c.requires.given h)
+    let h : IsNode (values_of c.self.inside.entries.entries) c.args.node (tree_of c.args.ty.now) =
+    subst (λ l. IsNode l c.args.node (tree_of c.args.ty.now)) (sym q) c.requires.node in
+    subst (λ l. tree_at l c.in-Some.number ≡ Some (tree_of c.args.ty.now)) q
+    (found_tree (values_of c.self.inside.entries.entries) c.args.node c.in-Some.number c.args.ty.now w
+    c.requires.given h)
 
 pub invariant_of-self-2 : goal.invariant_of-self-2
 invariant_of-self-2 c =
     let es = c.self.inside.entries.entries in
     let none = sym c.in_default.ensures.value in
-    let e = c.in_ok-insert.ensures.entries ∙ insert_entry-new node_eq c.self.inside.entries c.args.node c.in_ok-ty.ty none in
+    let e = c.in_ok-insert.ensures.entries ∙ insert_entry-new node_eq c.self.inside.entries c.args.node c.in_ok-ty.ty
+    none in
     let q : values_of c.self.inside.entries.entries ≡ c.args.self.now = c.self.view_is in
     let same = c.in_ok-ty.ensures in
     let t = same.1 in
-    let h : IsNode (values_of c.self.inside.entries.entries) c.args.node (tree_of c.in_ok-ty.ty) = rw (q, t) c.requires.node in
+    let h : IsNode (values_of c.self.inside.entries.entries) c.args.node (tree_of c.in_ok-ty.ty) =
+    rw (q, t) c.requires.node in
     subst IsTable (sym e)
-    (added es (node_eq c.args.node) c.args.node c.in_ok-ty.ty c.self.invariant (λ n a b. (node_decides c.args.node n).1 (a, b)) same.0 h none)
+    (added es (node_eq c.args.node) c.args.node c.in_ok-ty.ty c.self.invariant
+    (λ n a b. (node_decides c.args.node n).1 (a, b)) same.0 h none)
 
 pub returns-clause-value : goal.returns-clause-value
 returns-clause-value c =
     let none = sym c.in_default.ensures.value in
-    let e = c.in_ok-insert.ensures.entries ∙ insert_entry-new node_eq c.self.inside.entries c.args.node c.in_ok-ty.ty none in
+    let e = c.in_ok-insert.ensures.entries ∙ insert_entry-new node_eq c.self.inside.entries c.args.node c.in_ok-ty.ty
+    none in
     let t = c.in_ok-ty.ensures.1 in
     rw (e, c.len-number.ensures.len) (pushed_tree c.self.inside.entries.entries c.args.node c.in_ok-ty.ty ∙ ap Some t)
 
 pub returns-clause-grows : goal.returns-clause-grows
 returns-clause-grows c =
     let none = sym c.in_default.ensures.value in
-    let e = c.in_ok-insert.ensures.entries ∙ insert_entry-new node_eq c.self.inside.entries c.args.node c.in_ok-ty.ty none in
+    let e = c.in_ok-insert.ensures.entries ∙ insert_entry-new node_eq c.self.inside.entries c.args.node c.in_ok-ty.ty
+    none in
     let q : values_of c.self.inside.entries.entries ≡ c.args.self.now = c.self.view_is in
-    record { added = c.in_ok-ty.ty ∷ []; is = ap values_of e ∙ map-append (λ x. x.1) c.self.inside.entries.entries ((c.args.node, c.in_ok-ty.ty) ∷ []) ∙ ap (λ l. l ++ c.in_ok-ty.ty ∷ []) q }
+    record {
+      added = c.in_ok-ty.ty ∷ [];
+      is = ap values_of e ∙ map-append (λ x. x.1) c.self.inside.entries.entries
+          ((c.args.node, c.in_ok-ty.ty) ∷ []) ∙ ap (λ l. l ++ c.in_ok-ty.ty ∷ []) q;
+    }

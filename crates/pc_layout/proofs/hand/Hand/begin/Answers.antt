@@ -8,7 +8,8 @@ use Rattle.pc_layout.proofs.hand.Hand.begin.Goals as goal
 pub returns-in-Err-clause-gives : goal.returns-in-Err-clause-gives
 returns-in-Err-clause-gives c = λ ls.
     ap (λ d. pending_by d c.args.self.now (Ok (line_of c.args.line) ∷ ls)) c.requires
-    ∙ laid_refused _ _ (line_of c.args.line) c.in-Err.refusal ls (let h = c.in-Err.ensures in rw c.as_slice.ensures.value at h)
+    ∙ laid_refused _ _ (line_of c.args.line) c.in-Err.refusal ls
+    (let h = c.in-Err.ensures in rw c.as_slice.ensures.value at h)
 
 pub returns-clause-gives : goal.returns-clause-gives
 returns-clause-gives c = λ ls.
@@ -16,8 +17,12 @@ returns-clause-gives c = λ ls.
     let g = rw c.as_slice.ensures.value at h in
     ap (λ d. pending_by d c.args.self.now (Ok (line_of c.args.line) ∷ ls)) c.requires
     ∙ laid_line _ _ (line_of c.args.line) (placed_by (reverse c.step.new.levels.suites.items) c.in-Ok.signs) ls g.0
-    ∙ line_given _ (placed_by (reverse c.step.new.levels.suites.items) c.in-Ok.signs) (map lexeme_of c.args.line.tokens.items) _ c.first_byte-self.result (end_of_line c.line_end-self.result) (context_of c.step.new.levels) ls
+    ∙ line_given _ (placed_by (reverse c.step.new.levels.suites.items) c.in-Ok.signs)
+    (map lexeme_of c.args.line.tokens.items) _ c.first_byte-self.result (end_of_line c.line_end-self.result)
+    (context_of c.step.new.levels) ls
     (rw c.as_slice-2.ensures.value at c.first_byte-self.ensures)
     (ap (map lexeme_of) c.into_iter.ensures.rest)
-    (end_given _ (map lexeme_of c.args.line.tokens.items) c.line_end-self.result c.last_byte.result (rw c.as_slice-3.ensures.value at c.last_byte.ensures) c.line_end-self.ensures.place c.line_end-self.ensures.text)
+    (end_given _ (map lexeme_of c.args.line.tokens.items) c.line_end-self.result c.last_byte.result
+    (rw c.as_slice-3.ensures.value at c.last_byte.ensures) c.line_end-self.ensures.place
+    c.line_end-self.ensures.text)
     g.1

@@ -7,4 +7,6 @@ use Rattle.pc_layout.proofs.Laying.{laid_end}
 use Rattle.pc_layout.proofs.hand.Hand.finish.Goals as goal
 
 pub returns-clause-gives : goal.returns-clause-gives
-returns-clause-gives c = ap (λ d. pending_by d c.args.self.now []) c.requires ∙ laid_end _ _ ∙ ap (λ n. give (dedents n (length c.args.self.now.text.now)) (Ok (mark End (length c.args.self.now.text.now)) ∷ [])) (sym c.len-self.ensures)
+returns-clause-gives c = ap (λ d. pending_by d c.args.self.now []) c.requires ∙ laid_end _ _
+    ∙ ap (λ n. give (dedents n (length c.args.self.now.text.now))
+    (Ok (mark End (length c.args.self.now.text.now)) ∷ [])) (sym c.len-self.ensures)

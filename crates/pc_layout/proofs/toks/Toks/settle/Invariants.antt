@@ -7,7 +7,8 @@ abbrev pub invariant-loop-next : goal.invariant-loop-next
 invariant-loop-next g l = record {
   can : g.I.Iterator.can_next l.self.lines;
   ends : IsFinite (g.I.Iterator.remaining l.self.lines);
-  leads : (e : Fault) → SettlesTo g.I.Iterator.next_gives l.refusal l.self.lines e → SettlesTo g.I.Iterator.next_gives l.refusal l.fn.self.lines e;
+  leads : (e : Fault) → SettlesTo g.I.Iterator.next_gives l.refusal l.self.lines e
+      → SettlesTo g.I.Iterator.next_gives l.refusal l.fn.self.lines e;
 }
 
 abbrev pub decreases-loop-next : goal.decreases-loop-next

@@ -12,6 +12,9 @@ invariant_of-self-in-Ok c =
     let size : length gs ≡ vec_len bindings = omega (arith, bindings.ok.0) in
     let g : RustGlobal = record { name = c.args.name; bound = c.args.bound } in
     record {
-      placed = subst (λ (xs : List RustGlobal). ArePlaced c.bind_first.new.map (map name_of_global xs)) (sym c.in_ok-push.ensures.items)
-          (placed_more c.args.self.now.places c.bind_first.new.map gs g c.len-place.result (c.len-place.ensures ∙ sym size ∙ sym (length-map gs name_of_global)) c.args.self.now.placed c.in-Ok.ensures.bound);
+      placed = subst (λ (xs : List RustGlobal). ArePlaced c.bind_first.new.map (map name_of_global xs))
+          (sym c.in_ok-push.ensures.items)
+          (placed_more c.args.self.now.places c.bind_first.new.map gs g c.len-place.result
+          (c.len-place.ensures ∙ sym size ∙ sym (length-map gs name_of_global)) c.args.self.now.placed
+          c.in-Ok.ensures.bound);
     }

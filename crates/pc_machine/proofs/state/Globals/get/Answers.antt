@@ -13,7 +13,8 @@ returns-in-Some-get c =
     let i = c.in-Some.place.now in
     let h = rw c.deref.ensures.value at c.in-Some-get.ensures.lookup in
     sym (ap bound_at (slice_get_read gs (length gs) i g refl h.3.0 h.1))
-    ∙ ap (at_place gs) (sym (ap option_copied c.in-Some.is) ∙ c.get.ensures.value ∙ c.args.self.now.placed c.args.name.now) ∙ found_at c.args.name.now gs
+    ∙ ap (at_place gs) (sym (ap option_copied c.in-Some.is) ∙ c.get.ensures.value
+    ∙ c.args.self.now.placed c.args.name.now) ∙ found_at c.args.name.now gs
 
 pub returns-in-None-get : goal.returns-in-None-get
 returns-in-None-get c =
@@ -21,9 +22,11 @@ returns-in-None-get c =
     let i = c.in-Some.place.now in
     let h = rw c.deref.ensures.value at c.in-None-get.ensures.lookup in
     sym (ap bound_at (slice_get_past gs i h.3))
-    ∙ ap (at_place gs) (sym (ap option_copied c.in-Some.is) ∙ c.get.ensures.value ∙ c.args.self.now.placed c.args.name.now) ∙ found_at c.args.name.now gs
+    ∙ ap (at_place gs) (sym (ap option_copied c.in-Some.is) ∙ c.get.ensures.value
+    ∙ c.args.self.now.placed c.args.name.now) ∙ found_at c.args.name.now gs
 
 pub returns-in-None : goal.returns-in-None
 returns-in-None c =
     let gs = c.args.self.now.bindings.items in
-    ap (at_place gs) (sym (ap option_copied c.in-None.is) ∙ c.get.ensures.value ∙ c.args.self.now.placed c.args.name.now) ∙ found_at c.args.name.now gs
+    ap (at_place gs) (sym (ap option_copied c.in-None.is) ∙ c.get.ensures.value
+    ∙ c.args.self.now.placed c.args.name.now) ∙ found_at c.args.name.now gs

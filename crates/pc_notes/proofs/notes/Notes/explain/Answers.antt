@@ -14,10 +14,12 @@ returns-in_err-into-clause-kept g c =
 pub returns-in-Some-clause-value : goal.returns-in-Some-clause-value
 returns-in-Some-clause-value g c =
     let s = sym c.flow_at.ensures ∙ ap (option_map (λ (f : Bor Flow). f.now)) c.in-Some.is in
-    let e = this_flow c.args.place c.deref-entry-items.result.now c.loop-entry.entry-index c.entry-item.result c.loop-entry-test.true c.entry-item.is c.in-Some.flow.now s in (
+    let e = this_flow c.args.place c.deref-entry-items.result.now c.loop-entry.entry-index c.entry-item.result
+    c.loop-entry-test.true c.entry-item.is c.in-Some.flow.now s in (
       c.in_ok-into.ensures.kept _ c.in_ok-from.ensures.value.0,
       c.in_ok-into.ensures.value.0,
-      c.loop-entry.invariant.same ∙ e ∙ sym (λ i. Some (c.in_ok-from.ensures.value.1 i, c.in_ok-into.ensures.value.1 i)),
+      c.loop-entry.invariant.same ∙ e
+          ∙ sym (λ i. Some (c.in_ok-from.ensures.value.1 i, c.in_ok-into.ensures.value.1 i)),
     )
 
 pub returns-in-Some-clause-kept : goal.returns-in-Some-clause-kept
@@ -28,9 +30,11 @@ pub loop-entry-preserved : goal.loop-entry-preserved
 loop-entry-preserved g c =
     let n = sym c.flow_at.ensures ∙ ap (option_map (λ (f : Bor Flow). f.now)) c.in_default.is in
     record {
-      same = c.loop-entry.invariant.same ∙ later_flow c.args.place c.deref-entry-items.result.now c.loop-entry.entry-index c.entry-item.result c.loop-entry-test.true c.entry-item.is n;
+      same = c.loop-entry.invariant.same ∙ later_flow c.args.place c.deref-entry-items.result.now
+          c.loop-entry.entry-index c.entry-item.result c.loop-entry-test.true c.entry-item.is n;
       kept = c.loop-entry.invariant.kept;
     }
 
 pub returns-clause-value : goal.returns-clause-value
-returns-clause-value g c = c.loop-entry.invariant.same ∙ no_flow c.args.place c.deref-entry-items.result.now c.loop-entry.entry-index c.loop-entry-test.false
+returns-clause-value g c = c.loop-entry.invariant.same ∙ no_flow c.args.place c.deref-entry-items.result.now
+    c.loop-entry.entry-index c.loop-entry-test.false

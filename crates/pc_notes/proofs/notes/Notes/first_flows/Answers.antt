@@ -9,5 +9,7 @@ loop-entry-preserved c =
     let xs : List Entry = c.deref-entry-items.result.now in
     let i = c.loop-entry.entry-index in
     let x : Entry = c.entry-item.result in
-    let more : take (i + 1) xs ≡ take i xs ++ x ∷ [] = take_more xs i x (omega arith) ∙ ap (λ (y : Entry). take i xs ++ y ∷ []) (sym c.entry-item.is) in
-    first_of_more (take i xs) x c.keep_first.new.flows (take (i + 1) xs) more (c.in_ok-keep_first.ensures (take i xs) c.loop-entry.invariant)
+    let more : take (i + 1) xs ≡ take i xs ++ x ∷ [] = take_more xs i x (omega arith)
+    ∙ ap (λ (y : Entry). take i xs ++ y ∷ []) (sym c.entry-item.is) in
+    first_of_more (take i xs) x c.keep_first.new.flows (take (i + 1) xs) more
+    (c.in_ok-keep_first.ensures (take i xs) c.loop-entry.invariant)

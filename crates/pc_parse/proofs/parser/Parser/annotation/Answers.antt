@@ -9,4 +9,5 @@ returns-in_err-annotation g c = let p = err_from_is_err_and c.from_residual.resu
     rw (p.1, p.2) (blame (λ o w. λ k. w (ann_whole k)) c.in_err-annotation.ensures.reads)
 
 pub returns : goal.returns
-returns g c = whole_annotation c.args.self.now c.note.new.self c.union.new.reader c.in_ok-annotation.annotation c.in_ok-annotation.ensures.reads c.in_ok-annotation.ensures.over c.note.ensures.reader c.note.ensures.deep
+returns g c = whole_annotation c.args.self.now c.note.new.self c.union.new.reader c.in_ok-annotation.annotation
+    c.in_ok-annotation.ensures.reads c.in_ok-annotation.ensures.over c.note.ensures.reader c.note.ensures.deep

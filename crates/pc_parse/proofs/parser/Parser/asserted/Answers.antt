@@ -21,41 +21,78 @@ returns-in_err-first g c = let p = err_from_is_err_and c.from_residual.result c.
     rw (p.1, p.2) (blame (λ o w. λ d b f. w (at (stmts d b)) (λ e. refl)) c.in_err-first.ensures)
 
 pub returns-in_err-condition : goal.returns-in_err-condition
-returns-in_err-condition g c = let t = c.in_ok-first.ensures in let p = c.in_ok-first.first.place in let q = err_from_is_err_and c.from_residual-in_err-condition.result c.from_residual-in_err-condition.ensures.1 in
-    rw (q.1, q.2) (blame (λ o w. λ d b f. step_to (stmts d b) (operand (whole (in_statement asserted (site_at p d b)))) t (ap (lead_turn (site_at p d b) _ _) (f _ t.here)) o (w (in_statement asserted (site_at p d b)))) c.in_err-condition.ensures)
+returns-in_err-condition g c = let t = c.in_ok-first.ensures in let p = c.in_ok-first.first.place in let q =
+    err_from_is_err_and c.from_residual-in_err-condition.result c.from_residual-in_err-condition.ensures.1 in
+    rw (q.1, q.2) (blame (λ o w. λ d b f. step_to (stmts d b) (operand (whole (in_statement asserted (site_at p d b))))
+    t (ap (lead_turn (site_at p d b) _ _) (f _ t.here)) o (w (in_statement asserted (site_at p d b))))
+    c.in_err-condition.ensures)
 
 pub returns-in_err-take : goal.returns-in_err-take
-returns-in_err-take g c = let t = c.in_ok-first.ensures in let p = c.in_ok-first.first.place in let v = c.in_ok-condition.ensures in let q = err_from_is_err_and c.from_residual-in_err-take.result c.from_residual-in_err-take.ensures.1 in
-    rw (q.1, q.2) (blame (λ o w. λ d b f. step_to (stmts d b) (operand (whole (in_statement asserted (site_at p d b)))) t (ap (lead_turn (site_at p d b) _ _) (f _ t.here)) o
-    (v.leads (in_statement asserted (site_at p d b)) o (w (at (have c.in_ok-condition.condition.level v.part (whole (in_statement asserted (site_at p d b))))) (λ e. refl)))) c.in_err-take.ensures)
+returns-in_err-take g c = let t = c.in_ok-first.ensures in let p = c.in_ok-first.first.place in let v =
+    c.in_ok-condition.ensures in let q = err_from_is_err_and c.from_residual-in_err-take.result
+    c.from_residual-in_err-take.ensures.1 in
+    rw (q.1, q.2) (blame (λ o w. λ d b f. step_to (stmts d b) (operand (whole (in_statement asserted (site_at p d b))))
+    t (ap (lead_turn (site_at p d b) _ _) (f _ t.here)) o
+    (v.leads (in_statement asserted (site_at p d b)) o
+    (w (at (have c.in_ok-condition.condition.level v.part (whole (in_statement asserted (site_at p d b)))))
+    (λ e. refl)))) c.in_err-take.ensures)
 
 pub returns-in_err-message : goal.returns-in_err-message
-returns-in_err-message g c = let t = c.in_ok-first.ensures in let p = c.in_ok-first.first.place in let v = c.in_ok-condition.ensures in let u = c.in_ok-take.ensures in let q = err_from_is_err_and c.from_residual-in_err-message.result c.from_residual-in_err-message.ensures.1 in
-    rw (q.1, q.2) (blame (λ o w. λ d b f. step_to (stmts d b) (operand (whole (in_statement asserted (site_at p d b)))) t (ap (lead_turn (site_at p d b) _ _) (f _ t.here)) o
+returns-in_err-message g c = let t = c.in_ok-first.ensures in let p = c.in_ok-first.first.place in let v =
+    c.in_ok-condition.ensures in let u = c.in_ok-take.ensures in let q =
+    err_from_is_err_and c.from_residual-in_err-message.result c.from_residual-in_err-message.ensures.1 in
+    rw (q.1, q.2) (blame (λ o w. λ d b f. step_to (stmts d b) (operand (whole (in_statement asserted (site_at p d b))))
+    t (ap (lead_turn (site_at p d b) _ _) (f _ t.here)) o
     (v.leads (in_statement asserted (site_at p d b)) o
-    (step_to (have c.in_ok-condition.condition.level v.part (whole (in_statement asserted (site_at p d b)))) (operand (whole (in_statement (asserted_with v.part.tree) (site_at p d b)))) u
-    (v.goes (in_statement asserted (site_at p d b)) _ u.here ∙ ap (λ k. finish (in_statement asserted (site_at p d b)) v.part (ending_of k)) (kind_seen (kind.Operator sign.Comma) (sym c.sees.ensures ∙ c.if-sees.true) u.here)) o
+    (step_to (have c.in_ok-condition.condition.level v.part (whole (in_statement asserted (site_at p d b))))
+    (operand (whole (in_statement (asserted_with v.part.tree) (site_at p d b)))) u
+    (v.goes (in_statement asserted (site_at p d b)) _ u.here ∙ ap (λ k. finish (in_statement asserted (site_at p d b))
+    v.part (ending_of k)) (kind_seen (kind.Operator sign.Comma) (sym c.sees.ensures ∙ c.if-sees.true) u.here)) o
     (w (in_statement (asserted_with v.part.tree) (site_at p d b)))))) c.in_err-message.ensures)
 
 pub returns-then-sees : goal.returns-then-sees
-returns-then-sees g c = let t = c.in_ok-first.ensures in let p = c.in_ok-first.first.place in let v = c.in_ok-condition.ensures in let u = c.in_ok-take.ensures in let m = c.in_ok-message.ensures in
-    line_ended g.X.AsStr.text g.I.Iterator.next_gives g.I.Iterator.can_next g.I.Iterator.remaining (λ d b. stmts d b) (λ d b. have c.in_ok-message.message.level m.part (whole (in_statement (asserted_with v.part.tree) (site_at p d b)))) _
-    c.args.self.now c.expression-then-sees.new.self c.line_end.new.self _ c.line_end.result (asserts p v.part.tree (Some m.part.tree))
-    (keep_two _ (λ x y. asserts p x (Some y)) (λ x y. refl) (ap (λ z. asserts p (expr_of z) (Some (expr_of c.in_ok-boxed_message.boxed_message.value))) c.in_ok-boxed.ensures.ok
-    ∙ ap (λ z. asserts p (expr_of c.in_ok-condition.condition.expr) (Some (expr_of z))) c.in_ok-boxed_message.ensures.ok) v.keeps m.keeps v.deep m.deep) (let l = t.later in let r = v.later in let s = u.later in let q = m.later in omega arith)
-    (λ d b f o x. step_to (stmts d b) (operand (whole (in_statement asserted (site_at p d b)))) t (ap (lead_turn (site_at p d b) _ _) (f _ t.here)) o
+returns-then-sees g c = let t = c.in_ok-first.ensures in let p = c.in_ok-first.first.place in let v =
+    c.in_ok-condition.ensures in let u = c.in_ok-take.ensures in let m = c.in_ok-message.ensures in
+    line_ended g.X.AsStr.text g.I.Iterator.next_gives g.I.Iterator.can_next g.I.Iterator.remaining (λ d b. stmts d b)
+    (λ d b. have c.in_ok-message.message.level m.part
+    (whole (in_statement (asserted_with v.part.tree) (site_at p d b)))) _
+    c.args.self.now c.expression-then-sees.new.self c.line_end.new.self _ c.line_end.result
+    (asserts p v.part.tree (Some m.part.tree))
+    (keep_two _ (λ x y. asserts p x (Some y)) (λ x y. refl)
+    (ap (λ z. asserts p (expr_of z) (Some (expr_of c.in_ok-boxed_message.boxed_message.value)))
+    c.in_ok-boxed.ensures.ok
+    ∙ ap (λ z. asserts p (expr_of c.in_ok-condition.condition.expr) (Some (expr_of z)))
+    c.in_ok-boxed_message.ensures.ok) v.keeps m.keeps v.deep m.deep) (let l = t.later in let r = v.later in let s =
+    u.later in let q = m.later in omega arith)
+    (λ d b f o x. step_to (stmts d b) (operand (whole (in_statement asserted (site_at p d b)))) t
+    (ap (lead_turn (site_at p d b) _ _) (f _ t.here)) o
     (v.leads (in_statement asserted (site_at p d b)) o
-    (step_to (have c.in_ok-condition.condition.level v.part (whole (in_statement asserted (site_at p d b)))) (operand (whole (in_statement (asserted_with v.part.tree) (site_at p d b)))) u
-    (v.goes (in_statement asserted (site_at p d b)) _ u.here ∙ ap (λ k. finish (in_statement asserted (site_at p d b)) v.part (ending_of k)) (kind_seen (kind.Operator sign.Comma) (sym c.sees.ensures ∙ c.if-sees.true) u.here)) o
+    (step_to (have c.in_ok-condition.condition.level v.part (whole (in_statement asserted (site_at p d b))))
+    (operand (whole (in_statement (asserted_with v.part.tree) (site_at p d b)))) u
+    (v.goes (in_statement asserted (site_at p d b)) _ u.here ∙ ap (λ k. finish (in_statement asserted (site_at p d b))
+    v.part (ending_of k)) (kind_seen (kind.Operator sign.Comma) (sym c.sees.ensures ∙ c.if-sees.true) u.here)) o
     (m.leads (in_statement (asserted_with v.part.tree) (site_at p d b)) o x))))
-    (λ d b f. record { unfinished = refl; turns = λ w h. m.goes (in_statement (asserted_with v.part.tree) (site_at p d b)) w h ∙ line_end_turn (after_stmt (site_at p d b) (asserts p v.part.tree (Some m.part.tree))) w.kind })
+    (λ d b f. record {
+      unfinished = refl;
+      turns = λ w h. m.goes
+          (in_statement (asserted_with v.part.tree) (site_at p d b)) w h
+          ∙ line_end_turn (after_stmt (site_at p d b) (asserts p v.part.tree (Some m.part.tree))) w.kind;
+    })
     c.line_end.ensures
 
 pub returns : goal.returns
 returns g c = let t = c.in_ok-first.ensures in let p = c.in_ok-first.first.place in let v = c.in_ok-condition.ensures in
-    line_ended g.X.AsStr.text g.I.Iterator.next_gives g.I.Iterator.can_next g.I.Iterator.remaining (λ d b. stmts d b) (λ d b. have c.in_ok-condition.condition.level v.part (whole (in_statement asserted (site_at p d b)))) _
+    line_ended g.X.AsStr.text g.I.Iterator.next_gives g.I.Iterator.can_next g.I.Iterator.remaining (λ d b. stmts d b)
+    (λ d b. have c.in_ok-condition.condition.level v.part (whole (in_statement asserted (site_at p d b)))) _
     c.args.self.now c.expression.new.self c.line_end-2.new.self _ c.line_end-2.result (asserts p v.part.tree None)
-    (keep_one _ (λ x. asserts p x None) (λ x. refl) (ap (λ z. asserts p (expr_of z) None) c.in_ok-boxed.ensures.ok) v.keeps v.deep) (let l = t.later in let r = v.later in omega arith)
-    (λ d b f o x. step_to (stmts d b) (operand (whole (in_statement asserted (site_at p d b)))) t (ap (lead_turn (site_at p d b) _ _) (f _ t.here)) o (v.leads (in_statement asserted (site_at p d b)) o x))
-    (λ d b f. record { unfinished = refl; turns = λ w h. v.goes (in_statement asserted (site_at p d b)) w h ∙ condition_turn v.part.tree (site_at p d b) w.kind (not_seen (kind.Operator sign.Comma) (sym c.sees.ensures ∙ c.if-sees.false) h) })
+    (keep_one _ (λ x. asserts p x None) (λ x. refl) (ap (λ z. asserts p (expr_of z) None) c.in_ok-boxed.ensures.ok)
+    v.keeps v.deep) (let l = t.later in let r = v.later in omega arith)
+    (λ d b f o x. step_to (stmts d b) (operand (whole (in_statement asserted (site_at p d b)))) t
+    (ap (lead_turn (site_at p d b) _ _) (f _ t.here)) o (v.leads (in_statement asserted (site_at p d b)) o x))
+    (λ d b f. record {
+      unfinished = refl;
+      turns = λ w h. v.goes (in_statement asserted (site_at p d b)) w h
+          ∙ condition_turn v.part.tree (site_at p d b) w.kind (not_seen (kind.Operator sign.Comma)
+          (sym c.sees.ensures ∙ c.if-sees.false) h);
+    })
     c.line_end-2.ensures

@@ -10,23 +10,35 @@ use Rattle.pc_parse.proofs.parser.Parser.function.Goals as goal
 
 pub returns-in_err-name : goal.returns-in_err-name
 returns-in_err-name g c = let p = err_from_is_err_and c.from_residual.result c.from_residual.ensures.1 in
-    rw (p.1, p.2) (blame (λ o w. λ owner first m. w (def_due owner first) (needs (λ t. params_of owner (record { owner = owner; first = first; name = name_at t })) refl (λ t k. refl))) c.in_err-name.ensures)
+    rw (p.1, p.2) (blame (λ o w. λ owner first m. w (def_due owner first)
+    (needs (λ t. params_of owner (record { owner = owner; first = first; name = name_at t })) refl (λ t k. refl)))
+    c.in_err-name.ensures)
 
 pub returns-in_err-params : goal.returns-in_err-params
-returns-in_err-params g c = let p = err_from_is_err_and c.from_residual-in_err-params.result c.from_residual-in_err-params.ensures.1 in
+returns-in_err-params g c = let p = err_from_is_err_and c.from_residual-in_err-params.result
+    c.from_residual-in_err-params.ensures.1 in
     rw (p.1, p.2) (signature_fails c.args.self.now c.args.method c.in_ok-name.ensures c.in_err-params.ensures)
 
 pub returns-in_err-returns : goal.returns-in_err-returns
-returns-in_err-returns g c = let p = err_from_is_err_and c.from_residual-in_err-returns.result c.from_residual-in_err-returns.ensures.1 in
-    rw (p.1, p.2) (returns_fail c.args.self.now c.in_ok-name.ensures refl c.in_ok-params.ensures c.in_err-returns.ensures)
+returns-in_err-returns g c = let p = err_from_is_err_and c.from_residual-in_err-returns.result
+    c.from_residual-in_err-returns.ensures.1 in
+    rw (p.1, p.2) (returns_fail c.args.self.now c.in_ok-name.ensures refl c.in_ok-params.ensures
+    c.in_err-returns.ensures)
 
 pub returns-in_err-expect : goal.returns-in_err-expect
-returns-in_err-expect g c = let p = err_from_is_err_and c.from_residual-in_err-expect.result c.from_residual-in_err-expect.ensures.1 in
-    rw (p.1, p.2) (colon_fails c.args.self.now c.in_ok-name.ensures refl c.in_ok-params.ensures c.in_ok-returns.ensures c.in_err-expect.ensures.taken)
+returns-in_err-expect g c = let p = err_from_is_err_and c.from_residual-in_err-expect.result
+    c.from_residual-in_err-expect.ensures.1 in
+    rw (p.1, p.2) (colon_fails c.args.self.now c.in_ok-name.ensures refl c.in_ok-params.ensures c.in_ok-returns.ensures
+    c.in_err-expect.ensures.taken)
 
 pub returns-in_err-body : goal.returns-in_err-body
-returns-in_err-body g c = let p = err_from_is_err_and c.from_residual-in_err-body.result c.from_residual-in_err-body.ensures.1 in
-    rw (p.1, p.2) (suite_fails c.args.self.now c.in_ok-name.ensures refl c.in_ok-params.ensures c.in_ok-returns.ensures (record { reader = c.expect.new.self; deep = c.annotation_behind.new.self.deep }) c.in_ok-expect.ensures.taken c.in_ok-expect.ensures.kind c.in_err-body.ensures)
+returns-in_err-body g c = let p = err_from_is_err_and c.from_residual-in_err-body.result
+    c.from_residual-in_err-body.ensures.1 in
+    rw (p.1, p.2) (suite_fails c.args.self.now c.in_ok-name.ensures refl c.in_ok-params.ensures c.in_ok-returns.ensures
+    (record { reader = c.expect.new.self; deep = c.annotation_behind.new.self.deep }) c.in_ok-expect.ensures.taken
+    c.in_ok-expect.ensures.kind c.in_err-body.ensures)
 
 pub returns : goal.returns
-returns g c = function_read c.args.self.now c.in_ok-name.ensures refl c.in_ok-params.ensures c.in_ok-returns.ensures (record { reader = c.expect.new.self; deep = c.annotation_behind.new.self.deep }) c.in_ok-expect.ensures.taken c.in_ok-expect.ensures.kind refl c.in_ok-body.ensures
+returns g c = function_read c.args.self.now c.in_ok-name.ensures refl c.in_ok-params.ensures c.in_ok-returns.ensures
+    (record { reader = c.expect.new.self; deep = c.annotation_behind.new.self.deep }) c.in_ok-expect.ensures.taken
+    c.in_ok-expect.ensures.kind refl c.in_ok-body.ensures

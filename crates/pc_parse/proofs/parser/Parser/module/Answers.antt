@@ -17,11 +17,17 @@ returns-in_err-headers g c = let p = err_from_is_err_and c.from_residual.result 
 pub loop-items-init : goal.loop-items-init
 loop-items-init g c = let h = c.in_ok-headers.ensures in record {
   ready = h.ready;
-  items = record { all = []; keeps = kept_none item_of wholes_of_items refl _ c.new-items.ensures.items; leads = h.leads };
+  items = record {
+    all = [];
+    keeps = kept_none item_of wholes_of_items refl _ c.new-items.ensures.items;
+    leads =
+        h.leads;
+  };
 }
 
 pub returns-in_err-item : goal.returns-in_err-item
-returns-in_err-item g c = let p = err_from_is_err_and c.from_residual-in_err-item.result c.from_residual-in_err-item.ensures.1 in
+returns-in_err-item g c = let p = err_from_is_err_and c.from_residual-in_err-item.result
+    c.from_residual-in_err-item.ensures.1 in
     rw (p.1, p.2) (item_fails c.loop-items.invariant.items c.in_err-item.ensures)
 
 pub loop-items-preserved : goal.loop-items-preserved
@@ -32,9 +38,12 @@ loop-items-preserved g c = let x = rw c.in-Item.is at c.in_ok-item.ensures in re
 
 pub returns-then-is_some : goal.returns-then-is_some
 returns-then-is_some g c = let s = c.loop-items.invariant.items in let x = rw c.in-Last.is at c.in_ok-item.ensures in
-    let k = kind_there c.piece.new.self.reader.ahead (ap is_some (sym c.kind.ensures) ∙ sym c.is_some.ensures ∙ c.if-is_some.true) in
-    end_fails s x (surplus g.X.AsStr.text g.I.Iterator.next_gives c.piece.new.self.reader (module_over (top_of c.in_ok-headers.headers s.all) c.in-Last.main) c.misfit.result k.0 k.1 c.misfit.ensures)
+    let k = kind_there c.piece.new.self.reader.ahead (ap is_some (sym c.kind.ensures) ∙ sym c.is_some.ensures
+    ∙ c.if-is_some.true) in
+    end_fails s x (surplus g.X.AsStr.text g.I.Iterator.next_gives c.piece.new.self.reader
+    (module_over (top_of c.in_ok-headers.headers s.all) c.in-Last.main) c.misfit.result k.0 k.1 c.misfit.ensures)
 
 pub returns-in-Last : goal.returns-in-Last
 returns-in-Last g c = let x = rw c.in-Last.is at c.in_ok-item.ensures in
-    module_read c.loop-items.invariant.items x (nothing_there c.piece.new.self.reader.ahead (ap is_some (sym c.kind.ensures) ∙ sym c.is_some.ensures ∙ c.if-is_some.false))
+    module_read c.loop-items.invariant.items x (nothing_there c.piece.new.self.reader.ahead
+    (ap is_some (sym c.kind.ensures) ∙ sym c.is_some.ensures ∙ c.if-is_some.false))

@@ -8,12 +8,16 @@ returns-in_err-name g c = let p = err_from_is_err_and c.from_residual.result c.f
     rw (p.1, p.2) (no_parameter g.X.AsStr.text g.I.Iterator.next_gives c.args.self.now.reader _ c.in_err-name.ensures)
 
 pub returns-in_err-annotation : goal.returns-in_err-annotation
-returns-in_err-annotation g c = let p = err_from_is_err_and c.from_residual-in_err-annotation.result c.from_residual-in_err-annotation.ensures.1 in
+returns-in_err-annotation g c = let p = err_from_is_err_and c.from_residual-in_err-annotation.result
+    c.from_residual-in_err-annotation.ensures.1 in
     rw (p.1, p.2) (its_annotation_fails c.args.self.now c.in_ok-name.ensures c.in_err-annotation.ensures)
 
 pub returns-in_err-default : goal.returns-in_err-default
-returns-in_err-default g c = let p = err_from_is_err_and c.from_residual-in_err-default.result c.from_residual-in_err-default.ensures.1 in
-    rw (p.1, p.2) (its_default_fails c.args.self.now c.in_ok-name.ensures refl c.in_ok-annotation.ensures c.in_err-default.ensures)
+returns-in_err-default g c = let p = err_from_is_err_and c.from_residual-in_err-default.result
+    c.from_residual-in_err-default.ensures.1 in
+    rw (p.1, p.2) (its_default_fails c.args.self.now c.in_ok-name.ensures refl c.in_ok-annotation.ensures
+    c.in_err-default.ensures)
 
 pub returns : goal.returns
-returns g c = parameter_read c.args.self.now c.in_ok-name.ensures refl c.in_ok-annotation.ensures refl refl c.in_ok-default.ensures
+returns g c = parameter_read c.args.self.now c.in_ok-name.ensures refl c.in_ok-annotation.ensures refl refl
+    c.in_ok-default.ensures

@@ -22,24 +22,46 @@ returns-in_err-first g c = let p = err_from_is_err_and c.from_residual.result c.
 
 pub returns-then-sees : goal.returns-then-sees
 returns-then-sees g c = let t = c.in_ok-first.ensures in let p = c.in_ok-first.first.place in
-    line_ended g.X.AsStr.text g.I.Iterator.next_gives g.I.Iterator.can_next g.I.Iterator.remaining (λ d b. stmts d b) (λ d b. return_due (site_at p d b)) _ c.args.self.now (record c.args.self.now { reader = c.take.new.self }) c.line_end.new.self _ c.line_end.result (returns_tree p None)
+    line_ended g.X.AsStr.text g.I.Iterator.next_gives g.I.Iterator.can_next g.I.Iterator.remaining (λ d b. stmts d b)
+    (λ d b. return_due (site_at p d b)) _ c.args.self.now (record c.args.self.now { reader = c.take.new.self })
+    c.line_end.new.self _ c.line_end.result (returns_tree p None)
     (record { deep = sym (noted_nothing _); kept = λ e. refl }) (let l = t.later in omega arith)
     (λ d b f. step_to (stmts d b) (return_due (site_at p d b)) t (ap (lead_turn (site_at p d b) _ _) (f _ t.here)))
-    (λ d b f. record { unfinished = refl; turns = λ u h. on_seen (same_kind u.kind kind.Newline) (after_stmt (site_at p d b) (returns_tree p None)) _ stuck (seen_kind kind.Newline (sym c.sees.ensures ∙ c.if-sees.true) h) })
+    (λ d b f. record {
+      unfinished = refl;
+      turns = λ u h. on_seen (same_kind u.kind kind.Newline)
+          (after_stmt (site_at p d b) (returns_tree p None)) _ stuck
+          (seen_kind kind.Newline (sym c.sees.ensures ∙ c.if-sees.true) h);
+    })
     c.line_end.ensures
 
 pub returns-in_err-value : goal.returns-in_err-value
-returns-in_err-value g c = let t = c.in_ok-first.ensures in let p = c.in_ok-first.first.place in let q = err_from_is_err_and c.from_residual-in_err-value.result c.from_residual-in_err-value.ensures.1 in
-    rw (q.1, q.2) (blame (λ o w. λ d b f. step_to (stmts d b) (return_due (site_at p d b)) t (ap (lead_turn (site_at p d b) _ _) (f _ t.here)) o
-    (alike g.X.AsStr.text g.I.Iterator.next_gives c.take.new.self (return_due (site_at p d b)) (operand (whole (in_statement returned (site_at p d b)))) refl refl
-    (λ u h. on_unseen (same_kind u.kind kind.Newline) (after_stmt (site_at p d b) (returns_tree p None)) _ (not_seen kind.Newline (sym c.sees.ensures ∙ c.if-sees.false) h)) o (w (in_statement returned (site_at p d b))))) c.in_err-value.ensures)
+returns-in_err-value g c = let t = c.in_ok-first.ensures in let p = c.in_ok-first.first.place in let q =
+    err_from_is_err_and c.from_residual-in_err-value.result c.from_residual-in_err-value.ensures.1 in
+    rw (q.1, q.2) (blame (λ o w. λ d b f. step_to (stmts d b) (return_due (site_at p d b)) t
+    (ap (lead_turn (site_at p d b) _ _) (f _ t.here)) o
+    (alike g.X.AsStr.text g.I.Iterator.next_gives c.take.new.self (return_due (site_at p d b))
+    (operand (whole (in_statement returned (site_at p d b)))) refl refl
+    (λ u h. on_unseen (same_kind u.kind kind.Newline) (after_stmt (site_at p d b) (returns_tree p None)) _
+    (not_seen kind.Newline (sym c.sees.ensures ∙ c.if-sees.false) h)) o
+    (w (in_statement returned (site_at p d b))))) c.in_err-value.ensures)
 
 pub returns : goal.returns
 returns g c = let t = c.in_ok-first.ensures in let p = c.in_ok-first.first.place in let v = c.in_ok-value.ensures in
-    line_ended g.X.AsStr.text g.I.Iterator.next_gives g.I.Iterator.can_next g.I.Iterator.remaining (λ d b. stmts d b) (λ d b. have c.in_ok-value.value.level v.part (whole (in_statement returned (site_at p d b)))) _ c.args.self.now c.expression.new.self c.line_end-2.new.self _ c.line_end-2.result (returns_tree p (Some v.part.tree))
-    (keep_one _ (λ x. returns_tree p (Some x)) (λ x. refl) (ap (λ z. returns_tree p (Some (expr_of z))) c.in_ok-boxed.ensures.ok) v.keeps v.deep) (let l = t.later in let m = v.later in omega arith)
+    line_ended g.X.AsStr.text g.I.Iterator.next_gives g.I.Iterator.can_next g.I.Iterator.remaining (λ d b. stmts d b)
+    (λ d b. have c.in_ok-value.value.level v.part (whole (in_statement returned (site_at p d b)))) _ c.args.self.now
+    c.expression.new.self c.line_end-2.new.self _ c.line_end-2.result (returns_tree p (Some v.part.tree))
+    (keep_one _ (λ x. returns_tree p (Some x)) (λ x. refl) (ap (λ z. returns_tree p (Some (expr_of z)))
+    c.in_ok-boxed.ensures.ok) v.keeps v.deep) (let l = t.later in let m = v.later in omega arith)
     (λ d b f o x. step_to (stmts d b) (return_due (site_at p d b)) t (ap (lead_turn (site_at p d b) _ _) (f _ t.here)) o
-    (alike g.X.AsStr.text g.I.Iterator.next_gives c.take.new.self (return_due (site_at p d b)) (operand (whole (in_statement returned (site_at p d b)))) refl refl
-    (λ u h. on_unseen (same_kind u.kind kind.Newline) (after_stmt (site_at p d b) (returns_tree p None)) _ (not_seen kind.Newline (sym c.sees.ensures ∙ c.if-sees.false) h)) o (v.leads (in_statement returned (site_at p d b)) o x)))
-    (λ d b f. record { unfinished = refl; turns = λ u h. v.goes (in_statement returned (site_at p d b)) u h ∙ line_end_turn (after_stmt (site_at p d b) (returns_tree p (Some v.part.tree))) u.kind })
+    (alike g.X.AsStr.text g.I.Iterator.next_gives c.take.new.self (return_due (site_at p d b))
+    (operand (whole (in_statement returned (site_at p d b)))) refl refl
+    (λ u h. on_unseen (same_kind u.kind kind.Newline) (after_stmt (site_at p d b) (returns_tree p None)) _
+    (not_seen kind.Newline (sym c.sees.ensures ∙ c.if-sees.false) h)) o
+    (v.leads (in_statement returned (site_at p d b)) o x)))
+    (λ d b f. record {
+      unfinished = refl;
+      turns = λ u h. v.goes (in_statement returned (site_at p d b)) u h
+          ∙ line_end_turn (after_stmt (site_at p d b) (returns_tree p (Some v.part.tree))) u.kind;
+    })
     c.line_end-2.ensures

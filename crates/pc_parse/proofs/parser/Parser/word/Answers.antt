@@ -29,9 +29,17 @@ returns-in_err-first g c = let p = err_from_is_err_and c.from_residual.result c.
     rw (p.1, p.2) (blame (λ o w. λ d b f. w (at (stmts d b)) (λ e. refl)) c.in_err-first.ensures)
 
 pub returns : goal.returns
-returns g c = let t = c.in_ok-first.ensures in let s = stmt_of_kind c.in_ok-first.first.place (kind_of_word c.args.word) in
-    line_ended g.X.AsStr.text g.I.Iterator.next_gives g.I.Iterator.can_next g.I.Iterator.remaining (λ d b. stmts d b) (λ d b. line_ends (stmts (add_stmt d s) b)) _ c.args.self.now (record c.args.self.now { reader = c.take.new.self }) c.line_end.new.self _ c.line_end.result s
-    (record { deep = sym (ap (deep_after c.args.self.now.deep) (no_whole c.args.word _) ∙ noted_nothing _); kept = λ e. ap (stmt_of_kind c.in_ok-first.first.place) c.kind_of_word.ensures }) (let l = t.later in omega arith)
-    (λ d b f. step_to (stmts d b) (line_ends (stmts (add_stmt d s) b)) t (f _ (site_at c.in_ok-first.first.place d b) t.here))
+returns g c = let t = c.in_ok-first.ensures in let s = stmt_of_kind c.in_ok-first.first.place
+    (kind_of_word c.args.word) in
+    line_ended g.X.AsStr.text g.I.Iterator.next_gives g.I.Iterator.can_next g.I.Iterator.remaining (λ d b. stmts d b)
+    (λ d b. line_ends (stmts (add_stmt d s) b)) _ c.args.self.now
+    (record c.args.self.now { reader = c.take.new.self }) c.line_end.new.self _ c.line_end.result s
+    (record {
+      deep = sym (ap (deep_after c.args.self.now.deep) (no_whole c.args.word _) ∙ noted_nothing _);
+      kept =
+          λ e. ap (stmt_of_kind c.in_ok-first.first.place) c.kind_of_word.ensures;
+    }) (let l = t.later in omega arith)
+    (λ d b f. step_to (stmts d b) (line_ends (stmts (add_stmt d s) b)) t
+    (f _ (site_at c.in_ok-first.first.place d b) t.here))
     (λ d b f. record { unfinished = refl; turns = λ u h. refl })
     c.line_end.ensures

@@ -2,4 +2,6 @@ use Rattle.pc_reader.proofs.Rows.{pushed_items}
 use Rattle.pc_reader.proofs.items.Items.push.Goals as goal
 
 pub returns : goal.returns
-returns c = λ es p ki ko. pushed_items c.args.self.now (record { exprs = c.push.new.self; depth = c.deeper-self.result }) c.args.item es p c.in_ok-push.ensures.items (let a = c.deeper-self.ensures in let b = c.above.ensures in cc) ki ko
+returns c = λ es p ki ko. pushed_items c.args.self.now
+    (record { exprs = c.push.new.self; depth = c.deeper-self.result }) c.args.item es p c.in_ok-push.ensures.items
+    (let a = c.deeper-self.ensures in let b = c.above.ensures in cc) ki ko

@@ -38,7 +38,8 @@ decreases-keywords g l = 30 * left_in g.I.Iterator.remaining l.self.now + 27
 
 abbrev pub invariant-operators-loop-link : goal.invariant-operators-loop-link
 invariant-operators-loop-link g l = record {
-  gives : Gives g.X.AsStr.text g.I.Iterator.next_gives g.I.Iterator.can_next g.I.Iterator.remaining (λ s. rank s ≡ l.level) l.level l.fn.self l.self l.left;
+  gives : Gives g.X.AsStr.text g.I.Iterator.next_gives g.I.Iterator.can_next g.I.Iterator.remaining
+      (λ s. rank s ≡ l.level) l.level l.fn.self l.self l.left;
   undotted : NextIs (Undotted l.left.level) l.self.ahead;
 }
 
@@ -47,7 +48,8 @@ decreases-operators-loop-link g l = left_in g.I.Iterator.remaining l.self
 
 abbrev pub invariant-postfix-loop-self : goal.invariant-postfix-loop-self
 invariant-postfix-loop-self g l = record {
-  gives : Gives g.X.AsStr.text g.I.Iterator.next_gives g.I.Iterator.can_next g.I.Iterator.remaining (λ s. IsPrimary l.fn.self s) 7 l.fn.self l.self l.operand;
+  gives : Gives g.X.AsStr.text g.I.Iterator.next_gives g.I.Iterator.can_next g.I.Iterator.remaining
+      (λ s. IsPrimary l.fn.self s) 7 l.fn.self l.self l.operand;
   level_is : l.operand.level ≡ 7;
 }
 
@@ -58,7 +60,9 @@ abbrev pub invariant-items-loop-alloc : goal.invariant-items-loop-alloc
 invariant-items-loop-alloc g l = record {
   ready : IsReady g.I.Iterator.can_next g.I.Iterator.remaining l.self;
   later : left_in g.I.Iterator.remaining l.self ≤ left_in g.I.Iterator.remaining l.fn.self;
-  lists : (h : Head) (xs : Exprs) (ts : List Lexeme) → Closes h l.close → ElementsSoFar g.X.AsStr.text g.I.Iterator.next_gives g.I.Iterator.can_next g.I.Iterator.remaining (KeepsItems l.fn.some xs) l.fn.self l.self l.items h xs ts;
+  lists : (h : Head) (xs : Exprs) (ts : List Lexeme) → Closes h l.close
+      → ElementsSoFar g.X.AsStr.text g.I.Iterator.next_gives g.I.Iterator.can_next g.I.Iterator.remaining
+      (KeepsItems l.fn.some xs) l.fn.self l.self l.items h xs ts;
 }
 
 abbrev pub decreases-items-loop-alloc : goal.decreases-items-loop-alloc
@@ -68,7 +72,8 @@ abbrev pub invariant-dict-loop-self : goal.invariant-dict-loop-self
 invariant-dict-loop-self g l = record {
   ready : IsReady g.I.Iterator.can_next g.I.Iterator.remaining l.self;
   later : left_in g.I.Iterator.remaining l.self < left_in g.I.Iterator.remaining l.fn.self;
-  entries : EntriesSoFar g.X.AsStr.text g.I.Iterator.next_gives g.I.Iterator.can_next g.I.Iterator.remaining l.fn.self l.self l.open.place.start l.entries;
+  entries : EntriesSoFar g.X.AsStr.text g.I.Iterator.next_gives g.I.Iterator.can_next g.I.Iterator.remaining l.fn.self
+      l.self l.open.place.start l.entries;
 }
 
 abbrev pub decreases-dict-loop-self : goal.decreases-dict-loop-self
@@ -78,7 +83,8 @@ abbrev pub invariant-call-loop-self : goal.invariant-call-loop-self
 invariant-call-loop-self g l = record {
   ready : IsReady g.I.Iterator.can_next g.I.Iterator.remaining l.self;
   later : left_in g.I.Iterator.remaining l.self ≤ left_in g.I.Iterator.remaining l.fn.self;
-  arguments : (e : Expr) (ts : List Lexeme) → ElementsSoFar g.X.AsStr.text g.I.Iterator.next_gives g.I.Iterator.can_next g.I.Iterator.remaining (Unit {0}) l.fn.self l.self l.items (in_call e) no_exprs ts;
+  arguments : (e : Expr) (ts : List Lexeme) → ElementsSoFar g.X.AsStr.text g.I.Iterator.next_gives g.I.Iterator.can_next
+      g.I.Iterator.remaining (Unit {0}) l.fn.self l.self l.items (in_call e) no_exprs ts;
 }
 
 abbrev pub decreases-call-loop-self : goal.decreases-call-loop-self
@@ -88,7 +94,9 @@ abbrev pub invariant-keywords-loop-name : goal.invariant-keywords-loop-name
 invariant-keywords-loop-name g l = record {
   ready : IsReady g.I.Iterator.can_next g.I.Iterator.remaining l.self;
   later : left_in g.I.Iterator.remaining l.self ≤ left_in g.I.Iterator.remaining l.fn.self;
-  names : (e : Expr) (xs : Exprs) (ts : List Lexeme) → NamesSoFar g.X.AsStr.text g.I.Iterator.next_gives g.I.Iterator.can_next g.I.Iterator.remaining l.fn.self l.self (name_of l.fn.first) l.keywords (name_of l.name) e xs ts;
+  names : (e : Expr) (xs : Exprs) (ts : List Lexeme) → NamesSoFar g.X.AsStr.text g.I.Iterator.next_gives
+      g.I.Iterator.can_next g.I.Iterator.remaining l.fn.self l.self (name_of l.fn.first) l.keywords (name_of l.name) e
+      xs ts;
 }
 
 abbrev pub decreases-keywords-loop-name : goal.decreases-keywords-loop-name

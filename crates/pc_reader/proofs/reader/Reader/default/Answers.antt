@@ -13,8 +13,11 @@ returns-in_err-take g c = let p = err_from_is_err_and c.from_residual.result c.f
     rw (p.1, p.2) (blame (λ o w. λ st k other x. w (at st) (λ q. x.unfinished)) c.in_err-take.ensures)
 
 pub returns-in_err-literal : goal.returns-in_err-literal
-returns-in_err-literal g c = let p = err_from_is_err_and c.from_residual-in_err-literal.result c.from_residual-in_err-literal.ensures.1 in
-    rw (p.1, p.2) (default_fails c.in_ok-take.ensures (kind_seen (kind.Operator sign.Equal) (sym c.sees.ensures ∙ c.if-not-sees.false) c.in_ok-take.ensures.here) c.in_err-literal.ensures)
+returns-in_err-literal g c = let p = err_from_is_err_and c.from_residual-in_err-literal.result
+    c.from_residual-in_err-literal.ensures.1 in
+    rw (p.1, p.2) (default_fails c.in_ok-take.ensures (kind_seen (kind.Operator sign.Equal)
+    (sym c.sees.ensures ∙ c.if-not-sees.false) c.in_ok-take.ensures.here) c.in_err-literal.ensures)
 
 pub returns : goal.returns
-returns g c = default_read c.in_ok-take.ensures (kind_seen (kind.Operator sign.Equal) (sym c.sees.ensures ∙ c.if-not-sees.false) c.in_ok-take.ensures.here) c.in_ok-literal.ensures
+returns g c = default_read c.in_ok-take.ensures (kind_seen (kind.Operator sign.Equal)
+    (sym c.sees.ensures ∙ c.if-not-sees.false) c.in_ok-take.ensures.here) c.in_ok-literal.ensures

@@ -8,7 +8,8 @@ use Rattle.pc_reader.proofs.reader.Reader.drain.Given as goal
 abbrev pub invariant-loop-self : goal.invariant-loop-self
 invariant-loop-self g l = record {
   ready : IsReady g.I.Iterator.can_next g.I.Iterator.remaining l.self;
-  leads : (b : ℕ) (o : Result Module Fault) → Came g.X.AsStr.text g.I.Iterator.next_gives l.self (lost b) o → Came g.X.AsStr.text g.I.Iterator.next_gives l.fn.self (lost b) o;
+  leads : (b : ℕ) (o : Result Module Fault) → Came g.X.AsStr.text g.I.Iterator.next_gives l.self (lost b) o
+      → Came g.X.AsStr.text g.I.Iterator.next_gives l.fn.self (lost b) o;
 }
 
 abbrev pub decreases-loop-self : goal.decreases-loop-self

@@ -10,5 +10,6 @@ abbrev pub invariant-loop-kind : goal.invariant-loop-kind
 invariant-loop-kind g l = record {
   ready : IsReady g.I.Iterator.can_next g.I.Iterator.remaining l.self;
   later : left_in g.I.Iterator.remaining l.self ≤ left_in g.I.Iterator.remaining l.fn.self;
-  leads : (next : State) → Onward g.X.AsStr.text g.I.Iterator.next_gives l.fn.self l.self (at (due (kinds_of l.kinds) next)) (at (due (kinds_of (drop l.kind-index l.kinds)) next));
+  leads : (next : State) → Onward g.X.AsStr.text g.I.Iterator.next_gives l.fn.self l.self
+      (at (due (kinds_of l.kinds) next)) (at (due (kinds_of (drop l.kind-index l.kinds)) next));
 }

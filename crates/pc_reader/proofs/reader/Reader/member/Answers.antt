@@ -14,7 +14,9 @@ use Rattle.pc_reader.proofs.reader.Reader.member.Goals as goal
 
 pub returns-in_err-name : goal.returns-in_err-name
 returns-in_err-name g c = let p = err_from_is_err_and c.from_residual.result c.from_residual.ensures.1 in
-    rw (p.1, p.2) (blame (λ o w. λ d p s kp. w (dotted p (d ∷ []) s) (needs (λ t. have 7 (part (λ q. attribute q p.tree (name_at t)) (p.tokens ++ (d ∷ t ∷ []))) s) refl (λ t k. refl))) c.in_err-name.ensures)
+    rw (p.1, p.2) (blame (λ o w. λ d p s kp. w (dotted p (d ∷ []) s)
+    (needs (λ t. have 7 (part (λ q. attribute q p.tree (name_at t)) (p.tokens ++ (d ∷ t ∷ []))) s) refl
+    (λ t k. refl))) c.in_err-name.ensures)
 
 pub returns : goal.returns
 returns g c = let n = c.in_ok-name.ensures in on_result c.member.result _ _ _ (λ o h. record {
@@ -22,9 +24,17 @@ returns g c = let n = c.in_ok-name.ensures in on_result c.member.result _ _ _ (�
   ready = n.takes.ready;
   later = n.takes.later;
   goes = λ d p kp. record {
-    part = (part (λ q. attribute q p.tree (name_of c.in_ok-name.name)) (p.tokens ++ (d ∷ (lexeme g.X.AsStr.text c.in_ok-name.ensures.token) ∷ [])));
-    keeps = h.1 p kp _ (starts_more _ kp.starts) (ends_more p.tokens (ends_more (d ∷ []) (name_ends c.in_ok-name.name (lexeme g.X.AsStr.text c.in_ok-name.ensures.token) n.name)));
+    part = (part (λ q. attribute q p.tree (name_of c.in_ok-name.name))
+        (p.tokens ++ (d ∷ (lexeme g.X.AsStr.text c.in_ok-name.ensures.token) ∷ [])));
+    keeps = h.1 p kp _ (starts_more _ kp.starts) (ends_more p.tokens
+        (ends_more (d ∷ []) (name_ends c.in_ok-name.name (lexeme g.X.AsStr.text c.in_ok-name.ensures.token) n.name)));
     begins = first_more _ kp.starts;
-    leads = λ s. step_to (dotted p (d ∷ []) s) (have 7 (part (λ q. attribute q p.tree (name_of c.in_ok-name.name)) (p.tokens ++ (d ∷ (lexeme g.X.AsStr.text c.in_ok-name.ensures.token) ∷ []))) s) n.takes (ap (turn (dotted p (d ∷ []) s) (lexeme g.X.AsStr.text c.in_ok-name.ensures.token)) n.is ∙ ap (λ z. go (have 7 (part (λ q. attribute q p.tree z) (p.tokens ++ (d ∷ (lexeme g.X.AsStr.text c.in_ok-name.ensures.token) ∷ []))) s)) (sym n.name));
+    leads = λ s. step_to (dotted p (d ∷ []) s) (have 7 (part (λ q. attribute q p.tree (name_of c.in_ok-name.name))
+        (p.tokens ++ (d ∷ (lexeme g.X.AsStr.text c.in_ok-name.ensures.token) ∷ []))) s) n.takes
+        (ap (turn (dotted p (d ∷ []) s) (lexeme g.X.AsStr.text c.in_ok-name.ensures.token)) n.is
+        ∙ ap (λ z.
+        go
+        (have 7 (part (λ q. attribute q p.tree z) (p.tokens ++ (d ∷ (lexeme g.X.AsStr.text c.in_ok-name.ensures.token)
+        ∷ []))) s)) (sym n.name));
   };
 }) c.member.ensures

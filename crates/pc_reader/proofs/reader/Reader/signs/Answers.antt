@@ -15,32 +15,50 @@ use Rattle.pc_reader.proofs.reader.Reader.signs.Goals as goal
 
 pub returns-in_err-sign-clause-reads : goal.returns-in_err-sign-clause-reads
 returns-in_err-sign-clause-reads g c = let p = err_from_is_err_and c.from_residual.result c.from_residual.ensures.1 in
-    rw (p.1, p.2) (blame (λ o w. λ s h. c.loop-kind.invariant.leads s h o (w (at (operand (signs_on (prefix_of c.args.prefix) c.loop-kind.invariant.tokens s))) (λ _. refl))) c.in_err-sign.ensures)
+    rw (p.1, p.2) (blame (λ o w. λ s h. c.loop-kind.invariant.leads s h o
+    (w (at (operand (signs_on (prefix_of c.args.prefix) c.loop-kind.invariant.tokens s))) (λ _. refl)))
+    c.in_err-sign.ensures)
 
 pub loop-kind-preserved : goal.loop-kind-preserved
 loop-kind-preserved g c = let v = c.loop-kind.invariant in let h = c.in_ok-sign.ensures in record {
   tokens = v.tokens ++ ((lexeme g.X.AsStr.text c.in_ok-sign.sign) ∷ []);
-  starts = starts_push v.tokens (lexeme g.X.AsStr.text c.in_ok-sign.sign) ∙ ap (λ z. z ++ (c.in_ok-sign.sign.place.start ∷ [])) v.starts ∙ sym c.in_ok-push.ensures.items;
+  starts = starts_push v.tokens (lexeme g.X.AsStr.text c.in_ok-sign.sign)
+      ∙ ap (λ z. z ++ (c.in_ok-sign.sign.place.start ∷ [])) v.starts ∙ sym c.in_ok-push.ensures.items;
   ready = h.ready;
   later = omega (arith, v.later, h.later);
   same = λ e. absurd (some_sign _ _ (sym c.in_ok-push.ensures.items ∙ e));
-  begins = λ us f u e. ap first_place (append_assoc v.tokens ((lexeme g.X.AsStr.text c.in_ok-sign.sign) ∷ []) us) ∙ v.begins ((lexeme g.X.AsStr.text c.in_ok-sign.sign) ∷ us) (λ z d. same_place h.here d) u e;
-  leads = λ s w o x. v.leads s w o (step_to (operand (signs_on (prefix_of c.args.prefix) v.tokens s)) (operand (applying (prefix_of c.args.prefix) ((lexeme g.X.AsStr.text c.in_ok-sign.sign) ∷ []) (signs_on (prefix_of c.args.prefix) v.tokens s))) h
-      (sign_turn (prefix_of c.args.prefix) (signs_on (prefix_of c.args.prefix) v.tokens s) (lexeme g.X.AsStr.text c.in_ok-sign.sign) _ (kind_seen (prefix_kind (prefix_of c.args.prefix)) (ap (λ z. IsAhead z c.loop-kind.self.ahead) (sym c.kind-kind.ensures) ∙ sym c.sees.ensures ∙ c.loop-kind-test.true) h.here) (takes_signs (prefix_of c.args.prefix) v.tokens s w)) o
-      (subst (λ z. Came g.X.AsStr.text g.I.Iterator.next_gives c.take.new.self (at (operand z)) o) (signs_more (prefix_of c.args.prefix) v.tokens (lexeme g.X.AsStr.text c.in_ok-sign.sign) s) x));
+  begins = λ us f u e. ap first_place (append_assoc v.tokens ((lexeme g.X.AsStr.text c.in_ok-sign.sign) ∷ []) us)
+      ∙ v.begins ((lexeme g.X.AsStr.text c.in_ok-sign.sign) ∷ us) (λ z d. same_place h.here d) u e;
+  leads = λ s w o x. v.leads s w o (step_to (operand (signs_on (prefix_of c.args.prefix) v.tokens s))
+      (operand (applying (prefix_of c.args.prefix) ((lexeme g.X.AsStr.text c.in_ok-sign.sign) ∷ [])
+      (signs_on (prefix_of c.args.prefix) v.tokens s))) h
+      (sign_turn (prefix_of c.args.prefix) (signs_on (prefix_of c.args.prefix) v.tokens s)
+      (lexeme g.X.AsStr.text c.in_ok-sign.sign) _ (kind_seen (prefix_kind (prefix_of c.args.prefix))
+      (ap (λ z. IsAhead z c.loop-kind.self.ahead) (sym c.kind-kind.ensures) ∙ sym c.sees.ensures
+      ∙ c.loop-kind-test.true) h.here) (takes_signs (prefix_of c.args.prefix) v.tokens s w)) o
+      (subst (λ z. Came g.X.AsStr.text g.I.Iterator.next_gives c.take.new.self (at (operand z)) o)
+      (signs_more (prefix_of c.args.prefix) v.tokens (lexeme g.X.AsStr.text c.in_ok-sign.sign) s) x));
 }
 
 pub loop-kind-preserved-in_ok-push : goal.loop-kind-preserved-in_ok-push
 loop-kind-preserved-in_ok-push g c = let v = c.loop-kind.invariant in let h = c.in_ok-sign.ensures in record {
   tokens = v.tokens ++ ((lexeme g.X.AsStr.text c.in_ok-sign.sign) ∷ []);
-  starts = starts_push v.tokens (lexeme g.X.AsStr.text c.in_ok-sign.sign) ∙ ap (λ z. z ++ (c.in_ok-sign.sign.place.start ∷ [])) v.starts ∙ sym c.in_ok-push.ensures.items;
+  starts = starts_push v.tokens (lexeme g.X.AsStr.text c.in_ok-sign.sign)
+      ∙ ap (λ z. z ++ (c.in_ok-sign.sign.place.start ∷ [])) v.starts ∙ sym c.in_ok-push.ensures.items;
   ready = h.ready;
   later = omega (arith, v.later, h.later);
   same = λ e. absurd (some_sign _ _ (sym c.in_ok-push.ensures.items ∙ e));
-  begins = λ us f u e. ap first_place (append_assoc v.tokens ((lexeme g.X.AsStr.text c.in_ok-sign.sign) ∷ []) us) ∙ v.begins ((lexeme g.X.AsStr.text c.in_ok-sign.sign) ∷ us) (λ z d. same_place h.here d) u e;
-  leads = λ s w o x. v.leads s w o (step_to (operand (signs_on (prefix_of c.args.prefix) v.tokens s)) (operand (applying (prefix_of c.args.prefix) ((lexeme g.X.AsStr.text c.in_ok-sign.sign) ∷ []) (signs_on (prefix_of c.args.prefix) v.tokens s))) h
-      (sign_turn (prefix_of c.args.prefix) (signs_on (prefix_of c.args.prefix) v.tokens s) (lexeme g.X.AsStr.text c.in_ok-sign.sign) _ (kind_seen (prefix_kind (prefix_of c.args.prefix)) (ap (λ z. IsAhead z c.loop-kind.self.ahead) (sym c.kind-kind.ensures) ∙ sym c.sees.ensures ∙ c.loop-kind-test.true) h.here) (takes_signs (prefix_of c.args.prefix) v.tokens s w)) o
-      (subst (λ z. Came g.X.AsStr.text g.I.Iterator.next_gives c.take.new.self (at (operand z)) o) (signs_more (prefix_of c.args.prefix) v.tokens (lexeme g.X.AsStr.text c.in_ok-sign.sign) s) x));
+  begins = λ us f u e. ap first_place (append_assoc v.tokens ((lexeme g.X.AsStr.text c.in_ok-sign.sign) ∷ []) us)
+      ∙ v.begins ((lexeme g.X.AsStr.text c.in_ok-sign.sign) ∷ us) (λ z d. same_place h.here d) u e;
+  leads = λ s w o x. v.leads s w o (step_to (operand (signs_on (prefix_of c.args.prefix) v.tokens s))
+      (operand (applying (prefix_of c.args.prefix) ((lexeme g.X.AsStr.text c.in_ok-sign.sign) ∷ [])
+      (signs_on (prefix_of c.args.prefix) v.tokens s))) h
+      (sign_turn (prefix_of c.args.prefix) (signs_on (prefix_of c.args.prefix) v.tokens s)
+      (lexeme g.X.AsStr.text c.in_ok-sign.sign) _ (kind_seen (prefix_kind (prefix_of c.args.prefix))
+      (ap (λ z. IsAhead z c.loop-kind.self.ahead) (sym c.kind-kind.ensures) ∙ sym c.sees.ensures
+      ∙ c.loop-kind-test.true) h.here) (takes_signs (prefix_of c.args.prefix) v.tokens s w)) o
+      (subst (λ z. Came g.X.AsStr.text g.I.Iterator.next_gives c.take.new.self (at (operand z)) o)
+      (signs_more (prefix_of c.args.prefix) v.tokens (lexeme g.X.AsStr.text c.in_ok-sign.sign) s) x));
 }
 
 pub loop-kind-init : goal.loop-kind-init

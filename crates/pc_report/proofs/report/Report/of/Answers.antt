@@ -8,6 +8,7 @@ returns-clause-lists c =
     let same : row_findings c.in_ok-rows.rows.items ≡ c.in_ok-findings.findings.items = search rules in
     record {
       sorted = subst IsInOrder (sym same) c.in_ok-findings.ensures.in_order;
-      exact = λ f. subst (λ (l : List Finding). Contains l f ↔ Contains c.args.findings.now f) (sym same) (c.in_ok-findings.ensures.exact f);
+      exact = λ f. subst (λ (l : List Finding). Contains l f ↔ Contains c.args.findings.now f) (sym same)
+          (c.in_ok-findings.ensures.exact f);
       placed = c.in_ok-rows.ensures.placed;
     }

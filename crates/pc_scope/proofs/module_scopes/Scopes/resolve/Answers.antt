@@ -6,5 +6,10 @@ use Rattle.pc_scope.proofs.module_scopes.Scopes.resolve.Goals as goal
 
 pub returns : goal.returns
 returns c =
-    let e = c.mean.ensures ∙ ap (λ (s : ModuleScopes). meaning_by_tables s.tables c.args.owner c.args.name.now) c.self.view_is in
-    record { by_tables = e; resolved = λ m are. e ∙ means m c.args.self.now.tables are.tables c.args.owner c.args.name.now }
+    let e = c.mean.ensures ∙ ap (λ (s : ModuleScopes). meaning_by_tables s.tables c.args.owner c.args.name.now)
+    c.self.view_is in
+    record {
+      by_tables = e;
+      resolved = λ m are. e ∙ means m c.args.self.now.tables are.tables c.args.owner
+          c.args.name.now;
+    }

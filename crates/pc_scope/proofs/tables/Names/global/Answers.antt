@@ -6,4 +6,5 @@ use Rattle.pc_scope.proofs.TextMaps.{beside_entry}
 use Rattle.pc_scope.proofs.tables.Names.global.Goals as goal
 
 pub returns : goal.returns
-returns c = c.copied.ensures ∙ c.get.ensures.value ∙ beside_entry string_bytes c.args.name.now c.self.inside.globals.entries ∙ ap (λ (t : Tables). beside t.globals c.args.name.now) c.self.view_is
+returns c = c.copied.ensures ∙ c.get.ensures.value ∙ beside_entry string_bytes c.args.name.now
+    c.self.inside.globals.entries ∙ ap (λ (t : Tables). beside t.globals c.args.name.now) c.self.view_is

@@ -25,7 +25,9 @@ returns-clause-held c =
     let m = member_of c.args.member.now in
     if_ok c.table_with.result (λ t w hs small at h.
     held DIGITS (texts_in c.args.self.now.numbers) old new c.args.table c.args.number t (held_by m) hs small at h
-    (subst (λ (v : ℕ). IsWith old new DIGITS c.args.table c.args.number v t) (c.number_of-value.ensures ∙ ap number_of (c.with_member.ensures ∙ ap (λ (o : Holding). with_member o (is_field m)) c.held-had.ensures)) w))
+    (subst (λ (v : ℕ). IsWith old new DIGITS c.args.table c.args.number v t) (c.number_of-value.ensures
+    ∙ ap number_of (c.with_member.ensures ∙ ap (λ (o : Holding). with_member o (is_field m)) c.held-had.ensures))
+    w))
     c.table_with.ensures
 
 pub returns-clause-keeps : goal.returns-clause-keeps
@@ -34,5 +36,6 @@ returns-clause-keeps c =
     let new = c.table_with.new.nodes.items in
     on_ok c.table_with.result (λ t w. record {
       ready = record { bounded = w.bounded; values = omega (arith, w.more, c.requires.values) };
-      kept = kept DIGITS (texts_in c.args.self.now.numbers) old new c.args.table c.args.number c.number_of-value.result t w;
+      kept = kept DIGITS (texts_in c.args.self.now.numbers) old new c.args.table c.args.number c.number_of-value.result
+          t w;
     }) c.table_with.ensures

@@ -12,6 +12,9 @@ pub returns : goal.returns
 returns c =
     let all : c.push-3.new.self.items ≡ empty ∷ empty ∷ empty ∷ [] =
     c.in_ok-push-3.ensures.items
-    ∙ ap (λ (ns : List Node). ns ++ empty ∷ []) (c.in_ok-push-2.ensures.items ∙ ap (λ (ns : List Node). ns ++ empty ∷ []) (c.in_ok-push.ensures.items ∙ ap (λ (ns : List Node). ns ++ empty ∷ []) c.new-nodes.ensures.items)) in
-    subst (λ (ks : List (Bor (List ℕ))). Has DIGITS (map text_seen ks) c.push-3.new.self.items 0 []) (sym c.with_hasher.ensures.empty)
+    ∙ ap (λ (ns : List Node). ns ++ empty ∷ []) (c.in_ok-push-2.ensures.items
+    ∙ ap (λ (ns : List Node). ns ++ empty ∷ []) (c.in_ok-push.ensures.items
+    ∙ ap (λ (ns : List Node). ns ++ empty ∷ []) c.new-nodes.ensures.items)) in
+    subst (λ (ks : List (Bor (List ℕ))). Has DIGITS (map text_seen ks) c.push-3.new.self.items 0 [])
+    (sym c.with_hasher.ensures.empty)
     (subst (λ (ns : List Node). Has DIGITS [] ns 0 []) (sym all) (at_first DIGITS))

@@ -6,5 +6,6 @@ use Rattle.pc_token.proofs.reading.Reading.number.Goals as goal
 pub returns-clause-next : goal.returns-clause-next
 returns-clause-next c =
     let s = c.args.self.now in
-    number_read (context_of s) s.text.now c.rest-bytes.result.now c.number_len-len.result c.rest-bytes.ensures.rest c.rest-bytes.ensures.utf8 c.requires.boundary
+    number_read (context_of s) s.text.now c.rest-bytes.result.now c.number_len-len.result c.rest-bytes.ensures.rest
+    c.rest-bytes.ensures.utf8 c.requires.boundary
     c.rest-bytes.ensures.some c.requires.here c.number_len-len.ensures.len (search rules) (search rules)

@@ -15,8 +15,17 @@ returns c =
     record {
       text = refl;
       at = refl;
-      context = taken (context_of s) s.text.now f.end f.kind c.turn_bracket.new.brackets.items (map lexeme_of c.put.new.items.items) (omega arith) edge (search rules)
-          (lexemes_more s.tokens.items c.put.new.items.items (record { kind = f.kind; place = record { start = s.at; end = f.end }; text = c.range.result; form = f.form })
+      context = taken (context_of s) s.text.now f.end f.kind c.turn_bracket.new.brackets.items
+          (map lexeme_of c.put.new.items.items) (omega arith) edge (search rules)
+          (lexemes_more s.tokens.items c.put.new.items.items
+          (record {
+            kind = f.kind;
+            place = record { start = s.at; end = f.end };
+            text = c.range.result;
+            form =
+                f.form;
+          })
           (lexeme_at s.at f.kind (slice_range s.text.now s.at f.end)) (search rules)
-          (lexeme_is s.text.now s.at f.end f.kind c.range.result f.form (omega arith) edge c.range.ensures.value c.requires.found.form));
+          (lexeme_is s.text.now s.at f.end f.kind c.range.result f.form (omega arith) edge c.range.ensures.value
+          c.requires.found.form));
     }

@@ -12,7 +12,8 @@ loop-at-preserved c =
     let i = c.loop-at.invariant.below in
     record {
       below = (λ h. base_step e c.loop-at-test.true (i.0 h), λ h. i.1 (through (base e) h));
-      steps = c.loop-at.invariant.steps ∙ reaches_base c.args.self.now c.base.ensures.ordered c.args.ancestor c.loop-at.at c.in-Some.base e c.loop-at-test.true;
+      steps = c.loop-at.invariant.steps ∙ reaches_base c.args.self.now c.base.ensures.ordered c.args.ancestor
+          c.loop-at.at c.in-Some.base e c.loop-at-test.true;
     }
 
 pub returns-in-None-clause-below : goal.returns-in-None-clause-below
@@ -26,7 +27,10 @@ returns-in-None-clause-steps c =
     sym (c.loop-at.invariant.steps ∙ reaches_root c.args.self.now c.loop-at.at c.args.ancestor e c.loop-at-test.true)
 
 pub returns-clause-below : goal.returns-clause-below
-returns-clause-below c = yes_is (c.loop-at.invariant.below.1 (subst (λ x. Below c.args.self.now (Class x) (Class c.args.ancestor)) (sym c.loop-at-test.false) same))
+returns-clause-below c =
+    yes_is (c.loop-at.invariant.below.1 (subst (λ x. Below c.args.self.now (Class x) (Class c.args.ancestor))
+    (sym c.loop-at-test.false) same))
 
 pub returns-clause-steps : goal.returns-clause-steps
-returns-clause-steps c = sym (c.loop-at.invariant.steps ∙ reaches_itself c.args.self.now c.loop-at.at c.args.ancestor c.loop-at-test.false)
+returns-clause-steps c = sym (c.loop-at.invariant.steps ∙ reaches_itself c.args.self.now c.loop-at.at c.args.ancestor
+    c.loop-at-test.false)
