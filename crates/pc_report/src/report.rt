@@ -1,6 +1,6 @@
 //! The report: findings in order, with lines and columns.
 
-ghost use Rattle.std.specs.Prelude.{◌≡◌, ◌↔◌, ◌≤◌, ◌++◌, ◌∷◌, [], List, ℕ, IfOk, OnOk, Contains, option_map};
+ghost use Rattle.std.specs.Prelude.{◌≡◌, ◌↔◌, ◌≤◌, ◌⊎◌, ◌++◌, ◌∷◌, [], List, ℕ, IfOk, OnOk, Contains, option_map};
 ghost use Rattle.std.specs.Prelude.{string_bytes, length};
 ghost use Rattle.std.specs.List.{AllByRecursion};
 ghost use Rattle.pc_source.specs.Lines.{line_of, column_of};
@@ -79,16 +79,70 @@ const START: Position = Position {
     column: 1,
 };
 
-/// The position of a byte, found from a known one: a walk over what stands between them. Where the
-/// byte stands before the known one, the walk begins at the first byte.
-fn position_of(source: &[u8], known: Position, byte: usize) -> Position
+/// The line of a byte, found from a known position before it. Two numbers are added for each byte and none is branched
+/// on, so that many bytes are looked at by one instruction.
+fn line_at(source: &[u8], known: Position, byte: usize) -> u64
+    requires line { known.line ≡ line_of source.now known.byte }
+    requires onward { known.byte ≤ byte }
+    requires inside { byte ≤ length source.now }
+    ensures { result ≡ line_of source.now byte }
+{
+    let source = &source[..byte];
+    let mut line = known.line;
+    for at in known.byte..source.len() {
+        line += u64::from(source[at] == b'\n');
+    }
+    line
+}
+
+/// The first byte of the last line that begins after one byte and not after another, or the former byte where none does.
+fn last_line_start(source: &[u8], after: usize, byte: usize) -> usize
+    requires onward { after ≤ byte }
+    requires inside { byte ≤ length source.now }
+    ensures not_before { after ≤ result }
+    ensures not_after { result ≤ byte }
+    ensures column { result ≡ after ⊎ column_of source.now result ≡ 1 }
+{
+    for at in (after..byte).rev() {
+        if source[at] == b'\n' {
+            return at + 1;
+        }
+    }
+    after
+}
+
+/// The position of the first byte of the last line that begins after a known position and not after a byte, or the known
+/// position where none does.
+fn line_before(source: &[u8], known: Position, byte: usize) -> Position
     requires line { known.line ≡ line_of source.now known.byte }
     requires column { known.column ≡ column_of source.now known.byte }
+    requires onward { known.byte ≤ byte }
+    requires inside { byte ≤ length source.now }
+    ensures onward { result.byte ≤ byte }
+    ensures line { result.line ≡ line_of source.now result.byte }
+    ensures column { result.column ≡ column_of source.now result.byte }
+{
+    let start = last_line_start(source, known.byte, byte);
+    if start == known.byte {
+        return known;
+    }
+    Position {
+        byte: start,
+        line: line_at(source, known, start),
+        column: 1,
+    }
+}
+
+/// The position of a byte, found from a known one by a walk over what stands between them.
+fn walked(source: &[u8], known: Position, byte: usize) -> Position
+    requires line { known.line ≡ line_of source.now known.byte }
+    requires column { known.column ≡ column_of source.now known.byte }
+    requires onward { known.byte ≤ byte }
     ensures byte { result.byte ≡ byte }
     ensures line { result.line ≡ line_of source.now byte }
     ensures column { result.column ≡ column_of source.now byte }
 {
-    let mut position = if byte < known.byte { START } else { known };
+    let mut position = known;
     for at in position.byte..byte.min(source.len()) {
         let b = source[at];
         if b == b'\n' {
@@ -99,6 +153,23 @@ fn position_of(source: &[u8], known: Position, byte: usize) -> Position
         }
     }
     Position { byte, ..position }
+}
+
+/// The position of a byte, found from a known one: whole lines are counted, and the last one is walked over. Where the
+/// byte stands before the known one, all begins at the first byte.
+fn position_of(source: &[u8], known: Position, byte: usize) -> Position
+    requires line { known.line ≡ line_of source.now known.byte }
+    requires column { known.column ≡ column_of source.now known.byte }
+    ensures byte { result.byte ≡ byte }
+    ensures line { result.line ≡ line_of source.now byte }
+    ensures column { result.column ≡ column_of source.now byte }
+{
+    let known = if byte < known.byte { START } else { known };
+    if byte <= source.len() {
+        walked(source, line_before(source, known, byte), byte)
+    } else {
+        walked(source, known, byte)
+    }
 }
 
 /// The rows of findings: one walk over the source where they are in order.
