@@ -2,6 +2,7 @@
 steps; and what CI installs before it."""
 from __future__ import annotations
 
+import os
 from pathlib import Path
 from typing import List
 
@@ -48,9 +49,9 @@ class Gate(RoomCase):
         file.write_text(f"#!/bin/sh\n{text}\n", encoding="utf-8")
         file.chmod(0o755)
 
-    def gate(self) -> "Done[str]":
+    def gate(self, *words: object) -> "Done[str]":
         """Runs the gate."""
-        return self.run_few("./test")
+        return self.run_few("./test", *words)
 
     def last_lines(self, done: "Done[str]", number: int) -> List[str]:
         """The last lines of what the gate says, but for the time it took, which has to be the very last."""
@@ -123,6 +124,38 @@ class Gate(RoomCase):
         self.assert_failed(done, "proofs")
         self.assertIn("the other steps need the programs, and were not run", done.stderr)
         self.assertFalse((self.room / "ran").exists())
+
+    def test_the_steps_alone_take_what_was_built(self) -> None:
+        for name in PROGRAMS:
+            self.put_built(name, self.shipped(name))
+        self.put_tool("rt", f": >'{self.room}/proved'\n")
+        self.put_step("tools/check_edits", f"echo \"$#$*\" >>'{self.room}/asked'")
+        (self.room / "log").write_text("what rt ci said\n", encoding="utf-8")
+        for words in ([], ["../log"]):
+            done = self.gate("--steps", *words)
+            self.assertEqual((done.returncode, done.stdout), (0, ""), done.stderr)
+            self.assertEqual(self.last_lines(done, 1), ["1 passed, 0 failed"])
+        asked = (self.room / "asked").read_text(encoding="utf-8").splitlines()
+        self.assertEqual(asked, ["0", f"1{(self.room / 'log').resolve()}"])
+        self.assertFalse((self.room / "proved").exists())
+
+    def test_the_steps_alone_take_no_program_that_is_older_than_its_sources(self) -> None:
+        self.put_step("tools/check_codes", f": >'{self.room}/ran'")
+        self.assert_failed(self.gate("--steps"), "programs")
+        for name in PROGRAMS:
+            os.utime(self.put_built(name, self.shipped(name)), (1, 1))
+        done = self.gate("--steps")
+        self.assert_failed(done, "programs")
+        self.assertIn("is older than its sources", done.stderr)
+        self.assertIn("the other steps need the programs, and were not run", done.stderr)
+        self.assertFalse((self.room / "ran").exists())
+
+    def test_other_words_are_a_mistake(self) -> None:
+        for words in (["--step"], ["log"], ["--steps", "no such file"], ["--steps", "README.md", "README.md"]):
+            with self.subTest(words):
+                done = self.gate(*words)
+                self.assertEqual((done.returncode, done.stdout), (3, ""))
+                self.assertIn("usage: ./test [--steps [LOG]]", done.stderr)
 
 
 class InCI(RoomCase):
