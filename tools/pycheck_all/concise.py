@@ -8,7 +8,7 @@ from .findings import GUIDE, REFUSED, Checked, Finding, Project, printed
 
 
 def line_of(file: Checked, finding: Finding, mending: bool) -> str:
-    """The line of a finding; where asked for, a refusal has what to write instead behind it."""
+    """The line of a finding; where asked for, a refusal has what to write instead after it."""
     start, title = finding.place.start, codes.title_of(finding.code)
     if finding.kind in (REFUSED, GUIDE):
         title = finding.kind + (f": {title}" if title else "")

@@ -151,7 +151,7 @@ fn numbers(row: &Environment, alloc: Global, words: &str) -> Result<Vec<usize>, 
     Ok(numbers)
 }
 
-/// What is known behind a row: where its two ways meet (`join`), at the head of a loop that binds the locals among its
+/// What is known after a row: where its two ways meet (`join`), at the head of a loop that binds the locals among its
 /// words (`loop`), or of a copy of the first way.
 fn known(
     row: &Environment,
@@ -271,8 +271,8 @@ fn reading(alloc: Global, text: &str, words: &str) -> Result<String, Fault> {
     done(&row, alloc, words, one, other)
 }
 
-/// What comes of a row behind what stands before it: its words, the parameters that declare its locals, and those that
-/// are assigned on two ways. Where the first way is left out its locals are as they are declared.
+/// What comes of a row in a module that begins with the lines before it. The row has its words, the parameters that
+/// declare its locals, and those that are assigned on two ways; without the first way locals are as they are declared.
 pub fn row_text(alloc: Global, before: &str, row: &str) -> Result<String, Fault> {
     let (words, rest) = row.split_once(" ; ").unwrap_or((row, ""));
     let (declared, ways) = rest.split_once(" ; ").unwrap_or((rest, rest));

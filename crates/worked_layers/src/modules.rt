@@ -46,8 +46,8 @@ fn bound_by(alloc: Global, def: &FuncDef) -> Result<String, OutOfMemory> {
     Ok(text)
 }
 
-/// The names of the items of a module: behind each constant the bytes at which its value and its annotation start,
-/// behind each class the names of its members, and behind each function those that its statements bind.
+/// The names of the items of a module: after each constant the bytes at which its value and its annotation start,
+/// after each class the names of its members, and after each function those that its statements bind.
 fn names_in(alloc: Global, module: &Module) -> Result<String, OutOfMemory> {
     let mut text = String::new(alloc);
     for item in &module.items {

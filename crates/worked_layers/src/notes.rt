@@ -10,7 +10,7 @@ fn place(start: usize, end: usize) -> Place {
     Place { start, end }
 }
 
-/// Notes of an error and of three flows: two at one place, and behind them one at an earlier place.
+/// Notes of an error and of three flows: two at one place, and after them one at an earlier place.
 fn some_notes(alloc: Global) -> Result<Notes, OutOfMemory> {
     let store = BoxStore::new();
     let mut notes = Notes::new(alloc);

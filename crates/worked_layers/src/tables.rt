@@ -12,7 +12,7 @@ use worked_rows::{Row, TableFault, Tally, rows};
 /// What stands between the lines before each row of a table and its rows.
 const ROWS: &str = "----\n";
 
-/// What comes of a row of a table of this kind, behind the lines before each row.
+/// What comes of a row of a table of this kind, given the lines that each row follows.
 fn answer(alloc: Global, kind: &str, before: &str, row: &Row<'_>) -> Result<String, Fault> {
     let (part, text) = (row.part, row.text.as_str());
     match kind {

@@ -13,9 +13,9 @@ pub fn bytes_of(alloc: Global, text: &str) -> Result<Vec<u8>, TableFault> {
     let mut bytes = Vec::new(alloc);
     for piece in text.split('⟦') {
         match piece.split_once('⟧') {
-            Some((number, behind)) => {
+            Some((number, rest)) => {
                 bytes.push(number.parse().map_err(|_| TableFault::Form)?)?;
-                bytes.extend_from_slice(behind.as_bytes())?;
+                bytes.extend_from_slice(rest.as_bytes())?;
             }
             None => bytes.extend_from_slice(piece.as_bytes())?,
         }

@@ -58,9 +58,9 @@ pub fn written_out(alloc: Global, row: &str) -> Result<String, TableFault> {
     let mut text = String::new(alloc);
     for piece in row.split('⟨') {
         match piece.split_once('⟩') {
-            Some((repeated, behind)) => {
+            Some((repeated, rest)) => {
                 add_repeated(&mut text, alloc, repeated)?;
-                text.push_str(behind)?;
+                text.push_str(rest)?;
             }
             None => text.push_str(piece)?,
         }
@@ -68,8 +68,8 @@ pub fn written_out(alloc: Global, row: &str) -> Result<String, TableFault> {
     Ok(text)
 }
 
-/// The rows of a table: each is some lines, and behind the last one stands an arrow, and what comes of the text. Empty
-/// lines before a row are no part of it. A line with `§` begins a part of the table: the rows behind it have the name
+/// The rows of a table: each is some lines, and after the last one stands an arrow, and what comes of the text. Empty
+/// lines before a row are no part of it. A line with `§` begins a part of the table: the rows after it have the name
 /// that stands there before a colon. What stands before the first such line says what the table is about.
 ///
 /// # Errors

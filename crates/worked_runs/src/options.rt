@@ -6,7 +6,7 @@ use worked_rows::in_one_line;
 /// What a row says of words that ask for nothing by a mistake, where it says no more of them.
 const MISTAKEN: &str = "mistaken";
 
-/// What is said of words that ask for nothing, behind the kind of their fault.
+/// What is said of words that ask for nothing, after the kind of their fault.
 pub fn fault_text(alloc: Global, fault: &OptionFault) -> Result<String, AllocError> {
     let kind = match fault {
         OptionFault::Usage(_) => MISTAKEN,
@@ -17,7 +17,7 @@ pub fn fault_text(alloc: Global, fault: &OptionFault) -> Result<String, AllocErr
     in_one_line(alloc, text.as_str())
 }
 
-/// The same, or the kind of the fault alone where a row wants no more.
+/// What is said of words that ask for nothing, or the kind of their fault alone where a row wants no more.
 fn told(alloc: Global, fault: &OptionFault, want: &str) -> Result<String, AllocError> {
     match fault {
         OptionFault::Usage(_) if want == MISTAKEN => String::from_str(alloc, MISTAKEN),
@@ -25,7 +25,7 @@ fn told(alloc: Global, fault: &OptionFault, want: &str) -> Result<String, AllocE
     }
 }
 
-/// What words for `pycheck` come to, each of which stands behind a bar: the form and the number of the report and the
+/// What words for `pycheck` come to, each of which stands after a bar: the form and the number of the report and the
 /// file, or what is said of their fault.
 pub fn check_text(alloc: Global, row: &str, want: &str) -> Result<String, AllocError> {
     let words: Vec<&str> = row.split('|').skip(1).collect(alloc)?;

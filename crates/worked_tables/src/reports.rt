@@ -128,7 +128,7 @@ fn forms(alloc: Global, report: &Report) -> Result<String, Fault> {
     Ok(forms)
 }
 
-/// The forms of the report of a row, behind one another: lines of findings, a line of four dashes, and the text.
+/// The forms of the report of a row, one after another: lines of findings, a line of four dashes, and the text.
 pub fn forms_text(alloc: Global, row: &str) -> Result<String, Fault> {
     let (lines, text) = row.split_once("----\n").unwrap_or(("", row));
     let report = report_of(alloc, lines, text)?;

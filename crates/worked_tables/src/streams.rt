@@ -84,7 +84,7 @@ fn taken_text(alloc: Global, taken: &[u8], report: &str) -> Result<String, Alloc
 }
 
 /// What comes of a check of these bytes with such a reader and such a writer: the answer; the calls of the reader and
-/// of the writer that failed, among them that of a flush behind the check; the bytes that were read and the calls that
+/// of the writer that failed, among them that of a flush after the check; the bytes that were read and the calls that
 /// were left; what the writer took.
 fn told(
     alloc: Global,

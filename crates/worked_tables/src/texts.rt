@@ -5,7 +5,7 @@ use pc_top::{CheckFault, Format};
 use std::alloc::{AllocError, Global};
 use worked_rows::{TableFault, bytes_of, in_one_line};
 
-/// The report or the refusal of the bytes that a text stands for, its lines behind one another.
+/// The report or the refusal of the bytes that a text stands for, its lines one after another.
 pub fn report_text(alloc: Global, text: &str) -> Result<String, TableFault> {
     let bytes = bytes_of(alloc, text)?;
     let answer = answer_to_bytes(alloc, bytes.as_slice(), Format::One)?;

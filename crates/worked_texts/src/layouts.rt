@@ -46,8 +46,8 @@ pub fn list_text(alloc: Global, text: &str) -> Result<String, Fault> {
     Ok(listed(alloc, text, tokens.as_slice())?)
 }
 
-/// The fault that stands behind the lines of a part of this name.
-fn fault_behind(name: &str) -> Option<Fault> {
+/// The fault that stands after the lines of a part of this name.
+fn fault_after(name: &str) -> Option<Fault> {
     match name {
         "LATE" => Some(Fault::refused_at(RefusalCode::L1, 87)),
         "MEMORY" => Some(Fault::OutOfMemory),
@@ -55,17 +55,17 @@ fn fault_behind(name: &str) -> Option<Fault> {
     }
 }
 
-/// The first fault of the layout of a text's lines with a fault behind them, and whether nothing comes behind it.
+/// The first fault of the layout of a text's lines with a fault after them, and whether nothing comes after it.
 fn settled(
     alloc: Global,
     source: &Source,
-    behind: Option<Fault>,
+    after: Option<Fault>,
 ) -> Result<(Option<Fault>, bool), Fault> {
     let mut items = Vec::new(alloc);
     for line in tokens(alloc, source)? {
         items.push(Ok(line))?;
     }
-    if let Some(fault) = behind {
+    if let Some(fault) = after {
         items.push(Err(fault))?;
     }
     let mut tokens = layout_of(alloc, source, items.into_iter());
@@ -83,12 +83,12 @@ fn settled(
     Ok((found, tokens.next().is_none()))
 }
 
-/// The fault of the layout of a text's lines with such a fault behind them, as the name of the part says.
+/// The fault of the layout of a text's lines with a fault after them, as the name of the part says.
 pub fn settled_text(alloc: Global, name: &str, text: &str) -> Result<String, Fault> {
     let source = read_source(alloc, text.as_bytes())?;
-    match settled(alloc, &source, fault_behind(name))? {
+    match settled(alloc, &source, fault_after(name))? {
         (None, true) => Ok(String::from_str(alloc, "none")?),
         (Some(fault), true) => Ok(format!(in alloc; "{fault}")?),
-        (_, false) => Ok(String::from_str(alloc, "more behind the end")?),
+        (_, false) => Ok(String::from_str(alloc, "more after the end")?),
     }
 }

@@ -77,7 +77,7 @@ pub fn statements(alloc: Global, text: &str) -> Result<String, Fault> {
 }
 
 /// What comes of a row of a part of this name: that its tokens are a module (`LIST`), or a suite of `main` (`SUITE`),
-/// or with a fault of the stream behind them (`STREAM`), or the module as it is printed.
+/// or with a fault of the stream after them (`STREAM`), or the module as it is printed.
 pub fn tokens_text(alloc: Global, name: &str, text: &str) -> Result<String, Fault> {
     if name == "SUITE" {
         return Ok(suite_text(alloc, text)?);

@@ -3,7 +3,7 @@ use crate::refusals::reading_text;
 use pc_source::{Fault, read_source};
 use std::alloc::{AllocError, Global};
 
-/// So many bytes of a linear congruential generator.
+/// This many bytes of a linear congruential generator.
 fn random_bytes(alloc: Global, count: usize) -> Result<Vec<u8>, AllocError> {
     let mut bytes = Vec::with_capacity(alloc, count)?;
     let mut state: u32 = 1;

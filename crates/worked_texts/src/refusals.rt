@@ -31,7 +31,7 @@ pub fn reading_text(alloc: Global, text: &str) -> Result<String, Fault> {
     let (before, fault) = ended(alloc, &source);
     let answers = before.saturating_add(fault.is_some() as usize);
     if !has_ended(alloc, &source, answers) {
-        return Ok(String::from_str(alloc, "lines behind the end")?);
+        return Ok(String::from_str(alloc, "lines after the end")?);
     }
     match fault {
         None => Ok(String::from_str(alloc, "read")?),

@@ -14,7 +14,7 @@ pub fn source_text(alloc: Global, text: &str) -> Result<String, Fault> {
     Ok(String::from_str(alloc, told)?)
 }
 
-/// The line and the column of the byte that a row names in its first line, of the text behind that.
+/// The line and the column of the byte that a row names in its first line, in the text after that line.
 pub fn place_text(alloc: Global, row: &str) -> Result<String, Fault> {
     let (byte, text) = row.split_once('\n').unwrap_or(("", ""));
     let byte = byte.parse().unwrap_or(0);

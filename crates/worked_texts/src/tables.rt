@@ -13,7 +13,7 @@ use pc_source::{Fault, Refusal};
 use std::alloc::{AllocError, Global};
 use worked_rows::{Row, TableFault, Tally, rows};
 
-/// A fault as tables say it: the code of a refusal, and its byte, counted from behind so many bytes.
+/// A fault as tables say it: the code of a refusal, and its byte, counted from the end of so many bytes.
 pub fn fault_text(alloc: Global, fault: Fault, before: usize) -> Result<String, AllocError> {
     match fault {
         Fault::Refused(Refusal { code, byte }) => {
@@ -24,7 +24,7 @@ pub fn fault_text(alloc: Global, fault: Fault, before: usize) -> Result<String, 
     }
 }
 
-/// That a text has a layout.
+/// The answer for a text that has a layout.
 fn has_layout(alloc: Global, text: &str) -> Result<String, Fault> {
     let _count = layout_text(alloc, text)?;
     Ok(String::from_str(alloc, "none")?)
