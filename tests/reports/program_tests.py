@@ -100,7 +100,9 @@ class Programs(Test):
         program = self.program("touch begun; exec sleep 60")
         words = [sys.executable, str(COMMAND), "--program", program, "."]
         process = subprocess.Popen(
-            words, cwd=self.folder, stdout=subprocess.PIPE, stderr=subprocess.PIPE, env=variables({})
+            words, cwd=self.folder, stdout=subprocess.PIPE, stderr=subprocess.PIPE, env=variables({}),
+            # What a shell starts in the background ignores this signal, and hands that on
+            preexec_fn=lambda: signal.signal(signal.SIGINT, signal.SIG_DFL),
         )
         began = time.monotonic()
         while not (self.folder / "begun").exists() and time.monotonic() < began + 30:
