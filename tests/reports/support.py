@@ -75,7 +75,7 @@ class Test(unittest.TestCase):
         return self.checked(words, given, changed)
 
     def checked(self, words: Sequence[str], given: bytes, changed: Dict[str, Optional[str]]) -> Done:
-        """The same, with all of it as it is given."""
+        """Runs the command with these words, this text as standard input, and variables changed as this says."""
         done = subprocess.run(
             [sys.executable, str(COMMAND), *words],
             cwd=self.folder,

@@ -68,13 +68,13 @@ class Text:
         return self.place(byte, min(len(self.data), byte + len(word.encode("utf-8", "surrogateescape"))))
 
     def word(self, byte: int) -> str:
-        """The text of that word or sign."""
+        """The text of the word or sign that begins at a byte."""
         line = self.data[byte : self.after(byte)].decode("utf-8", "surrogateescape")
         found = TOKEN.match(line)
         return found[0] if found else line[:1].strip("\r\n")
 
     def spot(self, byte: int) -> Spot:
-        """That word or sign with its line."""
+        """The word or sign that begins at a byte, with its line."""
         start = self.starts[self.point(byte).line - 1]
         before = self.data[start:byte].decode("utf-8", "replace")
         word = self.word(byte)
