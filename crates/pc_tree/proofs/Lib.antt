@@ -25,5 +25,6 @@ pub mod SoundLines
 pub mod Starts
 pub mod Stood
 pub mod Stops
+pub mod SuitesIn
 pub mod Texts
 pub mod Trees

@@ -7,4 +7,5 @@ pub mod Lists
 pub mod Machine
 pub mod Names
 pub mod Stopping
+pub mod Suites
 pub mod Tree

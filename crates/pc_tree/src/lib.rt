@@ -10,6 +10,7 @@ mod names;
 mod places;
 mod reserved;
 mod sets;
+mod suites;
 mod tree;
 
 pub use bound::{add_bound, add_bound_by, add_bound_in};
