@@ -2,6 +2,7 @@ pub mod Expressions
 pub mod Fits
 pub mod Lists
 pub mod Modules
+pub mod NamesBound
 pub mod Rows
 pub mod Statements
 pub mod FirstPlaces

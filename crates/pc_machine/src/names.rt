@@ -1,18 +1,19 @@
 //! Names at run time.
 
 ghost use Rattle.std.specs.Prelude.{◌≡◌, ◌++◌, ◌∷◌, [], map, OnOk};
-ghost use Rattle.pc_tree.specs.Tree.{stmts_of_list, stmt_of_kind, target_of};
+ghost use Rattle.std.specs.Option.{option_to_list};
+ghost use Rattle.pc_tree.specs.Tree.{stmts_of_list, stmt_of_kind};
 ghost use Rattle.pc_source.specs.declared.place.Place.{Place as PlaceOf};
 ghost use Rattle.pc_value.specs.Meaning.{value_of};
 ghost use Rattle.pc_value.specs.Texts.{same_text};
-ghost use Rattle.pc_machine.specs.Names.{unbound, names_bound, names_bound_by, names_bound_in, target_names};
+ghost use Rattle.pc_machine.specs.Names.{unbound, names_bound, names_bound_by, names_bound_in};
 ghost use Rattle.pc_machine.specs.Names.{local_by_name, with_local};
 ghost use Rattle.pc_machine.specs.Machine.{local_of as local_seen, found_local};
-ghost use Rattle.pc_tree.specs.Lists.{branches_of_list};
+ghost use Rattle.pc_tree.specs.Lists.{branches_of_list, name_seen};
 
 use crate::state::Local;
 use pc_source::OutOfMemory;
-use pc_tree::{Branch, Stmt, StmtKind, Target};
+use pc_tree::{Branch, Name, Stmt, StmtKind};
 use pc_value::Value;
 
 /// Two names are the same.
@@ -77,36 +78,20 @@ fn add_names_of<'m>(frame: &mut Vec<Local<'m>>, kind: &'m StmtKind) -> Result<()
         (map local_seen frame.new.items
         ≡ map local_seen frame.old.items ++ map unbound (names_bound_by (stmt_of_kind p kind.now))) }
 {
-    match kind {
-        StmtKind::Pass => Ok(()),
-        StmtKind::Break => Ok(()),
-        StmtKind::Continue => Ok(()),
-        StmtKind::Return(_) => Ok(()),
-        StmtKind::Assert(_, _) => Ok(()),
-        StmtKind::Annotated(name, _, _) => add_name(frame, name.text.as_str()),
-        StmtKind::Assign(target, _) => add_target(frame, target),
-        StmtKind::Expr(_) => Ok(()),
-        StmtKind::While(_, body) => add_names(frame, body),
-        StmtKind::For(name, _, body) => {
-            add_name(frame, name.text.as_str())?;
-            add_names(frame, body)
-        }
-        StmtKind::If(branches, otherwise) => {
-            add_names_in(frame, branches)?;
-            add_names(frame, otherwise)
-        }
-    }
+    add_own(frame, kind.own_name())?;
+    let (branches, last) = kind.suites();
+    add_names_in(frame, branches)?;
+    add_names(frame, last)
 }
 
-/// The name that a target binds, if it binds one.
-fn add_target<'m>(frame: &mut Vec<Local<'m>>, target: &'m Target) -> Result<(), OutOfMemory>
+/// The name that a statement binds by itself, if it binds one.
+fn add_own<'m>(frame: &mut Vec<Local<'m>>, own: Option<&'m Name>) -> Result<(), OutOfMemory>
     ensures { OnOk result (map local_seen frame.new.items
-        ≡ map local_seen frame.old.items ++ map unbound (target_names (target_of target.now))) }
+        ≡ map local_seen frame.old.items ++ map (λ n. unbound n.text) (map name_seen (option_to_list own.entry))) }
 {
-    match target {
-        Target::Name(name) => add_name(frame, name.text.as_str()),
-        Target::Attribute(_, _, _) => Ok(()),
-        Target::Index(_, _, _) => Ok(()),
+    match own {
+        None => Ok(()),
+        Some(name) => add_name(frame, name.text.as_str()),
     }
 }
 
