@@ -48,7 +48,7 @@ impl<'m> Globals<'m> {
         match bind_first(&mut self.places, name, place) {
             Ok(()) => Ok(()),
             Err(_) => {
-                // So that the list and the map by name go on saying the same.
+                // Without its entry in the map by name the global would be found by its place alone.
                 let _ = self.bindings.pop();
                 Err(OutOfMemory)
             }

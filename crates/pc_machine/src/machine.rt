@@ -54,7 +54,7 @@ pub fn raised(exception: Exception) -> Halt
 }
 
 impl<'m> Machine<'m> {
-    /// Before the first item: nothing is bound. Own rule of the profile.
+    /// The machine before the first item, with nothing bound. Own rule of the profile.
     pub fn begin(alloc: Allocator, keys: RandomState, fuel: u64, choices: &'m [u8]) -> Machine<'m>
         ensures { progress_of result ≡ begin fuel choices.now }
     {

@@ -53,7 +53,7 @@ module _ (text : List ℕ) (at : ℕ) (utf8 : IsUtf8 text) (boundary : IsCharBou
       (length text ≡ at) (λ c. is_xid_continue c ≡ false)
   ascii_ends other = no_more other (slice_get (chars (drop at text)) 0) refl
 
--- behind the ASCII bytes of a name stands none
+-- after the ASCII bytes of a name stands none
 pub word_stops_at : (text : List ℕ) (start n : ℕ) → n ≡ prefix_len is_word_byte (drop start text)
     → is_word_byte (get_or text (start + n) 0) ≡ false
 word_stops_at text start n is =

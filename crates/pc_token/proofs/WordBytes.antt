@@ -40,13 +40,13 @@ low (b ∷ bs) h =
 
 module _ (text : List ℕ) (start n : ℕ) (utf8 : IsUtf8 text) (boundary : IsCharBoundary text start)
     (is : n ≡ prefix_len is_word_byte (drop start text)) where
-  -- behind ASCII bytes of a name the text may be cut
+  -- after ASCII bytes of a name the text may be cut
   pub word_edge : IsCharBoundary text (start + n)
   word_edge = IsCharBoundary-from_rest text start n boundary.0
       (rw is (IsCharBoundary-ascii_run is_word_byte (drop start text) (IsUtf8-drop text start utf8 boundary)
       word_byte_low))
 
-  -- they are characters that may continue a name
+  -- the ASCII bytes of a name are characters that may continue a name
   pub word_run : (cs : List ℕ) × (list_all is_xid_continue cs ≡ true)
       × (slice_range text start (start + n) ≡ encode_utf8_all cs)
   word_run =
@@ -57,7 +57,7 @@ module _ (text : List ℕ) (start n : ℕ) (utf8 : IsUtf8 text) (boundary : IsCh
 one_more : (m : ℕ) → 1 + m ≡ suc m
 one_more m = omega arith
 
--- blanks are the spaces at the front, and the blanks behind them
+-- blanks are the spaces at the front, and the blanks after them
 pub blanks_split : (bs : List ℕ) (m : ℕ) → m ≡ prefix_len (λ b. b == 32) bs → m + prefix_len is_blank (drop m bs)
     ≡ prefix_len is_blank bs
 blanks_split [] m is = rw is refl

@@ -71,7 +71,7 @@ const STARS: [Operator; 4] = [
     Operator::Star,
 ];
 
-/// Those that begin with `/`.
+/// The operators that begin with `/`, the longer before the shorter.
 const SLASHES: [Operator; 4] = [
     Operator::DoubleSlashEqual,
     Operator::DoubleSlash,
@@ -79,7 +79,7 @@ const SLASHES: [Operator; 4] = [
     Operator::Slash,
 ];
 
-/// Those that begin with `<`.
+/// The operators that begin with `<`, the longer before the shorter.
 const LESSES: [Operator; 4] = [
     Operator::LeftShiftEqual,
     Operator::LessEqual,
@@ -87,7 +87,7 @@ const LESSES: [Operator; 4] = [
     Operator::Less,
 ];
 
-/// Those that begin with `>`.
+/// The operators that begin with `>`, the longer before the shorter.
 const GREATERS: [Operator; 4] = [
     Operator::RightShiftEqual,
     Operator::GreaterEqual,

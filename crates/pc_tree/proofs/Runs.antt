@@ -133,7 +133,7 @@ pub join_run : (op : Infix) (l : Part) (o : List Lexeme) (p : Part) (s : Stack) 
 join_run op l o p s [] h = run_none _ ∙ sym (run_none _)
 join_run op l o p s (t ∷ ts) h = run_same _ _ t ts (join_turn op l o p s t (follow_of t.kind) h)
 
--- So are a prefix and its operand.
+-- Before what binds no tighter, a prefix and its operand are as good as joined.
 pub apply_run : (x : Prefix) (u : List Lexeme) (p : Part) (s : Stack) (ts : List Lexeme) → Stops (prefix_level x + 1) ts
     → run (at (have (prefix_level x) p (applying x u s))) ts ≡ run (at (have (prefix_level x) (applied x u p) s)) ts
 apply_run x u p s [] h = run_none _ ∙ sym (run_none _)

@@ -25,7 +25,7 @@ with_digit number byte =
     if is_ascii_digit byte && nat_lt (number * 10 + (byte - 48)) (2 ^ 64) then Some (number * 10 + (byte - 48))
     else None
 
--- the same, where there is a number
+-- the number that a digit more makes of a number, if there is a number
 abbrev pub after_digit : Option ℕ → ℕ → Option ℕ
 after_digit number byte = option_and_then (λ n. with_digit n byte) number
 
@@ -57,7 +57,7 @@ with_line found line =
     if names_length (before_first (λ b. b == 58) line)
     then first_length found (number_in (trimmed (after_first (λ b. b == 58) line))) else Ok found))
 
--- the same, after what the lines before gave
+-- the length or the fault after one more line of the header, where the lines before gave this
 abbrev pub after_line : Result (Option ℕ) HeaderFault → List ℕ → Result (Option ℕ) HeaderFault
 after_line (Err fault) line = Err fault
 after_line (Ok found) line = with_line found line

@@ -37,7 +37,7 @@ fn without_front(text: &[u8]) -> &[u8]
     &text[blanks_at_front(text)..]
 }
 
-/// Without the blanks at the front and at the end.
+/// A text without the blanks at its front and at its end.
 fn trimmed(text: &[u8]) -> &[u8]
     ensures { result.now ≡ trimmed text.now }
 {
@@ -55,7 +55,7 @@ fn with_digit(number: usize, byte: u8) -> Option<usize>
     number.checked_mul(10)?.checked_add((byte - b'0') as usize)
 }
 
-/// The same, where there is a number.
+/// The number that a digit more makes of a number, if there is a number.
 fn after_digit(number: Option<usize>, byte: u8) -> Option<usize>
     ensures { result ≡ after_digit number byte }
 {
@@ -122,7 +122,7 @@ fn with_line(found: Option<usize>, line: &[u8]) -> Result<Option<usize>, HeaderF
     Ok(found)
 }
 
-/// The same, after what the lines before gave.
+/// The length or the fault after one more line of the header, where the lines before gave this.
 fn after_line(
     named: Result<Option<usize>, HeaderFault>,
     line: &[u8],
