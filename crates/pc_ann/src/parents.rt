@@ -24,7 +24,7 @@ pub fn parents_of(alloc: Global, tree: &Module, scopes: &Scopes) -> Result<Paren
         }
     }
     match Parents::new(bases) {
-        Some(parents) => Ok(parents),
+        Some(parents) => Ok(parents.with_leaps(alloc)?),
         None => unreachable!(),
     }
 }

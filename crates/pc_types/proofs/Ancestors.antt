@@ -1,6 +1,7 @@
 -- The ancestors of a class: as many steps up as its number are enough to find each.
 use Rattle.std.proofs.Common.{◌≡◌, ◌≢◌, ◌<◌, ◌≤◌, ◌||◌, ◌&&◌, ◌==◌, not, ℕ, zero, suc, Bool as Test, true, false}
-use Rattle.std.proofs.Common.{Option, Some, None, refl, sym, ap, ◌∙◌, arith}
+use Rattle.std.proofs.Common.{Option, Some, None, refl, sym, ap, ◌∙◌, arith, ⊎_elim}
+use Rattle.std.proofs.lemmas.Bool.{false≢true, eqb-true, or_cases, cases_eq}
 use Rattle.std.proofs.lemmas.Bool.Decides.{nat_tests}
 use Rattle.std.specs.Option.{option_map_or}
 use Rattle.pc_types.specs.Below.{Bases, base_of, AreSmaller}
@@ -12,7 +13,7 @@ or_false false = refl
 
 module _ (bases : Bases) (ordered : AreSmaller bases) (d : ℕ) where
   -- the steps that are left don't matter where they are enough
-  enough : (n m c : ℕ) → c ≤ n → c ≤ m → reaches bases n c d ≡ reaches bases m c d
+  pub enough : (n m c : ℕ) → c ≤ n → c ≤ m → reaches bases n c d ≡ reaches bases m c d
   enough zero zero c h k = refl
   enough zero (suc m) c h k = or_false (c == d) ∙ ap (λ x. (c == d) || x) (sym (rootless (base_of bases c) refl))
     where
@@ -32,7 +33,7 @@ module _ (bases : Bases) (ordered : AreSmaller bases) (d : ℕ) where
       go f None e = refl
       go f (Some b) e = f b (ordered c b e)
 
-  other_class : (c : ℕ) (x : Test) → c ≢ d → ((c == d) || x) ≡ x
+  pub other_class : (c : ℕ) (x : Test) → c ≢ d → ((c == d) || x) ≡ x
   other_class c x n = let f : (c == d) ≡ false = grind (arith, nat_tests) in ap (λ y. y || x) f
 
   -- one step up
@@ -41,6 +42,36 @@ module _ (bases : Bases) (ordered : AreSmaller bases) (d : ℕ) where
   reaches_base (suc c) b e n =
       other_class (suc c) _ n ∙ ap (λ o. option_map_or (λ b. reaches bases c b d) o false) e
       ∙ (let l = ordered (suc c) b e in enough c b b (omega arith) (omega arith))
+
+  -- an ancestor has no greater number
+  pub reaches_down : (n c : ℕ) → reaches bases n c d ≡ true → d ≤ c
+  reaches_down zero c e = let q = eqb-true c d e in omega (arith, q)
+  reaches_down (suc n) c e = ⊎_elim (λ q. let r = eqb-true c d q in omega (arith, r))
+      (go (λ b r. reaches_down n b r) (base_of bases c) refl) (or_cases (c == d) _ e)
+    where
+      go : ((b : ℕ) → reaches bases n b d ≡ true → d ≤ b) → (p : Option ℕ) → base_of bases c ≡ p
+          → option_map_or (λ b. reaches bases n b d) p false ≡ true → d ≤ c
+      go f None q r = absurd (false≢true r)
+      go f (Some b) q r = let l = ordered c b q in let k = f b r in omega (arith, l, k)
+
+-- a search may leap to an ancestor that isn't above the one that is looked for
+pub reaches_leap : (bases : Bases) → AreSmaller bases → (d j n c : ℕ) → c ≤ n → d ≤ j → reaches bases n c j ≡ true
+    → reaches bases n c d ≡ reaches bases j j d
+reaches_leap bases o d j zero c h k e =
+    enough bases o d zero c c h (omega arith) ∙ ap (λ x. reaches bases x x d) (eqb-true c j e)
+reaches_leap bases o d j (suc n) c h k e = ⊎_elim
+    (λ q. enough bases o d (suc n) c c h (omega arith) ∙ ap (λ x. reaches bases x x d) q)
+    (λ x. let z = reaches_down bases o j (suc n) c e in
+    other_class bases o d c _ (λ y. x (omega (arith, y, z, k)))
+    ∙ go (λ b l r. reaches_leap bases o d j n b (omega (arith, l, h)) k r) (base_of bases c) refl
+    (sym (other_class bases o j c _ x) ∙ e))
+    (cases_eq c j)
+  where
+    go : ((b : ℕ) → b < c → reaches bases n b j ≡ true → reaches bases n b d ≡ reaches bases j j d)
+        → (p : Option ℕ) → base_of bases c ≡ p → option_map_or (λ b. reaches bases n b j) p false ≡ true
+        → option_map_or (λ b. reaches bases n b d) p false ≡ reaches bases j j d
+    go f None q r = absurd (false≢true r)
+    go f (Some b) q r = f b (o c b q) r
 
 -- a class without base reaches itself alone
 pub reaches_root : (bases : Bases) (c d : ℕ) → base_of bases c ≡ None → c ≢ d → reaches bases c c d ≡ false

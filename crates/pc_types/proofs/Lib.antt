@@ -10,6 +10,7 @@ pub mod Incomparable
 pub mod JoinNormal
 pub mod JoinReduced
 pub mod Joined
+pub mod Leaps
 pub mod Lookup
 pub mod Meets
 pub mod Nodes

@@ -18,5 +18,6 @@ unreachable-requires c =
 pub returns : goal.returns
 unfolding bases_of
 returns c =
-    c.in-Some.ensures.1 ∙ all_walked (module_of c.args.tree.now) c.deref-item-items.result.now _ c.loop-item.bases.items
+    c.in_ok-with_leaps-in-Some.ensures ∙ c.in-Some.ensures.1
+    ∙ all_walked (module_of c.args.tree.now) c.deref-item-items.result.now _ c.loop-item.bases.items
     c.loop-item.item-index c.deref-item-items.ensures.value c.loop-item-test.false c.loop-item.invariant

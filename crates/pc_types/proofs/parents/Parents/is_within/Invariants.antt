@@ -1,14 +1,9 @@
-use Rattle.std.proofs.Common.{◌↔◌, ◌≡◌}
+use Rattle.std.proofs.Common.{◌≡◌}
 use Rattle.pc_types.specs.Join.{reaches}
-use Rattle.pc_types.specs.Below.{Below}
-use Rattle.pc_types.specs.Tree.{Class}
 use Rattle.pc_types.proofs.parents.Parents.is_within.Given as goal
 
 abbrev pub invariant-loop-at : goal.invariant-loop-at
-invariant-loop-at l = record {
-  below : Below l.self (Class l.class) (Class l.ancestor) ↔ Below l.self (Class l.at) (Class l.ancestor);
-  steps : reaches l.self l.class l.class l.ancestor ≡ reaches l.self l.at l.at l.ancestor;
-}
+invariant-loop-at l = reaches l.self l.class l.class l.ancestor ≡ reaches l.self l.at l.at l.ancestor
 
 abbrev pub decreases-loop-at : goal.decreases-loop-at
 decreases-loop-at l = l.at
