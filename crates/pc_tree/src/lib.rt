@@ -3,6 +3,7 @@
 
 mod bound;
 mod code;
+mod found;
 mod keys;
 mod laws;
 mod maps;
@@ -15,6 +16,7 @@ mod tree;
 
 pub use bound::{add_bound, add_bound_by, add_bound_in};
 pub use code::{Code, Finding, Findings};
+pub use found::{find, find_if};
 pub use keys::fixed_keys;
 pub use laws::{fronts, one_module};
 pub use maps::{NameMap, bind_first};
