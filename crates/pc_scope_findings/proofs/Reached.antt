@@ -1,11 +1,14 @@
 -- The statements of a suite after one that can complete, or that cannot.
-use Rattle.std.proofs.Common.{◌≡◌, Bool, List, refl}
+use Rattle.std.proofs.Common.{◌≡◌, ◌++◌, Bool, List, refl}
 use Rattle.std.specs.Prelude.{if◌then◌else◌}
 use Rattle.pc_source.specs.declared.place.Place.{Place}
 use Rattle.pc_tree.specs.declared.tree.StmtKind.{StmtKind}
 use Rattle.pc_tree.specs.declared.tree.StmtKind.TheVariants as rust_stmt
-use Rattle.pc_tree.specs.Tree.{Stmts, stmt_of_kind}
-use Rattle.pc_scope_findings.specs.Unreached.{first_of, first_places, unreached_places}
+use Rattle.pc_tree.specs.Suites.{branches_of_stmt, last_suite}
+use Rattle.pc_tree.specs.Tree.{Stmt, Stmts, stmt_of_kind, pass, breaks, continues, returns, asserts, annotated, assigns}
+use Rattle.pc_tree.specs.Tree.{evaluates, while_loop, for_loop, conditional}
+use Rattle.pc_scope_findings.specs.Unreached.{first_of, first_places, unreached_places, unreached_in}
+use Rattle.pc_scope_findings.specs.Unreached.{unreached_in_branches}
 
 -- what is unreached of the statements after one, by whether it can complete
 abbrev pub behind : Bool → Stmts → List Place
@@ -24,3 +27,18 @@ first_is p (rust_stmt.Expr value) = refl
 first_is p (rust_stmt.While' condition shape body) = refl
 first_is p (rust_stmt.For' target iterable shape body) = refl
 first_is p (rust_stmt.If' shape branches shape' otherwise) = refl
+
+-- what is unreached in a statement, by the suites in it
+pub unreached_parts : (s : Stmt) → unreached_in s ≡ unreached_in_branches (branches_of_stmt s)
+    ++ unreached_places (last_suite s)
+unreached_parts (pass p) = refl
+unreached_parts (breaks p) = refl
+unreached_parts (continues p) = refl
+unreached_parts (returns p value) = refl
+unreached_parts (asserts p condition message) = refl
+unreached_parts (annotated p n annotation value) = refl
+unreached_parts (assigns p target value) = refl
+unreached_parts (evaluates p value) = refl
+unreached_parts (while_loop p condition body) = refl
+unreached_parts (for_loop p n iterable body) = refl
+unreached_parts (conditional p bs otherwise) = refl

@@ -18,8 +18,7 @@ ghost use Rattle.pc_scope.specs.Tables.{meaning_by_tables};
 
 use pc_scope::{Owner, Res, Scopes, is_instance_test};
 use pc_source::OutOfMemory;
-use pc_stop::{find, find_if};
-use pc_tree::{Code, Entry, Expr, Findings, KeywordArgument};
+use pc_tree::{Code, Entry, Expr, Findings, KeywordArgument, find, find_if};
 
 /// What a walk over the parts of an expression seeks.
 #[derive(Clone, Copy, PartialEq, Eq, Debug)]

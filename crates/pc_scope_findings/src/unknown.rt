@@ -20,8 +20,7 @@ use crate::completion::completes;
 use crate::parts::{Sought, seek};
 use pc_scope::{Owner, Scopes};
 use pc_source::OutOfMemory;
-use pc_stop::find;
-use pc_tree::{Branch, Code, Expr, Findings, Item, ItemKind, Member, Stmt, StmtKind, Target};
+use pc_tree::{Branch, Code, Expr, Findings, Item, ItemKind, Member, Stmt, StmtKind, Target, find};
 
 /// Adds the names in an expression that mean nothing to its owner. Own rule of the profile.
 fn find_unknown(

@@ -13,8 +13,7 @@ ghost use Rattle.pc_scope_findings.specs.Unreached.{unreached_places, unreached_
 
 use crate::completion::completes;
 use pc_source::OutOfMemory;
-use pc_stop::find;
-use pc_tree::{Branch, Code, Findings, Item, ItemKind, Member, Stmt, StmtKind};
+use pc_tree::{Branch, Code, Findings, Item, ItemKind, Member, Stmt, StmtKind, find};
 
 /// Finds the first statement after one that cannot complete, in a suite and in the suites that are reached in it. Own
 /// rule of the profile.
@@ -40,22 +39,9 @@ fn find_unreached_in(found: &mut Findings, kind: &StmtKind) -> Result<(), OutOfM
     ensures { (p : PlaceOf) → OnOk result
         (found.new.items ≡ found.old.items ++ at_code E30 (unreached_in (stmt_of_kind p kind.now))) }
 {
-    match kind {
-        StmtKind::Pass => Ok(()),
-        StmtKind::Break => Ok(()),
-        StmtKind::Continue => Ok(()),
-        StmtKind::Return(_) => Ok(()),
-        StmtKind::Assert(_, _) => Ok(()),
-        StmtKind::Annotated(_, _, _) => Ok(()),
-        StmtKind::Assign(_, _) => Ok(()),
-        StmtKind::Expr(_) => Ok(()),
-        StmtKind::While(_, body) => find_unreached(found, body),
-        StmtKind::For(_, _, body) => find_unreached(found, body),
-        StmtKind::If(branches, otherwise) => {
-            find_unreached_among(found, branches)?;
-            find_unreached(found, otherwise)
-        }
-    }
+    let (branches, last) = kind.suites();
+    find_unreached_among(found, branches)?;
+    find_unreached(found, last)
 }
 
 /// Finds those in the suites of conditions.

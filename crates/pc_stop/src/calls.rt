@@ -11,12 +11,11 @@ ghost use Rattle.pc_tree.specs.Stopping.{given_in_keywords, given_in_optional, g
 ghost use Rattle.pc_tree.specs.Stopping.{given_in_stmts, given_in_branches};
 ghost use Rattle.pc_tree.specs.Code.{at_code};
 
-use crate::found::find_if;
 use indexmap::IndexSet;
 use pc_source::OutOfMemory;
 use pc_tree::{
     Branch, Code, Entry, Expr, Findings, Item, ItemKind, KeywordArgument, Stmt, StmtKind, Target,
-    put,
+    find_if, put,
 };
 use std::alloc::Global as Allocator;
 use std::hash::RandomState;

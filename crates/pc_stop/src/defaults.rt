@@ -5,9 +5,8 @@ ghost use Rattle.pc_tree.specs.Tree.{param_of};
 ghost use Rattle.pc_tree.specs.Stopping.{late_plain};
 ghost use Rattle.pc_tree.specs.Code.{at_code};
 
-use crate::found::find_if;
 use pc_source::OutOfMemory;
-use pc_tree::{Code, Findings, Param};
+use pc_tree::{Code, Findings, Param, find_if};
 
 /// Finds the parameters without default that stand after one with default.
 pub fn find_late_plain(found: &mut Findings, params: &[Param]) -> Result<(), OutOfMemory>

@@ -5,9 +5,8 @@ ghost use Rattle.pc_tree.specs.Tree.{item_of, module_of};
 ghost use Rattle.pc_tree.specs.Stopping.{is_plain_def, no_main};
 ghost use Rattle.pc_tree.specs.Code.{at_code};
 
-use crate::found::find_if;
 use pc_source::OutOfMemory;
-use pc_tree::{Code, Findings, Item, ItemKind, Module};
+use pc_tree::{Code, Findings, Item, ItemKind, Module, find_if};
 
 /// The first item that is named `main` is a function without parameters.
 fn has_main(items: &[Item]) -> bool

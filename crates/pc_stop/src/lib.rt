@@ -5,7 +5,6 @@ mod calls;
 mod defaults;
 mod defs;
 mod entry;
-mod found;
 mod holdings;
 mod loops;
 mod members;
@@ -15,6 +14,5 @@ mod stopping;
 mod tables;
 mod twice;
 
-pub use found::{find, find_if};
 pub use members::find_in_classes;
 pub use stopping::{find_in_scopes, stops};

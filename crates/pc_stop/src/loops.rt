@@ -6,9 +6,8 @@ ghost use Rattle.pc_tree.specs.Lists.{branches_of_list};
 ghost use Rattle.pc_tree.specs.Stopping.{loose_in, loose_in_stmt, loose_in_branches};
 ghost use Rattle.pc_tree.specs.Code.{at_code};
 
-use crate::found::find;
 use pc_source::{OutOfMemory, Place};
-use pc_tree::{Branch, Code, Findings, Stmt, StmtKind};
+use pc_tree::{Branch, Code, Findings, Stmt, StmtKind, find};
 
 /// Finds each `break` and `continue` of statements that is outside a loop.
 #[cycle(loose)]

@@ -10,13 +10,12 @@ ghost use Rattle.pc_tree.specs.Code.{at_code};
 ghost use Rattle.pc_stop.specs.Holdings.{HasIn, IsReady, Keeps};
 ghost use Rattle.pc_stop.specs.Members.{clashes_with, held_unless, base_at, Stands, IsTableOf};
 
-use crate::found::find_if;
 use crate::holdings::{DIGITS, EMPTY, Holding, Holdings};
 use crate::reserved::has_reserved_name;
 use indexmap::{IndexMap, IndexSet};
 use pc_source::OutOfMemory;
 use pc_tree::{
-    Code, Findings, Item, ItemKind, Member, Module, Name, NameMap, NameSet, bind_first,
+    Code, Findings, Item, ItemKind, Member, Module, Name, NameMap, NameSet, bind_first, find_if,
     is_reserved, put,
 };
 use std::alloc::Global as Allocator;

@@ -9,10 +9,11 @@ ghost use Rattle.pc_tree.specs.Stopping.{name_of_item, reserved_among, reserved_
 ghost use Rattle.pc_tree.specs.Stopping.{reserved_in_def, is_reserved_member};
 ghost use Rattle.pc_tree.specs.Code.{at_code};
 
-use crate::found::find_if;
 use crate::names::{add_params, names_of};
 use pc_source::OutOfMemory;
-use pc_tree::{Code, Findings, FuncDef, Item, ItemKind, Member, Name, add_bound, is_reserved};
+use pc_tree::{
+    Code, Findings, FuncDef, Item, ItemKind, Member, Name, add_bound, find_if, is_reserved,
+};
 use std::alloc::Global as Allocator;
 
 /// Finds the reserved ones among names that are bound.

@@ -8,11 +8,10 @@ ghost use Rattle.pc_tree.specs.Stopping.{is_among, one_if, bound_again, name_of_
 ghost use Rattle.pc_tree.specs.Code.{at_code};
 ghost use Rattle.pc_tree.specs.Names.{texts_in};
 
-use crate::found::find_if;
 use crate::names::{add_params, names_of};
 use indexmap::IndexSet;
 use pc_source::OutOfMemory;
-use pc_tree::{Code, Findings, Item, Name, NameSet, Param, is_reserved, put};
+use pc_tree::{Code, Findings, Item, Name, NameSet, Param, find_if, is_reserved, put};
 use std::alloc::Global as Allocator;
 use std::hash::RandomState;
 

@@ -4,14 +4,15 @@ use Rattle.pc_source.specs.declared.place.Place.{Place}
 use Rattle.pc_tree.specs.declared.code.Code.TheVariants.{E30}
 use Rattle.pc_tree.specs.declared.code.Finding.{Finding}
 use Rattle.pc_tree.specs.declared.tree.Branch.{out-Branch}
-use Rattle.pc_tree.specs.Tree.{stmts_of_list, stmt_of, Stmt, Stmts, Branches}
+use Rattle.pc_tree.specs.Tree.{stmts_of_list, stmt_of, stmt_of_kind, Stmts, Branches}
 use Rattle.pc_tree.specs.Lists.{branches_of_list}
-use Rattle.pc_tree.proofs.Trees.{while_tree, for_tree, if_tree, branches_next, stmts_next}
+use Rattle.pc_tree.specs.Suites.{branches_of_stmt, last_suite}
+use Rattle.pc_tree.proofs.Trees.{branches_next, stmts_next}
 use Rattle.pc_tree.specs.Code.{at_code}
 use Rattle.pc_scope.specs.Reach.{completes}
 use Rattle.pc_scope_findings.specs.Unreached.{first_places, unreached_places, unreached_in, unreached_in_branches}
 use Rattle.pc_tree.proofs.Joints.{joined}
-use Rattle.pc_scope_findings.proofs.Reached.{behind, first_is}
+use Rattle.pc_scope_findings.proofs.Reached.{behind, first_is, unreached_parts}
 use Rattle.pc_scope_findings.proofs.unreached.+unreached.Goals as goal
 
 pub find_unreached-loop-statement-preserved : goal.find_unreached-loop-statement-preserved
@@ -44,32 +45,19 @@ find_unreached-returns-then-not-reached t c =
     ∙ c.loop-statement.invariant in
     subst (λ (fs : List Finding). OnOk c.find.result (c.find.new.found.items ≡ fs)) e c.find.ensures
 
-pub find_unreached_in-returns-in-While : goal.find_unreached_in-returns-in-While
-find_unreached_in-returns-in-While t c p = rw c.in-While.is
-    (subst (λ (s : Stmt). OnOk c.find_unreached.result (c.find_unreached.new.found.items ≡ c.args.found.now.items
-    ++ at_code E30 (unreached_in s))) (sym (while_tree p c.in-While.field-0 c.in-While.body))
-    (rw c.deref.ensures.value at c.find_unreached.ensures))
-
-pub find_unreached_in-returns-in-For : goal.find_unreached_in-returns-in-For
-find_unreached_in-returns-in-For t c p =
-    rw c.in-For.is (subst (λ (s : Stmt). OnOk c.find_unreached-in-For.result
-    (c.find_unreached-in-For.new.found.items ≡ c.args.found.now.items ++ at_code E30 (unreached_in s)))
-    (sym (for_tree p c.in-For.field-0 c.in-For.field-1 c.in-For.body))
-    (rw c.deref-in-For.ensures.value at c.find_unreached-in-For.ensures))
-
-pub
-    find_unreached_in-returns-in_ok-find_unreached_among-in-If : goal.find_unreached_in-returns-in_ok-find_unreached_among-in-If
-find_unreached_in-returns-in_ok-find_unreached_among-in-If t c p =
-    let first = unreached_in_branches (branches_of_list c.in-If.branches.items) in
-    let second = unreached_places (stmts_of_list c.in-If.otherwise.items) in
-    let e = ap (λ (fs : List Finding). fs ++ at_code E30 second)
-    (rw c.deref-in-If.ensures.value at c.in_ok-find_unreached_among-in-If.ensures)
-    ∙ joined E30 c.args.found.now.items first second in
-    rw c.in-If.is (subst (λ (s : Stmt). OnOk c.find_unreached-in-If.result
-    (c.find_unreached-in-If.new.found.items ≡ c.args.found.now.items ++ at_code E30 (unreached_in s)))
-    (sym (if_tree p c.in-If.branches c.in-If.otherwise))
-    (subst (λ (fs : List Finding). OnOk c.find_unreached-in-If.result (c.find_unreached-in-If.new.found.items ≡ fs)) e
-    (rw c.deref-in-If-2.ensures.value at c.find_unreached-in-If.ensures)))
+pub find_unreached_in-returns : goal.find_unreached_in-returns
+find_unreached_in-returns t c p =
+    let s = stmt_of_kind p c.args.kind.now in
+    let front = c.args.found.now.items in
+    let second = c.find_unreached_among.new.found.items in
+    let e = ap (λ (b : Stmts). second ++ at_code E30 (unreached_places b)) (c.suites.ensures.last p)
+    ∙ ap (λ (fs : List Finding). fs ++ at_code E30 (unreached_places (last_suite s)))
+    (c.in_ok-find_unreached_among.ensures
+    ∙ ap (λ (b : Branches). front ++ at_code E30 (unreached_in_branches b)) (c.suites.ensures.branches p))
+    ∙ joined E30 front (unreached_in_branches (branches_of_stmt s)) (unreached_places (last_suite s))
+    ∙ ap (λ (ps : List Place). front ++ at_code E30 ps) (sym (unreached_parts s)) in
+    subst (λ (fs : List Finding). OnOk c.find_unreached.result (c.find_unreached.new.found.items ≡ fs)) e
+    c.find_unreached.ensures
 
 pub find_unreached_among-loop-branch-preserved : goal.find_unreached_among-loop-branch-preserved
 find_unreached_among-loop-branch-preserved t c =
