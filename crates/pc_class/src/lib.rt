@@ -21,4 +21,5 @@ pub use laws::{
 };
 pub use overriding::override_findings;
 pub use pc_ann::bases_stand_before;
+pub use reading::read_param;
 pub use table::{ClassTable, Field, Method, Parameter};

@@ -1,9 +1,11 @@
-//! The types of members, as their annotations say. What is found in the annotations belongs to the signatures and is
-//! not asked for here.
+//! Parameters of functions and methods with what is found in their annotations; and members, of the types that theirs
+//! say. What is found in the annotations of members belongs to the signatures and is not asked for here.
 
-ghost use Rattle.std.specs.Prelude.{◌≡◌, map, All, IfOk};
+ghost use Rattle.std.specs.Prelude.{◌≡◌, ◌++◌, map, All, IfOk, OnOk};
 ghost use Rattle.pc_tree.specs.Tree.{param_of, func_of, field_of};
 ghost use Rattle.pc_types.specs.Store.{KeepsTypes};
+ghost use Rattle.pc_ann.specs.Bases.{bases_of};
+ghost use Rattle.pc_ann.specs.Listed.{option_findings};
 ghost use Rattle.pc_class.specs.Facts.{typed_parameter, parameters_of, method_made};
 ghost use Rattle.pc_class.specs.Entries.{parameter_made};
 ghost use Rattle.pc_ann.specs.ModuleOutlines.{IsModuleOutline, module_in};
@@ -12,25 +14,32 @@ ghost use Rattle.pc_class.specs.Tables.{HasParameter, HasMethod, parameter_with,
 use crate::table::{Method, Parameter};
 use pc_ann::{ModuleOutline, read_ann, read_option};
 use pc_source::OutOfMemory;
-use pc_tree::{Field, FuncDef, Param};
+use pc_tree::{Field, Findings, FuncDef, Param};
 use pc_types::TypeStore;
 use std::alloc::Global;
 
-/// A parameter with the type that its annotation says, `Any` without one. Typing specification, "Type annotations".
-fn read_param<S: TypeStore>(
-    outline: &ModuleOutline,
+/// A parameter of a function or a method, with the type that its annotation says, `Any` without one; what is found in
+/// the annotation is appended to `found`: E09, E10 and E26. Typing specification, "Type annotations".
+///
+/// # Errors
+///
+/// `OutOfMemory` only when an allocation failed.
+pub fn read_param<S: TypeStore>(
     store: &mut S,
     alloc: Global,
+    outline: &ModuleOutline,
+    found: &mut Findings,
     param: &Param,
 ) -> Result<Parameter<S::Ty>, OutOfMemory>
     requires { IsModuleOutline outline.now }
     ensures given { IfOk result (λ p. HasParameter (S.has store.new) p) }
     ensures means { IfOk result
         (λ p. parameter_with S.tree p ≡ typed_parameter (module_in outline.now) (param_of param.now)) }
+    ensures found { OnOk result (found.new.items ≡ found.old.items
+        ++ option_findings (module_in outline.now) (bases_of (module_in outline.now)) (param_of param.now).annotation) }
     ensures kept { KeepsTypes S.has store.old store.new }
 {
-    let mut aside = Vec::new(alloc);
-    let ty = read_option(store, alloc, outline, &mut aside, &param.annotation)?;
+    let ty = read_option(store, alloc, outline, found, &param.annotation)?;
     let name = String::from_str(alloc, param.name.text.as_str())?;
     Ok(Parameter {
         name,
@@ -53,8 +62,9 @@ fn read_params<S: TypeStore>(
     ensures kept { KeepsTypes S.has store.old store.new }
 {
     let mut all = Vec::new(alloc);
+    let mut aside = Vec::new(alloc);
     for param in params {
-        let parameter = read_param(outline, store, alloc, param)?;
+        let parameter = read_param(store, alloc, outline, &mut aside, param)?;
         all.push(parameter)?;
     }
     Ok(all)

@@ -23,7 +23,7 @@ use crate::bound::{Texts, bind};
 use crate::defaults::{binds, find_default};
 use indexmap::IndexSet;
 use pc_ann::ModuleOutline;
-use pc_class::Parameter;
+use pc_class::{Parameter, read_param};
 use pc_rules::{Checker, Signature};
 use pc_source::OutOfMemory;
 use pc_tree::{Ann, FuncDef, Item, ItemKind, Param};
@@ -71,7 +71,7 @@ pub(crate) fn read_optional<S: TypeStore>(
 }
 
 /// A parameter with its type, after names that are bound already; what is found in its annotation and at its default.
-fn read_param<S: TypeStore>(
+fn check_param<S: TypeStore>(
     checker: &mut Checker<'_, S>,
     outline: &ModuleOutline,
     bound: &Texts,
@@ -85,15 +85,18 @@ fn read_param<S: TypeStore>(
         (param_findings (module_in outline.now) (bound_in bound.now) (param_of param.now))) }
     ensures goes_on { GoesOn S.TypeStore checker.old checker.new }
 {
-    let name = param.name.text.as_str();
-    let ty = read_optional(checker, outline, &param.annotation)?;
-    let binds = binds(bound, name);
-    find_default(checker, outline.parents, binds, &param.default, &ty)?;
-    Ok(Parameter {
-        name: String::from_str(checker.alloc, name)?,
-        ty,
-        has_default: param.default.is_some(),
-    })
+    let mut in_it = Vec::new(checker.alloc);
+    let parameter = read_param(checker.store, checker.alloc, outline, &mut in_it, param)?;
+    checker.found.put_all(&in_it)?;
+    let binds = binds(bound, param.name.text.as_str());
+    find_default(
+        checker,
+        outline.parents,
+        binds,
+        &param.default,
+        &parameter.ty,
+    )?;
+    Ok(parameter)
 }
 
 /// Parameters with their types, after names that are bound already; what is found in their annotations and at their
@@ -114,7 +117,7 @@ fn read_params<S: TypeStore>(
 {
     let mut all = Vec::new(checker.alloc);
     for param in params {
-        let one = read_param(checker, outline, bound, param)?;
+        let one = check_param(checker, outline, bound, param)?;
         all.push(one)?;
         bind(bound, checker.alloc, param.name.text.as_str())?;
     }

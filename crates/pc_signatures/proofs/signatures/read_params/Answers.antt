@@ -23,17 +23,17 @@ loop-param-preserved g c =
     let is = c.param-item.is in
     let one = c.in_ok-one.ensures.typed in
     record {
-      given = held_push (HasParameter (has c.read_param.new.checker.store.now)) c.loop-param.all.items
+      given = held_push (HasParameter (has c.check_param.new.checker.store.now)) c.loop-param.all.items
           c.push.new.self.items c.in_ok-one.one (params_kept has c.loop-param.checker.store.now
-          c.read_param.new.checker.store.now c.read_param.ensures.goes_on.kept c.loop-param.all.items v.given) one.given
+          c.check_param.new.checker.store.now c.check_param.ensures.goes_on.kept c.loop-param.all.items v.given) one.given
           c.in_ok-push.ensures.items;
       are = stepped (parameters_with tree c.loop-param.all.items) (parameters_with tree c.push.new.self.items) _ _ _ _
           v.are (params_apart m ps i x less is)
           (pushed_one (parameter_with tree) c.loop-param.all.items c.push.new.self.items c.in_ok-one.one
           (typed_parameter m (param_of x)) c.in_ok-push.ensures.items one.is);
-      found = stepped (notes_of c.loop-param.checker.found.now) (notes_of c.read_param.new.checker.found.now) _ _ _ _
+      found = stepped (notes_of c.loop-param.checker.found.now) (notes_of c.check_param.new.checker.found.now) _ _ _ _
           v.found (params_found m (bound_in c.loop-param.bound) (bound_in c.bind.new.bound) ps i x less is
           (c.in_ok-bind.ensures ∙ ap (with_name (bound_in c.loop-param.bound)) c.as_str.ensures.value))
           c.in_ok-one.ensures.found;
-      goes_on = goes_further v.goes_on c.read_param.ensures.goes_on;
+      goes_on = goes_further v.goes_on c.check_param.ensures.goes_on;
     }
