@@ -22,7 +22,7 @@ from dataclasses import dataclass
 from typing import Any
 ";
 
-/// What stands last in it.
+/// What stands last in each module of a table.
 const TAIL: &str = "def main():\n    pass\nmain()\n";
 
 /// The names of the classes of a module, by their numbers.

@@ -86,7 +86,7 @@ fn assigned(row: &Environment, alloc: Global, def: &FuncDef) -> Result<Env<BoxTy
     Ok(env)
 }
 
-/// The declared types of the locals: of those that have an annotation.
+/// The declared types of the locals that have an annotation.
 fn declared_types(row: &Environment, alloc: Global) -> Result<DeclaredTypes<BoxType>, Fault>
     requires { AreScopes (module_in row.now.outline.now) row.now.outline.now.scopes.now }
     ensures { IfOk result (λ d. HasEach IsGiven d) }
@@ -195,7 +195,7 @@ fn found_in(words: &str) -> Option<Code> {
     }
 }
 
-/// The type of the first local after its type on the one way is assigned to it, of its declared type.
+/// The type of the first local, which is declared, after the type that it has on the one way is assigned to it.
 fn assigned_text(
     row: &Environment,
     alloc: Global,

@@ -8,8 +8,8 @@ use pc_stop::{find_in_classes, find_in_scopes, stops};
 use pc_tree::{Findings, FuncDef, ItemKind, Module, Name, add_bound, fixed_keys};
 use std::alloc::{AllocError, Global};
 
-/// What a layer finds in a module, which the part of the table names: of its names and of the places of its statements
-/// (`FINDINGS`), what stops its runs (`STOPS`), of this what is a condition on names (`IN_SCOPES`), or on members.
+/// What a layer finds in a module, which the part of the table names: faults of names and of the places of statements
+/// (`FINDINGS`), what stops its runs (`STOPS`), or of that only what goes by names (`IN_SCOPES`) or by members.
 fn found_in(alloc: Global, part: &str, module: &Module) -> Result<Findings, OutOfMemory> {
     let mut found = Vec::new(alloc);
     match part {

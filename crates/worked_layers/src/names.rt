@@ -46,7 +46,7 @@ fn bound(alloc: Global, words: &str) -> Result<String, Fault> {
     Ok(text)
 }
 
-/// Of each word whether it was in a set of the words before it.
+/// Whether each word was in a set of the words before it.
 fn repeated(alloc: Global, words: &str) -> Result<String, Fault> {
     let mut set = IndexSet::with_hasher(alloc, fixed_keys()?);
     let mut text = String::new(alloc);
@@ -57,7 +57,7 @@ fn repeated(alloc: Global, words: &str) -> Result<String, Fault> {
     Ok(text)
 }
 
-/// Of each word whether it is reserved.
+/// Whether each word is reserved.
 fn reserved(alloc: Global, words: &str) -> Result<String, AllocError> {
     let mut text = String::new(alloc);
     for word in words.split(' ') {

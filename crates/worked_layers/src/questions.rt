@@ -16,17 +16,17 @@ use std::alloc::Global;
 pub enum Question {
     /// Whether the first is static to the second, and whether it is assignable to it.
     Flow,
-    /// Their join.
+    /// The join of the two types.
     Join,
-    /// How many nodes it has.
+    /// How many nodes the first type has.
     Nodes,
-    /// Its parts, at once and one by one.
+    /// The parts of the first type, at once and one by one.
     Parts,
-    /// Its members.
+    /// The members of the first type.
     Members,
-    /// The type again.
+    /// A copy of the first type.
     Copy,
-    /// The type again, when boxes have taken it and given it back.
+    /// The first type, when boxes have taken it and given it back.
     Taken,
     /// The type that a maker makes.
     Made,

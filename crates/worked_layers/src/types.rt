@@ -55,7 +55,7 @@ fn row_of(line: &str) -> Option<Row<'_>> {
     })
 }
 
-/// Adds a constant to a module that is annotated with a type; that without an annotation stands for `Never`.
+/// Adds a constant, annotated with a type, to a module; one without an annotation stands for `Never`.
 fn add_constant(text: &mut String, name: &str, ty: &str) -> Result<(), AllocError> {
     if ty == "Never" {
         write!(text, "{name} = 1\n")

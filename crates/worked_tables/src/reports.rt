@@ -17,7 +17,7 @@ const CODES: [Code; 7] = [
     Code::E29,
 ];
 
-/// The code that is written so.
+/// The code that is written as this word.
 fn code_of(word: &str) -> Option<Code> {
     for code in CODES {
         if code.text() == word {
@@ -27,7 +27,7 @@ fn code_of(word: &str) -> Option<Code> {
     None
 }
 
-/// The finding that a row writes so, `58 65 E13`.
+/// The finding that a row writes as `58 65 E13`.
 fn finding_of(words: &str) -> Option<Finding> {
     let (start, rest) = words.split_once(' ')?;
     let (end, code) = rest.split_once(' ')?;

@@ -24,7 +24,7 @@ fn spelled(alloc: Global, bytes: &[u8]) -> Result<String, AllocError> {
     Ok(text)
 }
 
-/// What comes of so many random bytes, or of the text that they spell, as the name of the part says.
+/// What comes of this many random bytes, or of the text that they spell, as the name of the part says.
 pub fn random_text(alloc: Global, name: &str, count: &str) -> Result<String, Fault> {
     let count = count.parse().unwrap_or(0);
     let bytes = random_bytes(alloc, count)?;
