@@ -65,9 +65,11 @@ class Gate(RoomCase):
         self.assertEqual(self.last_lines(done, 1), [f"FAILED: {steps}"])
 
     def test_it_passes(self) -> None:
+        self.put_step("tools/check_edits", f"cat \"$@\" >'{self.room}/log'")
         done = self.gate()
         self.assertEqual((done.returncode, done.stdout), (0, "75 passed, 0 failed\n"), done.stderr)
         self.assertEqual(self.last_lines(done, 1), ["1 passed, 0 failed"])
+        self.assertEqual((self.room / "log").read_text(encoding="utf-8"), "75 passed, 0 failed\n")
 
     def test_a_shipped_byte_that_was_not_built_fails(self) -> None:
         program = bytearray(self.shipped("pyrun"))
