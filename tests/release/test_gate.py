@@ -68,7 +68,9 @@ class Gate(RoomCase):
         self.put_step("tools/check_edits", f"cat \"$@\" >'{self.room}/log'")
         done = self.gate()
         self.assertEqual((done.returncode, done.stdout), (0, "75 passed, 0 failed\n"), done.stderr)
-        self.assertEqual(self.last_lines(done, 1), ["1 passed, 0 failed"])
+        said, seconds = self.last_lines(done, 2)
+        self.assertEqual(said, "1 passed, 0 failed")
+        self.assertRegex(seconds, r"^seconds: proofs \d+ definitions \d+ edits \d+ .* server \d+ editors \d+$")
         self.assertEqual((self.room / "log").read_text(encoding="utf-8"), "75 passed, 0 failed\n")
 
     def test_a_shipped_byte_that_was_not_built_fails(self) -> None:
@@ -136,7 +138,7 @@ class Gate(RoomCase):
         for words in ([], ["../log"]):
             done = self.gate("--steps", *words)
             self.assertEqual((done.returncode, done.stdout), (0, ""), done.stderr)
-            self.assertEqual(self.last_lines(done, 1), ["1 passed, 0 failed"])
+            self.assertRegex(self.last_lines(done, 1)[0], r"^seconds: programs \d+ definitions \d+ .* editors \d+$")
         asked = (self.room / "asked").read_text(encoding="utf-8").splitlines()
         self.assertEqual(asked, ["0", f"1{(self.room / 'log').resolve()}"])
         self.assertFalse((self.room / "proved").exists())
