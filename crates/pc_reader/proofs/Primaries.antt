@@ -1,6 +1,6 @@
 -- Operands without a sign, and what goes on with them.
 use Rattle.std.proofs.Common.{◌≡◌, ℕ, ◌≤◌, ◌<◌, ◌⊎◌, inl, inr, false, List, [], ◌∷◌, ◌++◌, Option, Result, refl, arith}
-use Rattle.std.proofs.Common.{ap, sym, ◌∙◌, subst}
+use Rattle.std.proofs.Common.{ap, sym, ◌∙◌, subst, Ok, Err}
 use Rattle.std.specs.Iterator.{Count}
 use Rattle.pc_source.specs.declared.fault.Fault.{Fault}
 use Rattle.pc_token.specs.declared.token.Token.{Token}
@@ -18,12 +18,14 @@ use Rattle.pc_reader.specs.declared.reader.Reader.{Reader}
 use Rattle.pc_reader.specs.declared.operand.Operand.{Operand}
 use Rattle.pc_reader.specs.Internal.Operands.{KeepsPart, Builds, signs_on, starts_of}
 use Rattle.pc_reader.specs.Reading.{lexeme, IsAhead, Came, Takes}
-use Rattle.pc_reader.specs.Internal.Expressions.{Gives, GivesOn, NextIs, Undotted, IsPrimary, wrapped_level}
+use Rattle.pc_reader.specs.Internal.Expressions.{Gives, GivesOn, NextIs, Undotted, IsPrimary, ReadsOperand}
+use Rattle.pc_reader.specs.Internal.Expressions.{wrapped_level}
 use Rattle.pc_reader.proofs.Building.{first_more, starts_more, ends_more, ends_one}
 use Rattle.pc_reader.proofs.Frames.{tight}
 use Rattle.pc_reader.proofs.Joining.{low_undotted}
 use Rattle.pc_reader.proofs.Signs.{signs_rank_is}
 use Rattle.pc_reader.proofs.Steps.{step_to}
+use Rattle.pc_reader.proofs.Streams.{blame}
 
 -- after all minus signs no further one stands, and no `not` either
 pub behind_signs : {X I : Type 0} (a b : Reader X I) (starts : List ℕ) (ts : List Lexeme) (s : Stack) (level : ℕ)
@@ -114,3 +116,19 @@ module _ {X I : Type 0} (text : X → List ℕ) (steps : I → Option (Result (T
         (at (have z (part (λ z. index z v.part.tree q.part.tree)
         ((v.part.tokens ++ (lexeme text t ∷ [])) ++ (q.part.tokens ++ (lexeme text u ∷ [])))) s)) x) lv y))));
   }
+
+  -- an operand without a sign is one that binds as tightly as is due
+  pub unsigned_reads : (a b : Reader X I) (r : Result Operand Fault) (level : ℕ) → level ≤ 6
+      → ((s : Stack) → rank s ≡ level → IsPrimary a s)
+      → ReadsOperand text steps can left (λ s. IsPrimary a s) 7 a b r
+      → ReadsOperand text steps can left (λ s. rank s ≡ level) level a b r
+  unsigned_reads a b (Ok o) level l f h = record {
+    part = h.part;
+    keeps = h.keeps;
+    low = omega (arith, l, h.low);
+    ready = h.ready;
+    later = h.later;
+    begins = h.begins;
+    leads = λ s r. h.leads s (f s r);
+  }
+  unsigned_reads a b (Err e) level l f h = blame (λ o w. λ s r. w s (f s r)) h

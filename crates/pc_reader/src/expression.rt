@@ -109,9 +109,28 @@ impl<X: AsStr + Drop, I: Iterator<Item = Result<Token<X>, Fault>> + Drop> Reader
         Ok(left)
     }
 
-    /// An operand with the signs before it.
+    /// An operand with the signs before it. Most operands have none.
     #[cycle(expressions)]
     fn prefixed(&mut self, alloc: Global, level: u8) -> Result<Operand, Fault>
+        requires ready { IsReady I.can_next I.remaining self.old }
+        requires level { level ≤ 6 }
+        ensures reads { ReadsOperand X.text I.next_gives I.can_next I.remaining
+            (λ s. rank s ≡ level) level self.old self.new result }
+        ensures undotted { IfOk result (λ o. NextIs (Undotted o.level) self.new.ahead) }
+    {
+        if self.sees(TokenKind::Operator(Operator::Minus)) {
+            return self.signed(alloc, level);
+        }
+        if level <= 2 && self.sees(TokenKind::Keyword(Keyword::Not)) {
+            return self.signed(alloc, level);
+        }
+        self.postfix(alloc)
+    }
+
+    /// The signs that stand before an operand, and the operand.
+    #[cycle(expressions)]
+    #[inline(never)]
+    fn signed(&mut self, alloc: Global, level: u8) -> Result<Operand, Fault>
         requires ready { IsReady I.can_next I.remaining self.old }
         requires level { level ≤ 6 }
         ensures reads { ReadsOperand X.text I.next_gives I.can_next I.remaining

@@ -26,13 +26,16 @@ use Rattle.pc_reader.proofs.Naming.{needs_name, keyword_begins, keyword_stuck, n
 use Rattle.pc_reader.proofs.Naming.{argument_last, arguments_end, name_read, names_more}
 use Rattle.pc_reader.proofs.Pairing.{key_read, value_due, value_read, entry_more, entry_last, entries_end}
 use Rattle.pc_reader.proofs.Primaries.{behind_signs, minus_undotted, dot_turn, call_turn, index_turn, goes_on, index_on}
+use Rattle.pc_reader.proofs.Primaries.{unsigned_reads}
 use Rattle.pc_reader.proofs.Signs.{signs_rank_is, sign_turn, applied_tokens, minus_high}
 use Rattle.pc_reader.proofs.Steps.{same_place, step_to, needs, kind_seen, not_seen, on_result}
 use Rattle.pc_reader.proofs.Streams.{blame}
 use Rattle.pc_reader.proofs.Values.{on_level}
 use Rattle.pc_reader.proofs.reader.Reader.+expressions.Goals as goal
-use Rattle.pc_reader.proofs.reader.Reader.+expressions.Goals.{prefixed-else-level-le2-via-then-level-le2+else-sees}
+use Rattle.pc_reader.proofs.reader.Reader.+expressions.Goals.{prefixed-else-level-le2-via-then-level-le2+else-sees-2}
 use Rattle.pc_reader.proofs.reader.Reader.+expressions.Goals.{prefixed-else-level-le2-via-else-level-le2}
+use Rattle.pc_reader.proofs.reader.Reader.+expressions.Goals.{signed-else-level-le2-via-then-level-le2+else-sees}
+use Rattle.pc_reader.proofs.reader.Reader.+expressions.Goals.{signed-else-level-le2-via-else-level-le2}
 
 pub atom-returns-in_err-items-clause-reads : goal.atom-returns-in_err-items-clause-reads
 atom-returns-in_err-items-clause-reads g t c = let p = err_from_is_err_and c.from_residual-in_err-items.result
@@ -916,8 +919,19 @@ postfix-loop-self-preserved g t c = let v = c.loop-self.invariant.gives in
       level_is = c.in_ok-operand-4.ensures.level_is;
     }
 
-pub prefixed-returns-in_err-signs-clause-reads : goal.prefixed-returns-in_err-signs-clause-reads
-prefixed-returns-in_err-signs-clause-reads g t c = let p = err_from_is_err_and c.from_residual-in_err-signs.result
+pub prefixed-returns-clause-reads : goal.prefixed-returns-clause-reads
+prefixed-returns-clause-reads g t c = unsigned_reads g.X.AsStr.text g.I.Iterator.next_gives g.I.Iterator.can_next
+    g.I.Iterator.remaining c.args.self.now c.postfix.new.self c.postfix.result c.args.level c.requires.level
+    (λ s r. behind_signs c.args.self.now c.args.self.now [] [] s c.args.level refl (λ _. refl)
+    (sym c.sees.ensures ∙ c.if-sees.false) r (elim c.else-level-le2.branch [
+      | prefixed-else-level-le2-via-then-level-le2+else-sees-2 w ↦
+          inr (sym w.sees-then-level-le2.ensures ∙ w.if-sees-2.false)
+      | prefixed-else-level-le2-via-else-level-le2 w ↦
+          inl (omega (arith, w.if-level-le2.false))
+    ])) c.postfix.ensures.reads
+
+pub signed-returns-in_err-signs-clause-reads : goal.signed-returns-in_err-signs-clause-reads
+signed-returns-in_err-signs-clause-reads g t c = let p = err_from_is_err_and c.from_residual-in_err-signs.result
     c.from_residual-in_err-signs.ensures.1 in
     rw (p.1, p.2)
     (blame (λ o w. λ s r. step_to (operand s)
@@ -927,8 +941,8 @@ prefixed-returns-in_err-signs-clause-reads g t c = let p = err_from_is_err_and c
     (omega (arith, r))) o (w (applying denial ((lexeme g.X.AsStr.text c.in_ok-first.first) ∷ []) s) (omega arith)))
     c.in_err-signs.ensures.reads)
 
-pub prefixed-returns-in_err-operand-clause-reads : goal.prefixed-returns-in_err-operand-clause-reads
-prefixed-returns-in_err-operand-clause-reads g t c = let p = err_from_is_err_and c.from_residual-in_err-operand.result
+pub signed-returns-in_err-operand-clause-reads : goal.signed-returns-in_err-operand-clause-reads
+signed-returns-in_err-operand-clause-reads g t c = let p = err_from_is_err_and c.from_residual-in_err-operand.result
     c.from_residual-in_err-operand.ensures.1 in
     rw (p.1, p.2)
     (blame (λ o w. λ s r. step_to (operand s)
@@ -941,13 +955,13 @@ prefixed-returns-in_err-operand-clause-reads g t c = let p = err_from_is_err_and
     ((lexeme g.X.AsStr.text c.in_ok-first.first) ∷ []) s)) (signs_rank_is denial c.in_ok-signs.ensures.reads.tokens
     (applying denial ((lexeme g.X.AsStr.text c.in_ok-first.first) ∷ []) s) refl)))) c.in_err-operand.ensures.reads)
 
-pub prefixed-wrap-requires : goal.prefixed-wrap-requires
-prefixed-wrap-requires g t c = let q = c.in_ok-operand.ensures.reads in let k =
+pub signed-wrap-requires : goal.signed-wrap-requires
+signed-wrap-requires g t c = let q = c.in_ok-operand.ensures.reads in let k =
     (c.in_ok-inner.ensures c.in_ok-signs.ensures.reads.tokens q.part c.in_ok-signs.ensures.reads.starts q.keeps).0 in
     omega (arith, k.depth)
 
-pub prefixed-returns-then-sees-clause-reads : goal.prefixed-returns-then-sees-clause-reads
-prefixed-returns-then-sees-clause-reads g t c = let q = c.in_ok-operand.ensures.reads in let n =
+pub signed-returns-then-sees-clause-reads : goal.signed-returns-then-sees-clause-reads
+signed-returns-then-sees-clause-reads g t c = let q = c.in_ok-operand.ensures.reads in let n =
     (c.in_ok-inner.ensures c.in_ok-signs.ensures.reads.tokens q.part c.in_ok-signs.ensures.reads.starts q.keeps).0 in
     on_result c.wrap.result _ _ _ (λ o j. record {
       part = (applied_all denial ((lexeme g.X.AsStr.text c.in_ok-first.first) ∷ c.in_ok-signs.ensures.reads.tokens)
@@ -978,25 +992,25 @@ prefixed-returns-then-sees-clause-reads g t c = let q = c.in_ok-operand.ensures.
           c.in_ok-operand.ensures.reads.part) s)) o) j.0 x))));
     }) c.wrap.ensures
 
-pub prefixed-returns-then-sees-clause-undotted : goal.prefixed-returns-then-sees-clause-undotted
-prefixed-returns-then-sees-clause-undotted g t c = on_level c.wrap.result _ _
+pub signed-returns-then-sees-clause-undotted : goal.signed-returns-then-sees-clause-undotted
+signed-returns-then-sees-clause-undotted g t c = on_level c.wrap.result _ _
     (λ o j. low_undotted _ _ (omega (arith, j.0))) c.wrap.ensures
 
-pub prefixed-returns-in_err-operand-2-clause-reads : goal.prefixed-returns-in_err-operand-2-clause-reads
-prefixed-returns-in_err-operand-2-clause-reads g t c = let p =
+pub signed-returns-in_err-operand-2-clause-reads : goal.signed-returns-in_err-operand-2-clause-reads
+signed-returns-in_err-operand-2-clause-reads g t c = let p =
     err_from_is_err_and c.from_residual-in_err-operand-2.result c.from_residual-in_err-operand-2.ensures.1 in
     rw (p.1, p.2) (blame (λ o w. λ s r. let v = c.in_ok-signs-2.ensures.reads in
     v.leads s tt o (w (signs_on minus v.tokens s) (behind_signs c.args.self.now c.signs-2.new.self
     c.in_ok-signs-2.signs.items v.tokens s c.args.level v.starts v.same c.in_ok-signs-2.ensures.over r
     (elim c.else-level-le2.branch [
-      | prefixed-else-level-le2-via-then-level-le2+else-sees w ↦
+      | signed-else-level-le2-via-then-level-le2+else-sees w ↦
           inr (sym w.sees.ensures ∙ w.if-sees.false)
-      | prefixed-else-level-le2-via-else-level-le2 w ↦
+      | signed-else-level-le2-via-else-level-le2 w ↦
           inl (omega (arith, w.if-level-le2.false))
     ])))) c.in_err-operand-2.ensures.reads)
 
-pub prefixed-returns-clause-reads : goal.prefixed-returns-clause-reads
-prefixed-returns-clause-reads g t c = let v = c.in_ok-signs-2.ensures.reads in let q =
+pub signed-returns-clause-reads : goal.signed-returns-clause-reads
+signed-returns-clause-reads g t c = let v = c.in_ok-signs-2.ensures.reads in let q =
     c.in_ok-operand-2.ensures.reads in on_result c.wrap_all-2.result _ _ _
     (λ o j. let n = j v.tokens q.part v.starts q.keeps in record {
       part = applied_all minus v.tokens q.part;
@@ -1009,8 +1023,8 @@ prefixed-returns-clause-reads g t c = let v = c.in_ok-signs-2.ensures.reads in l
       leads = λ s r o x. v.leads s tt o (q.leads (signs_on minus v.tokens s)
           (behind_signs c.args.self.now c.signs-2.new.self c.in_ok-signs-2.signs.items v.tokens s c.args.level v.starts
           v.same c.in_ok-signs-2.ensures.over r (elim c.else-level-le2.branch [
-            | prefixed-else-level-le2-via-then-level-le2+else-sees w ↦ inr (sym w.sees.ensures ∙ w.if-sees.false)
-            | prefixed-else-level-le2-via-else-level-le2 w ↦ inl (omega (arith, w.if-level-le2.false))
+            | signed-else-level-le2-via-then-level-le2+else-sees w ↦ inr (sym w.sees.ensures ∙ w.if-sees.false)
+            | signed-else-level-le2-via-else-level-le2 w ↦ inl (omega (arith, w.if-level-le2.false))
           ])) o
           (signs_join g.X.AsStr.text g.I.Iterator.next_gives c.postfix.new.self minus v.tokens q.part s
           c.in_ok-operand-2.operand.level (omega (arith, q.low)) (λ u e k f h. over_any k)
@@ -1020,8 +1034,8 @@ prefixed-returns-clause-reads g t c = let v = c.in_ok-signs-2.ensures.reads in l
           (at (have z (applied_all minus v.tokens q.part) s)) o) n.1 x)));
     }) c.wrap_all-2.ensures
 
-pub prefixed-returns-clause-undotted : goal.prefixed-returns-clause-undotted
-prefixed-returns-clause-undotted g t c = let v = c.in_ok-signs-2.ensures.reads in let q =
+pub signed-returns-clause-undotted : goal.signed-returns-clause-undotted
+signed-returns-clause-undotted g t c = let v = c.in_ok-signs-2.ensures.reads in let q =
     c.in_ok-operand-2.ensures.reads in on_level c.wrap_all-2.result _ _
     (λ o j. subst (λ z. NextIs (Undotted z) c.postfix.new.self.ahead) (sym (j v.tokens q.part v.starts q.keeps).1)
     (minus_undotted c.postfix.new.self.ahead v.tokens c.in_ok-operand-2.operand.level

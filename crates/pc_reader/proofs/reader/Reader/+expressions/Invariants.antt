@@ -15,6 +15,9 @@ decreases-operators g l = 30 * left_in g.I.Iterator.remaining l.self.now + (10 -
 abbrev pub decreases-prefixed : goal.decreases-prefixed
 decreases-prefixed g l = 30 * left_in g.I.Iterator.remaining l.self.now + (10 - l.level) * 2 + 5
 
+abbrev pub decreases-signed : goal.decreases-signed
+decreases-signed g l = 30 * left_in g.I.Iterator.remaining l.self.now + (10 - l.level) * 2 + 4
+
 abbrev pub decreases-postfix : goal.decreases-postfix
 decreases-postfix g l = 30 * left_in g.I.Iterator.remaining l.self.now + 4
 
