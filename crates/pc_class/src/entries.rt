@@ -3,8 +3,7 @@
 
 ghost use Rattle.std.specs.Prelude.{◌≡◌, ◌++◌, [], map, OnOk, IfOk};
 ghost use Rattle.pc_tree.specs.declared.code.Code.TheVariants.{E06, E08};
-ghost use Rattle.pc_tree.specs.Tree.{name_of, member_of};
-ghost use Rattle.pc_tree.specs.Stopping.{name_of_member};
+ghost use Rattle.pc_tree.specs.Tree.{member_of};
 ghost use Rattle.pc_scope.specs.Reserved.{is_builtin_name};
 ghost use Rattle.pc_scope.specs.Resolution.{is_one_of};
 ghost use Rattle.pc_tree.specs.Code.{at_code};
@@ -12,11 +11,10 @@ ghost use Rattle.pc_scope.specs.Internal.WalkViews.{texts_in};
 ghost use Rattle.pc_class.specs.Entries.{HasMaps, inherited_in, member_binds, member_clashes, entry_of, entries_of};
 ghost use Rattle.pc_class.specs.Entries.{entry_seen, entry_default, clash_places, late_places, defaulted_in};
 
-use crate::found::find_if;
 use crate::named::{NamedMaps, Texts, number};
 use indexmap::IndexSet;
 use pc_source::OutOfMemory;
-use pc_tree::{Code, Findings, Member, Name};
+use pc_tree::{Code, Findings, Member, find_if};
 use std::alloc::Global as Allocator;
 
 /// The maps of the fields and of the methods that a class has, by their names.
@@ -33,16 +31,6 @@ pub struct Entry<'m> {
     pub number: usize,
     pub binds: bool,
     pub clashes: bool,
-}
-
-/// The name of a member.
-pub fn name_of(member: &Member) -> &Name
-    ensures { name_of result.now ≡ name_of_member (member_of member.now) }
-{
-    match member {
-        Member::Field(field) => &field.name,
-        Member::Method(def) => &def.name,
-    }
 }
 
 /// A name is reserved.
@@ -133,7 +121,7 @@ pub fn entries<'m>(
     let mut methods = 0;
     for member in members {
         all.push(judge(named, base, &before, methods, member))?;
-        number(&mut before, alloc, name_of(member).text.as_str())?;
+        number(&mut before, alloc, member.name().text.as_str())?;
         match member {
             Member::Field(_) => {}
             Member::Method(_) => methods += 1,
@@ -147,7 +135,7 @@ pub fn find_clashes(found: &mut Findings, entries: &[Entry]) -> Result<(), OutOf
     ensures { OnOk result (found.new.items ≡ found.old.items ++ at_code E06 (clash_places (map entry_seen entries.now))) }
 {
     for entry in entries {
-        find_if(found, entry.clashes, Code::E06, name_of(entry.member).place)?;
+        find_if(found, entry.clashes, Code::E06, entry.member.name().place)?;
     }
     Ok(())
 }
@@ -183,7 +171,7 @@ pub fn find_late_fields(
                 found,
                 defaulted && !has_default,
                 Code::E08,
-                name_of(entry.member).place,
+                entry.member.name().place,
             )?;
             defaulted = defaulted || has_default;
         }

@@ -5,7 +5,6 @@ mod adding;
 mod bases;
 mod building;
 mod entries;
-mod found;
 mod laws;
 mod named;
 mod overriding;

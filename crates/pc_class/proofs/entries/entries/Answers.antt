@@ -21,7 +21,7 @@ loop-member-preserved c =
       | in-Field w ↦ let e = w.methods-is in omega arith
       | in-Method w ↦ let e = w.methods-is in omega arith
     ] in
-    let text = c.as_str.ensures.value ∙ ap (λ (n : Name). n.text) c.name_of.ensures in (
+    let text = c.as_str.ensures.value ∙ ap (λ (n : Name). n.text) c.name.ensures in (
       within,
       entry_more (inherited_in c.args.named.now c.args.base) _ c.loop-member.all.items c.push.new.self.items
           c.judge.result (texts_in c.loop-member.before) (texts_in c.number.new.texts) c.loop-member.methods
