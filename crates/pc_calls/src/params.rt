@@ -27,7 +27,10 @@ pub struct Param<'t, Ty: Drop> {
 /// The number of the first parameter of each name.
 pub type Numbers<'t> = IndexMap<&'t str, usize>;
 
-/// The parameters of what is called, with a map to the number of the first of each name where the call gives names.
+/// Names of a call, so many at most, are looked for by a walk each, since a map of all parameters costs more.
+const FEW_NAMES: usize = 8;
+
+/// The parameters of what is called, with a map to the number of the first of each name for a call of many names.
 #[derive(Drop)]
 pub struct Params<'t, Ty: Drop> {
     pub all: Vec<Param<'t, Ty>>,
@@ -127,7 +130,7 @@ impl<'t, Ty: Drop> Params<'t, Ty> {
         ensures all { IfOk result (λ ps. ps.all ≡ all.entry) }
         ensures numbers { IfOk result (λ ps. AreNumbered ps) }
     {
-        let numbers = if given.named.is_empty() {
+        let numbers = if given.named.len() <= FEW_NAMES {
             None
         } else {
             Some(numbers(alloc, &all)?)
