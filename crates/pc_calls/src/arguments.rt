@@ -24,14 +24,14 @@ pub fn is_among(names: &Names, name: &str) -> bool
     names.contains(name)
 }
 
-/// Exactly one argument, by position.
+/// Whether there is exactly one argument, by position.
 pub fn is_one(given: &Given) -> bool
     ensures { result ≡ is_one (given_with given.now) }
 {
     given.positional == 1 && given.named.is_empty()
 }
 
-/// Exactly two arguments, by position.
+/// Whether there are exactly two arguments, by position.
 pub fn is_two(given: &Given) -> bool
     ensures { result ≡ is_two (given_with given.now) }
 {

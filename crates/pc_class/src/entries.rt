@@ -33,21 +33,21 @@ pub struct Entry<'m> {
     pub clashes: bool,
 }
 
-/// A name is reserved.
+/// Whether a name is reserved.
 fn is_reserved(name: &str) -> bool
     ensures { result ≡ is_builtin_name name.now }
 {
     pc_tree::is_reserved(name)
 }
 
-/// A name is among those before.
+/// Whether a name is among those before.
 fn is_among(before: &Texts, name: &str) -> bool
     ensures { result ≡ is_one_of name.now (texts_in before.now) }
 {
     before.contains(name)
 }
 
-/// A member binds its name: that is not reserved, no earlier member's and, of ancestors, no field's; and that of a
+/// Whether a member binds its name: it is not reserved, no earlier member's and, of ancestors, no field's; and of a
 /// field no method's, and not `mro`. Own rule of the profile.
 fn binds(named: &NamedMaps, base: Held, before: &Texts, member: &Member) -> bool
     requires { HasMaps named.now base }
@@ -67,7 +67,7 @@ fn binds(named: &NamedMaps, base: Held, before: &Texts, member: &Member) -> bool
     }
 }
 
-/// A member's name is that of an earlier one, or it clashes with an ancestor's. Own rule of the profile.
+/// Whether a member's name is that of an earlier one, or it clashes with an ancestor's. Own rule of the profile.
 fn clashes(named: &NamedMaps, base: Held, before: &Texts, member: &Member) -> bool
     requires { HasMaps named.now base }
     ensures { result ≡ member_clashes (inherited_in named.now base) (texts_in before.now) (member_of member.now) }

@@ -41,7 +41,7 @@ pub struct Judging<'a, Ty: Drop> {
     pub classes: &'a ClassTable<Ty>,
 }
 
-/// A parameter has the name of the ancestor's and, where that one has a default, a default too.
+/// Whether a parameter has the name of the ancestor's and, where that one has a default, a default too.
 fn suits<Ty: Drop>(old: &Parameter<Ty>, new: &Parameter<Ty>) -> bool
     ensures { result ≡ (bytes_eq (parameter_name old.now) (parameter_name new.now)
         && (not old.now.has_default || new.now.has_default)) }
@@ -49,7 +49,7 @@ fn suits<Ty: Drop>(old: &Parameter<Ty>, new: &Parameter<Ty>) -> bool
     old.name.as_str() == new.name.as_str() && (!old.has_default || new.has_default)
 }
 
-/// The numbers of parameters agree, the names at each position, and there is a default wherever the ancestor's has one.
+/// Whether the numbers and the names of parameters agree, and each has a default where the ancestor's has one.
 fn has_shape<Ty: Drop>(old: &[Parameter<Ty>], new: &[Parameter<Ty>]) -> bool
     ensures shape { (tree : Ty → Tree)
         → result ≡ has_shape_of (parameters_with tree old.now) (parameters_with tree new.now) }
@@ -66,7 +66,7 @@ fn has_shape<Ty: Drop>(old: &[Parameter<Ty>], new: &[Parameter<Ty>]) -> bool
     true
 }
 
-/// The first type flows into the second.
+/// Whether the first type flows into the second.
 fn fits<S: TypeStore>(
     store: &mut S,
     parents: &Parents,
@@ -86,7 +86,7 @@ fn fits<S: TypeStore>(
     }
 }
 
-/// The type of each parameter of the ancestor's flows into the method's.
+/// Whether the type of each parameter of the ancestor's flows into the method's.
 fn parameters_fit<S: TypeStore>(
     store: &mut S,
     parents: &Parents,
@@ -109,7 +109,7 @@ fn parameters_fit<S: TypeStore>(
     true
 }
 
-/// A method is in the relation to the one that it overrides: in shape, in what it returns and in what it takes. Typing
+/// Whether a method is in the relation to the one that it overrides: in shape, return type and parameters. Typing
 /// specification, "Type system concepts", assignability of callables.
 fn overrides<S: TypeStore>(
     store: &mut S,

@@ -53,7 +53,7 @@ fn format_argument<'a>(alloc: Global) -> Arg<'a>
         .help("The report's format: 1, or 2 with the types of each dynamic flow")
 }
 
-/// The file.
+/// The word that names the file.
 fn file_argument<'a>(alloc: Global) -> Arg<'a>
     ensures rule { rule_of result ≡ file_rule }
     ensures local { result.global ≡ false }

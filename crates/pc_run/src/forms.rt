@@ -16,7 +16,7 @@ use pc_source::Place;
 use pc_tree::{Expr, KeywordArgument, Name};
 use pc_value::{Action, Value};
 
-/// A value is None.
+/// Whether a value is None.
 pub fn is_nothing(value: &Value) -> bool
     ensures { result ≡ is_none_value (value_of value.now) }
 {

@@ -24,7 +24,7 @@ use pc_tree::{
 use pc_value::{Exception, Value, read_number};
 use std::alloc::Global as Allocator;
 
-/// A literal has a value: a whole number fits 128 signed bits.
+/// Whether a literal has a value: a whole number fits 128 signed bits.
 fn literal_has_value(literal: &Literal) -> bool
     ensures { result ≡ is_some (literal_value (literal_of literal.now)) }
 {
@@ -38,7 +38,7 @@ fn literal_has_value(literal: &Literal) -> bool
     }
 }
 
-/// A default has a value, or there is none.
+/// Whether a default has a value, or is left out.
 fn has_value(default: &Option<Literal>) -> bool
     ensures { result ≡ has_value (option_literal_of default.now) }
 {
@@ -48,7 +48,7 @@ fn has_value(default: &Option<Literal>) -> bool
     }
 }
 
-/// Each default of a def has a value.
+/// Whether each default of a def has a value.
 fn have_values(params: &[Param]) -> bool
     ensures { result ≡ have_values (map param_of params.now) }
 {
@@ -60,7 +60,7 @@ fn have_values(params: &[Param]) -> bool
     true
 }
 
-/// Each default of a member has one.
+/// Whether each default of a member has a value.
 fn member_has_values(member: &Member) -> bool
     ensures { result ≡ member_has_values (member_of member.now) }
 {
@@ -70,7 +70,7 @@ fn member_has_values(member: &Member) -> bool
     }
 }
 
-/// Each default in a class has one.
+/// Whether each default in a class has a value.
 fn members_have_values(members: &[Member]) -> bool
     ensures { result ≡ members_have_values (map member_of members.now) }
 {
@@ -82,7 +82,7 @@ fn members_have_values(members: &[Member]) -> bool
     true
 }
 
-/// A field has a default with a value.
+/// Whether a field has a default with a value.
 fn is_defaulted(field: &Parameter<'_>) -> bool
     ensures { result ≡ is_some (parameter_of field.now).default }
 {
@@ -92,7 +92,7 @@ fn is_defaulted(field: &Parameter<'_>) -> bool
     }
 }
 
-/// No field without default follows one with default.
+/// Whether no field without default follows one with default.
 fn defaults_last(fields: &[Parameter<'_>]) -> bool
     ensures { result ≡ defaults_last (map parameter_of fields.now) }
 {

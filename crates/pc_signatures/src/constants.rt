@@ -60,7 +60,7 @@ fn has_member<Ty: Drop>(classes: &ClassTable<Ty>, base: Option<usize>, name: &st
     }
 }
 
-/// A field binds its name: it is not reserved, not `mro`, not bound already, and no field's or method's of an ancestor.
+/// Whether a field binds its name: not reserved, not `mro`, not bound already, no field's or method's of an ancestor.
 /// Own rule of the profile.
 fn binds_as_field<Ty: Drop>(
     classes: &ClassTable<Ty>,

@@ -20,14 +20,14 @@ use pc_tree::{Literal, LiteralKind};
 use pc_types::{Parents, TypeStore};
 use std::alloc::Global;
 
-/// A name is reserved.
+/// Whether a name is reserved.
 pub(crate) fn is_reserved(name: &str) -> bool
     ensures { result ≡ is_builtin_name name.now }
 {
     pc_tree::is_reserved(name)
 }
 
-/// A text is bound as a name where it stands: it is not reserved, and not bound already.
+/// Whether a text is bound as a name where it stands: it is not reserved, and not bound already.
 pub(crate) fn binds(bound: &Texts, name: &str) -> bool
     ensures { result ≡ binds_text (bound_in bound.now) name.now }
 {
