@@ -12,7 +12,7 @@ use Rattle.pc_flow.specs.Environment.{Env, declared_type, assign, none_assigned}
 use Rattle.pc_flow.proofs.Conditions.{assign_well_formed}
 use Rattle.pc_module_rules.specs.Statements.{NamesBound}
 use Rattle.pc_module_rules.specs.Modules.{DeclaredEntry, LawfulEntry, assigned_at_entry, entry_env, names_entered}
-use Rattle.pc_module_rules.specs.Laws.Labellings.{Setting}
+use Rattle.pc_module_rules.specs.Laws.Labellings.{Surroundings}
 use Rattle.pc_module_rules.specs.Computed.Statements.{Table, type_table, bound_type, with_declared, enter_local}
 use Rattle.pc_module_rules.specs.Computed.Statements.{enter_name, enter_parameters}
 use Rattle.pc_module_rules.specs.Laws.Walks.{TableFits, EnvFits}
@@ -23,7 +23,7 @@ use Rattle.pc_module_rules.proofs.OneModule.{none_kept}
 use Rattle.pc_module_rules.proofs.OneStatement.{assign_kept}
 use Rattle.pc_module_rules.proofs.WalkedTables.{NameFits, name_fits, other_fits}
 
-module _ (setting : Setting) (declared : List Tree) where
+module _ (setting : Surroundings) (declared : List Tree) where
   open setting use {context as ctx}
 
   -- a walk has entered with a table and an environment that fit

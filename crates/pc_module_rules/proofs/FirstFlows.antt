@@ -10,7 +10,7 @@ use Rattle.pc_tree.proofs.Among.{none_among, first_among, later_among, among_fir
 use Rattle.pc_types.specs.Tree.{Tree}
 use Rattle.pc_notes.specs.Notes.{Note, plain_note, is_same_place, or_else, flow_or, flow_noted}
 use Rattle.pc_module_rules.specs.FlowsOfExpressions.{DynamicFlow}
-use Rattle.pc_module_rules.specs.Laws.Flows.{IsFirstAt}
+use Rattle.pc_module_rules.specs.FlowsOfModules.{IsFirstAt}
 use Rattle.pc_module_rules.proofs.Places.{same_place, own_place}
 
 -- two types, if there are any
@@ -42,7 +42,7 @@ if_or false o a c = refl
 
 -- ---- the first flow at a place
 
--- a flow at this place, else what comes behind
+-- a flow at this place, else what comes after it
 abbrev pub at_or : Place → DynamicFlow → (rest : Pair) → Pair
 at_or p d rest = if is_same_place p d.place then or_else (Some (d.from, d.into)) rest else rest
 
@@ -71,7 +71,7 @@ Tells notes flows = (p : Place) → flow_noted p notes ≡ first_at p flows
 pub tell_then : (xs ys : List Note) (ds es : List DynamicFlow) → Tells xs ds → Tells ys es → Tells (xs ++ ys) (ds ++ es)
 tell_then xs ys ds es h k = λ p. noted_append p xs ys ∙ both_or (h p) (k p) ∙ sym (first_append p ds es)
 
--- with others behind them that tell of none
+-- notes that tell of just these flows, with others after them that tell of none
 pub tell_behind : (xs ys : List Note) (ds : List DynamicFlow) → Tells xs ds → Tells ys [] → Tells (xs ++ ys) ds
 tell_behind xs ys ds h k = λ p. noted_append p xs ys ∙ both_or (h p) (k p) ∙ or_none (first_at p ds)
 
@@ -104,7 +104,7 @@ grow_then f g h ds es a b = λ p. b p ∙ ap (λ (o : Pair). or_else o (first_at
 pub grow_behind : (f xs h : List Note) (es : List DynamicFlow) → Tells xs [] → Grows (f ++ xs) h es → Grows f h es
 grow_behind f xs h es a b = grow_then f (f ++ xs) h [] es (grow f xs [] a) b
 
--- of notes that tell of just these flows, with more behind them
+-- notes that tell of just these flows, with more after them
 pub tell_grown : (found after : List Note) (ds es : List DynamicFlow) → Tells found ds → Grows found after es
     → Tells after (ds ++ es)
 tell_grown found after ds es h k = λ p. k p ∙ ap (λ (o : Pair). or_else o (first_at p es)) (h p)
@@ -115,7 +115,7 @@ pub grow_grouped : (found after : List Note) (a b c : List DynamicFlow) → Grow
     → Grows found after ((a ++ b) ++ c)
 grow_grouped found after a b c h = subst (Grows found after) (sym (append_assoc a b c)) h
 
--- ---- the first flow at a place stands behind none there
+-- ---- the first flow at a place stands after none there
 
 other_place : (p q : Place) → ¬ (q ≡ p) → is_same_place p q ≡ false
 other_place p q other = test (is_same_place p q) refl
@@ -142,7 +142,7 @@ module _ (p : Place) (s t : Tree) where
   pub first_is : (flows : List DynamicFlow) → IsFirstAt p s t flows → first_at p flows ≡ Some (s, t)
   first_is flows h = ap (first_at p) h.order ∙ first_of_order h.before h.behind h.none_before
 
-  -- the flow at the head, or one behind it
+  -- the flow at the head, or one after it
   first_or : (d : DynamicFlow) (ds : List DynamicFlow) (b : Test) → is_same_place p d.place ≡ b
       → (first_at p ds ≡ Some (s, t) → IsFirstAt p s t ds)
       → (if b then or_else (Some (d.from, d.into)) (first_at p ds) else first_at p ds) ≡ Some (s, t)

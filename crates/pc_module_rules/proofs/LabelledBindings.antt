@@ -18,7 +18,7 @@ use Rattle.pc_module_rules.specs.StatementLabels.{OptionLabels}
 use Rattle.pc_module_rules.specs.Statements.{DeclaredAt, LawfulAnnotated, LawfulBinding, LawfulDeclaration, NamesBound}
 use Rattle.pc_module_rules.specs.Statements.{annotation_at, is_first, known_type, only_code}
 use Rattle.pc_flow.proofs.Conditions.{assigned_well_formed}
-use Rattle.pc_module_rules.specs.Laws.Labellings.{Agree, IsDeclaredTable, Setting, GoesByNames}
+use Rattle.pc_module_rules.specs.Laws.Labellings.{Agree, IsDeclaredTable, Surroundings, GoesByNames}
 use Rattle.pc_module_rules.proofs.BoundNames.{here_among, within_one}
 use Rattle.pc_module_rules.proofs.Tables.{assign_settled, declared_well_formed, same_less, same_on, same_self, set_is}
 use Rattle.pc_module_rules.proofs.Tables.{set_same, set_table, settled_on, still_same}
@@ -27,7 +27,7 @@ use Rattle.pc_module_rules.proofs.LabelledExpressions.{expr_labelled, flows_labe
 local_inj : {x y : ℕ} → res.Local x ≡ res.Local y → x ≡ y
 local_inj e = grind arith
 
-module _ (setting : Setting) where
+module _ (setting : Surroundings) where
   open setting use {whole as m, context as ctx, context_well_formed as ck, count, locals as names}
 
   -- ---- a name bound

@@ -13,12 +13,12 @@ use Rattle.pc_module_rules.specs.Modules.{DeclaredEntry, LawfulEntry, assigned_a
 use Rattle.pc_module_rules.specs.Statements.{NamesBound}
 use Rattle.pc_module_rules.proofs.OneStatement.{IsAmong}
 use Rattle.std.proofs.lemmas.Bool.{or_right}
-use Rattle.pc_module_rules.specs.Laws.Labellings.{Agree, IsDeclaredTable, Setting, GoesByNames}
+use Rattle.pc_module_rules.specs.Laws.Labellings.{Agree, IsDeclaredTable, Surroundings, GoesByNames}
 use Rattle.pc_module_rules.proofs.BoundNames.{here_among, within_one}
 use Rattle.pc_module_rules.proofs.Tables.{assign_settled, same_on, same_self, settled_on}
 use Rattle.pc_module_rules.proofs.LabelledBindings.{name_set}
 
-module _ (setting : Setting) where
+module _ (setting : Surroundings) where
   open setting use {whole as m, context as ctx, context_well_formed as ck, count, locals as names}
 
   -- ---- the entry of a function

@@ -27,7 +27,7 @@ use Rattle.pc_rules.proofs.Same.{SameWhere}
 use Rattle.pc_rules.proofs.One.{one}
 use Rattle.pc_module_rules.specs.Statements.{LawfulIterable, LawfulRange, LawfulValues, RangeOrValues, NamesBound}
 use Rattle.pc_module_rules.proofs.StoredTypes.{turns_well_formed}
-use Rattle.pc_module_rules.specs.Laws.Labellings.{Agree, IsDeclaredTable, Setting, GoesByNames}
+use Rattle.pc_module_rules.specs.Laws.Labellings.{Agree, IsDeclaredTable, Surroundings, GoesByNames}
 
 -- ---- flows
 
@@ -44,7 +44,7 @@ flows_labelled bases label ts o h k = record {
       o h k;
 }
 
-module _ (setting : Setting) where
+module _ (setting : Surroundings) where
   open setting use {whole as m, context as ctx, context_well_formed as ck, count, locals as names}
 
   -- ---- an expression, lawful with each table that has the types of the names bound so far

@@ -25,7 +25,7 @@ use Rattle.pc_rules.specs.Labels.{FlowLabels}
 use Rattle.pc_rules.specs.Signatures.{LawfulDefault, LawfulParams, ParamsLabels, binds_name, body_context, literal_type}
 use Rattle.pc_rules.proofs.Contexts.{bodies_well_formed}
 use Rattle.pc_module_rules.specs.Modules.{ReturnsWell, entry_parameters, leaves, may_complete, may_not, names_entered}
-use Rattle.pc_module_rules.specs.Laws.Labellings.{FunctionLabelled, IsDeclaredTable, MembersLabelled, Setting}
+use Rattle.pc_module_rules.specs.Laws.Labellings.{FunctionLabelled, IsDeclaredTable, MembersLabelled, Surroundings}
 use Rattle.pc_module_rules.specs.Laws.Labellings.{GoesByNames}
 use Rattle.pc_rules.proofs.SignaturesListed.{literal_well_formed}
 use Rattle.pc_module_rules.proofs.LocalNames.{names_are}
@@ -104,7 +104,7 @@ module _ (m : Module) where
     function_labelled owner f =
         let names = locals owner f in
         let ctx = body_context m constants names in
-        let here : Setting = record {
+        let here : Surroundings = record {
           whole = m;
           context = ctx;
           context_well_formed = bodies_well_formed m constants

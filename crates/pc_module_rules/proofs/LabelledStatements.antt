@@ -13,7 +13,7 @@ use Rattle.pc_flow.specs.Environment.{Env, join_envs_onto, join_ways, loop_head}
 use Rattle.pc_flow.specs.Narrowing.{narrow}
 use Rattle.pc_module_rules.specs.StatementLabels.{behind_list, breaks_in, breaks_in_branches, breaks_in_suite, ways_in}
 use Rattle.pc_module_rules.specs.Statements.{LawfulBranches, LawfulOption, LawfulSuite, NamesBound, binds_number}
-use Rattle.pc_module_rules.specs.Laws.Labellings.{Agree, BranchesLabelled, IsDeclaredTable, Setting, GoesByNames}
+use Rattle.pc_module_rules.specs.Laws.Labellings.{Agree, BranchesLabelled, IsDeclaredTable, Surroundings, GoesByNames}
 use Rattle.pc_module_rules.specs.Laws.Labellings.{StmtLabelled, SuiteLabelled}
 use Rattle.pc_module_rules.proofs.BoundNames.{Within, within_both, within_later, within_one, within_right}
 use Rattle.pc_module_rules.proofs.Tables.{all_both, all_on, all_wider, head_same, head_settled, joined_same}
@@ -25,7 +25,7 @@ use Rattle.pc_module_rules.proofs.LabelledTargets.{target_labelled}
 use Rattle.pc_module_rules.proofs.LabelledSuites.{any_both, any_join, any_option, assignment_labelled, behind_labelled}
 use Rattle.pc_module_rules.proofs.LabelledSuites.{empty_reaches, option_labelled, return_labelled}
 
-module _ (setting : Setting) where
+module _ (setting : Surroundings) where
   open setting use {whole as m, context as ctx, context_well_formed as ck, count, locals as names}
 
   module _ (returned : Tree) (kr : IsWellFormed ctx.bases returned) where

@@ -16,7 +16,8 @@ use Rattle.pc_module_rules.specs.StatementLabels.{Behind, Following, BehindRule,
 use Rattle.pc_module_rules.specs.StatementLabels.{behind_list, breaks_in, breaks_in_suite}
 use Rattle.pc_module_rules.specs.Statements.{LawfulOption, LawfulReturn, LawfulStmt, LawfulSuite, NamesBound}
 use Rattle.pc_module_rules.specs.Statements.{AreUndeclared}
-use Rattle.pc_module_rules.specs.Laws.Labellings.{Agree, IsDeclaredTable, OutSettled, Setting, GoesByNames, SettledAll}
+use Rattle.pc_module_rules.specs.Laws.Labellings.{Agree, IsDeclaredTable, OutSettled, Surroundings, GoesByNames}
+use Rattle.pc_module_rules.specs.Laws.Labellings.{SettledAll}
 use Rattle.pc_module_rules.specs.Laws.Labellings.{StmtLabelled, SuiteLabelled, any_way}
 use Rattle.pc_module_rules.proofs.BoundNames.{Within, within_right}
 use Rattle.pc_module_rules.proofs.Tables.{all_both, all_on, same_on, same_self}
@@ -24,7 +25,7 @@ use Rattle.pc_module_rules.proofs.LabelledExpressions.{expr_labelled, flows_labe
 use Rattle.pc_module_rules.proofs.LabelledBindings.{binding_labelled}
 use Rattle.pc_module_rules.proofs.LabelledTargets.{attribute_labelled, index_labelled, undeclared_labelled}
 
-module _ (setting : Setting) where
+module _ (setting : Surroundings) where
   open setting use {whole as m, context as ctx, context_well_formed as ck, count, locals as names}
 
   module _ (returned : Tree) (kr : IsWellFormed ctx.bases returned) where

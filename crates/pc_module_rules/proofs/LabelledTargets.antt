@@ -18,14 +18,14 @@ use Rattle.pc_module_rules.specs.Statements.{LawfulStore, LawfulTarget, NamesBou
 use Rattle.pc_module_rules.specs.Statements.{attribute_offers, index_offers, is_first, only_code}
 use Rattle.pc_module_rules.proofs.StoredTypes.{fields_stored, items_stored, keys_stored, only_well_formed}
 use Rattle.pc_flow.proofs.Conditions.{assigned_well_formed}
-use Rattle.pc_module_rules.specs.Laws.Labellings.{Agree, IsDeclaredTable, Setting, GoesByNames}
+use Rattle.pc_module_rules.specs.Laws.Labellings.{Agree, IsDeclaredTable, Surroundings, GoesByNames}
 use Rattle.pc_module_rules.proofs.BoundNames.{here_among, within_later, within_one, within_right}
 use Rattle.pc_module_rules.proofs.Tables.{assign_settled, declared_well_formed, same_on, same_self, settled_on}
 use Rattle.pc_module_rules.proofs.Tables.{still_same}
 use Rattle.pc_module_rules.proofs.LabelledExpressions.{expr_labelled, flows_labelled}
 use Rattle.pc_module_rules.proofs.LabelledBindings.{at_first, local_set, name_set}
 
-module _ (setting : Setting) where
+module _ (setting : Surroundings) where
   open setting use {whole as m, context as ctx, context_well_formed as ck, count, locals as names}
 
   -- the target of a `for`

@@ -9,7 +9,8 @@ use Rattle.pc_notes.specs.Notes.{ExplainsFlow}
 use Rattle.pc_module_rules.specs.Computed.DynamicFlows.{dynamic_flow}
 use Rattle.pc_module_rules.specs.Modules.{Labelling, IsLawful}
 use Rattle.pc_module_rules.proofs.LabelledModule.{every_module_has_a_labelling}
-use Rattle.pc_module_rules.specs.Laws.Flows.{ExplainsPlace, HasDynamicFlow, DynamicFlowsAreFound}
+use Rattle.pc_module_rules.specs.FlowsOfModules.{HasDynamicFlow}
+use Rattle.pc_module_rules.specs.Laws.Flows.{ExplainsPlace, DynamicFlowsAreFound}
 use Rattle.pc_module_rules.specs.Laws.Flows.{DynamicFlowsAreDynamic, DynamicFlowsAreWellFormed, DynamicFlowsAreUnique}
 use Rattle.pc_module_rules.specs.Laws.Flows.{DynamicFlowsAreComputed}
 use Rattle.pc_module_rules.specs.FlowsOfModules.{dynamic_flows}

@@ -16,7 +16,8 @@ use Rattle.pc_rules.proofs.Same.{SameWhere, SameWhereAll, all_joins_alike, heads
 use Rattle.pc_module_rules.specs.Statements.{NamesBound}
 use Rattle.pc_module_rules.proofs.OneStatement.{IsAmong, assign_kept}
 use Rattle.std.proofs.lemmas.List.{get_or-set_other, get_or-set_same, length-set}
-use Rattle.pc_module_rules.specs.Laws.Labellings.{Agree, IsDeclaredTable, OutSettled, Setting, GoesByNames, SettledAll}
+use Rattle.pc_module_rules.specs.Laws.Labellings.{Agree, IsDeclaredTable, OutSettled, Surroundings, GoesByNames}
+use Rattle.pc_module_rules.specs.Laws.Labellings.{SettledAll}
 use Rattle.pc_module_rules.proofs.BoundNames.{Within, within_one}
 
 -- ---- a table with one type set
@@ -44,7 +45,7 @@ where_turn (d ∷ ds) [] F env h k = absurd h
 where_turn (d ∷ ds) (d' ∷ ds') [] env h k = absurd k
 where_turn (d ∷ ds) (d' ∷ ds') (f ∷ F) [] h k = absurd h
 
-module _ (setting : Setting) where
+module _ (setting : Surroundings) where
   open setting use {whole as m, context as ctx, context_well_formed as ck, count, locals as names}
 
   pub same_self : (ds : List Tree) (seen : NamesBound) → Agree ctx ds ds seen

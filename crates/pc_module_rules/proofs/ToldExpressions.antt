@@ -33,7 +33,7 @@ use Rattle.pc_rules.proofs.ComputedLawful.{labels_are_lawful, items_lawful, keyw
 use Rattle.pc_module_rules.specs.StatementLabels.{OptionLabels, TargetLabels}
 use Rattle.pc_module_rules.specs.Statements.{RangeOrValues, LawfulRange, LawfulValues, LawfulIterable, attribute_offers}
 use Rattle.pc_module_rules.specs.Statements.{index_offers, LawfulStore, LawfulReturn, LawfulOption}
-use Rattle.pc_module_rules.specs.Laws.Labellings.{Setting}
+use Rattle.pc_module_rules.specs.Laws.Labellings.{Surroundings}
 use Rattle.pc_module_rules.specs.Computed.Statements.{Table, type_table, BodyContext, attribute_stores, index_stores}
 use Rattle.pc_module_rules.specs.Computed.Statements.{stored_finds, store_finds, iterable_finds, option_finds}
 use Rattle.pc_module_rules.specs.Computed.Statements.{return_finds}
@@ -46,8 +46,8 @@ use Rattle.pc_module_rules.specs.FlowsOfStatements.{dynamic_in_option, dynamic_i
 use Rattle.pc_module_rules.proofs.FirstFlows.{Tells, tell_then, tell_grouped}
 use Rattle.pc_module_rules.proofs.ToldFlows.{tell_codes, tell_flows, tell_expression}
 
-module _ (setting : Setting) (returned : Tree) (kr : IsWellFormed setting.context.bases returned) (declared : List Tree)
-    (table : Table) (kt : IsWellFormedEnv setting.context.bases table) (env : Env)
+module _ (setting : Surroundings) (returned : Tree) (kr : IsWellFormed setting.context.bases returned)
+    (declared : List Tree) (table : Table) (kt : IsWellFormedEnv setting.context.bases table) (env : Env)
     (h : EnvFits setting declared table env) where
   open setting use {whole as m, context as ctx, context_well_formed as ck}
 

@@ -37,7 +37,7 @@ other_text : (c : Code) → IsPlain c → bytes_eq (text_of A1) (text_of c) ≡ 
 other_text A1 h = absurd (cc h)
 other_text _ h = refl
 
--- A1 is not among codes that have another one behind them, if it was not among them
+-- A1 is not among codes with another one after them, if it was not among them
 still_none : (before : List Code) (c : Code) → IsPlain c → has_code before A1 ≡ false → has_code (before ++ c ∷ []) A1
     ≡ false
 still_none before c h none =
@@ -110,7 +110,7 @@ module _ (p q : Place) where
   -- ---- at this place
 
   module _ (same : is_same_place q p ≡ true) where
-    -- a dynamic flow is the first, whatever comes behind it
+    -- a dynamic flow is the first, whatever comes after it
     first_here : (s t : Tree) (a b : Pair) → (if is_same_place q p then or_else (Some (s, t)) a else a)
         ≡ (if is_same_place q p then or_else (Some (s, t)) b else b)
     first_here s t a b = ap (λ (x : Test). if x then or_else (Some (s, t)) a else a) same

@@ -49,7 +49,7 @@ use Rattle.pc_module_rules.specs.Modules.{entry_parameters, names_entered, entry
 use Rattle.pc_module_rules.specs.Modules.{MembersLabels, LawfulMembers, ItemLabels, ItemsLabels, constant_types}
 use Rattle.pc_module_rules.specs.Modules.{BeforeItem, nothing_before, before_next, LawfulItem, LawfulModuleItems}
 use Rattle.pc_module_rules.specs.Modules.{Labelling, IsLawful}
-use Rattle.pc_module_rules.specs.Laws.Labellings.{Setting}
+use Rattle.pc_module_rules.specs.Laws.Labellings.{Surroundings}
 use Rattle.pc_module_rules.specs.Computed.Statements.{Walk, walk_suite, enter_parameters, end_finds, function_finds}
 use Rattle.pc_module_rules.specs.Computed.Modules.{methods_find, bodies_find, module_finds}
 use Rattle.pc_module_rules.specs.Laws.Walks.{body_context_in}
@@ -276,7 +276,7 @@ module _ (m : Module) where
         → (found : List Note) → Grows found (function_finds m all owner f found) (dynamic_in_suite f.body labels.body)
     function_tells owner f labels l found =
         let names = locals owner f in
-        let setting : Setting = record {
+        let setting : Surroundings = record {
           whole = m;
           context = body_context m all names;
           context_well_formed =

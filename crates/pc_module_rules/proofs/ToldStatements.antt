@@ -39,7 +39,7 @@ use Rattle.pc_module_rules.specs.StatementLabels.{Following, BehindRule, behind_
 use Rattle.pc_module_rules.specs.Statements.{NamesBound, is_first, binds_number, AreUndeclared, DeclaredAt, known_type}
 use Rattle.pc_module_rules.specs.Statements.{LawfulBinding, LawfulTarget, annotation_at, LawfulAnnotated, LawfulStmt}
 use Rattle.pc_module_rules.specs.Statements.{LawfulSuite, LawfulBranches}
-use Rattle.pc_module_rules.specs.Laws.Labellings.{Setting}
+use Rattle.pc_module_rules.specs.Laws.Labellings.{Surroundings}
 use Rattle.pc_module_rules.specs.Computed.Statements.{Table, bound_type, known_declared, BodyContext, Walk}
 use Rattle.pc_module_rules.specs.Computed.Statements.{BranchesResult, at, with_way, narrowed_at, head_at}
 use Rattle.pc_module_rules.specs.Computed.Statements.{iterable_finds, bind_label, bind_value, bind_annotated}
@@ -64,7 +64,7 @@ known_well_formed : (bases : Bases) (o a : Option Tree) → IsWellFormedIfAny ba
 known_well_formed bases None a h k = k
 known_well_formed bases (Some d) a h k = h
 
-module _ (setting : Setting) (returned : Tree) (kr : IsWellFormed setting.context.bases returned)
+module _ (setting : Surroundings) (returned : Tree) (kr : IsWellFormed setting.context.bases returned)
     (declared : List Tree) where
   open setting use {whole as m, context as ctx, context_well_formed as ck}
 
@@ -251,7 +251,7 @@ module _ (setting : Setting) (returned : Tree) (kr : IsWellFormed setting.contex
       (labels : SuiteLabels b) (out : Option Env) → LawfulThere seen env b labels out
       → Grows w.found (walk_suite context w b).found (dynamic_in_suite b labels)
 
-  -- what stands behind a statement, with what stands in it
+  -- what stands after a statement, with what stands in it
   behind_tells : (b : Test) (seen : NamesBound) (env : Env) (found : List Note) (s : Stmt) (rest : Stmts)
       (s0 : StmtLabels s) (r : Behind b (Following (SuiteLabels rest))) (out : Option Env) (v : Walk)
       → ((o : Option Env) → LawfulStmt m ctx declared returned seen env s s0 o

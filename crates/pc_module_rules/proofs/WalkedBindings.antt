@@ -30,7 +30,7 @@ use Rattle.pc_module_rules.specs.StatementLabels.{OptionLabels}
 use Rattle.pc_module_rules.specs.Statements.{NamesBound, is_first, only_code, DeclaredAt, known_type, LawfulBinding}
 use Rattle.pc_module_rules.specs.Statements.{LawfulDeclaration, LawfulTarget, annotation_at, LawfulAnnotated}
 use Rattle.pc_module_rules.specs.Statements.{OptionFinds, option_place, AnnotationFinds}
-use Rattle.pc_module_rules.specs.Laws.Labellings.{Setting}
+use Rattle.pc_module_rules.specs.Laws.Labellings.{Surroundings}
 use Rattle.pc_module_rules.specs.Computed.Statements.{Table, type_table, bound_type, known_declared, BodyContext}
 use Rattle.pc_module_rules.specs.Computed.Statements.{BindingResult, at, bind_label, bind_value, declared_alone}
 use Rattle.pc_module_rules.specs.Computed.Statements.{annotation_finds, bound_name, bind_annotated, bind_item}
@@ -49,7 +49,7 @@ nothing_flows : (flows : FlowLabels) (p : Place) (P : Finding → Type 0) → fl
     ⊎ IsFlowAt p flows f → P f
 nothing_flows flows p P e f h = elim h [ inl a ↦ a | inr b ↦ absurd (no_flows flows p f e b) ]
 
-module _ (setting : Setting) (returned : Tree) (declared : List Tree) where
+module _ (setting : Surroundings) (returned : Tree) (declared : List Tree) where
   open setting use {whole as m, context as ctx, context_well_formed as ck}
 
   abbrev context : BodyContext

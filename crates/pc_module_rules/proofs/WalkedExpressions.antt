@@ -29,7 +29,7 @@ use Rattle.pc_rules.proofs.Called.{positional_well_formed}
 use Rattle.pc_rules.proofs.ComputedFlows.{are_tests, flows_are_lawful}
 use Rattle.pc_rules.proofs.ComputedLawful.{labels_are_lawful, items_lawful, keywords_lawful}
 use Rattle.pc_module_rules.specs.Statements.{RangeOrValues, LawfulRange, LawfulValues, LawfulIterable}
-use Rattle.pc_module_rules.specs.Laws.Labellings.{Setting}
+use Rattle.pc_module_rules.specs.Laws.Labellings.{Surroundings}
 use Rattle.pc_module_rules.specs.Computed.Statements.{Table, type_table, BodyContext, values_item, item_label_of}
 use Rattle.pc_module_rules.specs.Computed.Statements.{iterable_finds}
 use Rattle.pc_module_rules.specs.Laws.Walks.{EnvFits, body_context_in, Lists}
@@ -38,7 +38,7 @@ use Rattle.pc_module_rules.proofs.StoredTypes.{turns_well_formed}
 use Rattle.pc_module_rules.proofs.WalkedFindings.{lists_expression, lists_flows}
 use Rattle.pc_module_rules.proofs.WalkedTables.{types_well_formed}
 
-module _ (setting : Setting) where
+module _ (setting : Surroundings) where
   open setting use {whole as m, context as ctx, context_well_formed as ck}
 
   -- ---- flows

@@ -25,7 +25,7 @@ use Rattle.pc_module_rules.proofs.SaidByStatements.{no_annotation}
 abbrev pub IsElsewhere : Finding → Type 0
 IsElsewhere f = is_of_scopes f.code ≡ false
 
--- the findings of one list behind another
+-- the findings of one list after another
 joined : (xs ys : List Note) → findings_of (xs ++ ys) ≡ findings_of xs ++ findings_of ys
 joined xs ys = map-append (λ (n : Note). n.finding) xs ys
 
@@ -120,7 +120,7 @@ adds_same before after to from h f = (
   λ q. (h f).1 (elim q [ inl a ↦ inl a | inr b ↦ inr (from f b.0, b.1) ]),
 )
 
--- a list behind it
+-- a list after what was found
 pub adds_list : {P : Finding → Type 0} (before xs : List Note) → Lists xs P → Adds before (before ++ xs) P
 adds_list before xs h f = (
   λ c. either (findings_of before) (findings_of xs) f (subst (λ (l : List Finding). Contains l f) (joined before xs) c)
@@ -133,7 +133,7 @@ adds_list before xs h f = (
       ]),
 )
 
--- and more behind that
+-- two lists after what was found
 pub adds_both : {P Q : Finding → Type 0} (before mid after : List Note) → Adds before mid P → Adds mid after Q
     → Adds before after (λ f. P f ⊎ Q f)
 adds_both before mid after h k f = (

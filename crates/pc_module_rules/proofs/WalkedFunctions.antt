@@ -28,7 +28,7 @@ use Rattle.pc_ann.proofs.Earlier.{smaller}
 use Rattle.pc_module_rules.specs.Statements.{NamesBound}
 use Rattle.pc_module_rules.specs.Modules.{DeclaredEntry, LawfulEntry, assigned_at_entry, entry_env, entry_parameters}
 use Rattle.pc_module_rules.specs.Modules.{names_entered, ReturnsWell, leaves, may_complete, may_not}
-use Rattle.pc_module_rules.specs.Laws.Labellings.{Setting}
+use Rattle.pc_module_rules.specs.Laws.Labellings.{Surroundings}
 use Rattle.pc_module_rules.specs.Computed.Statements.{Table, type_table, bound_type, with_declared, Walk, walk_suite}
 use Rattle.pc_module_rules.specs.Computed.Statements.{enter_local, enter_name, enter_parameters, end_finds}
 use Rattle.pc_module_rules.specs.Laws.Walks.{TableFits, EnvFits, body_context_in, BodiesFindWhatLabelsSay, Lists}
@@ -44,7 +44,7 @@ use Rattle.pc_module_rules.proofs.WalkedStatements.{suite_says}
 
 -- ---- the entry
 
-module _ (setting : Setting) (declared : List Tree) where
+module _ (setting : Surroundings) (declared : List Tree) where
   open setting use {context as ctx}
 
   -- a walk has entered with what is said
@@ -194,7 +194,7 @@ end_says bases t o k p _ _ (may_not wrong) = go (static_test bases NoneType t) r
 pub bodies_say : BodiesFindWhatLabelsSay
 bodies_say m constants kc owner f labels l found =
     let names = locals owner f in
-    let here : Setting = record {
+    let here : Surroundings = record {
       whole = m;
       context = body_context m constants names;
       context_well_formed =

@@ -23,7 +23,7 @@ use Rattle.pc_module_rules.specs.StatementLabels.{BehindRule, behind_list, break
 use Rattle.pc_module_rules.specs.StatementLabels.{breaks_in_branches, ways_in}
 use Rattle.pc_module_rules.specs.Statements.{NamesBound, binds_number, AreUndeclared, OptionFinds, StmtFinds}
 use Rattle.pc_module_rules.specs.Statements.{SuiteFinds, BranchesFind, LawfulStmt, LawfulSuite, LawfulBranches}
-use Rattle.pc_module_rules.specs.Laws.Labellings.{Setting}
+use Rattle.pc_module_rules.specs.Laws.Labellings.{Surroundings}
 use Rattle.pc_module_rules.specs.Computed.Statements.{Table, BodyContext, Walk, BranchesResult, BindingResult, at}
 use Rattle.pc_module_rules.specs.Computed.Statements.{with_way, narrowed_at, head_at, iterable_finds, bind_value}
 use Rattle.pc_module_rules.specs.Computed.Statements.{bind_annotated, bind_item, store_finds, option_finds}
@@ -42,7 +42,7 @@ use Rattle.pc_module_rules.proofs.WalkedStores.{store_says, option_says, return_
 -- A walk over branches has come to what labels say: to the environment where no condition was true, and with the ways
 -- out of the suites
 -- joined after those before.
-record ForkSays (setting : Setting) (declared : List Tree) (seen : NamesBound) (table : Table) (ways : List Env)
+record ForkSays (setting : Surroundings) (declared : List Tree) (seen : NamesBound) (table : Table) (ways : List Env)
     (broken : Option Env) (found : List Note) (w : BranchesResult) (last : Env) (more envs : List Env)
     (Says : Finding → Type 0) : Type 0 where
   fits : TableFits setting declared seen w.table
@@ -55,7 +55,7 @@ record ForkSays (setting : Setting) (declared : List Tree) (seen : NamesBound) (
   broken_fits : OutFits setting declared w.table w.broken
   found_is : Adds found w.found Says
 
-module _ (setting : Setting) (returned : Tree) (kr : IsWellFormed setting.context.bases returned)
+module _ (setting : Surroundings) (returned : Tree) (kr : IsWellFormed setting.context.bases returned)
     (declared : List Tree) where
   open setting use {whole as m, context as ctx, context_well_formed as ck}
 

@@ -19,7 +19,7 @@ use Rattle.pc_flow.specs.Environment.{Env, declared_type}
 use Rattle.pc_flow.specs.WellFormed.{AreWellFormed, IsWellFormedEnv}
 use Rattle.pc_flow.proofs.Conditions.{assign_well_formed}
 use Rattle.pc_module_rules.specs.Statements.{NamesBound, is_first, UndeclaredName, AreUndeclared}
-use Rattle.pc_module_rules.specs.Laws.Labellings.{Setting}
+use Rattle.pc_module_rules.specs.Laws.Labellings.{Surroundings}
 use Rattle.pc_module_rules.specs.Computed.Statements.{Table, type_table, bound_type, with_declared, BodyContext, Walk}
 use Rattle.pc_module_rules.specs.Computed.Statements.{unreached_name, unreached_names, walk_suite}
 use Rattle.pc_module_rules.specs.Laws.Walks.{TableFits, EnvFits, OutFits, body_context_in}
@@ -56,7 +56,7 @@ or_none : (a b : Test) → (a || b) ≡ false → (a ≡ false) × (b ≡ false)
 or_none true b e = absurd (grind (arith, e))
 or_none false b e = (refl, e)
 
-module _ (setting : Setting) (declared : List Tree) where
+module _ (setting : Surroundings) (declared : List Tree) where
   open setting use {context as ctx, count, locals as names}
 
   abbrev TableHere : NamesBound → Table → Type 0

@@ -1,5 +1,5 @@
 -- The dynamic flows under the labels of an expression, one after another: those of its parts, and of each value that
--- flows in it behind those in that value. Own rule of the profile.
+-- flows in it after those in that value. Own rule of the profile.
 use Rattle.std.specs.Prelude.{List, [], ◌∷◌, ◌++◌, flat_map, Bool as Test, true, false, Option, Some}
 use Rattle.pc_source.specs.declared.place.Place.{Place}
 use Rattle.pc_tree.specs.declared.code.Code.{Code}

@@ -1,12 +1,14 @@
 -- The dynamic flows under the labelling of a module, one after another: at the defaults of functions; of its constants,
 -- and at the defaults in its classes; and then in bodies, in text order. Own rule of the profile.
-use Rattle.std.specs.Prelude.{List, [], ◌∷◌, ◌++◌, Option, Some, None}
+use Rattle.std.specs.Prelude.{◌≡◌, List, [], ◌∷◌, ◌++◌, Option, Some, None, Contains}
+use Rattle.pc_source.specs.declared.place.Place.{Place}
 use Rattle.pc_tree.specs.Depth.{place_of}
 use Rattle.pc_tree.specs.Tree.{Literal, Param, Member, field_member, method_member, Item, constant_item}
 use Rattle.pc_tree.specs.Tree.{class_item, def_item, Module}
+use Rattle.pc_types.specs.Tree.{Tree}
 use Rattle.pc_rules.specs.Labels.{FlowLabels}
 use Rattle.pc_rules.specs.Signatures.{literal_place, ParamsLabels}
-use Rattle.pc_module_rules.specs.Modules.{MembersLabels, ItemLabels, ItemsLabels, Labelling}
+use Rattle.pc_module_rules.specs.Modules.{MembersLabels, ItemLabels, ItemsLabels, Labelling, IsLawful}
 use Rattle.pc_module_rules.specs.FlowsOfExpressions.{DynamicFlow, dynamic_at, dynamic_in}
 use Rattle.pc_module_rules.specs.FlowsOfStatements.{dynamic_in_suite}
 
@@ -54,7 +56,7 @@ dynamic_in_body (constant_item p c) labels = []
 dynamic_in_body (class_item p c) labels = dynamic_in_methods c.members labels
 dynamic_in_body (def_item p f) labels = dynamic_in_suite f.body labels.body
 
--- so in each item, one after another
+-- the dynamic flows in each item, one after another
 abbrev pub dynamic_in_each : ((i : Item) → ItemLabels i → List DynamicFlow) → (items : List Item) → ItemsLabels items
     → List DynamicFlow
 dynamic_in_each flows [] labels = []
@@ -64,3 +66,21 @@ dynamic_in_each flows (i ∷ rest) labels = flows i labels.first ++ dynamic_in_e
 abbrev pub dynamic_flows : (m : Module) → Labelling m → List DynamicFlow
 dynamic_flows m labels = (dynamic_in_each dynamic_in_function m.items labels
     ++ dynamic_in_each dynamic_in_item m.items labels) ++ dynamic_in_each dynamic_in_body m.items labels
+
+-- among flows one of this type into that one is the first at this place
+pub record IsFirstAt (place : Place) (from into : Tree) (flows : List DynamicFlow) : Type 0 where
+  pub before : List DynamicFlow
+  pub behind : List DynamicFlow
+  pub order : flows ≡ before ++ (record { place = place; from = from; into = into } ∷ behind)
+  pub none_before : (d : DynamicFlow) → Contains before d → ¬ (d.place ≡ place)
+
+-- the first type flows dynamically into the second at this place: under every lawful labelling of the module theirs is
+-- the first of the dynamic flows there
+abbrev pub FlowsDynamically : Module → Place → (from into : Tree) → Type 0
+FlowsDynamically m p s t = (labels : Labelling m) → IsLawful m labels → IsFirstAt p s t (dynamic_flows m labels)
+
+-- some type flows dynamically at this place
+pub record HasDynamicFlow (m : Module) (place : Place) : Type 0 where
+  pub from : Tree
+  pub into : Tree
+  pub flows : FlowsDynamically m place from into

@@ -46,7 +46,7 @@ pub record IsNeeded (bases : Bases) (classes : List facts.ClassFacts) (s t : Tre
 abbrev pub HasClassesOf : List facts.ClassFacts → HeapTyping → Type 0
 HasClassesOf classes typing = (l c : ℕ) → slice_get typing l ≡ Some (a_class c) → c < length classes
 
--- so under some well-typed heap with instances of these classes only
+-- a flow is needed under some well-typed heap with instances of these classes only
 pub record IsNeededWithin (bases : Bases) (classes : List facts.ClassFacts) (s t : Tree) : Type 0 where
   pub needed : IsNeeded bases classes s t
   pub only : HasClassesOf classes needed.typing

@@ -15,7 +15,7 @@ ghost use Rattle.pc_types.specs.Shape.{members};
 ghost use Rattle.pc_types.specs.Join.{join};
 ghost use Rattle.pc_class.specs.Facts.{ClassFacts, classes_of};
 ghost use Rattle.pc_flow.specs.Narrowing.{Tested, type_where_true, type_where_false};
-ghost use Rattle.pc_module_rules.specs.Laws.Flows.{FlowsDynamically};
+ghost use Rattle.pc_module_rules.specs.FlowsOfModules.{FlowsDynamically};
 ghost use Rattle.pc_value.specs.Value.{Heap, Value, seen};
 ghost use Rattle.pc_value.specs.Containers.{append_outcome, store_outcome};
 ghost use Rattle.pc_sound.specs.Values.{HeapTyping, HasType, IsWell};

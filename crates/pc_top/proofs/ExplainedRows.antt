@@ -13,7 +13,8 @@ use Rattle.pc_ann.specs.Text.{type_text}
 use Rattle.pc_notes.specs.Notes.{Note, flow_noted}
 use Rattle.pc_notes.specs.Texts.{FlowText, IsFlowText, places_of, AreFlowTexts}
 use Rattle.pc_module_rules.specs.Modules.{IsFinding}
-use Rattle.pc_module_rules.specs.Laws.Flows.{HasDynamicFlow, TellsFlows}
+use Rattle.pc_module_rules.specs.FlowsOfModules.{HasDynamicFlow}
+use Rattle.pc_module_rules.specs.Laws.Flows.{TellsFlows}
 use Rattle.pc_module_rules.proofs.StandingFlows.{flows_found}
 use Rattle.pc_report.specs.declared.flow.FlowTexts.{FlowTexts}
 use Rattle.pc_report.specs.declared.report.Row.{Row}

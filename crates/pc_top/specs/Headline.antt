@@ -12,7 +12,7 @@ use Rattle.pc_tree.specs.Tree.{Module}
 use Rattle.pc_types.specs.Tree.{Tree}
 use Rattle.pc_ann.specs.Text.{type_text}
 use Rattle.pc_module_rules.specs.Modules.{HasLabelling, IsFinding}
-use Rattle.pc_module_rules.specs.Laws.Flows.{FlowsDynamically}
+use Rattle.pc_module_rules.specs.FlowsOfModules.{FlowsDynamically}
 use Rattle.pc_machine.specs.Runs.{Run, End, IsFaultyEnd}
 use Rattle.pc_front.specs.Bytes.{IsModuleOf}
 use Rattle.pc_report.specs.declared.flow.FlowTexts.{FlowTexts}

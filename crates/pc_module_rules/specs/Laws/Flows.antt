@@ -1,8 +1,7 @@
 -- The laws on the dynamic flows of a module: A1 is found at a place exactly where there is one under the lawful
 -- labelling of the module; of the first one there, the one type flows into the other by a reading of Any alone, and
--- both
--- are well-formed; and it is the one that is computed. Own rule of the profile.
-use Rattle.std.specs.Prelude.{◌≡◌, ◌↔◌, List, ◌∷◌, ◌++◌, Option, Some, None, Contains}
+-- both are well-formed; and it is the one that is computed. Own rule of the profile.
+use Rattle.std.specs.Prelude.{◌≡◌, ◌↔◌, List, Option, Some, None}
 use Rattle.pc_source.specs.declared.place.Place.{Place}
 use Rattle.pc_tree.specs.declared.code.Code.TheVariants.{A1}
 use Rattle.pc_tree.specs.Code.{finding}
@@ -13,32 +12,13 @@ use Rattle.pc_types.specs.Assignable.{Assignable}
 use Rattle.pc_types.specs.WellFormed.{IsWellFormed}
 use Rattle.pc_class.specs.Bases.{bases_of}
 use Rattle.pc_notes.specs.Notes.{Note, flow_noted}
-use Rattle.pc_module_rules.specs.Modules.{Labelling, IsLawful, IsFinding}
+use Rattle.pc_module_rules.specs.Modules.{IsFinding}
 use Rattle.pc_module_rules.specs.Computed.DynamicFlows.{dynamic_flow}
-use Rattle.pc_module_rules.specs.FlowsOfExpressions.{DynamicFlow}
-use Rattle.pc_module_rules.specs.FlowsOfModules.{dynamic_flows}
-
--- among flows one of this type into that one is the first at this place
-pub record IsFirstAt (place : Place) (from into : Tree) (flows : List DynamicFlow) : Type 0 where
-  pub before : List DynamicFlow
-  pub behind : List DynamicFlow
-  pub order : flows ≡ before ++ (record { place = place; from = from; into = into } ∷ behind)
-  pub none_before : (d : DynamicFlow) → Contains before d → ¬ (d.place ≡ place)
-
--- the first type flows dynamically into the second at this place: under every lawful labelling of the module theirs is
--- the first of the dynamic flows there
-abbrev pub FlowsDynamically : Module → Place → (from into : Tree) → Type 0
-FlowsDynamically m p s t = (labels : Labelling m) → IsLawful m labels → IsFirstAt p s t (dynamic_flows m labels)
+use Rattle.pc_module_rules.specs.FlowsOfModules.{FlowsDynamically, HasDynamicFlow}
 
 -- notes tell of just the dynamic flows of a module: at each place, of the two types of the dynamic flow there
 pub record TellsFlows (m : Module) (notes : List Note) : Type 0 where
   pub just : (p : Place) (s t : Tree) → flow_noted p notes ≡ Some (s, t) ↔ FlowsDynamically m p s t
-
--- some type flows dynamically at this place
-pub record HasDynamicFlow (m : Module) (place : Place) : Type 0 where
-  pub from : Tree
-  pub into : Tree
-  pub flows : FlowsDynamically m place from into
 
 -- A1 is found at a place exactly where a type flows dynamically
 abbrev pub DynamicFlowsAreFound : Type 0

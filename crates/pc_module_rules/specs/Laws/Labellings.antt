@@ -31,7 +31,7 @@ pub record Locals (ctx : Context) (count : ℕ) : Type 0 where
   pub apart : (a b : List ℕ) (x : ℕ) → ctx.resolve a ≡ res.Local x → ctx.resolve b ≡ res.Local x → a ≡ b
 
 -- what statements stand in: a module, what they may name, all of it of well-formed types, and so many locals
-pub record Setting : Type 0 where
+pub record Surroundings : Type 0 where
   pub whole : Module
   pub context : Context
   pub context_well_formed : ContextWellFormed context
@@ -39,7 +39,7 @@ pub record Setting : Type 0 where
   pub locals : Locals context count
 
 -- a table of declared types: a well-formed one for each local
-pub record IsDeclaredTable (setting : Setting) (declared : List Tree) : Type 0 where
+pub record IsDeclaredTable (setting : Surroundings) (declared : List Tree) : Type 0 where
   pub long : length declared ≡ setting.count
   pub well_formed : AreWellFormed setting.context.bases declared
 
@@ -50,18 +50,18 @@ Agree ctx declared others seen = (word : List ℕ) (x : ℕ) → is_one_of word 
 
 -- an environment goes by the names bound so far: its types are well-formed, and it assigns only locals on which each
 -- table agrees that agrees on those names
-pub record GoesByNames (setting : Setting) (declared : List Tree) (seen : NamesBound) (env : Env) : Type 0 where
+pub record GoesByNames (setting : Surroundings) (declared : List Tree) (seen : NamesBound) (env : Env) : Type 0 where
   pub well_formed : IsWellFormedEnv setting.context.bases env
   pub same : (others : List Tree) → IsDeclaredTable setting others → Agree setting.context declared others seen
       → SameWhere declared others env
 
 -- several environments go by the names bound so far
-abbrev pub SettledAll : Setting → List Tree → NamesBound → List Env → Type 0
+abbrev pub SettledAll : Surroundings → List Tree → NamesBound → List Env → Type 0
 SettledAll setting declared seen [] = Unit {0}
 SettledAll setting declared seen (e ∷ es) = GoesByNames setting declared seen e × SettledAll setting declared seen es
 
 -- an environment, if there is one, goes by the names bound so far
-abbrev pub OutSettled : Setting → List Tree → NamesBound → Option Env → Type 0
+abbrev pub OutSettled : Surroundings → List Tree → NamesBound → Option Env → Type 0
 OutSettled setting declared seen None = Unit {0}
 OutSettled setting declared seen (Some env) = GoesByNames setting declared seen env
 
@@ -73,8 +73,8 @@ any_way (e ∷ es) = true
 -- A statement is labelled, from a table, the names bound so far and an environment: there are a table that agrees on
 -- those names, labels, and the environment after it, that go by the names bound by then; it ends somewhere exactly
 -- where it can complete; and the labels are lawful with every table that agrees on the names bound by then.
-pub record StmtLabelled (setting : Setting) (returned : Tree) (declared : List Tree) (seen : NamesBound) (env : Env)
-    (s : Stmt) : Type 0 where
+pub record StmtLabelled (setting : Surroundings) (returned : Tree) (declared : List Tree) (seen : NamesBound)
+    (env : Env) (s : Stmt) : Type 0 where
   pub table : List Tree
   pub is_table : IsDeclaredTable setting table
   pub same : Agree setting.context declared table seen
@@ -88,8 +88,8 @@ pub record StmtLabelled (setting : Setting) (returned : Tree) (declared : List T
       → LawfulStmt setting.whole setting.context others returned seen env s labels out
 
 -- a suite has lawful labels from here on, as a statement has
-pub record SuiteLabelled (setting : Setting) (returned : Tree) (declared : List Tree) (seen : NamesBound) (env : Env)
-    (b : Stmts) : Type 0 where
+pub record SuiteLabelled (setting : Surroundings) (returned : Tree) (declared : List Tree) (seen : NamesBound)
+    (env : Env) (b : Stmts) : Type 0 where
   pub table : List Tree
   pub is_table : IsDeclaredTable setting table
   pub same : Agree setting.context declared table seen
@@ -103,8 +103,8 @@ pub record SuiteLabelled (setting : Setting) (returned : Tree) (declared : List 
       → LawfulSuite setting.whole setting.context others returned seen env b labels out
 
 -- the branches of an `if` have lawful labels: the environments at their ends, and the one where no condition was true
-pub record BranchesLabelled (setting : Setting) (returned : Tree) (declared : List Tree) (seen : NamesBound) (env : Env)
-    (bs : Branches) : Type 0 where
+pub record BranchesLabelled (setting : Surroundings) (returned : Tree) (declared : List Tree) (seen : NamesBound)
+    (env : Env) (bs : Branches) : Type 0 where
   pub table : List Tree
   pub is_table : IsDeclaredTable setting table
   pub same : Agree setting.context declared table seen
@@ -122,14 +122,14 @@ pub record BranchesLabelled (setting : Setting) (returned : Tree) (declared : Li
 -- returns a well-formed type
 abbrev pub StatementsAreLabelled : Type 0
 StatementsAreLabelled =
-    (setting : Setting) (returned : Tree) → IsWellFormed setting.context.bases returned
+    (setting : Surroundings) (returned : Tree) → IsWellFormed setting.context.bases returned
     → (declared : List Tree) (seen : NamesBound) (env : Env) → IsDeclaredTable setting declared
     → GoesByNames setting declared seen env → (s : Stmt) → StmtLabelled setting returned declared seen env s
 
 -- each suite is labelled, from such a table and environment, in a function that returns a well-formed type
 abbrev pub SuitesAreLabelled : Type 0
 SuitesAreLabelled =
-    (setting : Setting) (returned : Tree) → IsWellFormed setting.context.bases returned
+    (setting : Surroundings) (returned : Tree) → IsWellFormed setting.context.bases returned
     → (declared : List Tree) (seen : NamesBound) (env : Env) → IsDeclaredTable setting declared
     → GoesByNames setting declared seen env → (b : Stmts) → SuiteLabelled setting returned declared seen env b
 

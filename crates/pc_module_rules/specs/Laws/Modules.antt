@@ -24,7 +24,7 @@ abbrev pub SignaturesFindWhatLabelsSay : Type 0
 SignaturesFindWhatLabelsSay = (m : Module) (labels : Labelling m) → IsLawful m labels
     → Lists (signatures_find m) (SignaturesSay m labels)
 
--- behind what was found, just what any lawful labelling says is found of the module, but for what is found of scopes
+-- after what was found, just what any lawful labelling says is found of the module, but for what is found of scopes
 abbrev pub ModulesFindWhatLabelsSay : Type 0
 ModulesFindWhatLabelsSay = (m : Module) (labels : Labelling m) → IsLawful m labels → (found : List Note)
     → Adds found (module_finds m found) (LabelsSay m labels)

@@ -22,18 +22,18 @@ use Rattle.pc_rules.specs.Signatures.{body_context}
 use Rattle.pc_module_rules.specs.StatementLabels.{StmtLabels, SuiteLabels, breaks_in, breaks_in_suite}
 use Rattle.pc_module_rules.specs.Statements.{NamesBound, LawfulStmt, LawfulSuite, StmtFinds, SuiteFinds}
 use Rattle.pc_module_rules.specs.Modules.{FunctionLabels, LawfulFunction, entry_parameters, names_entered}
-use Rattle.pc_module_rules.specs.Laws.Labellings.{Setting}
+use Rattle.pc_module_rules.specs.Laws.Labellings.{Surroundings}
 use Rattle.pc_module_rules.specs.Computed.Statements.{Table, type_table, bound_type, BodyContext, Walk, step}
 use Rattle.pc_module_rules.specs.Computed.Statements.{walk_suite}
 use Rattle.pc_module_rules.specs.Computed.Statements.{function_finds}
 
 -- what the statements of a function that returns this type stand in
-abbrev pub body_context_in : Setting → (returned : Tree) → BodyContext
+abbrev pub body_context_in : Surroundings → (returned : Tree) → BodyContext
 body_context_in setting returned = record { whole = setting.whole; context = setting.context; returned = returned }
 
--- a table of a walk fits declared types, behind the names bound so far: each local that one of them means has its
+-- a table of a walk fits declared types, after the names bound so far: each local that one of them means has its
 -- declared type there, and no other local has one
-pub record TableFits (setting : Setting) (declared : List Tree) (seen : NamesBound) (table : Table) : Type 0 where
+pub record TableFits (setting : Surroundings) (declared : List Tree) (seen : NamesBound) (table : Table) : Type 0 where
   pub long : length table ≡ setting.count
   pub well_formed : IsWellFormedEnv setting.context.bases table
   pub bound : (word : List ℕ) (x : ℕ) → is_one_of word seen ≡ true → setting.context.resolve word ≡ res.Local x
@@ -43,12 +43,12 @@ pub record TableFits (setting : Setting) (declared : List Tree) (seen : NamesBou
 
 -- an environment fits a table of a walk and declared types: they agree on each local that it assigns, and its types are
 -- well-formed
-pub record EnvFits (setting : Setting) (declared : List Tree) (table : Table) (env : Env) : Type 0 where
+pub record EnvFits (setting : Surroundings) (declared : List Tree) (table : Table) (env : Env) : Type 0 where
   pub same : SameWhere declared (type_table table) env
   pub well_formed : IsWellFormedEnv setting.context.bases env
 
--- so does an environment, if there is one
-abbrev pub OutFits : Setting → List Tree → Table → Option Env → Type 0
+-- an environment fits a table of a walk and declared types, if there is one
+abbrev pub OutFits : Surroundings → List Tree → Table → Option Env → Type 0
 OutFits setting declared table None = Unit {0}
 OutFits setting declared table (Some env) = EnvFits setting declared table env
 
@@ -66,10 +66,11 @@ Adds before after Says = (f : Finding)
 abbrev pub Lists : List Note → (Says : Finding → Type 0) → Type 0
 Lists notes Says = (f : Finding) → Contains (findings_of notes) f ↔ (Says f × (is_of_scopes f.code ≡ false))
 
--- A walk has come to what labels say: from a table to one that fits behind these names, to this environment, with these
--- `break`s joined, and with what is said found; and what fitted the table before fits the one behind.
-pub record WalkSays (setting : Setting) (declared : List Tree) (seen : NamesBound) (table : Table) (broken : Option Env)
-    (found : List Note) (w : Walk) (out : Option Env) (breaks : List Env) (Says : Finding → Type 0) : Type 0 where
+-- A walk has come to what labels say: from a table to one that fits after these names, to this environment, with these
+-- `break`s joined, and with what is said found; and what fitted the table before fits the one after.
+pub record WalkSays (setting : Surroundings) (declared : List Tree) (seen : NamesBound) (table : Table)
+    (broken : Option Env) (found : List Note) (w : Walk) (out : Option Env) (breaks : List Env)
+    (Says : Finding → Type 0) : Type 0 where
   pub fits : TableFits setting declared seen w.table
   pub grows : (env : Env) → EnvFits setting declared table env → EnvFits setting declared w.table env
   pub env_is : w.env ≡ out
@@ -81,7 +82,7 @@ pub record WalkSays (setting : Setting) (declared : List Tree) (seen : NamesBoun
 -- a walk over a statement comes to what any lawful labels of it say
 abbrev pub WalksOfStatementsSayWhatLabelsSay : Type 0
 WalksOfStatementsSayWhatLabelsSay =
-    (setting : Setting) (returned : Tree) → IsWellFormed setting.context.bases returned →
+    (setting : Surroundings) (returned : Tree) → IsWellFormed setting.context.bases returned →
     (declared : List Tree) (seen : NamesBound) (table : Table) (env : Env) (broken : Option Env) (found : List Note) →
     TableFits setting declared seen table → EnvFits setting declared table env → OutFits setting declared table broken →
     (s : Stmt) (labels : StmtLabels s) (out : Option Env)
@@ -90,10 +91,10 @@ WalksOfStatementsSayWhatLabelsSay =
     (step (body_context_in setting returned) table (Some env) broken found s) out (breaks_in s labels)
     (StmtFinds setting.whole setting.context seen s labels)
 
--- and so does a walk over a suite
+-- a walk over a suite comes to what its labels say
 abbrev pub WalksOfSuitesSayWhatLabelsSay : Type 0
 WalksOfSuitesSayWhatLabelsSay =
-    (setting : Setting) (returned : Tree) → IsWellFormed setting.context.bases returned →
+    (setting : Surroundings) (returned : Tree) → IsWellFormed setting.context.bases returned →
     (declared : List Tree) (seen : NamesBound) (table : Table) (env : Env) (broken : Option Env) (found : List Note) →
     TableFits setting declared seen table → EnvFits setting declared table env → OutFits setting declared table broken →
     (b : Stmts) (labels : SuiteLabels b) (out : Option Env)

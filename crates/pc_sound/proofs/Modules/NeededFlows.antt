@@ -8,7 +8,7 @@ use Rattle.pc_types.specs.Tree.{Tree}
 use Rattle.pc_ann.specs.Bases.{bases_of}
 use Rattle.pc_ann.proofs.Earlier.{smaller}
 use Rattle.pc_class.specs.Facts.{classes_of}
-use Rattle.pc_module_rules.specs.Laws.Flows.{FlowsDynamically}
+use Rattle.pc_module_rules.specs.FlowsOfModules.{FlowsDynamically}
 use Rattle.pc_module_rules.proofs.StandingFlows.{flows_dynamic, flows_well_formed}
 use Rattle.pc_sound.specs.Needed.{HasNoNever, IsNeededWithin}
 use Rattle.pc_sound.proofs.Values.Requirements.{required, required_by_classes}

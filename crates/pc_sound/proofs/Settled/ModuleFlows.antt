@@ -32,7 +32,7 @@ use Rattle.pc_module_rules.specs.FlowsOfStatements.{dynamic_in_suite}
 use Rattle.pc_module_rules.specs.FlowsOfModules.{dynamic_at_default, dynamic_in_params, dynamic_in_members}
 use Rattle.pc_module_rules.specs.FlowsOfModules.{dynamic_in_methods, dynamic_in_function, dynamic_in_item}
 use Rattle.pc_module_rules.specs.FlowsOfModules.{dynamic_in_body, dynamic_in_each, dynamic_flows}
-use Rattle.pc_module_rules.specs.Laws.Flows.{FlowsDynamically}
+use Rattle.pc_module_rules.specs.FlowsOfModules.{FlowsDynamically}
 use Rattle.pc_module_rules.proofs.LabelledModule.{every_module_has_a_labelling}
 use Rattle.pc_sound.proofs.Settled.SettledParts.{Asked, classes_below, ClassAsked, TestsAsked, IsSettled, NamesAsked}
 use Rattle.pc_sound.proofs.Settled.SettledParts.{Settled}
