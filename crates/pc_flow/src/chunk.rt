@@ -82,7 +82,7 @@ pub(crate) fn chunk_width(locals: usize) -> usize
     width
 }
 
-/// As many chunks of this width as these locals need; none of the locals is assigned.
+/// Chunks of this width, as many as these locals need; none of the locals is assigned.
 pub(crate) fn empty_chunks<Ty: Drop>(
     alloc: Global,
     locals: usize,

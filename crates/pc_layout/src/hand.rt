@@ -67,7 +67,7 @@ fn step(
 impl<'a> Hand<'a> {
     ghost use Rattle.pc_layout.specs.TokenIterator.PendingTokens.{pending, pending_by, has_token, asks, at_hand};
 
-    /// No line came yet.
+    /// The hand before any line came.
     pub fn new(alloc: Global, source: &'a Source) -> Hand<'a>
         ensures pending { (ls : List _) → pending result ls ≡ layout_lexemes source.now start ls }
         ensures due { result.due ≡ Due.Lines }

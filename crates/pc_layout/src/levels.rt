@@ -37,7 +37,7 @@ impl Levels {
     ghost use Rattle.pc_layout.specs.Stepping.{start};
     ghost use Rattle.pc_layout.specs.TokenIterator.Levels.{context_of};
 
-    /// No suite is open, and no line came.
+    /// The levels before any line came: no suite is open.
     pub fn new() -> Levels
         ensures { context_of result ≡ start }
     {

@@ -98,7 +98,7 @@ fn parameter_names<'m>(
     Ok(names)
 }
 
-/// Each argument by name is for a parameter, where these are their names.
+/// Whether each argument by name is for a parameter, where these are their names.
 fn are_among(named: &[NamedValue<'_>], names: &NameSet<'_>) -> bool
     ensures { result ≡ list_all (λ a. is_among (texts_in names.now) a.name.now) named.now }
 {

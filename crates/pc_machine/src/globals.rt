@@ -34,7 +34,7 @@ impl<'m> Globals<'m> {
         }
     }
 
-    /// The module binds a name.
+    /// Binds a name of the module.
     ///
     /// # Errors
     ///

@@ -72,7 +72,7 @@ fn reserved_test(name: &str) -> Result<Test, Halt>
     }
 }
 
-/// A class is itself or an ancestor of the one with these.
+/// Whether a class is itself or an ancestor of the one with these.
 fn is_ancestor(class: usize, ancestors: &[usize]) -> bool
     ensures { result ≡ is_ancestor class ancestors.now }
 {
@@ -161,7 +161,7 @@ impl<'m> Machine<'m> {
         }
     }
 
-    /// An object is an instance of a class or of a descendant of it.
+    /// Whether an object is an instance of a class or of a descendant of it.
     fn is_instance(&self, object: &Value, class: usize) -> bool
         ensures { result ≡ descends_from class
             (class_at (state_of self.now).classes (class_number_of (heap_of self.now.heap) (value_of object.now))) }

@@ -174,7 +174,7 @@ impl<'m> Machine<'m> {
         }
     }
 
-    /// The next choice byte is used.
+    /// Uses the next choice byte.
     fn use_choice(&mut self)
         ensures { progress_of self.new ≡ after_choice (progress_of self.old) }
     {

@@ -16,7 +16,7 @@ use pc_source::OutOfMemory;
 use pc_tree::{Branch, Name, Stmt, StmtKind};
 use pc_value::Value;
 
-/// Two names are the same.
+/// Whether two names are the same.
 pub fn is_same(a: &str, b: &str) -> bool
     ensures { result ≡ same_text a.now b.now }
 {
@@ -35,7 +35,7 @@ pub fn find_local<'a, 'm>(frame: &'a [Local<'m>], name: &str) -> Option<&'a Loca
     None
 }
 
-/// A local is bound to a value.
+/// Binds a local to a value.
 pub fn set_local(frame: &mut [Local<'_>], name: &str, value: Value)
     ensures { map local_seen frame.new ≡ with_local name.now (value_of value) (map local_seen frame.old) }
 {

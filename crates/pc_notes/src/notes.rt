@@ -71,7 +71,7 @@ impl Model for Notes {
 }
 
 impl Notes {
-    /// Nothing noted.
+    /// Notes that hold nothing.
     pub fn new(alloc: Global) -> Notes
         ensures { result ≡ [] }
     {

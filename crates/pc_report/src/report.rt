@@ -79,8 +79,8 @@ const START: Position = Position {
     column: 1,
 };
 
-/// The line of a byte, found from a known position before it. Two numbers are added for each byte and none is branched
-/// on, so that many bytes are looked at by one instruction.
+/// The line of a byte, found from a known position before it. A number is added for each byte and no branch is taken,
+/// so that one instruction looks at many bytes.
 fn line_at(source: &[u8], known: Position, byte: usize) -> u64
     requires line { known.line ≡ line_of source.now known.byte }
     requires onward { known.byte ≤ byte }

@@ -7,7 +7,7 @@ ghost use Rattle.pc_scope.specs.Expressions.{is_named, are_two, is_instance_test
 
 use pc_tree::{Expr, KeywordArgument};
 
-/// An expression is the name `isinstance`.
+/// Whether an expression is the name `isinstance`.
 fn is_isinstance(e: &Expr) -> bool
     ensures { result ≡ is_named (codes "isinstance") (expr_of e.now) }
 {
@@ -27,7 +27,7 @@ fn are_two(arguments: &[Expr], by_name: &[KeywordArgument]) -> bool
     by_name.is_empty()
 }
 
-/// A call is a test of an instance: of `isinstance` with exactly two arguments by position. Own rule of the profile.
+/// Whether a call is a test of an instance: `isinstance` of exactly two arguments by position. Own rule of the profile.
 pub fn is_instance_test(callee: &Expr, arguments: &[Expr], by_name: &[KeywordArgument]) -> bool
     ensures { result ≡ is_instance_test (expr_of callee.now) (exprs_of_list arguments.now)
         (keywords_of_list by_name.now) }

@@ -30,7 +30,7 @@ pub enum Sought {
 }
 
 impl Sought {
-    /// The second argument of a test of an instance is passed over.
+    /// Whether the second argument of a test of an instance is passed over.
     fn is_judged(self) -> bool
         ensures { result ≡ is_judged self }
     {
@@ -41,14 +41,14 @@ impl Sought {
     }
 }
 
-/// A name means nothing.
+/// Whether a name means nothing.
 fn is_nothing(meaning: Res) -> bool
     ensures { result ≡ means_nothing meaning }
 {
     matches!(meaning, Res::None)
 }
 
-/// A name means what an initializer after so many constants and classes may not name.
+/// Whether a name means what an initializer after so many constants and classes may not name.
 fn is_early(constants: usize, classes: usize, meaning: Res) -> bool
     ensures { result ≡ is_early_meaning constants classes meaning }
 {
@@ -62,14 +62,14 @@ fn is_early(constants: usize, classes: usize, meaning: Res) -> bool
     }
 }
 
-/// An expression is a name.
+/// Whether an expression is a name.
 fn is_name(e: &Expr) -> bool
     ensures { result ≡ is_name (expr_of e.now) }
 {
     matches!(e, Expr::Name(_))
 }
 
-/// The second argument of a call is passed over, as a test of an instance has it where it is judged.
+/// Whether the second argument of a call is passed over, as a test of an instance has it where it is judged.
 fn passes_over(
     sought: Sought,
     callee: &Expr,

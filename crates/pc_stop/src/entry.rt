@@ -8,7 +8,7 @@ ghost use Rattle.pc_tree.specs.Code.{at_code};
 use pc_source::OutOfMemory;
 use pc_tree::{Code, Findings, Item, ItemKind, Module, find_if};
 
-/// The first item that is named `main` is a function without parameters.
+/// Whether the first item that is named `main` is a function without parameters.
 fn has_main(items: &[Item]) -> bool
     ensures { result ≡ is_plain_def (codes "main") (map item_of items.now) }
 {

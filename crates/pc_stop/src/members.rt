@@ -21,7 +21,7 @@ use pc_tree::{
 use std::alloc::Global as Allocator;
 use std::hash::RandomState;
 
-/// A field clashes with whatever the base has by its name, a method with a field.
+/// Whether a field clashes with whatever the base has by its name, a method with a field.
 fn clashes(had: Holding, member: &Member) -> bool
     ensures { result ≡ clashes_with had (is_field (member_of member.now)) }
 {
@@ -39,7 +39,7 @@ fn clashes(had: Holding, member: &Member) -> bool
     }
 }
 
-/// A member has the name of one before it in its class, or clashes with what the class inherits.
+/// Whether a member has the name of one before it in its class, or clashes with what the class inherits.
 fn is_clash(again: bool, inherited: Holding, member: &Member) -> bool
     ensures { result ≡ (again || clashes_with inherited (is_field (member_of member.now))) }
 {

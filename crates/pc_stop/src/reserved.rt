@@ -44,7 +44,7 @@ pub fn find_reserved_items(
     find_reserved(found, &names)
 }
 
-/// A member has a reserved name, or is a field named `mro`.
+/// Whether a member has a reserved name, or is a field named `mro`.
 pub fn has_reserved_name(member: &Member) -> bool
     ensures { result ≡ is_reserved_member (member_of member.now) }
 {

@@ -21,7 +21,7 @@ const RESERVED: [&str; 14] = [
     "tuple",
 ];
 
-/// A name is one of these.
+/// Whether a name is one of these names.
 fn is_among(names: &[&str], name: &str) -> bool
     ensures { result ≡ list_any (λ n. bytes_eq name.now n) (map (λ n. n.now) names.now) }
 {
@@ -33,7 +33,7 @@ fn is_among(names: &[&str], name: &str) -> bool
     false
 }
 
-/// A name is reserved. Own rule of the profile.
+/// Whether a name is reserved. Own rule of the profile.
 pub fn is_reserved(name: &str) -> bool
     ensures { result ≡ is_reserved name.now }
 {
