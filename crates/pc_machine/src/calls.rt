@@ -1,21 +1,28 @@
-//! The values of literals, and how arguments fill parameters.
+//! The values of literals, how arguments fill parameters, and what a call is entered with.
 
 ghost use Rattle.std.specs.Prelude.{◌≡◌, map, IfOk, List, ℕ, chars, string_bytes};
 ghost use Rattle.std.specs.List.{list_all};
 ghost use Rattle.pc_tree.specs.Stopping.{is_among};
 ghost use Rattle.pc_tree.specs.Names.{at_text, texts_in};
 ghost use Rattle.pc_tree.specs.Tree.{literal_of, param_of};
-ghost use Rattle.pc_value.specs.Meaning.{value_of};
+ghost use Rattle.pc_value.specs.Doing.{action_of};
+ghost use Rattle.pc_value.specs.Meaning.{value_of, slot_of};
 ghost use Rattle.pc_value.specs.Internal.Keys.{option_value};
 ghost use Rattle.pc_machine.specs.Calls.{value_named, is_parameter, are_parameters, bound_arguments, value_taken};
+ghost use Rattle.pc_machine.specs.Calls.{method_of, or_type_error, slots_of, builtin_method_action};
+ghost use Rattle.pc_machine.specs.Names.{frame_of};
 ghost use Rattle.pc_machine.specs.Machine.{literal_value, parameter_of, parameter_of_param, named_of, value_if_any};
-ghost use Rattle.pc_machine.specs.Machine.{locals_of, default_of};
+ghost use Rattle.pc_machine.specs.Machine.{locals_of, default_of, TellsOutcome, method_seen, local_of, with_object};
+ghost use Rattle.pc_machine.specs.Machine.{frame_of_vec, method_of_def};
 
-use crate::state::{Local, NamedValue, Parameter};
+use crate::halt::{Halt, Stop};
+use crate::machine::raised;
+use crate::names::add_names;
+use crate::state::{BuiltinMethod, Local, NamedValue, Parameter};
 use indexmap::{IndexMap, IndexSet};
 use pc_source::OutOfMemory;
-use pc_tree::{Literal, LiteralKind, NameMap, NameSet, Param, bind_first, put};
-use pc_value::Value;
+use pc_tree::{FuncDef, Literal, LiteralKind, NameMap, NameSet, Param, bind_first, put};
+use pc_value::{Action, Exception, Slot, Value};
 use std::alloc::Global;
 use std::hash::RandomState;
 
@@ -189,4 +196,85 @@ pub fn bound_arguments<'m>(
         return Ok(None);
     }
     Ok(Some(locals))
+}
+
+/// The fields of a new instance, from the values that its class's fields took.
+pub fn slots_of(alloc: Global, locals: &[Local<'_>]) -> Result<Vec<Slot>, OutOfMemory>
+    ensures { IfOk result (λ ss. map slot_of ss.items ≡ slots_of (map local_of locals.now)) }
+{
+    let mut slots = Vec::new(alloc);
+    for local in locals {
+        if let Some(value) = &local.value {
+            let name = text_of(alloc, local.name)?;
+            let value = value.copy(alloc)?;
+            slots.push(Slot { name, value })?;
+        }
+    }
+    Ok(slots)
+}
+
+/// What a call of a built-in method does.
+pub fn builtin_action(
+    alloc: Global,
+    object: Value,
+    method: BuiltinMethod,
+    values: &[Value],
+    named: &[NamedValue<'_>],
+) -> Result<Action, Halt>
+    ensures { TellsOutcome action_of result
+        (builtin_method_action (value_of object) (method_seen method) (map value_of values.now)
+        (map named_of named.now)) }
+{
+    if !named.is_empty() {
+        return Err(Halt::Stopped(Stop::Outside));
+    }
+    match (method, values) {
+        (BuiltinMethod::ListAppend, [value]) => Ok(Action::Append(object, value.copy(alloc)?)),
+        (BuiltinMethod::ListPop, []) => Ok(Action::Pop(object)),
+        (BuiltinMethod::DictGet, [key]) => Ok(Action::Get(object, key.copy(alloc)?)),
+        _ => Err(Halt::Stopped(Stop::Outside)),
+    }
+}
+
+/// The parameters of a def with the values that they take; arguments that do not suit are TypeError.
+pub fn suited_arguments<'m>(
+    alloc: Global,
+    keys: RandomState,
+    def: &'m FuncDef,
+    values: &[Value],
+    named: &[NamedValue<'m>],
+) -> Result<Vec<Local<'m>>, Halt>
+    ensures { TellsOutcome frame_of_vec result
+        (or_type_error (bound_arguments (method_of_def def.entry).parameters (map value_of values.now)
+        (map named_of named.now))) }
+{
+    let parameters = parameters(alloc, &def.params)?;
+    match bound_arguments(alloc, keys, &parameters, values, named)? {
+        Some(locals) => Ok(locals),
+        None => Err(raised(Exception::TypeError)),
+    }
+}
+
+/// The frame of a function that is entered.
+pub fn frame_of<'m>(
+    alloc: Global,
+    object: Option<Value>,
+    arguments: Vec<Local<'m>>,
+    def: &'m FuncDef,
+) -> Result<Vec<Local<'m>>, OutOfMemory>
+    ensures { IfOk result (λ ls. map local_of ls.items
+        ≡ frame_of (method_of_def def.entry) (with_object (value_if_any object) (map local_of arguments.entry.items))) }
+{
+    let mut frame = Vec::new(alloc);
+    if let Some(object) = object {
+        frame.push(Local {
+            name: "self",
+            value: Some(object),
+        })?;
+    }
+    for argument in arguments {
+        frame.push(argument)?;
+    }
+    add_names(&mut frame, &def.body)?;
+    Ok(frame)
 }

@@ -1,118 +1,37 @@
 //! What a machine does at a node: calls, actions, stores. Its functions are kept out of those that evaluate
 //! (`inline(never)`), whose frames the deepest runs pile up.
 
-ghost use Rattle.std.specs.Prelude.{◌≡◌, ◌≤◌, ◌<◌, ◌-◌, [], ℕ, map, OnOk, IfOk, chars, is_some};
+ghost use Rattle.std.specs.Prelude.{◌≡◌, ◌≤◌, ◌<◌, ◌-◌, [], ℕ, map, OnOk, chars, is_some};
 ghost use Rattle.pc_tree.specs.Tree.{expr_of, stmts_of_list, name_of};
-ghost use Rattle.pc_value.specs.Meaning.{value_of, slot_of};
-ghost use Rattle.pc_value.specs.Doing.{iteration_of, action_of};
+ghost use Rattle.pc_value.specs.Meaning.{value_of};
+ghost use Rattle.pc_value.specs.Doing.{iteration_of};
 ghost use Rattle.pc_value.specs.Numbers.{number_of_digits};
 ghost use Rattle.pc_value.specs.Actions as action;
 ghost use Rattle.pc_value.specs.Value.{string};
 ghost use Rattle.pc_machine.specs.Plain.{Came, after_event, act};
 ghost use Rattle.pc_machine.specs.Steps.{value_out};
-ghost use Rattle.pc_machine.specs.Calls.{method_of, bound_arguments, or_type_error, slots_of, builtin_method_action};
-ghost use Rattle.pc_machine.specs.Names.{frame_of};
+ghost use Rattle.pc_machine.specs.Calls.{method_of};
 ghost use Rattle.pc_machine.specs.Performed.{callee_in, callee_called, attribute_callee, instance_tested};
 ghost use Rattle.pc_machine.specs.Performed.{attribute_stored, item_stored, range_begun, empty_charged, opened_frame};
-ghost use Rattle.pc_machine.specs.Machine.{TellsProgress, TellsOutcome, method_seen, local_of, with_object, unit};
+ghost use Rattle.pc_machine.specs.Machine.{TellsProgress, unit};
 ghost use Rattle.pc_machine.specs.Machine.{progress_of, state_of, flow_of, named_of, value_if_any, callee_seen};
 ghost use Rattle.pc_machine.specs.Machine.{frame_of_vec, method_of_def};
 ghost use Rattle.pc_tree.specs.Tree.{name as name_node};
 ghost use Rattle.pc_machine.specs.Calls.{calls_class, calls_reserved};
 ghost use Rattle.pc_machine.specs.declared.state.Callee.TheVariants as callee;
 
-use crate::calls::{bound_arguments, characters, parameters, text_of};
+use crate::calls::{
+    bound_arguments, builtin_action, characters, frame_of, slots_of, suited_arguments, text_of,
+};
 use crate::halt::{Halt, Stop};
 use crate::machine::{Machine, raised};
-use crate::names::{add_names, is_same};
+use crate::names::is_same;
 use crate::state::{BuiltinMethod, Callee, Flow, Local, NamedValue};
-use pc_source::{OutOfMemory, Place};
+use pc_source::Place;
 use pc_tree::{Expr, FuncDef, Name, Stmt};
-use pc_value::{Action, Exception, Iteration, Slot, Value};
+use pc_value::{Action, Exception, Iteration, Value};
 use std::alloc::Global as Allocator;
-use std::hash::RandomState;
 use std::mem;
-
-/// The fields of a new instance, from the values that its class's fields took.
-fn slots_of(alloc: Allocator, locals: &[Local<'_>]) -> Result<Vec<Slot>, OutOfMemory>
-    ensures { IfOk result (λ ss. map slot_of ss.items ≡ slots_of (map local_of locals.now)) }
-{
-    let mut slots = Vec::new(alloc);
-    for local in locals {
-        if let Some(value) = &local.value {
-            let name = text_of(alloc, local.name)?;
-            let value = value.copy(alloc)?;
-            slots.push(Slot { name, value })?;
-        }
-    }
-    Ok(slots)
-}
-
-/// What a call of a built-in method does.
-fn builtin_action(
-    alloc: Allocator,
-    object: Value,
-    method: BuiltinMethod,
-    values: &[Value],
-    named: &[NamedValue<'_>],
-) -> Result<Action, Halt>
-    ensures { TellsOutcome action_of result
-        (builtin_method_action (value_of object) (method_seen method) (map value_of values.now)
-        (map named_of named.now)) }
-{
-    if !named.is_empty() {
-        return Err(Halt::Stopped(Stop::Outside));
-    }
-    match (method, values) {
-        (BuiltinMethod::ListAppend, [value]) => Ok(Action::Append(object, value.copy(alloc)?)),
-        (BuiltinMethod::ListPop, []) => Ok(Action::Pop(object)),
-        (BuiltinMethod::DictGet, [key]) => Ok(Action::Get(object, key.copy(alloc)?)),
-        _ => Err(Halt::Stopped(Stop::Outside)),
-    }
-}
-
-/// The parameters of a def with the values that they take; arguments that do not suit are TypeError.
-fn suited_arguments<'m>(
-    alloc: Allocator,
-    keys: RandomState,
-    def: &'m FuncDef,
-    values: &[Value],
-    named: &[NamedValue<'m>],
-) -> Result<Vec<Local<'m>>, Halt>
-    ensures { TellsOutcome frame_of_vec result
-        (or_type_error (bound_arguments (method_of_def def.entry).parameters (map value_of values.now)
-        (map named_of named.now))) }
-{
-    let parameters = parameters(alloc, &def.params)?;
-    match bound_arguments(alloc, keys, &parameters, values, named)? {
-        Some(locals) => Ok(locals),
-        None => Err(raised(Exception::TypeError)),
-    }
-}
-
-/// The frame of a function that is entered.
-fn frame_of<'m>(
-    alloc: Allocator,
-    object: Option<Value>,
-    arguments: Vec<Local<'m>>,
-    def: &'m FuncDef,
-) -> Result<Vec<Local<'m>>, OutOfMemory>
-    ensures { IfOk result (λ ls. map local_of ls.items
-        ≡ frame_of (method_of_def def.entry) (with_object (value_if_any object) (map local_of arguments.entry.items))) }
-{
-    let mut frame = Vec::new(alloc);
-    if let Some(object) = object {
-        frame.push(Local {
-            name: "self",
-            value: Some(object),
-        })?;
-    }
-    for argument in arguments {
-        frame.push(argument)?;
-    }
-    add_names(&mut frame, &def.body)?;
-    Ok(frame)
-}
 
 impl<'m> Machine<'m> {
     /// A whole number as it is written. Language Reference 2.4.5 "Integer literals".

@@ -5,5 +5,3 @@ pub mod KindPairs
 pub mod Literals
 pub mod Offering
 pub mod Operators
-pub mod StoredByHead
-pub mod Storing

@@ -1,4 +1,3 @@
 pub mod Displays
 pub mod Internal
 pub mod JudgedOperations
-pub mod Storing

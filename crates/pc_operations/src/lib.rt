@@ -9,19 +9,15 @@ mod members;
 mod offers;
 mod operating;
 mod pairs;
-mod stores;
 
 pub use comparing::label_comparison;
 pub use display::{
     KeyValue, dict_label, dict_parts, list_item, list_label, tuple_label, tuple_parts,
 };
 pub use iterating::item_label;
-pub use offers::{Operation, member_offers, offers_label};
+pub use offers::{Operation, add_copy, has_error, member_offers, offers_label};
 pub use operating::{
     label_attribute, label_bool, label_index, label_int, label_junction, label_negative,
     label_none, label_str,
 };
 pub use pairs::binary_label;
-pub use stores::{
-    StoreOffer, StoreTarget, only_type, store_codes, store_index_types, store_offers, stored_types,
-};

@@ -94,7 +94,7 @@ pub fn member_offers<S: TypeStore>(
 }
 
 /// Whether one of the codes is an error.
-pub(crate) fn has_error(codes: &[Code]) -> bool
+pub fn has_error(codes: &[Code]) -> bool
     ensures { result ≡ has_error codes.now }
 {
     codes.iter().any(|code| code.is_error())
@@ -149,7 +149,7 @@ fn is_wrong<Ty: Drop>(offers: &[Offer<Ty>]) -> bool
 }
 
 /// Adds a type again, if there is one.
-pub(crate) fn add_copy<S: TypeStore>(
+pub fn add_copy<S: TypeStore>(
     store: &S,
     alloc: Global,
     ty: &Option<S::Ty>,

@@ -1,2 +1,4 @@
 pub mod FoundStores
 pub mod Iterating
+pub mod StoredByHead
+pub mod Storing

@@ -4,6 +4,7 @@
 mod binding;
 mod iterables;
 mod leaving;
+mod store_offers;
 mod stores;
 mod targets;
 mod typing;

@@ -6,15 +6,15 @@ ghost use Rattle.std.specs.Prelude.{All, map, OnOk};
 ghost use Rattle.pc_tree.specs.Tree.{expr_of, target_of, name_of, to_attribute, to_index};
 ghost use Rattle.pc_flow.specs.WellFormed.{AreWellFormed};
 ghost use Rattle.pc_rules.specs.Operations.{stored_types};
-ghost use Rattle.pc_operations.specs.Storing.{HasStoreOffer, store_offer_with};
+ghost use Rattle.pc_statements.specs.Storing.{HasStoreOffer, store_offer_with};
 ghost use Rattle.pc_module_rules.specs.Computed.Statements.{store_finds, stored_finds};
 ghost use Rattle.pc_walk.specs.Walks.{Stands, GoesOn, Found};
 
-use crate::typing::type_in;
-use pc_flow::Env;
-use pc_operations::{
+use crate::store_offers::{
     StoreOffer, StoreTarget, only_type, store_codes, store_index_types, store_offers, stored_types,
 };
+use crate::typing::type_in;
+use pc_flow::Env;
 use pc_rules::find_codes;
 use pc_source::{OutOfMemory, Place};
 use pc_tree::{Expr, Name, Target};

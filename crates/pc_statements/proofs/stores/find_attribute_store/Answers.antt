@@ -6,7 +6,7 @@ use Rattle.pc_flow.specs.WellFormed.{AreWellFormed}
 use Rattle.pc_notes.specs.Notes.{Note}
 use Rattle.pc_rules.specs.Operations.{Label, StoreOffer, stored_types}
 use Rattle.pc_rules.specs.Computed.Standing.{Standing, label_in, finds_in}
-use Rattle.pc_operations.specs.Storing.{HasStoreOffer, store_offer_with}
+use Rattle.pc_statements.specs.Storing.{HasStoreOffer, store_offer_with}
 use Rattle.pc_module_rules.specs.Computed.Statements.{BodyContext, stored_finds, attribute_stores}
 use Rattle.pc_module_rules.proofs.StoredTypes.{fields_stored}
 use Rattle.pc_walk.specs.declared.context.BodyContext.{BodyContext as RustBodyContext}

@@ -11,8 +11,8 @@ use Rattle.pc_rules.specs.Operations.{Label, StoreOffer, stored_types, store_ind
 use Rattle.pc_rules.specs.Computed.Findings.{flows_at}
 use Rattle.pc_rules.specs.Computed.Expressions.{flows_of}
 use Rattle.pc_rules.specs.Computed.Standing.{Standing, label_in, finds_in}
-use Rattle.pc_operations.specs.Storing.{HasStoreOffer, store_offer_with}
-use Rattle.pc_operations.proofs.Storing.{all_stores_kept}
+use Rattle.pc_statements.specs.Storing.{HasStoreOffer, store_offer_with}
+use Rattle.pc_statements.proofs.Storing.{all_stores_kept}
 use Rattle.pc_module_rules.specs.Computed.Statements.{BodyContext, stored_finds, store_finds, index_stores}
 use Rattle.pc_module_rules.proofs.StoredTypes.{items_stored}
 use Rattle.pc_walk.specs.declared.context.BodyContext.{BodyContext as RustBodyContext}

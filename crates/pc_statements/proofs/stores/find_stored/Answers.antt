@@ -13,7 +13,7 @@ use Rattle.pc_rules.specs.Operations.{StoreOffer, stored_types, store_codes, onl
 use Rattle.pc_rules.specs.Computed.Findings.{codes_at, own_at, flows_at}
 use Rattle.pc_rules.specs.Computed.Expressions.{flows_of}
 use Rattle.pc_rules.specs.Computed.Standing.{Standing, label_in, finds_in}
-use Rattle.pc_operations.specs.Storing.{store_offer_with}
+use Rattle.pc_statements.specs.Storing.{store_offer_with}
 use Rattle.pc_module_rules.specs.Computed.Statements.{BodyContext, stored_finds}
 use Rattle.pc_walk.specs.declared.context.BodyContext.{BodyContext as RustBodyContext}
 use Rattle.pc_walk.specs.Walks.{GoesOn, body_context_in, standing_in}

@@ -1,5 +1,5 @@
 use Rattle.pc_operations.proofs.ByHead.{field_given}
-use Rattle.pc_operations.proofs.stores.attribute_store.Goals as goal
+use Rattle.pc_statements.proofs.store_offers.attribute_store.Goals as goal
 
 pub copy-requires : goal.copy-requires
 copy-requires g c = field_given (g.S.TypeStore.has c.args.store.now) c.args.classes.now c.in-Some.field.now

@@ -11,10 +11,10 @@ ghost use Rattle.pc_rules.specs.Operations.{store_with, store_attribute_member, 
 ghost use Rattle.pc_rules.specs.Operations.{store_index_types, stored_types, only_type};
 ghost use Rattle.pc_rules.specs.Computed.Findings.{once};
 ghost use Rattle.pc_rules.specs.Computed.Standing.{HasIfAny};
-ghost use Rattle.pc_operations.specs.Storing.{store_on, store_offer_with, HasStoreOffer, IsStoreOffer};
+ghost use Rattle.pc_statements.specs.Storing.{store_on, store_offer_with, HasStoreOffer, IsStoreOffer};
 
-use crate::offers::{add_copy, has_error};
 use pc_class::ClassTable;
+use pc_operations::{add_copy, has_error};
 use pc_rules::add_found;
 use pc_source::OutOfMemory;
 use pc_tree::Code;
@@ -23,7 +23,7 @@ use std::alloc::Global;
 
 /// What a store comes to on one member: what is found, what its index flows into, and what the stored value flows into.
 #[derive(Drop)]
-pub struct StoreOffer<Ty: Drop> {
+pub(crate) struct StoreOffer<Ty: Drop> {
     pub found: Option<Code>,
     pub takes: Option<Ty>,
     pub stores: Option<Ty>,
@@ -31,7 +31,7 @@ pub struct StoreOffer<Ty: Drop> {
 
 /// A part of a value that is stored to. Language Reference 7.2 "Assignment statements".
 #[derive(Clone, Copy)]
-pub enum StoreTarget<'n> {
+pub(crate) enum StoreTarget<'n> {
     /// `e.name = v`
     Attribute(&'n str),
     /// `e[i] = v`
@@ -141,7 +141,7 @@ fn store_on<S: TypeStore>(
 
 /// What a store comes to on each member of a type, in order. Language Reference 7.2 "Assignment statements"; own rule
 /// of the profile.
-pub fn store_offers<S: TypeStore>(
+pub(crate) fn store_offers<S: TypeStore>(
     store: &mut S,
     alloc: Global,
     classes: &ClassTable<S::Ty>,
@@ -166,7 +166,7 @@ pub fn store_offers<S: TypeStore>(
 }
 
 /// The codes of a store on all members, each once.
-pub fn store_codes<Ty: Drop>(
+pub(crate) fn store_codes<Ty: Drop>(
     alloc: Global,
     offers: &[StoreOffer<Ty>],
 ) -> Result<Vec<Code>, OutOfMemory>
@@ -181,7 +181,7 @@ pub fn store_codes<Ty: Drop>(
 }
 
 /// What the index of a store flows into on all members, nothing where one of them is in error.
-pub fn store_index_types<S: TypeStore>(
+pub(crate) fn store_index_types<S: TypeStore>(
     store: &S,
     alloc: Global,
     offers: &[StoreOffer<S::Ty>],
@@ -203,7 +203,7 @@ pub fn store_index_types<S: TypeStore>(
 }
 
 /// What a stored value flows into on all members, nothing where one of them is in error.
-pub fn stored_types<S: TypeStore>(
+pub(crate) fn stored_types<S: TypeStore>(
     store: &S,
     alloc: Global,
     offers: &[StoreOffer<S::Ty>],
@@ -224,7 +224,7 @@ pub fn stored_types<S: TypeStore>(
 }
 
 /// What is expected of a stored value: what it flows into, where there is one member.
-pub fn only_type<S: TypeStore>(
+pub(crate) fn only_type<S: TypeStore>(
     store: &S,
     alloc: Global,
     offers: &[StoreOffer<S::Ty>],

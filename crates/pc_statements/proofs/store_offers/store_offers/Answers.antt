@@ -2,10 +2,10 @@ use Rattle.std.proofs.Common.{arith, ap, ◌∙◌}
 use Rattle.std.specs.Prelude.{map}
 use Rattle.pc_class.specs.Tables.{classes_with}
 use Rattle.pc_flow.proofs.Given.{all_kept}
-use Rattle.pc_operations.specs.Storing.{store_on}
+use Rattle.pc_statements.specs.Storing.{store_on}
 use Rattle.pc_operations.proofs.Offering.{entries_kept}
-use Rattle.pc_operations.proofs.Storing.{stores_none, stores_more, stores_all}
-use Rattle.pc_operations.proofs.stores.store_offers.Goals as goal
+use Rattle.pc_statements.proofs.Storing.{stores_none, stores_more, stores_all}
+use Rattle.pc_statements.proofs.store_offers.store_offers.Goals as goal
 
 pub loop-i-init : goal.loop-i-init
 loop-i-init g c = record {

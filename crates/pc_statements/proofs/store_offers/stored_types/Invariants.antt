@@ -1,6 +1,6 @@
 use Rattle.std.proofs.Common.{All}
-use Rattle.pc_operations.proofs.Storing.{AreTaken}
-use Rattle.pc_operations.proofs.stores.stored_types.Given as goal
+use Rattle.pc_statements.proofs.Storing.{AreTaken}
+use Rattle.pc_statements.proofs.store_offers.stored_types.Given as goal
 
 abbrev pub invariant-loop-offer : goal.invariant-loop-offer
 invariant-loop-offer g l = record {

@@ -12,8 +12,8 @@ use Rattle.pc_flow.proofs.Given.{keeps_both}
 use Rattle.pc_flow.proofs.Rest.{mapped_rest, mapped_end}
 use Rattle.pc_rules.specs.Operations.{StoreOffer, has_error, store_codes}
 use Rattle.pc_rules.specs.Computed.Findings.{once_onto, once}
-use Rattle.pc_operations.specs.Storing.{HasStoreOffer, IsStoreOffer, store_offer_with}
-use Rattle.pc_operations.specs.declared.stores.StoreOffer.{StoreOffer as RustStoreOffer}
+use Rattle.pc_statements.specs.Storing.{HasStoreOffer, IsStoreOffer, store_offer_with}
+use Rattle.pc_statements.specs.declared.store_offers.StoreOffer.{StoreOffer as RustStoreOffer}
 use Rattle.pc_operations.proofs.Offering.{if_any_kept}
 use Rattle.pc_rules.proofs.Once.{onto_append, once_error}
 

@@ -1,8 +1,8 @@
 use Rattle.std.proofs.Common.{All}
 use Rattle.pc_class.specs.Tables.{HasEntries, classes_with}
-use Rattle.pc_operations.specs.Storing.{store_on}
-use Rattle.pc_operations.proofs.Storing.{AreStores}
-use Rattle.pc_operations.proofs.stores.store_offers.Given as goal
+use Rattle.pc_statements.specs.Storing.{store_on}
+use Rattle.pc_statements.proofs.Storing.{AreStores}
+use Rattle.pc_statements.proofs.store_offers.store_offers.Given as goal
 
 abbrev pub invariant-loop-i : goal.invariant-loop-i
 invariant-loop-i g l = record {

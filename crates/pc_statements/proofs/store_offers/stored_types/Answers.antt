@@ -1,7 +1,7 @@
 use Rattle.std.proofs.Common.{arith, ap, sym, ◌∙◌}
 use Rattle.pc_rules.specs.Operations.{has_error}
-use Rattle.pc_operations.proofs.Storing.{error_is, take_more, types_right, types_wrong}
-use Rattle.pc_operations.proofs.stores.stored_types.Goals as goal
+use Rattle.pc_statements.proofs.Storing.{error_is, take_more, types_right, types_wrong}
+use Rattle.pc_statements.proofs.store_offers.stored_types.Goals as goal
 
 pub loop-offer-preserved : goal.loop-offer-preserved
 loop-offer-preserved g c = record {

@@ -6,9 +6,9 @@ use Rattle.pc_types.specs.Tree.{Tree}
 use Rattle.pc_class.specs.Facts as facts
 use Rattle.pc_rules.specs.Operations.{StoreOffer, store_attribute_member, store_index_member}
 use Rattle.pc_rules.specs.Computed.Standing.{HasIfAny}
-use Rattle.pc_operations.specs.declared.stores.StoreOffer.{StoreOffer as RustStoreOffer}
-use Rattle.pc_operations.specs.declared.stores.StoreTarget.{StoreTarget}
-use Rattle.pc_operations.specs.declared.stores.StoreTarget.TheVariants as targets
+use Rattle.pc_statements.specs.declared.store_offers.StoreOffer.{StoreOffer as RustStoreOffer}
+use Rattle.pc_statements.specs.declared.store_offers.StoreTarget.{StoreTarget}
+use Rattle.pc_statements.specs.declared.store_offers.StoreTarget.TheVariants as targets
 
 -- what a store comes to on one member
 abbrev pub store_on : List facts.ClassFacts → StoreTarget → Tree → StoreOffer

@@ -1,6 +1,6 @@
 use Rattle.std.proofs.Common.{arith}
-use Rattle.pc_operations.proofs.Storing.{codes_more, codes_all}
-use Rattle.pc_operations.proofs.stores.store_codes.Goals as goal
+use Rattle.pc_statements.proofs.Storing.{codes_more, codes_all}
+use Rattle.pc_statements.proofs.store_offers.store_codes.Goals as goal
 
 pub loop-offer-preserved : goal.loop-offer-preserved
 loop-offer-preserved g c = codes_more c.args.offers.now c.loop-offer.offer-index c.loop-offer.codes.items
