@@ -15,6 +15,7 @@ use Rattle.pc_flow.proofs.Rest.{mapped_rest, mapped_end}
 use Rattle.pc_rules.specs.Calls.{CallOffer, value_offer, value_offers}
 use Rattle.pc_calls.specs.JudgedCalls.{offer_called, HasParam, HasCalled, HasCalledIfAny, HasCallOffer, IsCallOffer}
 use Rattle.pc_calls.specs.JudgedCalls.{IsOnlyOffer, AreCallOffers}
+use Rattle.pc_class.specs.Tables.{HasParameter}
 
 module _ {Store Ty : Type 0} (has : Store → Ty → Type 0) where
   pub item_held : (old new : Store) (xs : List Ty) (i : ℕ) (x : Ty) → KeepsTypes has old new → All (has old) xs
@@ -23,6 +24,8 @@ module _ {Store Ty : Type 0} (has : Store → Ty → Type 0) where
 
   module _ (old new : Store) (k : KeepsTypes has old new) where
     called_kept : (c : Called Ty) → HasCalled (has old) c → HasCalled (has new) c
+    called_kept (called.Listed ps) h = All-weaker (HasParameter (has old)) (HasParameter (has new)) (λ p. k p.ty)
+        ps.now h
     called_kept (called.Named ps) h = record {
       all = All-weaker (HasParam (has old)) (HasParam (has new)) (λ p. k p.ty)
           ps.all.items h.all;

@@ -6,6 +6,7 @@ pub mod ErrorsOfCalls
 pub mod Filling
 pub mod FirstNames
 pub mod HeldClasses
+pub mod ListedCalls
 pub mod MethodOffers
 pub mod NamesGiven
 pub mod SeatTypes

@@ -17,7 +17,8 @@ use Rattle.pc_types.specs.declared.head.Head.{Head}
 use Rattle.pc_types.specs.declared.head.Head.TheVariants as heads
 use Rattle.pc_class.specs.Facts.{TypedParameter, field_by_name}
 use Rattle.pc_class.specs.declared.table.Parameter.{Parameter as RustParameter}
-use Rattle.pc_class.specs.Tables.{HasParameter}
+use Rattle.pc_class.specs.Parts.{parameter_name}
+use Rattle.pc_class.specs.Tables.{HasParameter, parameters_with}
 use Rattle.pc_flow.specs.Narrowing.{second_argument, test_of_argument}
 use Rattle.pc_rules.specs.Context.{Signature}
 use Rattle.pc_rules.specs.Calls.{GivenArguments, CallOffer, CallRule, member_rule, length_rule, test_rule, CalleeLabel}
@@ -81,6 +82,11 @@ AreNumbersIfAny (Some m) names = AreNumbers m names
 abbrev pub AreNumbered : {Ty : Type 0} → Params Ty → Type 0
 AreNumbered ps = AreNumbersIfAny ps.numbers (names_called ps.all.items)
 
+-- an argument of these names is for the parameter of a place, the first of its name
+abbrev pub fills : {Ty : Type 0} → List (List ℕ) → Option (RustParameter Ty) → ℕ → List (List ℕ) → Test
+fills named None i names = false
+fills named (Some p) i names = is_one_of (parameter_name p) named && is_place (index_of (parameter_name p) names) i
+
 -- ---- what a call comes to
 
 module _ {Ty : Type 0} (tree : Ty → Tree) where
@@ -92,8 +98,17 @@ module _ {Ty : Type 0} (tree : Ty → Tree) where
   abbrev pub params_called : (returns : Tree) → List (Param Ty) → Signature
   params_called returns ps = record { parameters = map param_called ps; returns = returns; takes_names = true }
 
+  -- a list of parameters as what is called, which returns this type
+  abbrev pub signature_listed : (returns : Tree) → List (RustParameter Ty) → Signature
+  signature_listed returns ps = record {
+    parameters = parameters_with tree ps;
+    returns = returns;
+    takes_names = true;
+  }
+
   -- what is called, which returns this type
   abbrev pub signature_called : (returns : Tree) → Called Ty → Signature
+  signature_called returns (called.Listed params) = signature_listed returns params.now
   signature_called returns (called.Named params) = params_called returns params.all.items
   signature_called returns (called.Builtin types) = builtin_signature (map tree types.items) returns
 
@@ -135,6 +150,7 @@ module _ {Ty : Type 0} (has : Ty → Type 0) where
 
   -- the store gave the types of what is called
   abbrev pub HasCalled : Called Ty → Type 0
+  HasCalled (called.Listed params) = All (HasParameter has) params.now
   HasCalled (called.Named params) = HasParams params
   HasCalled (called.Builtin types) = All has types.items
 

@@ -8,8 +8,8 @@ ghost use Rattle.pc_rules.specs.Computed.Standing.{signature_with, HasSignature}
 ghost use Rattle.pc_calls.specs.JudgedCalls.{given_with, IsCallOffer};
 
 use crate::arguments::Given;
-use crate::call_offers::{CallOffer, call_of, fails_at_call};
-use crate::params::{copies, copies_of_lent};
+use crate::call_offers::{CallOffer, call_of, call_of_list, fails_at_call};
+use crate::params::copies_of_lent;
 use pc_class::ClassTable;
 use pc_rules::Signature;
 use pc_source::OutOfMemory;
@@ -35,9 +35,8 @@ pub fn function_offer<'t, S: TypeStore>(
         return fails_at_call(store, alloc, Code::A6);
     }
     let signature = &functions[function];
-    let params = copies(store, alloc, &signature.params)?;
     let returns = store.copy(alloc, &signature.ret)?;
-    let offer = call_of(store, alloc, given, params, returns)?;
+    let offer = call_of_list(store, alloc, given, &signature.params, returns)?;
     Ok(offer)
 }
 

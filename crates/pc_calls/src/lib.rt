@@ -8,6 +8,7 @@ mod calling;
 mod functions;
 pub mod given;
 mod instances;
+mod listed;
 mod methods;
 mod naming_callees;
 mod params;

@@ -13,11 +13,11 @@ ghost use Rattle.pc_calls.specs.JudgedCalls.{IsOnlyOffer, AreCallOffers, IsCalle
 
 use crate::arguments::Given;
 use crate::call_offers::{
-    CallOffer, CallRule, call_of, call_of_builtin, fails_at_callee, push_offer, push_value_offers,
+    CallOffer, CallRule, call_of_builtin, call_of_list, fails_at_callee, push_offer,
+    push_value_offers,
 };
 use crate::callee::Callee;
 use crate::calling::codes_at_callee;
-use crate::params::copies;
 use pc_class::{ClassTable, Method};
 use pc_flow::join_or_object;
 use pc_rules::{Label, Setting};
@@ -46,9 +46,8 @@ fn method_offer<'t, S: TypeStore>(
         (signature_offer (given_with given.now) (method_signature (method_with S.tree method.now)))) }
     ensures kept { KeepsTypes S.has store.old store.new }
 {
-    let params = copies(store, alloc, &method.params)?;
     let returns = store.copy(alloc, &method.ret)?;
-    let offer = call_of(store, alloc, given, params, returns)?;
+    let offer = call_of_list(store, alloc, given, &method.params, returns)?;
     Ok(offer)
 }
 

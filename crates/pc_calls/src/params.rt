@@ -4,7 +4,7 @@ ghost use Rattle.std.specs.Prelude.{◌≡◌, ◌&&◌, All, List, map, take, d
 ghost use Rattle.std.specs.List.{list_all};
 ghost use Rattle.pc_scope.specs.Resolution.{is_one_of, index_of};
 ghost use Rattle.pc_types.specs.Tree.{Tree};
-ghost use Rattle.pc_class.specs.Tables.{HasParameter, parameter_with, parameter_lent, parameters_with};
+ghost use Rattle.pc_class.specs.Tables.{parameter_with, parameter_lent};
 ghost use Rattle.pc_rules.specs.Calls.{is_suited, is_free, builtin_signature};
 ghost use Rattle.pc_calls.specs.JudgedCalls.{HasLent, HasParam, names_in, given_with, param_called, names_called};
 ghost use Rattle.pc_calls.specs.JudgedCalls.{filled_called, is_place, AreNumbers, AreNumbered, params_called};
@@ -53,24 +53,6 @@ fn copied<'t, S: TypeStore>(
         ty,
         has_default: param.has_default,
     })
-}
-
-/// Parameters one by one, with copies of their types.
-pub fn copies<'t, S: TypeStore>(
-    store: &S,
-    alloc: Global,
-    params: &'t [Parameter<S::Ty>],
-) -> Result<Vec<Param<'t, S::Ty>>, OutOfMemory>
-    requires { All (HasParameter (S.has store.now)) params.now }
-    ensures held { IfOk result (λ ps. All (HasParam (S.has store.now)) ps.items) }
-    ensures value { IfOk result (λ ps. map (param_called S.tree) ps.items ≡ parameters_with S.tree params.now) }
-{
-    let mut all = Vec::new(alloc);
-    for param in params {
-        let copy = copied(store, alloc, param)?;
-        all.push(copy)?;
-    }
-    Ok(all)
 }
 
 /// Parameters that are lent one by one, with copies of their types.
@@ -182,7 +164,7 @@ fn are_filled<Ty: Drop>(given: &Given, params: &Params<'_, Ty>) -> bool
 }
 
 /// Whether a parameter of this number is past those that the arguments by position fill.
-fn is_free(positional: usize, number: Option<usize>) -> bool
+pub fn is_free(positional: usize, number: Option<usize>) -> bool
     ensures { result ≡ is_free positional number }
 {
     match number {

@@ -10,11 +10,14 @@ ghost use Rattle.pc_rules.specs.Lawful.{keyword_seat};
 ghost use Rattle.pc_rules.specs.Computed.Standing.{HasIfAny};
 ghost use Rattle.pc_calls.specs.JudgedCalls.{names_in, names_called, number_for, builtin_number, offer_called};
 ghost use Rattle.pc_calls.specs.JudgedCalls.{params_called, signature_called, AreNumbered, HasParams, HasCalled};
-ghost use Rattle.pc_calls.specs.JudgedCalls.{HasCallOffer, types_at, seat_of, IsSeat};
+ghost use Rattle.pc_class.specs.Listed.{names_listed};
+ghost use Rattle.pc_class.specs.Tables.{HasParameter};
+ghost use Rattle.pc_calls.specs.JudgedCalls.{HasCallOffer, types_at, seat_of, IsSeat, signature_listed};
 
 use crate::arguments::{Names, is_among};
 use crate::call_offers::{CallOffer, Called};
 use crate::params::Params;
+use pc_class::ParameterList;
 use pc_source::OutOfMemory;
 use pc_tree::{Code, Name};
 use pc_types::TypeStore;
@@ -70,6 +73,42 @@ fn param_type<S: TypeStore>(
     }
 }
 
+/// The place in a list of the parameter that an argument is for: its own position, or that of the first of its name.
+fn listed_place<Ty: Drop>(params: &ParameterList<Ty>, argument: Argument) -> Option<usize>
+    ensures { result ≡ number_for argument.entry (names_listed params.now) }
+{
+    match argument {
+        Argument::Position(position) => Some(position),
+        Argument::Name(name) => params.place(name),
+    }
+}
+
+/// The type of a parameter of a list: the one at a position, or the first of a name.
+fn listed_type<S: TypeStore>(
+    store: &S,
+    alloc: Global,
+    params: &ParameterList<S::Ty>,
+    argument: Argument,
+) -> Result<Option<S::Ty>, OutOfMemory>
+    requires { All (HasParameter (S.has store.now)) params.now }
+    ensures held { IfOk result (λ t. HasIfAny (S.has store.now) t) }
+    ensures value { IfOk result
+        (λ t. (returns : Tree) → option_to_list (option_map S.tree t)
+        ≡ types_at argument.entry (signature_listed S.tree returns params.now)) }
+{
+    match listed_place(params, argument) {
+        None => Ok(None),
+        Some(place) => {
+            let all = params.as_slice();
+            if place >= all.len() {
+                return Ok(None);
+            }
+            let ty = store.copy(alloc, &all[place].ty)?;
+            Ok(Some(ty))
+        }
+    }
+}
+
 /// The number of the parameter of a built-in that an argument is for: by position, since they have the empty name.
 fn builtin_number(argument: Argument) -> Option<usize>
     ensures { result ≡ builtin_number argument.entry }
@@ -119,6 +158,7 @@ fn type_for<S: TypeStore>(
         ≡ types_at argument.entry (signature_called S.tree returns called.now)) }
 {
     match called {
+        Called::Listed(params) => listed_type(store, alloc, params, argument),
         Called::Named(params) => param_type(store, alloc, params, argument),
         Called::Builtin(types) => builtin_type(store, alloc, types, argument),
     }

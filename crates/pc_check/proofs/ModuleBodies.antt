@@ -41,12 +41,12 @@ module _ {Store Ty : Type 0} (has : Store → Ty → Type 0) (tree : Ty → Tree
   entries_kept cs h = All-weaker (HasEntry (has a)) (HasEntry (has b)) (λ c g. record {
     fields = params_kept c.fields g.fields;
     methods = All-weaker (HasMethod (has a)) (HasMethod (has b))
-        (λ x y. record { params = params_kept x.params.items y.params; ret = k x.ret y.ret }) c.methods g.methods;
+        (λ x y. record { params = params_kept x.params y.params; ret = k x.ret y.ret }) c.methods g.methods;
   }) cs h
 
   signatures_kept : (ss : List (RustSignature Ty)) → All (HasSignature (has a)) ss → All (HasSignature (has b)) ss
   signatures_kept ss h = All-weaker (HasSignature (has a)) (HasSignature (has b))
-      (λ s g. record { params = params_kept s.params.items g.params; ret = k s.ret g.ret }) ss h
+      (λ s g. record { params = params_kept s.params g.params; ret = k s.ret g.ret }) ss h
 
   signed_kept : (s : HeldSignatures Ty) → HasSigned (has a) s → HasSigned (has b) s
   signed_kept s h = record {

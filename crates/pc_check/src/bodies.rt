@@ -69,7 +69,7 @@ pub(crate) fn check_owned<S: TypeStore>(
                 returned: &signature.ret,
             };
             let count = bodies.globals.outline.scopes.count_locals(owner);
-            let params = &signature.params;
+            let params = signature.params.as_slice();
             check_function(checker, context, owner, count, params, def)
         }
     }

@@ -274,7 +274,7 @@ has_fields has has2 k ps h = All-weaker (HasParameter has) (HasParameter has2) (
 pub has_methods : {Ty : Type 0} (has has2 : Ty → Type 0) → ((t : Ty) → has t → has2 t) → (xs : List (RustMethod Ty))
     → All (HasMethod has) xs → All (HasMethod has2) xs
 has_methods has has2 k xs h = All-weaker (HasMethod has) (HasMethod has2)
-    (λ x i. record { params = has_fields has has2 k x.params.items i.params; ret = k x.ret i.ret }) xs h
+    (λ x i. record { params = has_fields has has2 k x.params i.params; ret = k x.ret i.ret }) xs h
 
 -- a table that a class was added to
 module _ {Ty : Type 0} (tree : Ty → Tree) (m : Module) (p q : TableParts Ty) (table : IsClassTable p) (class : ClassDef)

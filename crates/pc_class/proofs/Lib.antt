@@ -15,6 +15,7 @@ pub mod HeldMembers
 pub mod Holding
 pub mod ItemsBuilt
 pub mod Judged
+pub mod Listings
 pub mod Naming
 pub mod Overridden
 pub mod OverrideWalk

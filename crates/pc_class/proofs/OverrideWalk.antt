@@ -29,7 +29,7 @@ module _ {Ty : Type 0} where
   pub method_keeps : (has later : Ty → Type 0) (x : RustMethod Ty) → ((t : Ty) → has t → later t) → HasMethod has x
       → HasMethod later x
   method_keeps has later x keeps h = record {
-    params = All-weaker (HasParameter has) (HasParameter later) (λ p q. keeps p.ty q) x.params.items h.params;
+    params = All-weaker (HasParameter has) (HasParameter later) (λ p q. keeps p.ty q) x.params h.params;
     ret = keeps x.ret h.ret;
   }
 

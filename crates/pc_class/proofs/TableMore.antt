@@ -39,7 +39,7 @@ span_front n k s h = let w = h.within in record { order = h.order; within = omeg
 
 -- ---- elements of lists with one more
 
-get_before : {X : Type 0} (xs ys : List X) (i : ℕ) → i < length xs → slice_get (xs ++ ys) i ≡ slice_get xs i
+pub get_before : {X : Type 0} (xs ys : List X) (i : ℕ) → i < length xs → slice_get (xs ++ ys) i ≡ slice_get xs i
 get_before [] ys i h = absurd (omega arith)
 get_before (x ∷ xs) ys zero h = refl
 get_before (x ∷ xs) ys (suc i) h = get_before xs ys i (omega arith)
@@ -50,7 +50,7 @@ index_before [] ys i d h = absurd (omega arith)
 index_before (x ∷ xs) ys zero d h = refl
 index_before (x ∷ xs) ys (suc i) d h = index_before xs ys i d (omega arith)
 
-get_last : {X : Type 0} (xs : List X) (y : X) → slice_get (xs ++ y ∷ []) (length xs) ≡ Some y
+pub get_last : {X : Type 0} (xs : List X) (y : X) → slice_get (xs ++ y ∷ []) (length xs) ≡ Some y
 get_last [] y = refl
 get_last (x ∷ xs) y = get_last xs y
 

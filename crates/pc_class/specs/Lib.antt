@@ -4,6 +4,7 @@ pub mod ClassFindingsLaw
 pub mod Entries
 pub mod Facts
 pub mod Findings
+pub mod Listed
 pub mod Outlines
 pub mod Overrides
 pub mod Parts

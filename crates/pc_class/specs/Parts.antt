@@ -1,6 +1,7 @@
 -- What a class table is made of, and the classes that it means by it: all fields and all methods that the classes bind,
 -- one after another, and of each class which of them it binds itself.
 -- Own rule of the profile.
+pub use Rattle.pc_class.specs.Listed.{parameter_name}
 use Rattle.std.specs.Prelude.{◌≡◌, ◌<◌, ◌≤◌, ◌-◌, ℕ, List, [], ◌∷◌, ◌++◌, take, drop, length, map, false, Option, Some}
 use Rattle.std.specs.Prelude.{None, All, slice_get, slice_index_or, string_bytes}
 use Rattle.std.specs.Borrow.{Bor}
@@ -39,10 +40,6 @@ inherited_node classes None = empty_class_node
 inherited_node classes (Some b) = slice_index_or classes b empty_class_node
 
 module _ {Ty : Type 0} where
-  -- the name of a parameter of the program
-  abbrev pub parameter_name : RustParameter Ty → List ℕ
-  parameter_name p = string_bytes p.name
-
   -- a parameter that is lent
   abbrev pub lent_parameter : Bor (RustParameter Ty) → RustParameter Ty
   lent_parameter p = p.now

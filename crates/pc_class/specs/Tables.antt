@@ -39,7 +39,7 @@ module _ {Ty : Type 0} (tree : Ty → Tree) where
     owner = x.owner;
     number = x.number;
     place = x.place;
-    parameters = parameters_with x.params.items;
+    parameters = parameters_with x.params;
     returns = tree x.ret;
   }
 
@@ -66,7 +66,7 @@ module _ {Ty : Type 0} (has : Ty → Type 0) where
 
   -- the store gave the types of a method's parameters, and the type that it returns
   pub record HasMethod (x : RustMethod Ty) : Type 0 where
-    pub params : All HasParameter x.params.items
+    pub params : All HasParameter x.params
     pub ret : has x.ret
 
   -- the store gave the types of a class

@@ -6,6 +6,7 @@ mod bases;
 mod building;
 mod entries;
 mod laws;
+mod listed;
 mod named;
 mod overriding;
 mod parts;
@@ -18,6 +19,7 @@ pub use laws::{
     class_findings_are_exact, classes_are_well_formed, methods_are_judged_against_each_ancestor,
     methods_are_judged_once, names_are_found, overrides_are_found,
 };
+pub use listed::ParameterList;
 pub use overriding::override_findings;
 pub use pc_ann::bases_stand_before;
 pub use reading::read_param;

@@ -124,13 +124,15 @@ fn overrides<S: TypeStore>(
         (method_with S.tree old.now) }
     ensures kept { KeepsTypes S.has store.old store.new }
 {
-    if !has_shape(&old.params, &new.params) {
+    let taken = old.params.as_slice();
+    let takes = new.params.as_slice();
+    if !has_shape(taken, takes) {
         return false;
     }
     if !fits(store, parents, relation, &new.ret, &old.ret) {
         return false;
     }
-    parameters_fit(store, parents, relation, &old.params, &new.params)
+    parameters_fit(store, parents, relation, taken, takes)
 }
 
 /// The code of a method of a class of this base, against every ancestor's of its name: `E11` where it is not good

@@ -11,6 +11,7 @@ ghost use Rattle.pc_class.specs.Entries.{parameter_made};
 ghost use Rattle.pc_ann.specs.ModuleOutlines.{IsModuleOutline, module_in};
 ghost use Rattle.pc_class.specs.Tables.{HasParameter, HasMethod, parameter_with, parameters_with, method_with};
 
+use crate::listed::ParameterList;
 use crate::table::{Method, Parameter};
 use pc_ann::{ModuleOutline, read_ann, read_option};
 use pc_source::OutOfMemory;
@@ -109,6 +110,7 @@ pub(crate) fn read_method<S: TypeStore>(
     ensures kept { KeepsTypes S.has store.old store.new }
 {
     let params = read_params(outline, store, alloc, &def.params)?;
+    let params = ParameterList::new(alloc, params)?;
     let mut aside = Vec::new(alloc);
     let ret = read_option(store, alloc, outline, &mut aside, &def.returns)?;
     let name = String::from_str(alloc, def.name.text.as_str())?;

@@ -10,6 +10,7 @@ ghost use Rattle.pc_class.specs.Parts.{part, lent_parameter, IsSpan, bases_in, e
 ghost use Rattle.pc_class.specs.Tables.{ClassEntry, empty_entry, inherited_entry, classes_with, parameter_lent};
 ghost use Rattle.pc_class.specs.Tables.{method_lent, IsLent, IsFieldIfAny, IsMethodIfAny};
 
+use crate::listed::ParameterList;
 use crate::parts::{Span, TableParts};
 use pc_source::{OutOfMemory, Place};
 use pc_types::Parents;
@@ -34,7 +35,7 @@ pub struct Method<Ty: Drop> {
     pub place: Place,
     pub owner: usize,
     pub number: usize,
-    pub params: Vec<Parameter<Ty>>,
+    pub params: ParameterList<Ty>,
     pub ret: Ty,
 }
 

@@ -41,8 +41,7 @@ module _ {Store Ty : Type 0} (has : Store → Ty → Type 0) (a b : Store) (k : 
     fields = All-weaker (HasParameter (has a)) (HasParameter (has b)) (λ p. k p.ty) e.fields h.fields;
     methods = All-weaker (HasMethod (has a)) (HasMethod (has b))
         (λ m w. record {
-          params = All-weaker (HasParameter (has a)) (HasParameter (has b)) (λ p. k p.ty) m.params.items
-              w.params;
+          params = All-weaker (HasParameter (has a)) (HasParameter (has b)) (λ p. k p.ty) m.params w.params;
           ret = k m.ret w.ret;
         }) e.methods h.methods;
   }

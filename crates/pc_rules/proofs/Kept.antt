@@ -20,7 +20,7 @@ module _ {Ty : Type 0} (has later : Ty → Type 0) (k : (ty : Ty) → has ty →
   params_kept ps h = All-weaker (HasParameter has) (HasParameter later) (λ p. k p.ty) ps h
 
   method_kept : (x : Method Ty) → HasMethod has x → HasMethod later x
-  method_kept x h = record { params = params_kept x.params.items h.params; ret = k x.ret h.ret }
+  method_kept x h = record { params = params_kept x.params h.params; ret = k x.ret h.ret }
 
   entry_kept : (c : ClassEntry Ty) → HasEntry has c → HasEntry later c
   entry_kept c h = record {
@@ -33,7 +33,7 @@ module _ {Ty : Type 0} (has later : Ty → Type 0) (k : (ty : Ty) → has ty →
   entries_kept cs h = All-weaker (HasEntry has) (HasEntry later) entry_kept cs h
 
   signature_kept : (s : Signature Ty) → HasSignature has s → HasSignature later s
-  signature_kept s h = record { params = params_kept s.params.items h.params; ret = k s.ret h.ret }
+  signature_kept s h = record { params = params_kept s.params h.params; ret = k s.ret h.ret }
 
   local_kept : (ty : Option Ty) → HasOne has ty → HasOne later ty
   local_kept None h = tt

@@ -1,13 +1,13 @@
 //! What an expression stands in, apart from its environment.
 
 use pc_ann::ModuleOutline;
-use pc_class::{ClassTable, Parameter};
+use pc_class::{ClassTable, ParameterList};
 use pc_flow::{DeclaredTypes, OwnerNames};
 
 /// What a function takes and what it returns.
 #[derive(Drop)]
 pub struct Signature<Ty: Drop> {
-    pub params: Vec<Parameter<Ty>>,
+    pub params: ParameterList<Ty>,
     pub ret: Ty,
 }
 

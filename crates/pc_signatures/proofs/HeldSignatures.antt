@@ -18,7 +18,7 @@ module _ {Store Ty : Type 0} (has : Store → Ty → Type 0) (a b : Store) (k : 
   params_kept ps h = All-weaker (HasParameter (has a)) (HasParameter (has b)) (λ p g. k p.ty g) ps h
 
   pub signature_kept : (s : RustSignature Ty) → HasSignature (has a) s → HasSignature (has b) s
-  signature_kept s h = record { params = params_kept s.params.items h.params; ret = k s.ret h.ret }
+  signature_kept s h = record { params = params_kept s.params h.params; ret = k s.ret h.ret }
 
   pub signatures_kept : (ss : List (RustSignature Ty)) → HasSignatures (has a) ss → HasSignatures (has b) ss
   signatures_kept ss h = All-weaker (HasSignature (has a)) (HasSignature (has b)) signature_kept ss h
@@ -34,7 +34,7 @@ module _ {Store Ty : Type 0} (has : Store → Ty → Type 0) (a b : Store) (k : 
   entries_kept cs h = All-weaker (HasEntry (has a)) (HasEntry (has b)) (λ c g. record {
     fields = params_kept c.fields g.fields;
     methods = All-weaker (HasMethod (has a)) (HasMethod (has b))
-        (λ x y. record { params = params_kept x.params.items y.params; ret = k x.ret y.ret }) c.methods g.methods;
+        (λ x y. record { params = params_kept x.params y.params; ret = k x.ret y.ret }) c.methods g.methods;
   }) cs h
 
 -- one more, pushed after those that are held

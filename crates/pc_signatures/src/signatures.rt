@@ -23,7 +23,7 @@ use crate::bound::{Texts, bind};
 use crate::defaults::{binds, find_default};
 use indexmap::IndexSet;
 use pc_ann::ModuleOutline;
-use pc_class::{Parameter, read_param};
+use pc_class::{Parameter, ParameterList, read_param};
 use pc_rules::{Checker, Signature};
 use pc_source::OutOfMemory;
 use pc_tree::{Ann, FuncDef, Item, ItemKind, Param};
@@ -140,6 +140,7 @@ pub(crate) fn read_signature<S: TypeStore>(
     ensures goes_on { GoesOn S.TypeStore checker.old checker.new }
 {
     let params = read_params(checker, outline, bound, &def.params)?;
+    let params = ParameterList::new(checker.alloc, params)?;
     let ret = read_optional(checker, outline, &def.returns)?;
     Ok(Signature { params, ret })
 }

@@ -112,7 +112,7 @@ module _ {Store Ty : Type 0} (has : Store → Ty → Type 0) (a b : Store) (k : 
   params_kept ps h = All-weaker (HasParameter (has a)) (HasParameter (has b)) (λ p g. k p.ty g) ps h
 
   method_kept : (x : RustMethod Ty) → HasMethod (has a) x → HasMethod (has b) x
-  method_kept x h = record { params = params_kept x.params.items h.params; ret = k x.ret h.ret }
+  method_kept x h = record { params = params_kept x.params h.params; ret = k x.ret h.ret }
 
   entry_kept : (c : ClassEntry Ty) → HasEntry (has a) c → HasEntry (has b) c
   entry_kept c h = record {
@@ -122,7 +122,7 @@ module _ {Store Ty : Type 0} (has : Store → Ty → Type 0) (a b : Store) (k : 
   }
 
   signature_kept : (s : RustSignature Ty) → HasSignature (has a) s → HasSignature (has b) s
-  signature_kept s h = record { params = params_kept s.params.items h.params; ret = k s.ret h.ret }
+  signature_kept s h = record { params = params_kept s.params h.params; ret = k s.ret h.ret }
 
   pub context_kept : (tree : Ty → Tree) (f : RustBodyContext Ty) → HoldsContext (has a) tree f
       → HoldsContext (has b) tree f

@@ -103,7 +103,7 @@ fn add_method(
     requires { HasMethod IsGiven method.now }
 {
     let owner = classes.get(method.owner).copied().unwrap_or("no class");
-    let parameters = parameters_text(alloc, tree, &method.params)?;
+    let parameters = parameters_text(alloc, tree, method.params.as_slice())?;
     let ret = type_text(&BoxStore::new(), alloc, tree, &method.ret)?;
     let (name, number) = (&method.name, method.number);
     writeln!(

@@ -105,7 +105,7 @@ module _ {Ty : Type 0} (tree : Ty → Tree) where
   -- a signature with the types that it means
   abbrev pub signature_with : RustSignature Ty → Signature
   signature_with s = record {
-    parameters = parameters_with tree s.params.items;
+    parameters = parameters_with tree s.params;
     returns = tree s.ret;
     takes_names = true;
   }
@@ -150,7 +150,7 @@ HasIfAny has (Some ty) = has ty
 
 -- the store gave what a signature takes and returns
 pub record HasSignature {Ty : Type 0} (has : Ty → Type 0) (s : RustSignature Ty) : Type 0 where
-  pub params : All (HasParameter has) s.params.items
+  pub params : All (HasParameter has) s.params
   pub ret : has s.ret
 
 -- the store gave the types of an offer

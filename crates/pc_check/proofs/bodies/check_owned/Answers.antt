@@ -101,4 +101,4 @@ check_function-requires-clause-params g c =
     let signature = signature_is (module_in bodies) tree bodies.signatures.now h.functions h.methods c.args.owner
     (func_of c.args.def.now) c.in-Some.signature.now c.requires.owner
     (sym c.signature_for.ensures ∙ ap option_copied c.in-Some.is) in
-    ap (parameters_with tree) c.deref.ensures.value ∙ ap (λ (s : Signature). s.parameters) signature
+    ap (parameters_with tree) c.as_slice-params.ensures ∙ ap (λ (s : Signature). s.parameters) signature
