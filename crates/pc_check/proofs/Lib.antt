@@ -1,5 +1,7 @@
 pub mod Agreed
+pub mod Breaking
 pub mod CheckedModules
 pub mod Entered
 pub mod ModuleBodies
+pub mod Settling
 pub mod Walked

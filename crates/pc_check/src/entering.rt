@@ -150,7 +150,8 @@ fn walk_function<S: TypeStore>(
     enter_receiver(walk, &mut env, owner)?;
     enter(walk, &mut env, params)?;
     let mut broken = None;
-    let out = check_suite(walk, Some(env), &[], &mut broken, &def.body)?;
+    let mut breaking = Vec::new(walk.alloc);
+    let out = check_suite(walk, Some(env), &mut breaking, &mut broken, &def.body)?;
     find_end(walk, def.name.place, &out)?;
     Ok(())
 }

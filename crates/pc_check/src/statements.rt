@@ -2,7 +2,7 @@
 
 #![tactic(auto, using(pc_walk::proofs::Walks::goes_further))]
 
-ghost use Rattle.std.specs.Prelude.{IfOk, List, Option, None, Some};
+ghost use Rattle.std.specs.Prelude.{IfOk, OnOk, List, Option, None, Some};
 ghost use Rattle.pc_source.specs.declared.place.Place.{Place as PlaceOf};
 ghost use Rattle.pc_tree.specs.Tree.{expr_of, name_of, stmt_of, stmt_of_kind, stmts_of_list, while_loop, for_loop};
 ghost use Rattle.pc_tree.specs.Tree.{no_branches};
@@ -10,11 +10,9 @@ ghost use Rattle.pc_tree.specs.Lists.{branches_of_list, with_branch};
 ghost use Rattle.pc_flow.specs.Stored.{env_of};
 ghost use Rattle.pc_module_rules.specs.Computed.Statements.{step, walk_suite, walk_branches, behind_branches};
 ghost use Rattle.pc_walk.specs.Touched.{touched_by, touched_by_branches, touched_by_stmt};
-ghost use Rattle.pc_walk.specs.Untouched.{AreAmong};
 ghost use Rattle.pc_walk.specs.Walks.{Stands, HoldsWay, GoesOn};
-ghost use Rattle.pc_check.specs.Internal.StatementWalk.{IsLong, IsAsLong, ForkAgrees};
-ghost use Rattle.pc_check.specs.Internal.Walked.{StandsIn, Breaks, Walked, Forked, reached, forked};
-ghost use Rattle.pc_flow.specs.Naming.{meanings};
+ghost use Rattle.pc_check.specs.Internal.StatementWalk.{IsLong, IsAsLong, ForkSettles};
+ghost use Rattle.pc_check.specs.Internal.Walked.{StandsIn, Settles, StaysSettled, Walked, Forked, reached, forked};
 
 use pc_flow::{BothWays, Env, copy_env};
 use pc_source::{OutOfMemory, Place};
@@ -24,33 +22,35 @@ use pc_statements::{
 use pc_tree::{Branch, Expr, Name, Stmt, StmtKind};
 use pc_types::TypeStore;
 use pc_walk::{
-    Walk, bind_item, break_out, declare_unreached, for_start, meet, touched_by, touched_by_for,
-    touched_by_while, while_start,
+    Walk, Ways, bind_item, break_out, declare_unreached, for_start, meet, note_locals,
+    note_touched, touched_by, touched_by_for, touched_by_while, while_start,
 };
 
 /// Where a walk over the branches of an `if` stands: the environment where all conditions so far are false, and the
-/// ways out of their suites joined, if a run comes out of one.
+/// ways out of their suites joined.
 #[derive(Drop)]
 struct Fork<Ty: Drop> {
     last: Env<Ty>,
-    ways: Option<Env<Ty>>,
+    ways: Ways<Ty>,
 }
 
-/// Walks over statements, one after another, and answers the environment after them, if a run comes there. At a `break`
-/// only the locals that the loop around them touches are joined onto the way out of it, since it agrees on every other
-/// one.
+/// Walks over statements, one after another, and answers the environment after them, if a run comes there. Where there
+/// is a way out of the loop around them, the locals are noted at which joining the environment onto it may change
+/// something: a `break` joins these alone.
 #[cycle(statements)]
 pub(crate) fn check_suite<S: TypeStore>(
     walk: &mut Walk<'_, S>,
     env: Option<Env<S::Ty>>,
-    breaking: &[usize],
+    breaking: &mut Vec<usize>,
     broken: &mut Option<Env<S::Ty>>,
     body: &[Stmt],
 ) -> Result<Option<Env<S::Ty>>, OutOfMemory>
     requires stands { StandsIn S.TypeStore walk.old env broken.old }
     requires long { IsLong (reached S.TypeStore walk.old env broken.old) }
-    requires breaks { Breaks S.TypeStore walk.old breaking.now env broken.old
-        (λ resolve. touched_by resolve (stmts_of_list body.now)) }
+    requires breaks { Settles S.TypeStore walk.old breaking.old.items env broken.old }
+    ensures breaks { OnOk result (StaysSettled S.TypeStore walk.old walk.new
+        (λ resolve. touched_by resolve (stmts_of_list body.now)) breaking.old.items breaking.new.items env broken.old
+        broken.new) }
     ensures walked { IfOk result (λ out. Walked S.TypeStore walk.old env broken.old walk.new out broken.new
         (λ f w. walk_suite f w (stmts_of_list body.now))) }
     ensures goes_on { GoesOn S.TypeStore walk.old walk.new }
@@ -67,14 +67,17 @@ pub(crate) fn check_suite<S: TypeStore>(
 fn check_next<S: TypeStore>(
     walk: &mut Walk<'_, S>,
     env: Option<Env<S::Ty>>,
-    breaking: &[usize],
+    breaking: &mut Vec<usize>,
     broken: &mut Option<Env<S::Ty>>,
     statement: &Stmt,
 ) -> Result<Option<Env<S::Ty>>, OutOfMemory>
     requires stands { StandsIn S.TypeStore walk.old env broken.old }
     requires long { IsLong (reached S.TypeStore walk.old env broken.old) }
-    requires breaks { Breaks S.TypeStore walk.old breaking.now env broken.old
-        (λ resolve. touched_by_stmt resolve (stmt_of statement.now)) }
+    requires breaks { Settles S.TypeStore walk.old breaking.old.items env broken.old }
+    ensures breaks { OnOk result (StaysSettled S.TypeStore walk.old walk.new
+        (λ resolve. touched_by_stmt resolve (stmt_of statement.now)) breaking.old.items breaking.new.items env
+        broken.old broken.new) }
+    ensures settled { IfOk result (λ out. Settles S.TypeStore walk.new breaking.new.items out broken.new) }
     ensures walked { IfOk result (λ out. Walked S.TypeStore walk.old env broken.old walk.new out broken.new
         (λ f w. step f w.table w.env w.broken w.found (stmt_of statement.now))) }
     ensures goes_on { GoesOn S.TypeStore walk.old walk.new }
@@ -87,6 +90,7 @@ fn check_next<S: TypeStore>(
         Some(env) => {
             let kind = &statement.kind;
             let out = check_stmt(walk, env, breaking, broken, statement.first, kind)?;
+            note_touched(walk, broken, kind, breaking)?;
             Ok(out)
         }
     }
@@ -97,15 +101,17 @@ fn check_next<S: TypeStore>(
 fn check_stmt<S: TypeStore>(
     walk: &mut Walk<'_, S>,
     env: Env<S::Ty>,
-    breaking: &[usize],
+    breaking: &mut Vec<usize>,
     broken: &mut Option<Env<S::Ty>>,
     first: Place,
     kind: &StmtKind,
 ) -> Result<Option<Env<S::Ty>>, OutOfMemory>
     requires stands { StandsIn S.TypeStore walk.old (Some env) broken.old }
     requires long { IsLong (reached S.TypeStore walk.old (Some env) broken.old) }
-    requires breaks { Breaks S.TypeStore walk.old breaking.now (Some env) broken.old
-        (λ resolve. touched_by_stmt resolve (stmt_of_kind first kind.now)) }
+    requires breaks { Settles S.TypeStore walk.old breaking.old.items (Some env) broken.old }
+    ensures breaks { OnOk result (StaysSettled S.TypeStore walk.old walk.new
+        (λ resolve. touched_by_stmt resolve (stmt_of_kind first kind.now)) breaking.old.items breaking.new.items
+        (Some env) broken.old broken.new) }
     ensures walked { IfOk result (λ out. Walked S.TypeStore walk.old (Some env) broken.old walk.new out broken.new
         (λ f w. step f w.table w.env w.broken w.found (stmt_of_kind first kind.now))) }
     ensures goes_on { GoesOn S.TypeStore walk.old walk.new }
@@ -146,9 +152,8 @@ fn check_stmt<S: TypeStore>(
             Ok(out)
         }
         StmtKind::If(branches, suite) => {
-            let locals = touched_by(walk.alloc, walk.context.names, branches, suite)?;
-            let fork = check_branches(walk, &locals, env, breaking, broken, branches)?;
-            let out = check_otherwise(walk, &locals, fork, breaking, broken, suite)?;
+            let fork = check_branches(walk, env, breaking, broken, branches)?;
+            let out = check_otherwise(walk, fork, breaking, broken, suite)?;
             Ok(out)
         }
     }
@@ -175,9 +180,9 @@ fn check_while<S: TypeStore>(
         where_true,
         where_false,
     } = type_condition(walk, &head, condition)?;
-    let breaking = touched_by_while(walk.alloc, walk.context.names, condition, body)?;
+    let mut breaking = touched_by_while(walk.alloc, walk.context.names, condition, body)?;
     let mut way = Some(where_false);
-    check_suite(walk, Some(where_true), &breaking, &mut way, body)?;
+    check_suite(walk, Some(where_true), &mut breaking, &mut way, body)?;
     Ok(way)
 }
 
@@ -199,71 +204,77 @@ fn check_for<S: TypeStore>(
         (for_loop p (name_of name.now) (expr_of iterable.now) (stmts_of_list body.now)))) }
     ensures goes_on { GoesOn S.TypeStore walk.old walk.new }
 {
-    let breaking = touched_by_for(walk.alloc, walk.context.names, name, body)?;
+    let mut breaking = touched_by_for(walk.alloc, walk.context.names, name, body)?;
     let item = item_type(walk, env, iterable)?;
     let head = for_start(walk, env, name, body)?;
     let mut way = Some(copy_env(walk.store, walk.alloc, &head)?);
     let inside = bind_item(walk, head, name, iterable.place(), item)?;
-    check_suite(walk, Some(inside), &breaking, &mut way, body)?;
+    check_suite(walk, Some(inside), &mut breaking, &mut way, body)?;
     Ok(way)
 }
 
-/// Walks over the suite of `else`, where all conditions are false, and answers where the ways out of the `if` meet:
-/// only these locals are joined, since they agree on every other one. Language Reference 8.1 "The if statement".
+/// Walks over the suite of `else`, where all conditions are false, and answers where the ways out of the `if` meet.
+/// Language Reference 8.1 "The if statement".
 #[cycle(statements)]
 fn check_otherwise<S: TypeStore>(
     walk: &mut Walk<'_, S>,
-    locals: &[usize],
     fork: Fork<S::Ty>,
-    breaking: &[usize],
+    breaking: &mut Vec<usize>,
     broken: &mut Option<Env<S::Ty>>,
     otherwise: &[Stmt],
 ) -> Result<Option<Env<S::Ty>>, OutOfMemory>
     requires stands { StandsIn S.TypeStore walk.old (Some fork.last) broken.old }
-    requires ways { HoldsWay S.TypeStore walk.old fork.ways }
-    requires agree { ForkAgrees locals.now (forked S.TypeStore walk.old fork.last fork.ways broken.old) }
-    requires breaks { Breaks S.TypeStore walk.old breaking.now (Some fork.last) broken.old
-        (λ resolve. touched_by resolve (stmts_of_list otherwise.now)) }
-    requires touched { AreAmong locals.now (touched_by (meanings walk.old.context.names.now)
-        (stmts_of_list otherwise.now)) }
+    requires ways { HoldsWay S.TypeStore walk.old fork.ways.met }
+    requires settled { ForkSettles walk.old.context.globals.now.outline.now.parents.now fork.ways.unsettled.items
+        (forked S.TypeStore walk.old fork.last fork.ways.met broken.old) }
+    requires breaks { Settles S.TypeStore walk.old breaking.old.items (Some fork.last) broken.old }
+    ensures breaks { OnOk result (StaysSettled S.TypeStore walk.old walk.new
+        (λ resolve. touched_by resolve (stmts_of_list otherwise.now)) breaking.old.items breaking.new.items
+        (Some fork.last) broken.old broken.new) }
     ensures walked { IfOk result (λ out. Walked S.TypeStore walk.old (Some fork.last) broken.old walk.new out broken.new
-        (λ f w. behind_branches f (forked S.TypeStore walk.old fork.last fork.ways broken.old).ways
+        (λ f w. behind_branches f (forked S.TypeStore walk.old fork.last fork.ways.met broken.old).ways
         (walk_suite f w (stmts_of_list otherwise.now)))) }
     ensures goes_on { GoesOn S.TypeStore walk.old walk.new }
 {
     let Fork { last, ways } = fork;
     let out = check_suite(walk, Some(last), breaking, broken, otherwise)?;
-    let joined = meet(walk, locals, ways, out)?;
-    Ok(joined)
+    let touched = touched_by(walk.alloc, walk.context.names, &[], otherwise)?;
+    let joined = meet(walk, ways, touched, out)?;
+    Ok(joined.met)
 }
 
-/// Walks over the branches of an `if`, which touch these locals alone, from the environment where no condition was
-/// checked yet.
+/// Walks over the branches of an `if`, from the environment where no condition was checked yet.
 #[cycle(statements)]
 fn check_branches<S: TypeStore>(
     walk: &mut Walk<'_, S>,
-    locals: &[usize],
     env: Env<S::Ty>,
-    breaking: &[usize],
+    breaking: &mut Vec<usize>,
     broken: &mut Option<Env<S::Ty>>,
     branches: &[Branch],
 ) -> Result<Fork<S::Ty>, OutOfMemory>
     requires stands { StandsIn S.TypeStore walk.old (Some env) broken.old }
     requires long { IsLong (reached S.TypeStore walk.old (Some env) broken.old) }
-    requires breaks { Breaks S.TypeStore walk.old breaking.now (Some env) broken.old
-        (λ resolve. touched_by_branches resolve (branches_of_list branches.now)) }
-    requires touched { AreAmong locals.now (touched_by_branches (meanings walk.old.context.names.now)
-        (branches_of_list branches.now)) }
-    ensures walked { IfOk result (λ k. Forked S.TypeStore walk.old env None broken.old walk.new k.last k.ways broken.new
-        (λ f b. walk_branches f b (branches_of_list branches.now))) }
+    requires breaks { Settles S.TypeStore walk.old breaking.old.items (Some env) broken.old }
+    ensures breaks { OnOk result (StaysSettled S.TypeStore walk.old walk.new
+        (λ resolve. touched_by_branches resolve (branches_of_list branches.now)) breaking.old.items breaking.new.items
+        (Some env) broken.old broken.new) }
+    ensures breaks_settle { IfOk result
+        (λ k. Settles S.TypeStore walk.new breaking.new.items (Some k.last) broken.new) }
+    ensures walked { IfOk result (λ k. Forked S.TypeStore walk.old env None broken.old walk.new k.last k.ways.met
+        broken.new (λ f b. walk_branches f b (branches_of_list branches.now))) }
+    ensures settled { IfOk result (λ k. ForkSettles walk.new.context.globals.now.outline.now.parents.now
+        k.ways.unsettled.items (forked S.TypeStore walk.new k.last k.ways.met broken.new)) }
     ensures goes_on { GoesOn S.TypeStore walk.old walk.new }
 {
     let mut fork = Fork {
         last: env,
-        ways: None,
+        ways: Ways {
+            met: None,
+            unsettled: Vec::new(walk.alloc),
+        },
     };
     for branch in branches {
-        fork = check_branch(walk, locals, fork, breaking, broken, branch)?;
+        fork = check_branch(walk, fork, breaking, broken, branch)?;
     }
     Ok(fork)
 }
@@ -272,21 +283,25 @@ fn check_branches<S: TypeStore>(
 #[cycle(statements)]
 fn check_branch<S: TypeStore>(
     walk: &mut Walk<'_, S>,
-    locals: &[usize],
     fork: Fork<S::Ty>,
-    breaking: &[usize],
+    breaking: &mut Vec<usize>,
     broken: &mut Option<Env<S::Ty>>,
     branch: &Branch,
 ) -> Result<Fork<S::Ty>, OutOfMemory>
     requires stands { StandsIn S.TypeStore walk.old (Some fork.last) broken.old }
-    requires ways { HoldsWay S.TypeStore walk.old fork.ways }
-    requires agree { ForkAgrees locals.now (forked S.TypeStore walk.old fork.last fork.ways broken.old) }
-    requires breaks { Breaks S.TypeStore walk.old breaking.now (Some fork.last) broken.old
-        (λ resolve. touched_by_branches resolve (with_branch branch.now no_branches)) }
-    requires touched { AreAmong locals.now (touched_by_branches (meanings walk.old.context.names.now)
-        (with_branch branch.now no_branches)) }
-    ensures walked { IfOk result (λ k. Forked S.TypeStore walk.old fork.last fork.ways broken.old walk.new k.last
-        k.ways broken.new (λ f b. walk_branches f b (with_branch branch.now no_branches))) }
+    requires ways { HoldsWay S.TypeStore walk.old fork.ways.met }
+    requires settled { ForkSettles walk.old.context.globals.now.outline.now.parents.now fork.ways.unsettled.items
+        (forked S.TypeStore walk.old fork.last fork.ways.met broken.old) }
+    requires breaks { Settles S.TypeStore walk.old breaking.old.items (Some fork.last) broken.old }
+    ensures breaks { OnOk result (StaysSettled S.TypeStore walk.old walk.new
+        (λ resolve. touched_by_branches resolve (with_branch branch.now no_branches)) breaking.old.items
+        breaking.new.items (Some fork.last) broken.old broken.new) }
+    ensures breaks_settle { IfOk result
+        (λ k. Settles S.TypeStore walk.new breaking.new.items (Some k.last) broken.new) }
+    ensures walked { IfOk result (λ k. Forked S.TypeStore walk.old fork.last fork.ways.met broken.old walk.new k.last
+        k.ways.met broken.new (λ f b. walk_branches f b (with_branch branch.now no_branches))) }
+    ensures settled { IfOk result (λ k. ForkSettles walk.new.context.globals.now.outline.now.parents.now
+        k.ways.unsettled.items (forked S.TypeStore walk.new k.last k.ways.met broken.new)) }
     ensures goes_on { GoesOn S.TypeStore walk.old walk.new }
 {
     let Fork { last, ways } = fork;
@@ -294,8 +309,13 @@ fn check_branch<S: TypeStore>(
         where_true,
         where_false,
     } = type_condition(walk, &last, &branch.condition)?;
+    let names = walk.context.names;
+    let touched = touched_by_while(walk.alloc, names, &branch.condition, &branch.body)?;
+    note_locals(broken, &touched, breaking)?;
     let out = check_suite(walk, Some(where_true), breaking, broken, &branch.body)?;
-    let ways = meet(walk, locals, ways, out)?;
+    // A break in the suite has settled what was joined there, and the next condition stands before all that.
+    note_locals(broken, &touched, breaking)?;
+    let ways = meet(walk, ways, touched, out)?;
     Ok(Fork {
         last: where_false,
         ways,

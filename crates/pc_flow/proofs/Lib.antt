@@ -15,4 +15,6 @@ pub mod Parted
 pub mod Premises
 pub mod Rest
 pub mod Rows
+pub mod SameTypes
+pub mod Settled
 pub mod Untested

@@ -7,6 +7,7 @@ use Rattle.pc_tree.specs.Tree.{Expr}
 use Rattle.pc_scope.specs.declared.resolution.Res.{Res}
 use Rattle.pc_types.specs.Tree.{Tree}
 use Rattle.pc_types.specs.Below.{Bases, AreSmaller}
+use Rattle.pc_types.specs.Join.{join}
 use Rattle.pc_flow.specs.Environment.{Env, current, join_env}
 use Rattle.pc_flow.specs.Narrowing.{narrow, tested_locals}
 use Rattle.pc_flow.specs.WellFormed.{IsWellFormedEnv, AreWellFormed}
@@ -33,6 +34,16 @@ AgreeOutside locals a b = (x : ℕ) → is_among locals x ≡ false → current 
 -- two environments agree at each local below a number that is not among some
 abbrev pub AgreeBelow : (n : ℕ) → (locals : List ℕ) → (a b : Env) → Type 0
 AgreeBelow n locals a b = (x : ℕ) → x < n → is_among locals x ≡ false → current a x ≡ current b x
+
+-- a local's type on one way takes in that on another: it is not assigned, or the join of both is its type
+abbrev pub TakesIn : Bases → (s t : Option Tree) → Type 0
+TakesIn bases None t = Unit {0}
+TakesIn bases (Some s) None = ⊥
+TakesIn bases (Some s) (Some t) = join bases s t ≡ Some s
+
+-- an environment takes in another one at each local that is not among some: there their join is the first one
+abbrev pub TakesInOutside : Bases → (locals : List ℕ) → (a b : Env) → Type 0
+TakesInOutside bases locals a b = (x : ℕ) → is_among locals x ≡ false → TakesIn bases (current a x) (current b x)
 
 -- a condition leaves each local that it does not test as it is, where it is true and where it is false
 abbrev pub ConditionsKeepUntested : Type 0

@@ -3,7 +3,7 @@
 ghost use Rattle.std.specs.Prelude.{Some, IfOk, OnOk, length, slice_set};
 ghost use Rattle.std.specs.Option.{option_copied, option_map};
 ghost use Rattle.pc_types.specs.Store.{Means, KeepsTypes};
-ghost use Rattle.pc_flow.specs.Agreement.{AgreeOutside, AgreeBelow};
+ghost use Rattle.pc_flow.specs.Agreement.{AgreeBelow};
 ghost use Rattle.pc_flow.specs.Environment.{current, declared_type, join_or_object, join_local};
 ghost use Rattle.pc_flow.specs.Declarations.{join_with};
 ghost use Rattle.pc_flow.specs.WellFormed.{IsWellFormedEnv};
@@ -161,7 +161,8 @@ pub fn join_env<S: TypeStore>(
     Ok(met)
 }
 
-/// The join of two environments that agree at each declared local but for some, which alone are joined.
+/// The join of two environments that agree at each declared local but for some, which alone are joined, since the join
+/// of a type with itself is that type.
 pub(crate) fn join_some<S: TypeStore>(
     store: &mut S,
     alloc: Global,
@@ -187,27 +188,4 @@ pub(crate) fn join_some<S: TypeStore>(
         set_joined(store, alloc, declarations, *local, &before, b, &mut met)?;
     }
     Ok(met)
-}
-
-/// The join of two environments that agree at each local but for some: as `join_env` gives it, at the cost of joining
-/// these alone, since the join of a type with itself is that type. Own rule of the profile.
-pub fn join_env_at<S: TypeStore>(
-    store: &mut S,
-    alloc: Global,
-    declarations: &Declarations<'_, S::Ty>,
-    locals: &[usize],
-    a: Env<S::Ty>,
-    b: &Env<S::Ty>,
-) -> Result<Env<S::Ty>, OutOfMemory>
-    requires declared { HasEach (S.has store.old) declarations.now.declared.now }
-    requires left { HasEach (S.has store.old) a }
-    requires right { HasEach (S.has store.old) b.now }
-    requires well_formed { IsWellFormedEnv declarations.now.parents.now (env_of S.tree a) }
-    requires agree { AgreeOutside locals.now (env_of S.tree a) (env_of S.tree b.now) }
-    ensures value { IfOk result
-        (λ e. GivesEnv S.has S.tree store.new e
-        (join_with S.tree declarations.now (env_of S.tree a) (env_of S.tree b.now))) }
-    ensures kept { KeepsTypes S.has store.old store.new }
-{
-    join_some(store, alloc, declarations, locals, a, b)
 }

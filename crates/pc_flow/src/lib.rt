@@ -1,6 +1,7 @@
 //! Environments: which locals are assigned and of which types, at each place of a function.
 #![tactic(auto)]
 
+mod alike;
 mod assigning;
 mod chunk;
 mod copying;
@@ -14,6 +15,7 @@ mod laws;
 mod locals;
 mod naming;
 mod narrowing;
+mod settling;
 mod tested;
 mod testing;
 
@@ -23,7 +25,7 @@ pub use declarations::Declarations;
 pub use declared::DeclaredTypes;
 pub use env::Env;
 pub use heading::loop_head;
-pub use joining::{join_env, join_env_at, join_or_object};
+pub use joining::{join_env, join_or_object};
 pub use junctions::{Connective, Junction, narrow_junction};
 pub use laws::{
     conditions_keep_untested_locals, environments_stay_well_formed, joins_keep_agreed_locals,
@@ -31,5 +33,6 @@ pub use laws::{
 };
 pub use naming::{OwnerNames, local_named, test_of};
 pub use narrowing::{BothWays, narrow_false, narrow_simple, narrow_true};
+pub use settling::{Met, join_env_onto};
 pub use tested::add_tested;
 pub use testing::Test;

@@ -1,16 +1,15 @@
 -- A walk over statements leaves each local that they do not touch as it is, on the way after them and on each way out
--- of
--- a loop. So where the ways out of an `if` meet, only the locals that it touches have to be joined, and at a `break`
--- only
--- those that its loop touches.
+-- of a loop. So where ways meet, after a branch of an `if` and at a `break`, only those locals have to be joined that
+-- were touched since the last join, and those that it did not settle.
 -- Own rule of the profile.
-use Rattle.std.specs.Prelude.{◌≡◌, ℕ, List, [], ◌∷◌, length, true, Option, Some, None}
+use Rattle.std.specs.Prelude.{◌≡◌, ℕ, List, [], ◌∷◌, ◌++◌, length, true, Option, Some, None}
 use Rattle.pc_tree.specs.Tree.{Stmts}
+use Rattle.pc_types.specs.Below.{Bases}
 use Rattle.pc_flow.specs.Environment.{Env}
 use Rattle.pc_flow.specs.WellFormed.{IsWellFormedEnv}
 use Rattle.pc_notes.specs.Notes.{Note}
 use Rattle.pc_module_rules.specs.Computed.Statements.{BodyContext, Table, Walk, walk_suite}
-use Rattle.pc_flow.specs.Agreement.{is_among, AgreeOutside}
+use Rattle.pc_flow.specs.Agreement.{is_among, AgreeOutside, TakesInOutside}
 use Rattle.pc_walk.specs.Touched.{touched_by}
 
 -- ---- ways that agree
@@ -20,6 +19,26 @@ abbrev pub WaysAgree : (locals : List ℕ) → (ways out : Option Env) → Type 
 WaysAgree locals None out = Unit {0}
 WaysAgree locals (Some way) None = Unit {0}
 WaysAgree locals (Some way) (Some out) = AgreeOutside locals way out
+
+-- a way, if it completes, agrees with an environment at each local that is not among some
+abbrev pub AgreesIfAny : (locals : List ℕ) → (base : Env) → (out : Option Env) → Type 0
+AgreesIfAny locals base None = Unit {0}
+AgreesIfAny locals base (Some out) = AgreeOutside locals out base
+
+-- a way, if it completes, takes in an environment at each local that is not among some: there their join is the way
+abbrev pub TakesInIfAny : Bases → (locals : List ℕ) → (way : Option Env) → (base : Env) → Type 0
+TakesInIfAny bases locals None base = Unit {0}
+TakesInIfAny bases locals (Some way) base = TakesInOutside bases locals way base
+
+-- where two ways complete, the first takes in the second at each local that is not among some
+abbrev pub WayTakesIn : Bases → (locals : List ℕ) → (ways out : Option Env) → Type 0
+WayTakesIn bases locals ways None = Unit {0}
+WayTakesIn bases locals ways (Some out) = TakesInIfAny bases locals ways out
+
+-- where there is a way out of a loop, some locals are noted after those before
+abbrev pub AreNoted : {A : Type 0} → (way : Option A) → (before touched after : List ℕ) → Type 0
+AreNoted None before touched after = Unit {0}
+AreNoted (Some way) before touched after = after ≡ before ++ touched
 
 -- ---- the law
 

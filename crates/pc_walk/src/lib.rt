@@ -21,4 +21,4 @@ pub use loops::{bind_item, for_start, while_start};
 pub use touched::{touched_by, touched_by_for, touched_by_while};
 pub use unreached::declare_unreached;
 pub use walk::Walk;
-pub use ways::{break_out, meet};
+pub use ways::{Ways, break_out, meet, note_locals, note_touched};

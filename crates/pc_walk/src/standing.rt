@@ -7,27 +7,31 @@ ghost use Rattle.pc_flow.specs.Environment.{join_env, loop_head};
 ghost use Rattle.pc_flow.specs.Stored.{env_of};
 ghost use Rattle.pc_module_rules.specs.Computed.Statements.{type_table};
 ghost use Rattle.pc_walk.specs.Walks.{HoldsEnv, IsEnv, IsQuiet, GoesOn};
-ghost use Rattle.pc_flow.specs.Agreement.{is_among, AgreeOutside};
+ghost use Rattle.pc_flow.specs.Agreement.{is_among, TakesInOutside};
 
 use crate::walk::Walk;
-use pc_flow::{Declarations, Env, join_env_at, loop_head};
+use pc_flow::{Declarations, Env, Met, join_env_onto, loop_head};
 use pc_source::OutOfMemory;
 use pc_types::TypeStore;
 
-/// Two environments where their ways meet, which agree at each local that is not among these.
-pub(crate) fn join_at<S: TypeStore>(
+/// Two environments where their ways meet, of which the first takes in the second at each local that is not among
+/// these, and the locals at which joining the second again may change what they come to.
+pub(crate) fn join_onto<S: TypeStore>(
     walk: &mut Walk<'_, S>,
     locals: &[usize],
     a: Env<S::Ty>,
     b: &Env<S::Ty>,
-) -> Result<Env<S::Ty>, OutOfMemory>
+) -> Result<Met<S::Ty>, OutOfMemory>
     requires declared { HoldsEnv S.TypeStore walk.old walk.old.declared.now }
     requires left { HoldsEnv S.TypeStore walk.old a }
     requires right { HoldsEnv S.TypeStore walk.old b.now }
-    requires agree { AgreeOutside locals.now (env_of S.tree a) (env_of S.tree b.now) }
-    ensures joined { IfOk result (λ e. IsEnv S.TypeStore walk.new e
+    requires taken_in { TakesInOutside walk.old.context.globals.now.outline.now.parents.now locals.now
+        (env_of S.tree a) (env_of S.tree b.now) }
+    ensures joined { IfOk result (λ m. IsEnv S.TypeStore walk.new m.env
         (join_env walk.old.context.globals.now.outline.now.parents.now
         (type_table (env_of S.tree walk.old.declared.now)) (env_of S.tree a) (env_of S.tree b.now))) }
+    ensures settled { IfOk result (λ m. TakesInOutside walk.old.context.globals.now.outline.now.parents.now
+        m.unsettled.items (env_of S.tree m.env) (env_of S.tree b.now)) }
     ensures quiet { OnOk result (IsQuiet S.TypeStore walk.old walk.new) }
     ensures goes_on { GoesOn S.TypeStore walk.old walk.new }
 {
@@ -38,8 +42,8 @@ pub(crate) fn join_at<S: TypeStore>(
         declared: walk.declared,
         names: walk.context.names,
     };
-    let joined = join_env_at(walk.store, walk.alloc, &declarations, locals, a, b)?;
-    Ok(joined)
+    let met = join_env_onto(walk.store, walk.alloc, &declarations, locals, a, b)?;
+    Ok(met)
 }
 
 /// The environment at the head of a loop, from the one before it and the locals that the loop binds.

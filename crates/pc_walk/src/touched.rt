@@ -6,13 +6,13 @@ ghost use Rattle.pc_tree.specs.Tree.{expr_of, name_of, stmts_of_list, stmt_of_ki
 ghost use Rattle.pc_tree.specs.Lists.{branches_of_list};
 ghost use Rattle.pc_flow.specs.Agreement.{is_among};
 ghost use Rattle.pc_walk.specs.Touched.{tested_in, tested_in_stmt, tested_in_branches, touched_by_if, touched_by_while};
-ghost use Rattle.pc_walk.specs.Touched.{touched_by_for};
+ghost use Rattle.pc_walk.specs.Touched.{touched_by_for, touched_by_stmt};
 ghost use Rattle.pc_flow.specs.Naming.{meanings};
 
 use crate::locals::locals_of;
 use pc_flow::{OwnerNames, add_tested};
 use pc_source::OutOfMemory;
-use pc_tree::{Branch, Expr, Name, Stmt, StmtKind, add_bound, add_bound_in};
+use pc_tree::{Branch, Expr, Name, Stmt, StmtKind, add_bound, add_bound_by, add_bound_in};
 use std::alloc::Global;
 
 /// Adds the locals that conditions in statements test, in text order.
@@ -77,6 +77,23 @@ fn add_tested_in_branches(
         add_tested_in(names, &branch.body, tested)?;
     }
     Ok(())
+}
+
+/// Adds the locals that a statement touches: those that it binds, at any depth, and those that conditions in it test.
+pub(crate) fn add_touched(
+    alloc: Global,
+    names: &OwnerNames,
+    kind: &StmtKind,
+    touched: &mut Vec<usize>,
+) -> Result<(), OutOfMemory>
+    ensures { (p : PlaceOf) → OnOk result (touched.new.items
+        ≡ touched.old.items ++ touched_by_stmt (meanings names.now) (stmt_of_kind p kind.now)) }
+{
+    let mut bound = Vec::new(alloc);
+    add_bound_by(&mut bound, kind)?;
+    let locals = locals_of(alloc, names, &bound)?;
+    touched.extend_from_slice(&locals)?;
+    add_tested_by(names, kind, touched)
 }
 
 /// The locals that an `if` with this suite of `else` touches, each once and in order: those that its suites bind, at

@@ -9,9 +9,10 @@ use Rattle.pc_flow.specs.Stored.{env_of}
 use Rattle.pc_notes.specs.Notes.{notes_of}
 use Rattle.pc_module_rules.specs.Computed.Statements.{BodyContext, Walk as Reached, BranchesResult}
 use Rattle.pc_walk.specs.StatementsHeld.{HoldsContext}
+use Rattle.pc_walk.specs.Untouched.{WayTakesIn}
 use Rattle.pc_walk.specs.declared.walk.Walk.{Walk}
 use Rattle.pc_walk.specs.Walks.{HoldsEnv, HoldsWay, body_context_in}
-use Rattle.pc_check.specs.Internal.StatementWalk.{walk_with, forked_with, BreaksAgree}
+use Rattle.pc_check.specs.Internal.StatementWalk.{walk_with, forked_with, BreaksStaySettled}
 
 module _ {Store Ty : Type 0} (S : StoreOf Store Ty) where
   -- what a walk has come to, with the environment here, if a run comes here, and the way out of the loop around
@@ -32,13 +33,17 @@ module _ {Store Ty : Type 0} (S : StoreOf Store Ty) where
     pub current : HoldsWay S w env
     pub out : HoldsWay S w way
 
-  -- where statements stand in a loop, what they touch is among these locals, and the environment before them agrees
-  -- with
-  -- the way out of the loop so far at each other local
-  abbrev pub Breaks : Walk Store Ty → List ℕ → (env way : Option (List (Option Ty)))
-      → (touched : (List ℕ → Res) → List ℕ) → Type 0
-  Breaks w locals env way touched = BreaksAgree locals (touched (meanings w.context.names.now))
+  -- the way out of the loop around, if there is one, takes in the environment here at each local that is not unsettled
+  abbrev pub Settles : Walk Store Ty → (unsettled : List ℕ) → (env way : Option (List (Option Ty))) → Type 0
+  Settles w unsettled env way = WayTakesIn w.context.globals.now.outline.now.parents.now unsettled
       (option_map (env_of S.tree) way) (option_map (env_of S.tree) env)
+
+  -- what the way out of the loop took in before statements that touch these locals it takes in after them
+  abbrev pub StaysSettled : (old new : Walk Store Ty) → (touched : (List ℕ → Res) → List ℕ)
+      → (unsettled later : List ℕ) → (env way out : Option (List (Option Ty))) → Type 0
+  StaysSettled old new touched unsettled later env way out =
+      BreaksStaySettled old.context.globals.now.outline.now.parents.now (touched (meanings old.context.names.now))
+      unsettled later (option_map (env_of S.tree) way) (option_map (env_of S.tree) env) (option_map (env_of S.tree) out)
 
   -- the walk went over statements, from an environment and a way out of the loop around to others
   pub record Walked (old : Walk Store Ty) (env way : Option (List (Option Ty))) (new : Walk Store Ty)

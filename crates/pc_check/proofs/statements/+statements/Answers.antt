@@ -1,12 +1,12 @@
 use Rattle.pc_flow.specs.Naming.{meanings}
-use Rattle.std.proofs.Common.{◌≡◌, ◌∙◌, ◌+◌, ◌++◌, ◌∷◌, Some, None, length, refl, sym, ap, subst, arith}
+use Rattle.std.proofs.Common.{◌≡◌, ◌∙◌, ◌+◌, ◌++◌, ◌∷◌, ℕ, List, Option, Some, None, length, refl, sym, ap}
+use Rattle.std.proofs.Common.{subst, arith}
 use Rattle.std.proofs.Common.{rules, drop}
-use Rattle.std.specs.Prelude.{true, false}
+use Rattle.std.specs.Prelude.{Bool as Test, true, false}
 use Rattle.std.specs.Option.{option_map}
 use Rattle.pc_tree.specs.Tree.{Stmt, stmt_of, expr_of, option_expr_of, stmt_of_kind, stmts_of_list, no_branches}
-use Rattle.pc_tree.specs.Tree.{more_branches}
 use Rattle.pc_tree.specs.Tree.{conditional, for_loop, while_loop, name_of}
-use Rattle.pc_tree.specs.Lists.{branches_of_list, with_branch}
+use Rattle.pc_tree.specs.Lists.{branches_of_list}
 use Rattle.pc_tree.specs.declared.tree.Branch.{out-Branch}
 use Rattle.pc_tree.specs.declared.tree.StmtKind.TheFolds.{the_lemmas}
 use Rattle.pc_tree.specs.Depth.{place_of}
@@ -14,6 +14,7 @@ use Rattle.pc_tree.specs.Stopping.{bound_by}
 use Rattle.pc_tree.proofs.Trees.{while_tree, for_tree, if_tree, branch_tree, branches_next, stmts_next}
 use Rattle.pc_tree.proofs.tree.Branch.TheLaws.{the_size as branch_size}
 use Rattle.pc_tree.proofs.tree.Stmt.TheLaws.{the_size}
+use Rattle.pc_flow.specs.Agreement.{is_among, AgreeOutside}
 use Rattle.pc_flow.specs.Environment.{Env}
 use Rattle.pc_flow.specs.Stored.{env_of}
 use Rattle.pc_notes.specs.Notes.{notes_of}
@@ -28,20 +29,23 @@ use Rattle.pc_module_rules.specs.Computed.Statements.{with_way, behind_binding, 
 use Rattle.pc_module_rules.specs.Computed.Statements.{inside_for}
 use Rattle.pc_walk.specs.declared.context.BodyContext.{BodyContext as RustBodyContext}
 use Rattle.pc_walk.specs.StatementsHeld.{body_context_with}
-use Rattle.pc_walk.specs.Touched.{touched_by_stmt, touched_by, touched_by_branches, touched_by_if, touched_by_while}
+use Rattle.pc_walk.specs.Touched.{touched_by_stmt, touched_by, touched_by_branches, touched_by_while}
 use Rattle.pc_walk.specs.Touched.{touched_by_for}
-use Rattle.pc_walk.specs.Untouched.{AreAmong, WaysAgree}
+use Rattle.pc_walk.specs.Untouched.{AreAmong, WaysAgree, AgreesIfAny, TakesInIfAny, WayTakesIn, AreNoted}
 use Rattle.pc_walk.specs.Walks.{body_context_in, standing_in}
 use Rattle.pc_walk.proofs.Held.{gives_types}
+use Rattle.pc_walk.proofs.Settled.{agreed_taken_in, suite_taken_in, next_taken_in}
 use Rattle.pc_walk.proofs.Untouched.{narrowed_long, head_at_long, item_long}
 use Rattle.pc_walk.proofs.Walks.{same_walk, goes_further, in_body_context, env_kept, way_kept, one_kept, context_on}
 use Rattle.pc_walk.proofs.Walks.{stands_on}
-use Rattle.pc_check.specs.Internal.StatementWalk.{IsLong, ForkAgrees, BreaksAgree}
-use Rattle.pc_check.specs.Internal.Walked.{Walked, reached, forked}
-use Rattle.pc_check.proofs.Agreed.{step_long, otherwise_agrees, branch_agrees, branches_agree, among_same, among_left}
-use Rattle.pc_check.proofs.Agreed.{among_right, first_touched, later_touched, well_formed_if_any, part_breaks}
-use Rattle.pc_check.proofs.Agreed.{first_breaks, later_breaks, start_breaks, branch_breaks, branches_breaks}
-use Rattle.pc_check.proofs.Agreed.{otherwise_breaks, while_breaks, for_breaks}
+use Rattle.pc_check.specs.Internal.StatementWalk.{IsLong, IsAsLongIfAny, BreaksSettle, BreaksStaySettled}
+use Rattle.pc_check.specs.Internal.Walked.{StandsIn, Walked, reached, forked}
+use Rattle.pc_check.proofs.Agreed.{step_long, among_same, first_touched, later_touched, well_formed_if_any}
+use Rattle.pc_check.proofs.Breaking.{self_among, self_agrees, way_more, way_before, starts_settled, noted_more}
+use Rattle.pc_check.proofs.Breaking.{noted_settles}
+use Rattle.pc_check.proofs.Settling.{branch_out, otherwise_settles}
+use Rattle.pc_check.proofs.Agreed.{branch_parts, while_parts, first_among, later_among, step_agrees}
+use Rattle.pc_check.proofs.Agreed.{narrowed_agrees, branches_agree, if_parts, while_agrees, for_agrees}
 use Rattle.pc_check.proofs.Walked.{no_statement_left, no_branch_left, branch_walked, branches_from, otherwise_walked}
 use Rattle.pc_check.proofs.Walked.{found_reached, found_stands, same_narrowed, quiet_stands, quiet_reached}
 use Rattle.pc_check.proofs.Walked.{narrowed_from}
@@ -60,23 +64,7 @@ check_suite-check_next-requires g t c κs within = (
     within.0,
     (
       within.1,
-      (
-        c.loop-statement.invariant.stands,
-        (
-          c.loop-statement.invariant.long,
-          let tree = g.S.TypeStore.tree in
-              let context = body_context_in g.S.TypeStore c.loop-statement.walk in
-              let broken = option_map (env_of tree) c.loop-statement.broken in
-              let env = option_map (env_of tree) c.loop-statement.env in
-              let i = c.loop-statement.statement-index in
-              let next = stmts_next c.args.body.now i c.statement-item.result c.loop-statement-test.true
-              c.statement-item.is in
-              first_breaks context c.args.breaking.now (stmt_of c.statement-item.result)
-              (stmts_of_list (drop (i + 1) c.args.body.now)) broken env
-              (subst (λ ss. BreaksAgree c.args.breaking.now (touched_by context.context.resolve ss) broken env) next
-              c.loop-statement.invariant.breaks),
-        ),
-      ),
+      (c.loop-statement.invariant.stands, (c.loop-statement.invariant.long, c.loop-statement.invariant.breaks)),
     ),
   ),
 )
@@ -87,6 +75,7 @@ check_suite-loop-statement-init g t c = record {
   stands = c.requires.stands;
   long = c.requires.long;
   breaks = c.requires.breaks;
+  settled = λ locals base h. h;
   is = refl;
 }
 
@@ -99,30 +88,59 @@ check_suite-loop-statement-preserved g t c =
     let on = c.check_next.ensures.goes_on in
     let v = here.invariant in
     let i = here.statement-index in
-    let breaking = c.args.breaking.now in
     let rest = stmts_of_list (drop (i + 1) c.args.body.now) in
     let s = stmt_of c.statement-item.result in
     let context = body_context_in S here.walk in
     let resolve = context.context.resolve in
+    let bases = context.context.bases in
+    let all = stmts_of_list c.args.body.now in
     let before = reached S here.walk here.env here.broken in
     let behind = reached S new c.in_ok-env.env c.check_next.new.broken in
+    let first = reached S c.args.walk.now c.args.env c.args.broken.now in
     let next = stmts_next c.args.body.now i c.statement-item.result c.loop-statement-test.true c.statement-item.is in
     let held = well_formed_if_any (S.has here.walk.store.now) S.tree
     here.walk.context.globals.now.outline.now.parents.now here.env
     v.stands.current in
-    let all = subst (λ ss. BreaksAgree breaking (touched_by resolve ss) before.broken before.env) next v.breaks in
-    let breaks = later_breaks context breaking before.table before.env before.broken before.found s rest held v.long all
-    in
+    let unsettled = c.args.breaking.now.items in
+    let middle = here.breaking.items in
+    let later = c.check_next.new.breaking.items in
+    let one = c.in_ok-env.ensures.breaks in
     record {
       goes_on = goes_further v.goes_on on;
       stands = w.stands;
       long = subst IsLong (sym w.is) (step_long context before.table before.env before.broken before.found s v.long);
-      breaks = in_body_context S here.walk new (λ (f : RustBodyContext _). BreaksAgree breaking
-          (touched_by (meanings f.names.now) rest) behind.broken behind.env) on
-          (subst (λ (x : Reached). BreaksAgree breaking (touched_by resolve rest) x.broken x.env) (sym w.is) breaks);
+      breaks = c.in_ok-env.ensures.settled;
+      settled = in_body_context S here.walk new (λ (f : RustBodyContext _). (locals : List ℕ) (base : Option Env)
+          → BreaksSettle f.globals.now.outline.now.parents.now locals (touched_by (meanings f.names.now) all) unsettled
+          first.broken base first.env
+          → BreaksSettle f.globals.now.outline.now.parents.now locals (touched_by (meanings f.names.now) rest) later
+          behind.broken base behind.env) on
+          (λ locals base h.
+          let here_settled = v.settled locals base h in
+          let touched = subst (λ ss. AreAmong locals (touched_by resolve ss)) next here_settled.among in
+          let now = first_among context locals s rest touched in
+          record {
+            among = later_among context locals s rest touched;
+            agree = subst (λ (x : Reached). WaysAgree locals base x.env) (sym w.is)
+                (step_agrees context locals before.table before.env before.broken before.found s base held v.long now
+                here_settled.agree);
+            taken_in = one locals base
+                (record { among = now; agree = here_settled.agree; taken_in = here_settled.taken_in });
+          });
       is = (λ j. walk_suite (body_context_with S.tree (on.context j)) (w.is j) rest)
           ∙ sym (ap (walk_suite context before) next) ∙ v.is;
     }
+
+pub check_suite-returns-clause-breaks : goal.check_suite-returns-clause-breaks
+check_suite-returns-clause-breaks g t c =
+    let S = g.S.TypeStore in
+    let here = c.loop-statement in
+    let v = here.invariant in
+    let all = stmts_of_list c.args.body.now in
+    let first = reached S c.args.walk.now c.args.env c.args.broken.now in
+    subst (λ (f : RustBodyContext _). BreaksStaySettled f.globals.now.outline.now.parents.now
+    (touched_by (meanings f.names.now) all) c.args.breaking.now.items here.breaking.items first.broken first.env
+    (option_map (env_of S.tree) here.broken)) v.goes_on.context (λ locals base h. (v.settled locals base h).taken_in)
 
 pub check_suite-returns-clause-walked : goal.check_suite-returns-clause-walked
 check_suite-returns-clause-walked g t c =
@@ -157,7 +175,71 @@ check_next-returns-in_ok-declare_unreached-in-None-clause-walked g t c =
       };
     })
 
+pub check_next-returns-in_ok-declare_unreached-in-None-clause-breaks :
+    goal.check_next-returns-in_ok-declare_unreached-in-None-clause-breaks
+check_next-returns-in_ok-declare_unreached-in-None-clause-breaks g t c = λ locals base h. h.taken_in
+
+pub check_next-returns-in_ok-note_touched-in-Some-clause-breaks :
+    goal.check_next-returns-in_ok-note_touched-in-Some-clause-breaks
+check_next-returns-in_ok-note_touched-in-Some-clause-breaks g t c = λ locals base h.
+    let S = g.S.TypeStore in
+    let old = c.args.walk.now in
+    let later = c.check_stmt.new.walk in
+    let bases = old.context.globals.now.outline.now.parents.now in
+    let s = stmt_of c.args.statement.now in
+    let touched = touched_by_stmt (meanings later.context.names.now) s in
+    noted_more bases (env_of S.tree) c.check_stmt.new.broken c.check_stmt.new.breaking.items touched
+    c.note_touched.new.unsettled.items locals base
+    (c.in_ok-note_touched-in-Some.ensures c.args.statement.now.first)
+    (c.in_ok-out-in-Some.ensures.breaks locals base
+    (subst (λ (o : _). BreaksSettle bases locals (touched_by_stmt (meanings old.context.names.now) s)
+    c.args.breaking.now.items (option_map (env_of S.tree) c.args.broken.now) base (option_map (env_of S.tree) o))
+    c.in-Some.is h))
+
+pub check_next-returns-in_ok-note_touched-in-Some-clause-settled :
+    goal.check_next-returns-in_ok-note_touched-in-Some-clause-settled
+check_next-returns-in_ok-note_touched-in-Some-clause-settled g t c =
+    let S = g.S.TypeStore in
+    let old = c.args.walk.now in
+    let later = c.check_stmt.new.walk in
+    let context = body_context_in S old in
+    let bases = context.context.bases in
+    let s = stmt_of c.args.statement.now in
+    let touched = touched_by_stmt context.context.resolve s in
+    let env = c.in-Some.env in
+    let before = reached S old (Some env) c.args.broken.now in
+    let behind = reached S later c.in_ok-out-in-Some.out c.check_stmt.new.broken in
+    let w = c.in_ok-out-in-Some.ensures.walked in
+    let on = c.check_stmt.ensures.goes_on in
+    let stands = subst (λ (o : _). StandsIn S old o c.args.broken.now) c.in-Some.is c.requires.stands in
+    let long = subst (λ (o : _). IsLong (reached S old o c.args.broken.now)) c.in-Some.is c.requires.long in
+    let breaks = subst (λ (o : _). WayTakesIn bases c.args.breaking.now.items before.broken
+    (option_map (env_of S.tree) o)) c.in-Some.is c.requires.breaks in
+    let noted = subst (λ (f : RustBodyContext _). AreNoted c.check_stmt.new.broken c.check_stmt.new.breaking.items
+    (touched_by_stmt (meanings f.names.now) s) c.note_touched.new.unsettled.items) on.context
+    (c.in_ok-note_touched-in-Some.ensures c.args.statement.now.first) in
+    let one = c.in_ok-out-in-Some.ensures.breaks touched (Some (env_of S.tree env))
+    (starts_settled bases touched c.args.breaking.now.items before.broken (Some (env_of S.tree env)) breaks) in
+    let agree = subst (λ (x : Reached). WaysAgree touched (Some (env_of S.tree env)) x.env) (sym w.is)
+    (step_agrees context touched before.table before.env before.broken before.found s (Some (env_of S.tree env))
+    stands.current.well_formed long (self_among touched) (self_agrees touched (Some (env_of S.tree env)))) in
+    in_body_context S old later (λ (f : RustBodyContext _). WayTakesIn f.globals.now.outline.now.parents.now
+    c.note_touched.new.unsettled.items behind.broken behind.env) on
+    (noted_settles bases (env_of S.tree) c.check_stmt.new.broken c.check_stmt.new.breaking.items touched
+    c.note_touched.new.unsettled.items (env_of S.tree env) behind.env noted one agree)
+
 -- ---- statements
+
+pub check_stmt-returns-in-Pass-clause-breaks : goal.check_stmt-returns-in-Pass-clause-breaks
+check_stmt-returns-in-Pass-clause-breaks g t c = λ locals base h. h.taken_in
+
+pub check_stmt-returns-in_ok-break_out-in-Break-clause-breaks :
+    goal.check_stmt-returns-in_ok-break_out-in-Break-clause-breaks
+check_stmt-returns-in_ok-break_out-in-Break-clause-breaks g t c = λ locals base h.
+    let tree = g.S.TypeStore.tree in
+    way_before c.args.walk.now.context.globals.now.outline.now.parents.now c.break_out.new.unsettled.items locals
+    (option_map (env_of tree) c.break_out.new.broken) base (env_of tree c.args.env) h.agree
+    c.in_ok-break_out-in-Break.ensures.settled
 
 pub check_stmt-returns-in-Pass-clause-walked : goal.check_stmt-returns-in-Pass-clause-walked
 check_stmt-returns-in-Pass-clause-walked g t c =
@@ -182,6 +264,9 @@ check_stmt-returns-in_ok-break_out-in-Break-clause-walked g t c =
       stands = record { context = stood.context; declared = stood.declared; current = tt; out = b.joined.holds };
     })
 
+pub check_stmt-returns-in-Continue-clause-breaks : goal.check_stmt-returns-in-Continue-clause-breaks
+check_stmt-returns-in-Continue-clause-breaks g t c = λ locals base h. h.taken_in
+
 pub check_stmt-returns-in-Continue-clause-walked : goal.check_stmt-returns-in-Continue-clause-walked
 check_stmt-returns-in-Continue-clause-walked g t c =
     let h = c.requires.stands in
@@ -189,6 +274,10 @@ check_stmt-returns-in-Continue-clause-walked g t c =
       is = refl;
       stands = record { context = h.context; declared = h.declared; current = tt; out = h.out };
     })
+
+pub check_stmt-returns-in_ok-find_return-in-Return-clause-breaks :
+    goal.check_stmt-returns-in_ok-find_return-in-Return-clause-breaks
+check_stmt-returns-in_ok-find_return-in-Return-clause-breaks g t c = λ locals base h. h.taken_in
 
 pub check_stmt-returns-in_ok-find_return-in-Return-clause-walked :
     goal.check_stmt-returns-in_ok-find_return-in-Return-clause-walked
@@ -203,6 +292,9 @@ check_stmt-returns-in_ok-find_return-in-Return-clause-walked g t c =
       is = found_reached S old new c.args.env _ on a None way;
       stands = found_stands S old new c.args.env _ on a None way tt c.requires.stands.out;
     })
+
+pub check_stmt-returns-in_ok-env-in-Assert-clause-breaks : goal.check_stmt-returns-in_ok-env-in-Assert-clause-breaks
+check_stmt-returns-in_ok-env-in-Assert-clause-breaks g t c = λ locals base h. h.taken_in
 
 pub check_stmt-returns-in_ok-env-in-Assert-clause-walked : goal.check_stmt-returns-in_ok-env-in-Assert-clause-walked
 check_stmt-returns-in_ok-env-in-Assert-clause-walked g t c =
@@ -230,6 +322,10 @@ check_stmt-returns-in_ok-env-in-Assert-clause-walked g t c =
           (Some env) way a.behind.holds c.requires.stands.out;
     })
 
+pub check_stmt-returns-in_ok-env-in-Annotated-clause-breaks :
+    goal.check_stmt-returns-in_ok-env-in-Annotated-clause-breaks
+check_stmt-returns-in_ok-env-in-Annotated-clause-breaks g t c = λ locals base h. h.taken_in
+
 pub check_stmt-returns-in_ok-env-in-Annotated-clause-walked :
     goal.check_stmt-returns-in_ok-env-in-Annotated-clause-walked
 check_stmt-returns-in_ok-env-in-Annotated-clause-walked g t c =
@@ -248,6 +344,9 @@ check_stmt-returns-in_ok-env-in-Annotated-clause-walked g t c =
       };
     })
 
+pub check_stmt-returns-in_ok-env-in-Assign-clause-breaks : goal.check_stmt-returns-in_ok-env-in-Assign-clause-breaks
+check_stmt-returns-in_ok-env-in-Assign-clause-breaks g t c = λ locals base h. h.taken_in
+
 pub check_stmt-returns-in_ok-env-in-Assign-clause-walked : goal.check_stmt-returns-in_ok-env-in-Assign-clause-walked
 check_stmt-returns-in_ok-env-in-Assign-clause-walked g t c =
     let S = g.S.TypeStore in
@@ -265,6 +364,9 @@ check_stmt-returns-in_ok-env-in-Assign-clause-walked g t c =
       };
     })
 
+pub check_stmt-returns-in_ok-type_in-in-Expr-clause-breaks : goal.check_stmt-returns-in_ok-type_in-in-Expr-clause-breaks
+check_stmt-returns-in_ok-type_in-in-Expr-clause-breaks g t c = λ locals base h. h.taken_in
+
 pub check_stmt-returns-in_ok-type_in-in-Expr-clause-walked : goal.check_stmt-returns-in_ok-type_in-in-Expr-clause-walked
 check_stmt-returns-in_ok-type_in-in-Expr-clause-walked g t c =
     let S = g.S.TypeStore in
@@ -279,6 +381,9 @@ check_stmt-returns-in_ok-type_in-in-Expr-clause-walked g t c =
       stands = found_stands S old new env _ on a (Some env) way a.stands.current c.requires.stands.out;
     })
 
+pub check_stmt-returns-in_ok-out-in-While-clause-breaks : goal.check_stmt-returns-in_ok-out-in-While-clause-breaks
+check_stmt-returns-in_ok-out-in-While-clause-breaks g t c = λ locals base h. h.taken_in
+
 pub check_stmt-returns-in_ok-out-in-While-clause-walked : goal.check_stmt-returns-in_ok-out-in-While-clause-walked
 check_stmt-returns-in_ok-out-in-While-clause-walked g t c =
     let S = g.S.TypeStore in
@@ -292,6 +397,9 @@ check_stmt-returns-in_ok-out-in-While-clause-walked g t c =
     subst (λ (s : Stmt). Walked S c.args.walk.now (Some c.args.env) way new c.in_ok-out-in-While.out way
     (λ f w. step f w.table w.env w.broken w.found s)) is
     (c.in_ok-out-in-While.ensures.walked c.args.first way c.requires.stands.out)
+
+pub check_stmt-returns-in_ok-out-in-For-clause-breaks : goal.check_stmt-returns-in_ok-out-in-For-clause-breaks
+check_stmt-returns-in_ok-out-in-For-clause-breaks g t c = λ locals base h. h.taken_in
 
 pub check_stmt-returns-in_ok-out-in-For-clause-walked : goal.check_stmt-returns-in_ok-out-in-For-clause-walked
 check_stmt-returns-in_ok-out-in-For-clause-walked g t c =
@@ -309,105 +417,48 @@ check_stmt-returns-in_ok-out-in-For-clause-walked g t c =
     (c.in_ok-out-in-For.ensures.walked c.args.first way c.requires.stands.out)
 
 pub check_stmt-check_branches-requires : goal.check_stmt-check_branches-requires
-check_stmt-check_branches-requires g t c κs within =
-    let S = g.S.TypeStore in
-    let context = body_context_in S c.args.walk.now in
-    let resolve = context.context.resolve in
-    let first = c.args.first in
-    let breaking = c.args.breaking.now in
-    let bs = branches_of_list c.deref-in-If.result.now in
-    let o = stmts_of_list c.deref-in-If-2.result.now in
-    let suite = stmts_of_list c.in-If.suite.items in
-    let later = branches_of_list c.deref-in-If-4.result.now in
-    let locals = c.in_ok-locals-in-If.locals.items in
-    let all = among_same locals (touched_by_if resolve bs o) (λ x. c.in_ok-locals-in-If.ensures x) in
-    let branches = among_left locals (touched_by_branches resolve bs) (touched_by resolve o) all in
-    let env = Some (env_of S.tree c.args.env) in
-    let broken = option_map (env_of S.tree) c.args.broken.now in
-    let if_is : stmt_of_kind first c.args.kind.now ≡ conditional first later suite =
-    ap (stmt_of_kind first) c.in-If.is ∙ if_tree first c.in-If.branches c.in-If.suite
-    ∙ sym (ap (λ bs. conditional first (branches_of_list bs) suite) c.deref-in-If-4.ensures.value) in
-    let same : c.deref-in-If.result.now ≡ c.deref-in-If-4.result.now =
-    c.deref-in-If.ensures.value ∙ sym c.deref-in-If-4.ensures.value in
-    let breaks = branches_breaks context breaking first later suite broken env
-    (subst (λ s. BreaksAgree breaking (touched_by_stmt resolve s) broken env) if_is c.requires.breaks) in
-    let touched = subst (λ ls. AreAmong ls (touched_by_branches resolve later)) (sym c.deref-in-If-3.ensures.value)
-    (subst (λ bs. AreAmong locals (touched_by_branches resolve (branches_of_list bs))) same branches) in (
-      first_of (search (rules, the_lemmas), grind (the_lemmas, arith)),
-      (within.0, (within.1, (c.requires.stands, (c.requires.long, (breaks, touched))))),
-    )
+check_stmt-check_branches-requires g t c κs within = (
+  first_of (search (rules, the_lemmas), grind (the_lemmas, arith)),
+  (within.0, (within.1, (c.requires.stands, (c.requires.long, c.requires.breaks)))),
+)
 
 pub check_stmt-check_otherwise-requires : goal.check_stmt-check_otherwise-requires
 check_stmt-check_otherwise-requires g t c κs within =
+    let f = c.in_ok-fork-in-If.ensures in (
+      first_of (search (rules, the_lemmas), grind (the_lemmas, arith)),
+      (within.0, (within.1, (f.walked.stands, (f.walked.met, (f.settled, f.breaks_settle))))),
+    )
+
+pub check_stmt-returns-in_ok-out-in-If-clause-breaks : goal.check_stmt-returns-in_ok-out-in-If-clause-breaks
+check_stmt-returns-in_ok-out-in-If-clause-breaks g t c = λ locals base h.
     let S = g.S.TypeStore in
     let old = c.args.walk.now in
     let mid = c.check_branches.new.walk in
-    let f = c.in_ok-fork-in-If.ensures.walked in
-    let on = c.check_branches.ensures.goes_on in
-    let fork = c.in_ok-fork-in-If.fork in
     let context = body_context_in S old in
     let resolve = context.context.resolve in
     let first = c.args.first in
-    let breaking = c.args.breaking.now in
-    let bs = branches_of_list c.deref-in-If.result.now in
-    let o = stmts_of_list c.deref-in-If-2.result.now in
-    let later = branches_of_list c.deref-in-If-4.result.now in
-    let suite = stmts_of_list c.deref-in-If-6.result.now in
-    let locals = c.in_ok-locals-in-If.locals.items in
-    let all = among_same locals (touched_by_if resolve bs o) (λ x. c.in_ok-locals-in-If.ensures x) in
-    let branches = among_left locals (touched_by_branches resolve bs) (touched_by resolve o) all in
-    let otherwise = among_right locals (touched_by_branches resolve bs) (touched_by resolve o) all in
-    let same_locals = sym c.deref-in-If-5.ensures.value in
+    let f = c.in_ok-fork-in-If.ensures in
+    let fork = c.in_ok-fork-in-If.fork in
+    let later = branches_of_list c.deref-in-If.result.now in
+    let suite = stmts_of_list c.deref-in-If-2.result.now in
     let before = forked S old c.args.env None c.args.broken.now in
-    let behind = forked S mid fork.last fork.ways c.check_branches.new.broken in
-    let agrees : ForkAgrees locals before =
-    record { last_long = c.requires.long.env_long; broken_long = c.requires.long.broken_long; ways_agree = tt } in
-    let same_branches : c.deref-in-If.result.now ≡ c.deref-in-If-4.result.now =
-    c.deref-in-If.ensures.value ∙ sym c.deref-in-If-4.ensures.value in
-    let same_suite : c.deref-in-If-2.result.now ≡ c.deref-in-If-6.result.now =
-    c.deref-in-If-2.ensures.value ∙ sym c.deref-in-If-6.ensures.value in
+    let behind = forked S mid fork.last fork.ways.met c.check_branches.new.broken in
+    let out = option_map (env_of S.tree) c.check_otherwise.new.broken in
     let if_is : stmt_of_kind first c.args.kind.now ≡ conditional first later suite =
     ap (stmt_of_kind first) c.in-If.is ∙ if_tree first c.in-If.branches c.in-If.suite
     ∙ sym (ap (λ ss. conditional first (branches_of_list c.in-If.branches.items) (stmts_of_list ss))
-    c.deref-in-If-6.ensures.value)
-    ∙ sym (ap (λ bs. conditional first (branches_of_list bs) suite) c.deref-in-If-4.ensures.value) in
-    let held = c.requires.stands.current.well_formed in
-    let branches_touched = subst (λ bs. AreAmong locals (touched_by_branches resolve (branches_of_list bs)))
-    same_branches branches in
-    let suite_touched = subst (λ ss. AreAmong locals (touched_by resolve (stmts_of_list ss))) same_suite otherwise in
-    let agree = branches_agree context locals before later held agrees branches_touched in
-    let breaks = otherwise_breaks context breaking first before.table before.last before.broken before.found later suite
-    held
-    c.requires.long.env_long c.requires.long.broken_long
-    (subst (λ s. BreaksAgree breaking (touched_by_stmt resolve s) before.broken (Some before.last)) if_is
-    c.requires.breaks) in (
-      first_of (search (rules, the_lemmas), grind (the_lemmas, arith)),
-      (
-        within.0,
-        (
-          within.1,
-          (
-            f.stands,
-            (
-              f.met,
-              (
-                subst (λ ls. ForkAgrees ls behind) same_locals (subst (ForkAgrees locals) (sym f.is) agree),
-                (
-                  in_body_context S old mid (λ (x : RustBodyContext _). BreaksAgree breaking
-                      (touched_by (meanings x.names.now) suite) behind.broken (Some behind.last)) on
-                      (subst (λ (r : BranchesResult). BreaksAgree breaking (touched_by resolve suite) r.broken
-                      (Some r.last))
-                      (sym f.is) breaks),
-                  in_body_context S old mid (λ (x : RustBodyContext _). AreAmong c.deref-in-If-5.result.now
-                      (touched_by (meanings x.names.now) suite)) on
-                      (subst (λ ls. AreAmong ls (touched_by resolve suite)) same_locals suite_touched),
-                ),
-              ),
-            ),
-          ),
-        ),
-      ),
-    )
+    c.deref-in-If-2.ensures.value)
+    ∙ sym (ap (λ bs. conditional first (branches_of_list bs) suite) c.deref-in-If.ensures.value) in
+    let parts = if_parts context locals first later suite
+    (subst (λ s. AreAmong locals (touched_by_stmt resolve s)) if_is h.among) in
+    let one = f.breaks locals base (record { among = parts.0; agree = h.agree; taken_in = h.taken_in }) in
+    let agree = subst (λ (r : BranchesResult). WaysAgree locals base (Some r.last)) (sym f.walked.is)
+    (branches_agree context locals before.table before.last before.broken before.found later base
+    c.requires.stands.current.well_formed c.requires.long.env_long parts.0 h.agree) in
+    let two = subst (λ (x : RustBodyContext _). BreaksStaySettled x.globals.now.outline.now.parents.now
+    (touched_by (meanings x.names.now) suite) c.check_branches.new.breaking.items c.check_otherwise.new.breaking.items
+    behind.broken (Some behind.last) out) c.check_branches.ensures.goes_on.context c.in_ok-out-in-If.ensures.breaks in
+    two locals base (record { among = parts.1; agree = agree; taken_in = one })
 
 pub check_stmt-returns-in_ok-out-in-If-clause-walked : goal.check_stmt-returns-in_ok-out-in-If-clause-walked
 check_stmt-returns-in_ok-out-in-If-clause-walked g t c =
@@ -419,13 +470,13 @@ check_stmt-returns-in_ok-out-in-If-clause-walked g t c =
     let f = c.in_ok-fork-in-If.ensures.walked in
     let fork = c.in_ok-fork-in-If.fork in
     let o = c.in_ok-out-in-If.ensures.walked in
-    let suite = stmts_of_list c.deref-in-If-6.result.now in
-    let behind = forked S mid fork.last fork.ways c.check_branches.new.broken in
+    let suite = stmts_of_list c.deref-in-If-2.result.now in
+    let behind = forked S mid fork.last fork.ways.met c.check_branches.new.broken in
     let before = reached S old (Some c.args.env) c.args.broken.now in
     let stepped : Stmt → Reached = step context before.table before.env before.broken before.found in
-    let is = ap (λ bs. conditional first (branches_of_list bs) suite) c.deref-in-If-4.ensures.value
+    let is = ap (λ bs. conditional first (branches_of_list bs) suite) c.deref-in-If.ensures.value
     ∙ ap (λ ss. conditional first (branches_of_list c.in-If.branches.items) (stmts_of_list ss))
-    c.deref-in-If-6.ensures.value
+    c.deref-in-If-2.ensures.value
     ∙ sym (if_tree first c.in-If.branches c.in-If.suite) ∙ sym (ap (stmt_of_kind first) c.in-If.is) in
     record {
       is = walks_on S old mid c.check_otherwise.new.walk (Some fork.last) c.check_branches.new.broken
@@ -462,6 +513,7 @@ check_while-check_suite-requires g t c κs within =
     let condition = expr_of c.args.condition.now in
     let body = stmts_of_list c.args.body.now in
     let locals = c.in_ok-breaking.breaking.items in
+    let bases = context.context.bases in
     let where_true : env_of S.tree ways.where_true ≡ narrowed_at context table true condition head =
     a.where_true.is ∙ sym (same_narrowed S mid new c.in_ok-head.head _ c.type_condition.ensures.goes_on a.finds true
     condition) in
@@ -475,8 +527,13 @@ check_while-check_suite-requires g t c κs within =
     (env_of S.tree c.args.env.now)
     c.requires.long ∙ sym same_table in
     let touched = among_same locals (touched_by_while resolve condition body) (λ x. c.in_ok-breaking.ensures x) in
-    let breaks = while_breaks context locals table head condition body a.finds.stands.current.well_formed head_long
-    touched in (
+    let agree = while_agrees context locals table head condition body a.finds.stands.current.well_formed head_long
+    touched in
+    let out = subst (λ (e : Env). AgreeOutside locals e (narrowed_at context table true condition head))
+    (sym where_false) agree in
+    let breaks = agreed_taken_in bases locals (env_of S.tree ways.where_false) (env_of S.tree ways.where_true)
+    a.where_false.holds.well_formed
+    (subst (λ (e : Env). AgreeOutside locals (env_of S.tree ways.where_false) e) (sym where_true) out) in (
       first_of (omega (arith, c.decreases), search rules, grind (arith, c.decreases)),
       (
         within.0,
@@ -496,12 +553,7 @@ check_while-check_suite-requires g t c κs within =
                 broken_long = ap (λ (e : Env). length e) where_false
                     ∙ narrowed_long context table false condition head head_long;
               },
-              subst (λ ls. BreaksAgree ls (touched_by resolve body) (Some (env_of S.tree ways.where_false))
-                  (Some (env_of S.tree ways.where_true))) (sym c.deref.ensures.value)
-                  (subst (λ (e : Env). BreaksAgree locals (touched_by resolve body) (Some e)
-                  (Some (env_of S.tree ways.where_true))) (sym where_false)
-                  (subst (λ (e : Env). BreaksAgree locals (touched_by resolve body)
-                  (Some (narrowed_at context table false condition head)) (Some e)) (sym where_true) breaks)),
+              breaks,
             ),
           ),
         ),
@@ -603,8 +655,10 @@ check_for-check_suite-requires g t c κs within =
     (touched_by_for (meanings f.names.now) name body))
     (goes_further c.item_type.ensures.goes_on c.for_start.ensures.goes_on)
     (among_same locals (touched_by_for (meanings old.context.names.now) name body) (λ x. c.in_ok-breaking.ensures x)) in
-    let breaks = for_breaks context locals table head name body place item found start.holds.well_formed head_long
+    let agree = for_agrees context locals table head name body place item found start.holds.well_formed head_long
     touched in
+    let copy = env_of S.tree copied.field-0 in
+    let here = subst (λ (r : BindingResult). AgreeOutside locals head r.env) (sym b.is) agree in
     let held = gives_types S.has S.tree mid.context.globals.now.outline.now.parents.now mid.store.now copied.field-0
     head copied.ensures
     start.holds.well_formed in (
@@ -625,15 +679,12 @@ check_for-check_suite-requires g t c κs within =
                 env_long = ap (λ (r : BindingResult). length r.env) b.is ∙ sizes.1 ∙ sym table_long;
                 broken_long = ap (λ (e : Env). length e) copied.ensures.is ∙ head_long ∙ sym table_long;
               },
-              in_body_context S mid new (λ (f : RustBodyContext _). BreaksAgree c.deref.result.now
-                  (touched_by (meanings f.names.now) body) (Some (env_of S.tree copied.field-0)) inside) on
-                  (subst (λ ls. BreaksAgree ls (touched_by resolve body) (Some (env_of S.tree copied.field-0)) inside)
-                  (sym c.deref.ensures.value)
-                  (subst (λ (e : Env). BreaksAgree locals (touched_by resolve body) (Some e) inside)
-                  (sym copied.ensures.is)
-                  (subst (λ (r : BindingResult). BreaksAgree locals (touched_by resolve body) (Some head)
-                  (Some r.env))
-                  (sym b.is) breaks))),
+              in_body_context S mid new (λ (f : RustBodyContext _). WayTakesIn f.globals.now.outline.now.parents.now
+                  locals (Some copy) (Some (env_of S.tree c.in_ok-inside.inside))) on
+                  (agreed_taken_in context.context.bases locals copy (env_of S.tree c.in_ok-inside.inside)
+                  held.holds.well_formed
+                  (subst (λ (e : Env). AgreeOutside locals e (env_of S.tree c.in_ok-inside.inside))
+                  (sym copied.ensures.is) here)),
             ),
           ),
         ),
@@ -715,7 +766,7 @@ check_otherwise-check_suite-requires g t c κs within = (
       (
         c.requires.stands,
         (
-          record { env_long = c.requires.agree.last_long; broken_long = c.requires.agree.broken_long },
+          record { env_long = c.requires.settled.last_long; broken_long = c.requires.settled.broken_long },
           c.requires.breaks,
         ),
       ),
@@ -725,18 +776,34 @@ check_otherwise-check_suite-requires g t c κs within = (
 
 pub check_otherwise-meet-requires-clause-ways : goal.check_otherwise-meet-requires-clause-ways
 check_otherwise-meet-requires-clause-ways g t c =
-    way_kept g.S.TypeStore c.args.walk.now c.check_suite.new.walk c.args.fork.ways
+    way_kept g.S.TypeStore c.args.walk.now c.check_suite.new.walk c.args.fork.ways.met
     c.check_suite.ensures.goes_on c.requires.ways
 
-pub check_otherwise-meet-requires-clause-agree : goal.check_otherwise-meet-requires-clause-agree
-check_otherwise-meet-requires-clause-agree g t c =
+pub check_otherwise-meet-requires-clause-taken_in : goal.check_otherwise-meet-requires-clause-taken_in
+check_otherwise-meet-requires-clause-taken_in g t c =
     let S = g.S.TypeStore in
-    let w = c.args.walk.now in
-    let locals = c.args.locals.now in
-    let fork = forked S w c.args.fork.last c.args.fork.ways c.args.broken.now in
-    subst (λ (x : Reached). WaysAgree locals fork.ways x.env) (sym c.in_ok-out.ensures.walked.is)
-    (otherwise_agrees (body_context_in S w) locals fork (stmts_of_list c.args.otherwise.now)
-    c.requires.stands.current.well_formed c.requires.agree c.requires.touched)
+    let old = c.args.walk.now in
+    let new = c.check_suite.new.walk in
+    let on = c.check_suite.ensures.goes_on in
+    let context = body_context_in S old in
+    let ways = c.args.fork.ways in
+    let touched = c.in_ok-touched.touched.items in
+    let out = option_map (env_of S.tree) c.in_ok-out.out in
+    let fork = forked S old c.args.fork.last ways.met c.args.broken.now in
+    let o = stmts_of_list c.args.otherwise.now in
+    let later = among_same touched (touched_by (meanings new.context.names.now) o) (λ x. c.in_ok-touched.ensures x) in
+    let among = subst (λ (f : RustBodyContext _). AreAmong touched (touched_by (meanings f.names.now) o)) on.context
+    later in
+    let agrees = subst (λ (x : Reached). AgreesIfAny touched fork.last x.env) (sym c.in_ok-out.ensures.walked.is)
+    (otherwise_settles context touched fork.table fork.last fork.broken fork.found o
+    c.requires.stands.current.well_formed c.requires.settled.last_long among) in
+    in_body_context S old new (λ (f : RustBodyContext _). WayTakesIn f.globals.now.outline.now.parents.now
+    (ways.unsettled.items ++ touched) fork.ways out) on
+    (suite_taken_in context.context.bases ways.unsettled.items touched fork.ways out fork.last
+    c.requires.settled.taken_in agrees)
+
+pub check_otherwise-returns-clause-breaks : goal.check_otherwise-returns-clause-breaks
+check_otherwise-returns-clause-breaks g t c = c.in_ok-out.ensures.breaks
 
 pub check_otherwise-returns-clause-walked : goal.check_otherwise-returns-clause-walked
 check_otherwise-returns-clause-walked g t c =
@@ -746,9 +813,9 @@ check_otherwise-returns-clause-walked g t c =
     let context = body_context_in S c.args.walk.now in
     let s = c.in_ok-out.ensures.walked in
     let j = c.in_ok-joined.ensures in
-    let joined = c.in_ok-joined.joined in
+    let joined = c.in_ok-joined.joined.met in
     let broken = c.check_suite.new.broken in
-    let ways = option_map (env_of S.tree) c.args.fork.ways in
+    let ways = option_map (env_of S.tree) c.args.fork.ways.met in
     let out = reached S mid c.in_ok-out.out broken in
     let met : option_map (env_of S.tree) joined ≡ with_way context.context.bases out.table ways out.env =
     j.joined.is ∙ (λ i. with_way (c.check_suite.ensures.goes_on.context i).globals.now.outline.now.parents.now out.table
@@ -765,50 +832,12 @@ check_otherwise-returns-clause-walked g t c =
 
 pub check_branches-check_branch-requires : goal.check_branches-check_branch-requires
 check_branches-check_branch-requires g t c κs within =
-    let S = g.S.TypeStore in
     let here = c.loop-branch in
-    let v = here.invariant in
-    let context = body_context_in S here.walk in
-    let resolve = context.context.resolve in
-    let locals = c.args.locals.now in
-    let breaking = c.args.breaking.now in
-    let item = out-Branch c.branch-item.result in
-    let rest = branches_of_list (drop (here.branch-index + 1) c.args.branches.now) in
-    let condition = expr_of item.condition in
-    let body = stmts_of_list item.body.items in
-    let broken = option_map (env_of S.tree) here.broken in
-    let last = Some (env_of S.tree here.fork.last) in
-    let next = branches_next c.args.branches.now here.branch-index c.branch-item.result c.loop-branch-test.true
-    c.branch-item.is in
-    let one = sym (branch_tree c.branch-item.result no_branches) in
-    let breaks = subst (λ bs. BreaksAgree breaking (touched_by_branches resolve bs) broken last) next v.breaks in
-    let touched = subst (λ bs. AreAmong locals (touched_by_branches resolve bs)) next v.touched in (
+    let v = here.invariant in (
       let least = at_most branch_size c.args.branches.now here.branch-index c.branch-item.result
           c.loop-branch-test.true in
           omega (arith, c.decreases, ap branch_size c.branch-item.is, least),
-      (
-        within.0,
-        (
-          within.1,
-          (
-            v.stands,
-            (
-              v.ways,
-              (
-                v.agree,
-                (
-                  subst (λ bs. BreaksAgree breaking (touched_by_branches resolve bs) broken last) one
-                      (part_breaks context breaking (touched_by_branches resolve (more_branches condition body rest))
-                      (touched_by_branches resolve (more_branches condition body no_branches)) broken last
-                      (first_touched resolve breaking condition body rest) breaks),
-                  subst (λ bs. AreAmong locals (touched_by_branches resolve bs)) one
-                      (first_touched resolve locals condition body rest touched),
-                ),
-              ),
-            ),
-          ),
-        ),
-      ),
+      (within.0, (within.1, (v.stands, (v.ways, (v.settled, v.breaks))))),
     )
 
 pub check_branches-loop-branch-init : goal.check_branches-loop-branch-init
@@ -818,9 +847,9 @@ check_branches-loop-branch-init g t c =
       goes_on = same_walk;
       stands = c.requires.stands;
       ways = tt;
-      agree = record { last_long = long.env_long; broken_long = long.broken_long; ways_agree = tt };
-      touched = c.requires.touched;
+      settled = record { last_long = long.env_long; broken_long = long.broken_long; taken_in = tt };
       breaks = c.requires.breaks;
+      kept = λ locals base h. h;
       is = refl;
     }
 
@@ -834,45 +863,62 @@ check_branches-loop-branch-preserved g t c =
     let v = here.invariant in
     let context = body_context_in S here.walk in
     let resolve = context.context.resolve in
-    let locals = c.args.locals.now in
-    let breaking = c.args.breaking.now in
     let item = out-Branch c.branch-item.result in
     let rest = branches_of_list (drop (here.branch-index + 1) c.args.branches.now) in
+    let all = branches_of_list c.args.branches.now in
     let condition = expr_of item.condition in
     let body = stmts_of_list item.body.items in
-    let before = forked S here.walk here.fork.last here.fork.ways here.broken in
-    let behind = forked S new c.in_ok-fork.fork.last c.in_ok-fork.fork.ways c.check_branch.new.broken in
+    let first = forked S c.args.walk.now c.args.env None c.args.broken.now in
+    let before = forked S here.walk here.fork.last here.fork.ways.met here.broken in
+    let behind = forked S new c.in_ok-fork.fork.last c.in_ok-fork.fork.ways.met c.check_branch.new.broken in
     let next = branches_next c.args.branches.now here.branch-index c.branch-item.result c.loop-branch-test.true
     c.branch-item.is in
     let one = branch_tree c.branch-item.result no_branches in
     let held = v.stands.current.well_formed in
-    let all = subst (λ bs. AreAmong locals (touched_by_branches resolve bs)) next v.touched in
-    let first = subst (λ bs. AreAmong locals (touched_by_branches resolve bs)) (sym one)
-    (first_touched resolve locals condition body rest all) in
-    let agree = branches_agree context locals before (with_branch c.branch-item.result no_branches) held v.agree
-    first in
-    let breaks = branch_breaks context breaking before.table before.last before.ways before.broken before.found
-    condition
-    body rest held v.agree.last_long v.agree.broken_long
-    (subst (λ bs. BreaksAgree breaking (touched_by_branches resolve bs) before.broken (Some before.last)) next
-    v.breaks) in
     let is = w.is ∙ ap (walk_branches context before) one in
+    let unsettled = c.args.breaking.now.items in
+    let later = c.check_branch.new.breaking.items in
     record {
       goes_on = goes_further v.goes_on on;
       stands = w.stands;
       ways = w.met;
-      agree = subst (ForkAgrees locals) (sym w.is) agree;
-      touched = in_body_context S here.walk new (λ (f : RustBodyContext _). AreAmong locals
-          (touched_by_branches (meanings f.names.now) rest)) on
-          (later_touched resolve locals condition body rest all);
-      breaks = in_body_context S here.walk new (λ (f : RustBodyContext _). BreaksAgree breaking
-          (touched_by_branches (meanings f.names.now) rest) behind.broken (Some behind.last)) on
-          (subst (λ (r : BranchesResult). BreaksAgree breaking (touched_by_branches resolve rest) r.broken
-          (Some r.last))
-          (sym is) breaks);
+      settled = c.in_ok-fork.ensures.settled;
+      breaks = c.in_ok-fork.ensures.breaks_settle;
+      kept = in_body_context S here.walk new (λ (f : RustBodyContext _). (locals : List ℕ) (base : Option Env)
+          → BreaksSettle f.globals.now.outline.now.parents.now locals (touched_by_branches (meanings f.names.now) all)
+          unsettled first.broken base (Some first.last)
+          → BreaksSettle f.globals.now.outline.now.parents.now locals (touched_by_branches (meanings f.names.now) rest)
+          later behind.broken base (Some behind.last)) on
+          (λ locals base h.
+          let kept = v.kept locals base h in
+          let touched = subst (λ bs. AreAmong locals (touched_by_branches resolve bs)) next kept.among in
+          let now = first_touched resolve locals condition body rest touched in
+          record {
+            among = later_touched resolve locals condition body rest touched;
+            agree = subst (λ (r : BranchesResult). WaysAgree locals base (Some r.last)) (sym is)
+                (narrowed_agrees context locals before.table before.last false condition base held v.settled.last_long
+                (branch_parts context locals condition body now).0 kept.agree);
+            taken_in = c.in_ok-fork.ensures.breaks locals base (record {
+              among = subst (λ bs. AreAmong locals (touched_by_branches resolve bs)) (sym one) now;
+              agree = kept.agree;
+              taken_in = kept.taken_in;
+            });
+          });
       is = (λ j. walk_branches (body_context_with S.tree (on.context j)) (is j) rest)
           ∙ sym (ap (walk_branches context before) next) ∙ v.is;
     }
+
+pub check_branches-returns-clause-breaks : goal.check_branches-returns-clause-breaks
+check_branches-returns-clause-breaks g t c =
+    let S = g.S.TypeStore in
+    let here = c.loop-branch in
+    let v = here.invariant in
+    let all = branches_of_list c.args.branches.now in
+    let first = forked S c.args.walk.now c.args.env None c.args.broken.now in
+    subst (λ (f : RustBodyContext _). BreaksStaySettled f.globals.now.outline.now.parents.now
+    (touched_by_branches (meanings f.names.now) all) c.args.breaking.now.items here.breaking.items first.broken
+    (Some first.last) (option_map (env_of S.tree) here.broken)) v.goes_on.context
+    (λ locals base h. (v.kept locals base h).taken_in)
 
 pub check_branches-returns-clause-walked : goal.check_branches-returns-clause-walked
 check_branches-returns-clause-walked g t c =
@@ -882,7 +928,7 @@ check_branches-returns-clause-walked g t c =
     let left = no_branch_left c.args.branches.now here.branch-index (omega arith) in
     record {
       is = sym (ap (walk_branches (body_context_in S here.walk)
-          (forked S here.walk here.fork.last here.fork.ways here.broken)) left) ∙ v.is;
+          (forked S here.walk here.fork.last here.fork.ways.met here.broken)) left) ∙ v.is;
       stands = v.stands;
       met = v.ways;
     }
@@ -899,18 +945,30 @@ check_branch-check_suite-requires g t c κs within =
     let last = c.args.fork.last in
     let context = body_context_in S old in
     let resolve = context.context.resolve in
+    let bases = context.context.bases in
     let table = env_of S.tree old.declared.now in
-    let breaking = c.args.breaking.now in
     let broken = option_map (env_of S.tree) c.args.broken.now in
     let condition = expr_of (out-Branch c.args.branch.now).condition in
     let body = stmts_of_list (out-Branch c.args.branch.now).body.items in
+    let touched = c.in_ok-touched.touched.items in
+    let noted_now = c.note_locals.new.unsettled.items in
     let same_table : length (env_of S.tree new.declared.now) ≡ length table =
     ap (λ ds. length (env_of S.tree ds)) a.finds.declared in
-    let agree = c.requires.agree in
-    let breaks = subst (λ bs. BreaksAgree breaking (touched_by_branches resolve bs) broken (Some (env_of S.tree last)))
-    (branch_tree c.args.branch.now no_branches) c.requires.breaks in
-    let start = start_breaks context breaking table (env_of S.tree last) broken condition body
-    c.requires.stands.current.well_formed agree.last_long breaks in (
+    let agree = c.requires.settled in
+    let here = among_same touched (touched_by_while (meanings new.context.names.now) condition body)
+    (λ x. c.in_ok-touched.ensures x ∙ ap (λ ss. is_among (touched_by_while (meanings new.context.names.now) condition
+    (stmts_of_list ss)) x) c.deref.ensures.value) in
+    let among = subst (λ (f : RustBodyContext _). AreAmong touched (touched_by_while (meanings f.names.now) condition
+    body)) c.type_condition.ensures.goes_on.context here in
+    let noted : AreNoted c.args.broken.now c.args.breaking.now.items touched noted_now =
+    subst (λ (ts : List ℕ). AreNoted c.args.broken.now c.args.breaking.now.items ts noted_now) c.deref-2.ensures.value
+    c.in_ok-note_locals.ensures in
+    let start = narrowed_agrees context touched table (env_of S.tree last) true condition (Some (env_of S.tree last))
+    c.requires.stands.current.well_formed agree.last_long (while_parts context touched condition body among).0
+    (self_agrees touched (Some (env_of S.tree last))) in
+    let breaks = noted_settles bases (env_of S.tree) c.args.broken.now c.args.breaking.now.items touched noted_now
+    (env_of S.tree last) (Some (narrowed_at context table true condition (env_of S.tree last))) noted
+    (way_more bases c.args.breaking.now.items touched broken (Some (env_of S.tree last)) c.requires.breaks) start in (
       first_of (search (rules, the_lemmas), grind (the_lemmas, arith)),
       (
         within.0,
@@ -931,13 +989,9 @@ check_branch-check_suite-requires g t c κs within =
                     ∙ narrowed_long context table true condition (env_of S.tree last) agree.last_long;
                 broken_long = agree.broken_long;
               }),
-              in_body_context S old new (λ (f : RustBodyContext _). BreaksAgree breaking
-                  (touched_by (meanings f.names.now) (stmts_of_list c.deref.result.now)) broken
-                  (Some (env_of S.tree ways.where_true))) c.type_condition.ensures.goes_on
-                  (subst (λ ss. BreaksAgree breaking (touched_by resolve (stmts_of_list ss)) broken
-                  (Some (env_of S.tree ways.where_true))) (sym c.deref.ensures.value)
-                  (subst (λ (e : Env). BreaksAgree breaking (touched_by resolve body) broken (Some e))
-                  (sym a.where_true.is) start)),
+              in_body_context S old new (λ (f : RustBodyContext _). WayTakesIn f.globals.now.outline.now.parents.now
+                  noted_now broken (Some (env_of S.tree ways.where_true))) c.type_condition.ensures.goes_on
+                  (subst (λ (e : Env). WayTakesIn bases noted_now broken (Some e)) (sym a.where_true.is) breaks),
             ),
           ),
         ),
@@ -946,24 +1000,27 @@ check_branch-check_suite-requires g t c κs within =
 
 pub check_branch-meet-requires-clause-ways : goal.check_branch-meet-requires-clause-ways
 check_branch-meet-requires-clause-ways g t c =
-    way_kept g.S.TypeStore c.args.walk.now c.check_suite.new.walk c.args.fork.ways
+    way_kept g.S.TypeStore c.args.walk.now c.check_suite.new.walk c.args.fork.ways.met
     (goes_further c.type_condition.ensures.goes_on c.check_suite.ensures.goes_on) c.requires.ways
 
-pub check_branch-meet-requires-clause-agree : goal.check_branch-meet-requires-clause-agree
-check_branch-meet-requires-clause-agree g t c =
+pub check_branch-meet-requires-clause-taken_in : goal.check_branch-meet-requires-clause-taken_in
+check_branch-meet-requires-clause-taken_in g t c =
     let S = g.S.TypeStore in
     let old = c.args.walk.now in
     let mid = c.type_condition.new.walk in
+    let later = c.check_suite.new.walk in
     let a = c.in_ok-where_true.ensures in
     let where_true = c.in_ok-where_true.field-0.where_true in
     let s = c.in_ok-out.ensures.walked in
     let context = body_context_in S old in
-    let locals = c.args.locals.now in
+    let g1 = c.type_condition.ensures.goes_on in
+    let g2 = goes_further g1 c.check_suite.ensures.goes_on in
+    let ways = c.args.fork.ways in
+    let touched = c.in_ok-touched.touched.items in
     let condition = expr_of (out-Branch c.args.branch.now).condition in
     let body = stmts_of_list (out-Branch c.args.branch.now).body.items in
-    let fork = forked S old c.args.fork.last c.args.fork.ways c.args.broken.now in
-    let touched = subst (λ bs. AreAmong locals (touched_by_branches context.context.resolve bs))
-    (branch_tree c.args.branch.now no_branches) c.requires.touched in
+    let fork = forked S old c.args.fork.last ways.met c.args.broken.now in
+    let out = reached S later c.in_ok-out.out c.check_suite.new.broken in
     let found = notes_of mid.found.now in
     let start : reached S mid (Some where_true) c.args.broken.now ≡ record {
       table = fork.table;
@@ -976,14 +1033,119 @@ check_branch-meet-requires-clause-agree g t c =
       broken = fork.broken;
       found = found;
     } in
-    let walked = walks_on S old mid c.check_suite.new.walk (Some where_true) c.args.broken.now c.in_ok-out.out
-    c.check_suite.new.broken (λ f w. walk_suite f w (stmts_of_list c.deref.result.now))
-    c.type_condition.ensures.goes_on s in
-    subst (λ (w : Reached). WaysAgree locals fork.ways w.env)
-    (sym (walked ∙ ap (λ ss. walk_suite context (reached S mid (Some where_true) c.args.broken.now) (stmts_of_list ss))
-    c.deref.ensures.value ∙ ap (λ w. walk_suite context w body) start))
-    (branch_agrees context locals fork condition body found c.requires.stands.current.well_formed c.requires.agree
-    touched)
+    let walked = walks_on S old mid later (Some where_true) c.args.broken.now c.in_ok-out.out c.check_suite.new.broken
+    (λ f w. walk_suite f w (stmts_of_list c.deref-3.result.now)) g1 s
+    ∙ ap (λ ss. walk_suite context (reached S mid (Some where_true) c.args.broken.now) (stmts_of_list ss))
+    c.deref-3.ensures.value in
+    let last = among_same touched (touched_by_while (meanings mid.context.names.now) condition body)
+    (λ x. c.in_ok-touched.ensures x ∙ ap (λ ss. is_among (touched_by_while (meanings mid.context.names.now) condition
+    (stmts_of_list ss)) x) c.deref.ensures.value) in
+    let among = subst (λ (f : RustBodyContext _). AreAmong touched (touched_by_while (meanings f.names.now) condition
+    body)) g1.context last in
+    let branched = branch_out context touched fork.table fork.last fork.broken found condition body
+    (reached S mid (Some where_true) c.args.broken.now) out c.requires.stands.current.well_formed
+    c.requires.settled.last_long c.requires.settled.broken_long among start walked in
+    in_body_context S old later (λ (f : RustBodyContext _). WayTakesIn f.globals.now.outline.now.parents.now
+    (ways.unsettled.items ++ touched) fork.ways out.env) g2
+    (suite_taken_in context.context.bases ways.unsettled.items touched fork.ways out.env fork.last
+    c.requires.settled.taken_in branched.agrees)
+
+pub check_branch-returns-clause-breaks : goal.check_branch-returns-clause-breaks
+check_branch-returns-clause-breaks g t c = λ locals base h.
+    let S = g.S.TypeStore in
+    let old = c.args.walk.now in
+    let a = c.in_ok-where_true.ensures in
+    let where_true = c.in_ok-where_true.field-0.where_true in
+    let context = body_context_in S old in
+    let resolve = context.context.resolve in
+    let bases = context.context.bases in
+    let g1 = c.type_condition.ensures.goes_on in
+    let condition = expr_of (out-Branch c.args.branch.now).condition in
+    let body = stmts_of_list (out-Branch c.args.branch.now).body.items in
+    let touched = c.in_ok-touched.touched.items in
+    let unsettled = c.args.breaking.now.items in
+    let noted_now = c.note_locals.new.unsettled.items in
+    let left = c.check_suite.new.breaking.items in
+    let later = c.note_locals-2.new.unsettled.items in
+    let fork = forked S old c.args.fork.last c.args.fork.ways.met c.args.broken.now in
+    let broken = option_map (env_of S.tree) c.check_suite.new.broken in
+    let parts = branch_parts context locals condition body
+    (subst (λ bs. AreAmong locals (touched_by_branches resolve bs)) (branch_tree c.args.branch.now no_branches) h.among)
+    in
+    let agree = subst (λ (e : Env). WaysAgree locals base (Some e)) (sym a.where_true.is)
+    (narrowed_agrees context locals fork.table fork.last true condition base c.requires.stands.current.well_formed
+    c.requires.settled.last_long parts.0 h.agree) in
+    let suite = subst (λ (x : RustBodyContext _). BreaksStaySettled x.globals.now.outline.now.parents.now
+    (touched_by (meanings x.names.now) body) noted_now left fork.broken (Some (env_of S.tree where_true)) broken)
+    g1.context (subst (λ ss. BreaksStaySettled c.type_condition.new.walk.context.globals.now.outline.now.parents.now
+    (touched_by (meanings c.type_condition.new.walk.context.names.now) (stmts_of_list ss)) noted_now left fork.broken
+    (Some (env_of S.tree where_true)) broken) c.deref-3.ensures.value c.in_ok-out.ensures.breaks) in
+    let noted : AreNoted c.args.broken.now unsettled touched noted_now =
+    subst (λ (ts : List ℕ). AreNoted c.args.broken.now unsettled ts noted_now) c.deref-2.ensures.value
+    c.in_ok-note_locals.ensures in
+    let again : AreNoted c.check_suite.new.broken left touched later =
+    subst (λ (ts : List ℕ). AreNoted c.check_suite.new.broken left ts later) c.deref-4.ensures.value
+    c.in_ok-note_locals-2.ensures in
+    noted_more bases (env_of S.tree) c.check_suite.new.broken left touched later locals base again
+    (suite locals base (record {
+      among = parts.1;
+      agree = agree;
+      taken_in = noted_more bases (env_of S.tree) c.args.broken.now unsettled touched noted_now locals base noted
+          h.taken_in;
+    }))
+
+pub check_branch-returns-clause-breaks_settle : goal.check_branch-returns-clause-breaks_settle
+check_branch-returns-clause-breaks_settle g t c =
+    let S = g.S.TypeStore in
+    let old = c.args.walk.now in
+    let mid = c.type_condition.new.walk in
+    let new = c.meet.new.walk in
+    let a = c.in_ok-where_true.ensures in
+    let ways = c.in_ok-where_true.field-0 in
+    let context = body_context_in S old in
+    let bases = context.context.bases in
+    let g1 = c.type_condition.ensures.goes_on in
+    let g3 = goes_further (goes_further g1 c.check_suite.ensures.goes_on) c.meet.ensures.goes_on in
+    let condition = expr_of (out-Branch c.args.branch.now).condition in
+    let body = stmts_of_list (out-Branch c.args.branch.now).body.items in
+    let touched = c.in_ok-touched.touched.items in
+    let unsettled = c.args.breaking.now.items in
+    let noted_now = c.note_locals.new.unsettled.items in
+    let left = c.check_suite.new.breaking.items in
+    let later = c.note_locals-2.new.unsettled.items in
+    let fork = forked S old c.args.fork.last c.args.fork.ways.met c.args.broken.now in
+    let broken = option_map (env_of S.tree) c.check_suite.new.broken in
+    let here = among_same touched (touched_by_while (meanings mid.context.names.now) condition body)
+    (λ x. c.in_ok-touched.ensures x ∙ ap (λ ss. is_among (touched_by_while (meanings mid.context.names.now) condition
+    (stmts_of_list ss)) x) c.deref.ensures.value) in
+    let parts = while_parts context touched condition body
+    (subst (λ (f : RustBodyContext _). AreAmong touched (touched_by_while (meanings f.names.now) condition body))
+    g1.context here) in
+    let narrowed = λ (holds : Test). narrowed_agrees context touched fork.table fork.last holds condition
+    (Some fork.last) c.requires.stands.current.well_formed c.requires.settled.last_long parts.0
+    (self_agrees touched (Some fork.last)) in
+    let where_true = subst (λ (e : Env). WaysAgree touched (Some fork.last) (Some e)) (sym a.where_true.is)
+    (narrowed true) in
+    let where_false = subst (λ (e : Env). WaysAgree touched (Some fork.last) (Some e)) (sym a.where_false.is)
+    (narrowed false) in
+    let suite = subst (λ (x : RustBodyContext _). BreaksStaySettled x.globals.now.outline.now.parents.now
+    (touched_by (meanings x.names.now) body) noted_now left fork.broken (Some (env_of S.tree ways.where_true)) broken)
+    g1.context (subst (λ ss. BreaksStaySettled mid.context.globals.now.outline.now.parents.now
+    (touched_by (meanings mid.context.names.now) (stmts_of_list ss)) noted_now left fork.broken
+    (Some (env_of S.tree ways.where_true)) broken) c.deref-3.ensures.value c.in_ok-out.ensures.breaks) in
+    let noted : AreNoted c.args.broken.now unsettled touched noted_now =
+    subst (λ (ts : List ℕ). AreNoted c.args.broken.now unsettled ts noted_now) c.deref-2.ensures.value
+    c.in_ok-note_locals.ensures in
+    let again : AreNoted c.check_suite.new.broken left touched later =
+    subst (λ (ts : List ℕ). AreNoted c.check_suite.new.broken left ts later) c.deref-4.ensures.value
+    c.in_ok-note_locals-2.ensures in
+    let before = noted_more bases (env_of S.tree) c.args.broken.now unsettled touched noted_now touched
+    (Some fork.last) noted (way_more bases unsettled touched fork.broken (Some fork.last) c.requires.breaks) in
+    let behind = suite touched (Some fork.last) (record { among = parts.1; agree = where_true; taken_in = before }) in
+    in_body_context S old new (λ (f : RustBodyContext _). WayTakesIn f.globals.now.outline.now.parents.now later broken
+    (Some (env_of S.tree ways.where_false))) g3
+    (noted_settles bases (env_of S.tree) c.check_suite.new.broken left touched later fork.last
+    (Some (env_of S.tree ways.where_false)) again behind where_false)
 
 pub check_branch-returns-clause-walked : goal.check_branch-returns-clause-walked
 check_branch-returns-clause-walked g t c =
@@ -996,21 +1158,21 @@ check_branch-returns-clause-walked g t c =
     let ways = c.in_ok-where_true.field-0 in
     let s = c.in_ok-out.ensures.walked in
     let j = c.in_ok-ways.ensures in
-    let joined = c.in_ok-ways.ways in
+    let joined = c.in_ok-ways.ways.met in
     let broken = c.check_suite.new.broken in
     let context = body_context_in S old in
     let condition = expr_of (out-Branch c.args.branch.now).condition in
     let body = stmts_of_list (out-Branch c.args.branch.now).body.items in
-    let fork = forked S old c.args.fork.last c.args.fork.ways c.args.broken.now in
+    let fork = forked S old c.args.fork.last c.args.fork.ways.met c.args.broken.now in
     let out = reached S later c.in_ok-out.out broken in
     let last = env_of S.tree ways.where_false in
     let met = option_map (env_of S.tree) joined in
     let g1 = c.type_condition.ensures.goes_on in
     let g2 = goes_further g1 c.check_suite.ensures.goes_on in
     let walked = walks_on S old mid later (Some ways.where_true) c.args.broken.now c.in_ok-out.out broken
-    (λ f w. walk_suite f w (stmts_of_list c.deref.result.now)) g1 s
+    (λ f w. walk_suite f w (stmts_of_list c.deref-3.result.now)) g1 s
     ∙ ap (λ ss. walk_suite context (reached S mid (Some ways.where_true) c.args.broken.now) (stmts_of_list ss))
-    c.deref.ensures.value in
+    c.deref-3.ensures.value in
     let ways_met : met ≡ with_way context.context.bases out.table fork.ways out.env =
     j.joined.is ∙ (λ i. with_way (g2.context i).globals.now.outline.now.parents.now out.table fork.ways out.env) in
     let start : reached S mid (Some ways.where_true) c.args.broken.now ≡ record {
@@ -1052,4 +1214,67 @@ check_branch-returns-clause-walked g t c =
         out = stood.out;
       };
       met = j.joined.holds;
+    }
+
+pub check_branch-returns-clause-settled : goal.check_branch-returns-clause-settled
+check_branch-returns-clause-settled g t c =
+    let S = g.S.TypeStore in
+    let old = c.args.walk.now in
+    let mid = c.type_condition.new.walk in
+    let later = c.check_suite.new.walk in
+    let a = c.in_ok-where_true.ensures in
+    let where_true = c.in_ok-where_true.field-0.where_true in
+    let s = c.in_ok-out.ensures.walked in
+    let context = body_context_in S old in
+    let g1 = c.type_condition.ensures.goes_on in
+    let g2 = goes_further g1 c.check_suite.ensures.goes_on in
+    let ways = c.args.fork.ways in
+    let touched = c.in_ok-touched.touched.items in
+    let condition = expr_of (out-Branch c.args.branch.now).condition in
+    let body = stmts_of_list (out-Branch c.args.branch.now).body.items in
+    let fork = forked S old c.args.fork.last ways.met c.args.broken.now in
+    let out = reached S later c.in_ok-out.out c.check_suite.new.broken in
+    let found = notes_of mid.found.now in
+    let start : reached S mid (Some where_true) c.args.broken.now ≡ record {
+      table = fork.table;
+      env = Some (narrowed_at context fork.table true condition fork.last);
+      broken = fork.broken;
+      found = found;
+    } = λ i. record {
+      table = env_of S.tree (a.finds.declared i);
+      env = Some (a.where_true.is i);
+      broken = fork.broken;
+      found = found;
+    } in
+    let walked = walks_on S old mid later (Some where_true) c.args.broken.now c.in_ok-out.out c.check_suite.new.broken
+    (λ f w. walk_suite f w (stmts_of_list c.deref-3.result.now)) g1 s
+    ∙ ap (λ ss. walk_suite context (reached S mid (Some where_true) c.args.broken.now) (stmts_of_list ss))
+    c.deref-3.ensures.value in
+    let last = among_same touched (touched_by_while (meanings mid.context.names.now) condition body)
+    (λ x. c.in_ok-touched.ensures x ∙ ap (λ ss. is_among (touched_by_while (meanings mid.context.names.now) condition
+    (stmts_of_list ss)) x) c.deref.ensures.value) in
+    let among = subst (λ (f : RustBodyContext _). AreAmong touched (touched_by_while (meanings f.names.now) condition
+    body)) g1.context last in
+    let branched = branch_out context touched fork.table fork.last fork.broken found condition body
+    (reached S mid (Some where_true) c.args.broken.now) out c.requires.stands.current.well_formed
+    c.requires.settled.last_long c.requires.settled.broken_long among start walked in
+    let new = c.meet.new.walk in
+    let next = env_of S.tree c.in_ok-where_true.field-0.where_false in
+    let left = c.in_ok-ways.ways.unsettled.items in
+    let met = option_map (env_of S.tree) c.in_ok-ways.ways.met in
+    let q = c.in_ok-ways.ensures.quiet in
+    let next_is : next ≡ narrowed_at context fork.table false condition fork.last = a.where_false.is in
+    let table_is : env_of S.tree new.declared.now ≡ out.table = ap (env_of S.tree) q.declared in
+    let before = in_body_context S old later (λ (f : RustBodyContext _).
+    TakesInIfAny f.globals.now.outline.now.parents.now ways.unsettled.items fork.ways fork.last) g2
+    c.requires.settled.taken_in in
+    let settled = c.in_ok-ways.ensures.settled fork.last branched.agrees before in
+    let onwards = in_body_context S later new (λ (f : RustBodyContext _).
+    TakesInIfAny f.globals.now.outline.now.parents.now left met fork.last) c.meet.ensures.goes_on settled in
+    let agree = subst (λ (e : Env). AgreeOutside touched e fork.last) (sym next_is) branched.next_agrees in
+    record {
+      last_long = ap length next_is ∙ branched.last_long ∙ ap length (sym table_is);
+      broken_long = subst (λ (table : _). IsAsLongIfAny table out.broken) (sym table_is) branched.broken_long;
+      taken_in = next_taken_in new.context.globals.now.outline.now.parents.now left touched met fork.last next
+          (λ x h. c.in_ok-ways.ensures.touched x h) agree onwards;
     }

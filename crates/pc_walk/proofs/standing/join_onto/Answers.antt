@@ -5,7 +5,7 @@ use Rattle.pc_flow.specs.Stored.{env_of, declared_of}
 use Rattle.pc_flow.proofs.Conditions.{joins_well_formed}
 use Rattle.pc_walk.specs.StatementsHeld.{GivesTypes}
 use Rattle.pc_walk.proofs.Held.{declared_is, declared_well_formed, gives_types}
-use Rattle.pc_walk.proofs.standing.join_at.Goals as goal
+use Rattle.pc_walk.proofs.standing.join_onto.Goals as goal
 
 pub returns-clause-joined : goal.returns-clause-joined
 returns-clause-joined g c =
@@ -16,11 +16,11 @@ returns-clause-joined g c =
     let declared = declared_of tree w.declared.now in
     let a = env_of tree c.args.a in
     let b = env_of tree c.args.b.now in
-    let store = c.join_env_at.new.store in
-    let types = c.in_ok-joined.joined in
+    let store = c.join_env_onto.new.store in
+    let types = c.in_ok-met.met.env in
     let well_formed = joins_well_formed bases declared a b c.ordered.ensures
     (declared_well_formed tree bases w.declared.now c.requires.declared.well_formed) c.requires.left.well_formed
     c.requires.right.well_formed in
     subst (λ (ds : List Tree). GivesTypes has tree bases store types (join_env bases ds a b))
     (declared_is tree w.declared.now)
-    (gives_types has tree bases store types (join_env bases declared a b) c.in_ok-joined.ensures.value well_formed)
+    (gives_types has tree bases store types (join_env bases declared a b) c.in_ok-met.ensures.value well_formed)

@@ -1,0 +1,36 @@
+//! Types of a store that are the same.
+
+ghost use Rattle.std.specs.Prelude.{◌≡◌, IfOk, true};
+
+use pc_source::OutOfMemory;
+use pc_types::TypeStore;
+use std::alloc::Global;
+
+/// Whether two types are seen to be the same, by their heads and parts.
+pub(crate) fn is_same<S: TypeStore>(
+    store: &S,
+    alloc: Global,
+    s: &S::Ty,
+    t: &S::Ty,
+) -> Result<bool, OutOfMemory>
+    requires left { S.has store.now s.now }
+    requires right { S.has store.now t.now }
+    ensures { IfOk result (λ same. same ≡ true → S.tree s.now ≡ S.tree t.now) }
+{
+    let head = store.head(s);
+    if head != store.head(t) {
+        return Ok(false);
+    }
+    // Most types have no parts, and cost no memory here.
+    if head.part_count() == 0 {
+        return Ok(true);
+    }
+    let left = store.parts(alloc, s)?;
+    let right = store.parts(alloc, t)?;
+    for part in 0..left.len() {
+        if !is_same(store, alloc, &left[part], &right[part])? {
+            return Ok(false);
+        }
+    }
+    Ok(true)
+}
