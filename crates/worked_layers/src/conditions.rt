@@ -2,16 +2,21 @@
 use pc_flow::{OwnerNames, add_tested, local_named, test_of};
 use pc_scope::{Owner, is_instance_test, scopes};
 use pc_source::OutOfMemory;
-use pc_tree::{Expr, ItemKind, Module, StmtKind};
+use pc_tree::{Expr, FuncDef, ItemKind, Module, StmtKind};
 use std::alloc::Global;
+
+/// The condition of the `if` that stands first in a function.
+pub(crate) fn condition_in(def: &FuncDef) -> Option<&Expr> {
+    match &def.body.first()?.kind {
+        StmtKind::If(branches, _) => Some(&branches.first()?.condition),
+        _ => None,
+    }
+}
 
 /// The condition of the `if` that stands first in the first item of a module, which is a function.
 fn condition_of(module: &Module) -> Option<&Expr> {
     match &module.items.first()?.kind {
-        ItemKind::Def(def) => match &def.body.first()?.kind {
-            StmtKind::If(branches, _) => Some(&branches.first()?.condition),
-            _ => None,
-        },
+        ItemKind::Def(def) => condition_in(def),
         _ => None,
     }
 }

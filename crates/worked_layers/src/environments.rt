@@ -1,15 +1,18 @@
-//! What is known of locals, by `pc_flow`: where two ways meet, at heads of loops, after assignments.
+//! What is known of locals, by `pc_flow`: where two ways meet, at heads of loops, after assignments, by conditions.
 ghost use Rattle.std.specs.Prelude.{IfOk};
 ghost use Rattle.std.specs.Option.{option_copied};
 ghost use Rattle.pc_scope.specs.ModuleScopes.{AreScopes};
 ghost use Rattle.pc_ann.specs.ModuleOutlines.{module_in};
-ghost use Rattle.pc_types.specs.Boxed.{IsGiven};
-ghost use Rattle.pc_flow.specs.Stored.{HasOne, HasEach};
+ghost use Rattle.pc_types.specs.Boxed.{IsGiven, tree_of};
+ghost use Rattle.pc_types.specs.WellFormed.{IsWellFormed};
+ghost use Rattle.pc_flow.specs.Stored.{HasOne, HasEach, env_of};
+ghost use Rattle.pc_flow.specs.WellFormed.{IsWellFormedEnv};
 
+use crate::conditions::condition_in;
 use pc_ann::{ModuleOutline, parents_of, read_option, type_text};
 use pc_flow::{
     Declarations, DeclaredTypes, Env, OwnerNames, assigned_type, copy_env, join_env,
-    join_or_object, loop_head,
+    join_or_object, loop_head, narrow_false, narrow_true,
 };
 use pc_front::read_module;
 use pc_scope::{Owner, Res, scopes};
@@ -52,8 +55,10 @@ fn is_never(annotation: &Option<Ann>) -> bool {
 /// The type that a parameter's annotation says, and `Never` where it names that.
 fn type_of(row: &Environment, alloc: Global, annotation: &Option<Ann>) -> Result<BoxType, Fault>
     requires { AreScopes (module_in row.now.outline.now) row.now.outline.now.scopes.now }
-    ensures { IfOk result IsGiven }
+    ensures given { IfOk result IsGiven }
+    ensures well_formed { IfOk result (λ t. IsWellFormed row.now.outline.now.parents.now (tree_of t)) }
 {
+    row.outline.parents.ordered();
     let mut store = BoxStore::new();
     if is_never(annotation) {
         return Ok(store.never(alloc)?);
@@ -74,12 +79,14 @@ fn local_of(row: &Environment, param: &Param) -> Option<usize> {
 /// The environment in which just the locals are assigned that are parameters of a function.
 fn assigned(row: &Environment, alloc: Global, def: &FuncDef) -> Result<Env<BoxType>, Fault>
     requires { AreScopes (module_in row.now.outline.now) row.now.outline.now.scopes.now }
-    ensures { IfOk result (λ e. HasEach IsGiven e) }
+    ensures given { IfOk result (λ e. HasEach IsGiven e) }
+    ensures well_formed { IfOk result
+        (λ e. IsWellFormedEnv row.now.outline.now.parents.now (env_of tree_of e)) }
 {
     let mut env = Env::new(alloc, LOCALS)?;
     for param in &def.params {
-        let ty = type_of(row, alloc, &param.annotation)?;
         if let Some(local) = local_of(row, param) {
+            let ty = type_of(row, alloc, &param.annotation)?;
             env.assign(alloc, local, ty)?;
         }
     }
@@ -89,14 +96,16 @@ fn assigned(row: &Environment, alloc: Global, def: &FuncDef) -> Result<Env<BoxTy
 /// The declared types of the locals that have an annotation.
 fn declared_types(row: &Environment, alloc: Global) -> Result<DeclaredTypes<BoxType>, Fault>
     requires { AreScopes (module_in row.now.outline.now) row.now.outline.now.scopes.now }
-    ensures { IfOk result (λ d. HasEach IsGiven d) }
+    ensures given { IfOk result (λ d. HasEach IsGiven d) }
+    ensures well_formed { IfOk result
+        (λ d. IsWellFormedEnv row.now.outline.now.parents.now (env_of tree_of d)) }
 {
     let mut declared = DeclaredTypes::new(alloc, LOCALS)?;
     for param in &row.declared.params {
-        let ty = type_of(row, alloc, &param.annotation)?;
         if param.annotation.is_some()
             && let Some(local) = local_of(row, param)
         {
+            let ty = type_of(row, alloc, &param.annotation)?;
             declared.declare(local, ty);
         }
     }
@@ -186,6 +195,39 @@ fn known(
     Ok(copy_env(&store, alloc, one)?)
 }
 
+/// What is left of an environment where the condition of the function of the locals is true, or where it is false.
+#[tactic(auto, using(crate::proofs::Locals::declared_well_formed))]
+fn narrowed(
+    row: &Environment,
+    alloc: Global,
+    words: &str,
+    env: Env<BoxType>,
+) -> Result<Env<BoxType>, Fault>
+    requires scopes { AreScopes (module_in row.now.outline.now) row.now.outline.now.scopes.now }
+    requires env { HasEach IsGiven env }
+    requires well_formed { IsWellFormedEnv row.now.outline.now.parents.now (env_of tree_of env) }
+    ensures { IfOk result (λ e. HasEach IsGiven e) }
+{
+    let Some(condition) = condition_in(row.declared) else {
+        return Ok(env);
+    };
+    let declared = declared_types(row, alloc)?;
+    let names = OwnerNames {
+        scopes: row.outline.scopes,
+        owner: Owner::Func(0),
+    };
+    let declarations = Declarations {
+        parents: row.outline.parents,
+        declared: &declared,
+        names: &names,
+    };
+    let mut store = BoxStore::new();
+    if words.starts_with("true") {
+        return Ok(narrow_true(&mut store, alloc, &declarations, condition, env)?);
+    }
+    Ok(narrow_false(&mut store, alloc, &declarations, condition, env)?)
+}
+
 /// What was found of the flow of a row that assigns.
 fn found_in(words: &str) -> Option<Code> {
     match words {
@@ -225,6 +267,21 @@ fn either_text(row: &Environment, alloc: Global, env: &Env<BoxType>) -> Result<S
     Ok(type_text(&store, alloc, row.outline.tree, &ty)?)
 }
 
+/// The condition of a row that narrows by one, after the word that says which way is taken.
+fn condition_of_row(words: &str) -> Option<&str> {
+    words
+        .strip_prefix("true ")
+        .or_else(|| words.strip_prefix("false "))
+}
+
+/// The body of the function of the locals: an `if` with the condition of the row, where it has one.
+fn body(alloc: Global, words: &str) -> Result<String, AllocError> {
+    match condition_of_row(words) {
+        Some(condition) => format!(in alloc; "    if {condition}:\n        pass\n"),
+        None => String::from_str(alloc, "    pass\n"),
+    }
+}
+
 /// What comes of the words of a row and of its two ways.
 fn done(
     row: &Environment,
@@ -241,6 +298,10 @@ fn done(
     }
     if words == "either" {
         return either_text(row, alloc, &one);
+    }
+    if condition_of_row(words).is_some() {
+        let env = narrowed(row, alloc, words, one)?;
+        return env_text(row, alloc, &env);
     }
     let other = assigned(row, alloc, other)?;
     let env = known(row, alloc, words, &one, &other)?;
@@ -278,12 +339,8 @@ pub fn row_text(alloc: Global, before: &str, row: &str) -> Result<String, Fault>
     let (declared, ways) = rest.split_once(" ; ").unwrap_or((rest, rest));
     let (one, other) = ways.split_once(" ; ").unwrap_or((ways, ""));
     let mut text = String::from_str(alloc, before)?;
-    for (name, params) in [
-        ("declared", declared),
-        ("one", one),
-        ("other", other),
-        ("main", ""),
-    ] {
+    write!(text, "def declared({declared}):\n{}", body(alloc, words)?)?;
+    for (name, params) in [("one", one), ("other", other), ("main", "")] {
         write!(text, "def {name}({params}):\n    pass\n")?;
     }
     text.push_str("main()\n")?;

@@ -1,6 +1,5 @@
-use Rattle.pc_types.specs.Boxed.{IsGiven}
-use Rattle.pc_flow.specs.Stored.{HasEach}
+use Rattle.worked_layers.proofs.Locals.{AreHeld}
 use Rattle.worked_layers.proofs.environments.assigned.Given as goal
 
 abbrev pub invariant-loop-param : goal.invariant-loop-param
-invariant-loop-param l = HasEach IsGiven l.env
+invariant-loop-param l = AreHeld l.row.outline.now.parents.now l.env
