@@ -96,6 +96,14 @@ pub(crate) fn add_touched(
     add_tested_by(names, kind, touched)
 }
 
+/// Leaves each of some locals once.
+pub(crate) fn each_once(locals: &mut Vec<usize>)
+    ensures { (x : ℕ) → is_among locals.new.items x ≡ is_among locals.old.items x }
+{
+    locals.sort_unstable();
+    locals.dedup();
+}
+
 /// The locals that an `if` with this suite of `else` touches, each once and in order: those that its suites bind, at
 /// any depth, and those that a condition in it tests. After it every other local is as before it. Own rule of the
 /// profile.

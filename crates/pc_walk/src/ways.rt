@@ -16,7 +16,7 @@ ghost use Rattle.pc_tree.specs.Tree.{stmt_of_kind};
 ghost use Rattle.pc_walk.specs.Walks.{HoldsEnv, HoldsWay, IsWay, IsQuiet, GoesOn};
 
 use crate::standing::join_onto;
-use crate::touched::add_touched;
+use crate::touched::{add_touched, each_once};
 use crate::walk::Walk;
 use pc_flow::Env;
 use pc_source::OutOfMemory;
@@ -48,6 +48,7 @@ pub fn break_out<S: TypeStore>(
     match broken.take() {
         None => Ok(()),
         Some(way) => {
+            each_once(unsettled);
             let joined = join_onto(walk, unsettled, way, env)?;
             *broken = Some(joined.env);
             *unsettled = joined.unsettled;
@@ -146,6 +147,7 @@ pub fn meet<S: TypeStore>(
             Some(way) => {
                 let mut locals = unsettled;
                 locals.extend_from_slice(&touched)?;
+                each_once(&mut locals);
                 let joined = join_onto(walk, &locals, way, &out)?;
                 let mut all = touched;
                 all.extend_from_slice(&joined.unsettled)?;
