@@ -24,11 +24,7 @@ pub(crate) fn no_types<Ty: Drop>(
 pub(crate) fn type_of<Ty: Drop>(types: &[Option<Ty>], local: usize) -> Option<&Ty>
     ensures { option_copied result ≡ slice_index_or types.now local None }
 {
-    if local < types.len() {
-        types[local].as_ref()
-    } else {
-        None
-    }
+    types.get(local)?.as_ref()
 }
 
 /// Gives a local a type; after the last local nothing changes.

@@ -1,7 +1,7 @@
 -- The rows of a report, whose flows are those of the notes of a module, are explained.
 use Rattle.std.proofs.Common.{◌≡◌, zero, suc, List, [], ◌∷◌, refl, sym, ap, ◌∙◌, subst, inl, inr, arith, Contains}
 use Rattle.std.proofs.Common.{Option, Some, None}
-use Rattle.std.specs.Prelude.{◌⊎◌, MatchOption, IsSome, string_bytes, map}
+use Rattle.std.specs.Prelude.{◌⊎◌, MatchOption, IsSome, string_bytes}
 use Rattle.std.specs.List.{AllByRecursion}
 use Rattle.pc_source.specs.declared.place.Place.{Place}
 use Rattle.pc_tree.specs.declared.code.Code.TheVariants.{A1}
@@ -18,7 +18,7 @@ use Rattle.pc_module_rules.specs.Laws.Flows.{TellsFlows}
 use Rattle.pc_module_rules.proofs.StandingFlows.{flows_found}
 use Rattle.pc_report.specs.declared.flow.FlowTexts.{FlowTexts}
 use Rattle.pc_report.specs.declared.report.Row.{Row}
-use Rattle.pc_report.specs.Flows.{FlowEntry, IsListed, IsExplained}
+use Rattle.pc_report.specs.Flows.{IsListed, IsExplained}
 use Rattle.pc_report.specs.Report.{ExplainsRows, row_findings}
 use Rattle.pc_top.specs.Headline.{AreTextsOfFlow, IsExplainedRow}
 

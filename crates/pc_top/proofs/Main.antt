@@ -1,5 +1,5 @@
 -- The main theorem, of what the parts ensure.
-use Rattle.std.proofs.Common.{◌≡◌, ℕ, List, Contains, ◌↔◌}
+use Rattle.std.proofs.Common.{ℕ, List, Contains, ◌↔◌}
 use Rattle.std.specs.List.{AllByRecursion}
 use Rattle.pc_source.specs.declared.place.Place.{Place}
 use Rattle.pc_source.specs.declared.fault.Fault.{Fault}
