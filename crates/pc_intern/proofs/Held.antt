@@ -17,11 +17,13 @@ use Rattle.pc_types.specs.declared.head.Head.TheVariants as heads
 use Rattle.pc_types.specs.Boxed.{tree_of, IsGiven}
 use Rattle.pc_types.specs.declared.boxed.BoxType.{BoxType}
 use Rattle.pc_types.proofs.DecidedSubtyping.{static_decided, assignable_decided}
+use Rattle.pc_types.specs.JoinedTypes.{types_joined}
 use Rattle.pc_intern.specs.declared.memo.Answers.{Answers}
+use Rattle.pc_intern.specs.declared.memo.Joined.{Joined}
 use Rattle.pc_intern.specs.declared.store.TypeId.{TypeId}
 use Rattle.pc_intern.specs.declared.table.Node.{Node}
 use Rattle.pc_intern.specs.Table.{tree_at, IsNodeAt, Grows}
-use Rattle.pc_intern.specs.Store.{meaning, IsHeld, IsRightAt, AreRight}
+use Rattle.pc_intern.specs.Store.{meaning, IsHeld, IsRightAt, AreRight, IsJoinedAt, AreJoined}
 use Rattle.pc_intern.proofs.Places.{map_at, at_map, each_push, same_items}
 use Rattle.pc_intern.proofs.Standing.{tree_stays}
 use Rattle.pc_types.specs.Internal.Rebuilding.{rebuilt}
@@ -60,6 +62,31 @@ pub nothing_kept : (bases : Bases) (types : List BoxType) (places : List (Option
     → AreRight bases types places
 nothing_kept bases types places h =
     All-weaker (λ o. o ≡ None) (IsRightAt bases types) (none_right bases types) places h
+
+-- kept joins stay right, and where nothing is kept nothing is wrong
+joined_stays : (bases : Bases) (old new : List BoxType) → Grows old new → (o : Option Joined) → IsJoinedAt bases old o
+    → IsJoinedAt bases new o
+joined_stays bases old new g None h = tt
+joined_stays bases old new g (Some j) h =
+    record {
+      whole = h.whole;
+      at_whole = rw g.is (tree_stays old g.added j.parts_of h.whole h.at_whole);
+      at_joined = rw g.is (tree_stays old g.added j.joined (types_joined bases (parts h.whole)) h.at_joined);
+    }
+
+pub all_joined_stays : (bases : Bases) (old new : List BoxType) (places : List (Option Joined)) → Grows old new
+    → AreJoined bases old places → AreJoined bases new places
+all_joined_stays bases old new places g h =
+    All-weaker (IsJoinedAt bases old) (IsJoinedAt bases new) (joined_stays bases old new g) places h
+
+none_joined : (bases : Bases) (types : List BoxType) (o : Option Joined) → o ≡ None → IsJoinedAt bases types o
+none_joined bases types None e = tt
+none_joined bases types (Some j) e = cc
+
+pub no_joins_kept : (bases : Bases) (types : List BoxType) (places : List (Option Joined)) → All (λ o. o ≡ None) places
+    → AreJoined bases types places
+no_joins_kept bases types places h =
+    All-weaker (λ o. o ≡ None) (IsJoinedAt bases types) (none_joined bases types) places h
 
 -- a number that has a tree stands in the table
 pub within : (types : List BoxType) (n : ℕ) (t : Tree) → tree_at types n ≡ Some t → n < length types
@@ -252,10 +279,10 @@ take_nil : {X : Type 0} (n : ℕ) → take {A = X} n [] ≡ []
 take_nil zero = refl
 take_nil (suc n) = refl
 
-pub nothing_in : (xs old : List (Option Answers)) (n m : ℕ) → xs ≡ take n old ++ replicate m None → old ≡ []
+pub nothing_in : {X : Type 0} (xs old : List (Option X)) (n m : ℕ) → xs ≡ take n old ++ replicate m None → old ≡ []
     → All (λ o. o ≡ None) xs
-nothing_in xs old n m h e =
+nothing_in {X} xs old n m h e =
     let q : take n old ++ replicate m None ≡ replicate m None =
-    ap (λ (l : List (Option Answers)). take n l ++ replicate m None) e
-    ∙ ap (λ (l : List (Option Answers)). l ++ replicate m None) (take_nil n) in
-    subst (All (λ o. o ≡ None)) (sym (h ∙ q)) (All-replicate (λ (o : Option Answers). o ≡ None) m None refl)
+    ap (λ (l : List (Option X)). take n l ++ replicate m None) e
+    ∙ ap (λ (l : List (Option X)). l ++ replicate m None) (take_nil n) in
+    subst (All (λ o. o ≡ None)) (sym (h ∙ q)) (All-replicate (λ (o : Option X). o ≡ None) m None refl)

@@ -2,14 +2,16 @@
 -- Own rule of the profile.
 use Rattle.std.specs.Prelude.{◌≡◌, ◌≤◌, List, Option, Some, None, All}
 use Rattle.pc_types.specs.Tree.{Tree}
-use Rattle.pc_types.specs.Shape.{nodes, node_limit}
+use Rattle.pc_types.specs.Shape.{nodes, node_limit, parts}
 use Rattle.pc_types.specs.Normal.{IsNormal}
 use Rattle.pc_types.specs.Below.{Bases}
 use Rattle.pc_types.specs.Computed.{static_test, assignable_test}
 use Rattle.pc_types.specs.Boxed.{tree_of}
 use Rattle.pc_types.specs.declared.boxed.BoxType.{BoxType}
 use Rattle.pc_intern.specs.Table.{tree_at}
+use Rattle.pc_types.specs.JoinedTypes.{types_joined}
 use Rattle.pc_intern.specs.declared.memo.Answers.{Answers}
+use Rattle.pc_intern.specs.declared.memo.Joined.{Joined}
 use Rattle.pc_intern.specs.declared.store.TypeId.{TypeId}
 
 -- the tree that a type means
@@ -39,3 +41,18 @@ IsRightAt bases types (Some a) = IsRight bases types a
 -- each place that keeps answers keeps right ones
 abbrev pub AreRight : Bases → List BoxType → List (Option Answers) → Type 0
 AreRight bases types places = All (IsRightAt bases types) places
+
+-- the second number is that of the join of the parts of the first one's tree
+pub record IsJoined (bases : Bases) (types : List BoxType) (j : Joined) : Type 0 where
+  pub whole : Tree
+  pub at_whole : tree_at types j.parts_of ≡ Some whole
+  pub at_joined : tree_at types j.joined ≡ Some (types_joined bases (parts whole))
+
+-- a place that keeps a join keeps a right one
+abbrev pub IsJoinedAt : Bases → List BoxType → Option Joined → Type 0
+IsJoinedAt bases types None = Unit {0}
+IsJoinedAt bases types (Some j) = IsJoined bases types j
+
+-- each place that keeps a join keeps a right one
+abbrev pub AreJoined : Bases → List BoxType → List (Option Joined) → Type 0
+AreJoined bases types places = All (IsJoinedAt bases types) places

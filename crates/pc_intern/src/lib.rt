@@ -1,6 +1,7 @@
 //! Types as numbers: a store in which each type tree stands once.
 #![tactic(auto)]
 
+mod joining;
 mod memo;
 mod store;
 mod table;

@@ -1,4 +1,4 @@
-//! Answers that a store remembers about pairs of its types.
+//! Answers that a store remembers: about pairs of its types, and what the parts of a type join to.
 
 ghost use Rattle.std.specs.Prelude.{◌≡◌, All, ◌+◌, ◌*◌, ◌%◌, ◌^◌, ◌<◌, Contains, IfOk, IfSome, None, Some, slice_set};
 ghost use Rattle.std.specs.Prelude.{vec_len};
@@ -62,5 +62,50 @@ impl Memo {
         // An answer that is lost is found again from the types; so the memo never has to grow.
         let place = place_of(answers.s, answers.t);
         self.places[place] = Some(answers);
+    }
+}
+
+/// What the parts of a type join to, both told by their numbers.
+#[derive(Clone, Copy)]
+pub(crate) struct Joined {
+    pub(crate) parts_of: usize,
+    pub(crate) joined: usize,
+}
+
+/// A table of places, each of which keeps what the parts of one type join to, or nothing yet.
+#[derive(Drop)]
+pub(crate) struct Joins {
+    places: Vec<Option<Joined>>,
+    pub ghost all_places: { vec_len places ≡ 4096 },
+}
+
+impl Joins {
+    /// A table that keeps nothing yet.
+    pub(crate) fn new(alloc: Global) -> Result<Joins, OutOfMemory>
+        ensures { IfOk result (λ m. All (λ o. o ≡ None) m.places.items) }
+    {
+        let mut places = Vec::with_capacity(alloc, PLACES)?;
+        places.resize(PLACES, None)?;
+        Ok(Joins { places })
+    }
+
+    /// What is kept about the parts of a type.
+    pub(crate) fn recall(&self, parts_of: usize) -> Option<Joined>
+        ensures told { IfSome result (λ j. j.parts_of ≡ parts_of) }
+        ensures kept { IfSome result (λ j. Contains self.now.places.items (Some j)) }
+    {
+        let joined = self.places[parts_of % PLACES]?;
+        if joined.parts_of != parts_of {
+            return None;
+        }
+        Some(joined)
+    }
+
+    /// Keeps what the parts of a type join to, in place of what is kept about another type of its place.
+    pub(crate) fn keep(&mut self, joined: Joined)
+        ensures { self.new.places.items
+            ≡ slice_set self.old.places.items (joined.parts_of % 4096) (Some joined) }
+    {
+        self.places[joined.parts_of % PLACES] = Some(joined);
     }
 }

@@ -6,11 +6,12 @@ ghost use Rattle.pc_types.specs.Boxed.{tree_of, IsGiven};
 ghost use Rattle.pc_types.specs.Head.{head_of};
 ghost use Rattle.pc_types.specs.Shape.{parts};
 ghost use Rattle.pc_types.specs.Store.{Means, KeepsTypes};
+ghost use Rattle.pc_types.specs.JoinedTypes.{types_joined};
 ghost use Rattle.pc_types.specs.Computed.{static_test, assignable_test};
 ghost use Rattle.pc_intern.specs.Table.{tree_at};
 ghost use Rattle.pc_intern.specs.Store.{IsHeld, IsRight, meaning};
 
-use crate::memo::{Answers, Memo};
+use crate::memo::{Answers, Joins, Memo};
 use crate::table::{Node, Numbers, Table};
 use pc_source::OutOfMemory;
 use pc_types::{BoxStore, BoxType, Head, Parents, TypeStore};
@@ -25,7 +26,7 @@ const MEMO_CLASSES: usize = 256;
 /// A type of an interned store: its number, and what it means, of which only contracts know.
 #[derive(Drop)]
 pub struct TypeId {
-    number: usize,
+    pub(crate) number: usize,
     meaning: Snapshot<BoxType>,
 }
 
@@ -33,9 +34,10 @@ pub struct TypeId {
 /// their numbers are. It remembers how pairs of types compared.
 #[derive(Drop)]
 pub struct InternStore {
-    table: Table,
-    parents: Parents,
+    pub(crate) table: Table,
+    pub(crate) parents: Parents,
     memo: Memo,
+    pub(crate) joins: Joins,
 }
 
 impl Model for InternStore {
@@ -48,11 +50,12 @@ impl Model for InternStore {
 
     ghost coded = { coded_list boxed.the_row.coded };
 
-    ghost use Rattle.pc_intern.specs.Store.{AreRight};
+    ghost use Rattle.pc_intern.specs.Store.{AreRight, AreJoined};
 
     ghost view = { λ s. s.table };
 
-    ghost invariant = { λ s. AreRight s.parents s.table s.memo.places.items };
+    ghost invariant = { λ s. AreRight s.parents s.table s.memo.places.items
+        × AreJoined s.parents s.table s.joins.places.items };
 }
 
 /// How two types of a table compare.
@@ -80,6 +83,7 @@ impl InternStore {
             table: Table::new(alloc),
             parents,
             memo: Memo::new(alloc)?,
+            joins: Joins::new(alloc)?,
         })
     }
 
@@ -94,7 +98,7 @@ impl InternStore {
     }
 
     /// The type of a number.
-    fn held(&self, number: usize) -> TypeId
+    pub(crate) fn held(&self, number: usize) -> TypeId
         requires { number < length self.now }
         ensures held { IsHeld self.now result }
         ensures number { result.number ≡ number }
@@ -106,7 +110,7 @@ impl InternStore {
     }
 
     /// A type of the store that means the tree of a type in boxes.
-    fn made(&mut self, alloc: Global, ty: &BoxType) -> Result<TypeId, OutOfMemory>
+    pub(crate) fn made(&mut self, alloc: Global, ty: &BoxType) -> Result<TypeId, OutOfMemory>
         requires { IsGiven ty.now }
         ensures value { IfOk result (λ t. Means IsHeld meaning self.new t (tree_of ty.now)) }
         ensures kept { KeepsTypes IsHeld self.old self.new }
@@ -336,6 +340,24 @@ impl TypeStore for InternStore {
         match BoxStore::new().join(alloc, parents, s, t)? {
             None => Ok(None),
             Some(ty) => Ok(Some(self.made(alloc, &ty)?)),
+        }
+    }
+
+    fn join_all(
+        &mut self,
+        alloc: Global,
+        parents: &Parents,
+        types: &[TypeId],
+    ) -> Result<TypeId, OutOfMemory> {
+        if let [only] = types {
+            return Ok(self.held(only.number));
+        }
+        if !self.are_kept(types) {
+            return self.joined(alloc, parents, types);
+        }
+        match self.tuple(alloc, types)? {
+            Some(tuple) => self.parts_joined(alloc, parents, &tuple, types),
+            None => self.joined(alloc, parents, types),
         }
     }
 

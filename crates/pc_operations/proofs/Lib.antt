@@ -5,3 +5,4 @@ pub mod KindPairs
 pub mod Literals
 pub mod Offering
 pub mod Operators
+pub mod SeveralJoined

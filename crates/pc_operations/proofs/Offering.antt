@@ -10,11 +10,11 @@ use Rattle.std.proofs.lemmas.List.Elements.{All-nil, All-push, All-weaker}
 use Rattle.pc_tree.specs.declared.code.Code.{Code}
 use Rattle.pc_tree.specs.Code.{is_error}
 use Rattle.pc_tree.proofs.Stops.{cons_at}
-use Rattle.pc_types.specs.Tree.{Tree, Any, Never}
+use Rattle.pc_types.specs.Tree.{Tree, Any}
 use Rattle.pc_types.specs.Below.{Bases}
 use Rattle.pc_types.specs.Store.{Means, KeepsTypes}
 use Rattle.pc_class.specs.Tables.{ClassEntry, HasEntry, HasEntries, HasParameter, HasMethod}
-use Rattle.pc_flow.specs.Environment.{join_or_object, join_onto, join_all}
+use Rattle.pc_flow.specs.Environment.{join_all}
 use Rattle.pc_flow.proofs.Given.{keeps_both}
 use Rattle.pc_flow.proofs.Rest.{mapped_rest, mapped_end}
 use Rattle.pc_rules.specs.Operations.{Offer, has_error, found_of, offers_label, operand_types}
@@ -84,50 +84,45 @@ module _ {Store Ty : Type 0} (has : Store → Ty → Type 0) (tree : Ty → Tree
   abbrev gives_of : List Offer → List Tree
   gives_of os = map (λ o. o.gives) os
 
-  pub record IsJoined (first store : Store) (i : ℕ) (codes : List Code) (ty : Ty) : Type 0 where
-    pub kept : KeepsTypes has first store
-    pub offers_given : All (HasOffer (has store)) offers
-    pub given : has store ty
+  -- the codes and the results of so many offers; those of the others are to come
+  pub record IsListed (store : Store) (i : ℕ) (codes : List Code) (types : List Ty) : Type 0 where
+    pub given : All (has store) types
     pub codes_so_far : once_onto codes (found_of (drop i (map (offer_with tree) offers)))
         ≡ once (found_of (map (offer_with tree) offers))
-    pub type_so_far : join_onto bases (tree ty) (gives_of (drop i (map (offer_with tree) offers))) ≡ join_all bases
-        (gives_of (map (offer_with tree) offers))
+    pub types_so_far : map tree types ++ gives_of (drop i (map (offer_with tree) offers))
+        ≡ gives_of (map (offer_with tree) offers)
 
-  pub joined_none : (store : Store) (codes : List Code) (ty : Ty) (first : Store) → codes ≡ []
-      → KeepsTypes has first store → All (HasOffer (has first)) offers → Means has tree store ty Never
-      → IsJoined first store 0 codes ty
-  joined_none store codes ty first e k h m = record {
-    kept = k;
-    offers_given = offers_kept has first store k offers h;
-    given = m.0;
+  pub listed_none : (store : Store) (codes : List Code) (types : List Ty) → codes ≡ [] → types ≡ []
+      → IsListed store 0 codes types
+  listed_none store codes types e f = record {
+    given = rw f (All-nil (has store));
     codes_so_far = rw e refl;
-    type_so_far = rw m.1 refl;
+    types_so_far = rw f refl;
   }
 
-  pub joined_more : (first old new : Store) (i : ℕ) (codes more : List Code) (ty next : Ty) (o : RustOffer Ty)
-      → i < length offers → o ≡ get_or offers i o → KeepsTypes has old new → IsJoined first old i codes ty
-      → more ≡ once_onto codes (option_to_list o.found) → Means has tree new next
-      (join_or_object bases (tree ty) (tree o.gives)) → IsJoined first new (i + 1) more next
-  joined_more first old new i codes more ty next o lt is k v e m =
+  pub listed_more : (store : Store) (i : ℕ) (codes more : List Code) (types next : List Ty) (o : RustOffer Ty) (t : Ty)
+      → i < length offers → o ≡ get_or offers i o → IsListed store i codes types
+      → more ≡ once_onto codes (option_to_list o.found) → next ≡ types ++ t ∷ [] → Means has tree store t (tree o.gives)
+      → IsListed store (i + 1) more next
+  listed_more store i codes more types next o t lt is v e f m =
       let step = mapped_rest (offer_with tree) offers i o lt is in
       record {
-        kept = keeps_both has first old new v.kept k;
-        offers_given = offers_kept has old new k offers v.offers_given;
-        given = m.0;
+        given = rw f (All-push (has store) types t v.given m.0);
         codes_so_far =
             rw e
             (sym (onto_append codes (option_to_list o.found) (found_of (drop (i + 1) (map (offer_with tree) offers))))
             ∙ (rw step at v.codes_so_far));
-        type_so_far = rw m.1 (rw step at v.type_so_far);
+        types_so_far = rw (f, map_push tree types t, append_assoc, m.1) (rw step at v.types_so_far);
       }
 
-  pub joined_codes : (first store : Store) (i : ℕ) (codes : List Code) (ty : Ty) → length offers ≤ i
-      → IsJoined first store i codes ty → codes ≡ once (found_of (map (offer_with tree) offers))
-  joined_codes first store i codes ty le v = rw (mapped_end (offer_with tree) offers i le) at v.codes_so_far
+  pub listed_codes : (store : Store) (i : ℕ) (codes : List Code) (types : List Ty) → length offers ≤ i
+      → IsListed store i codes types → codes ≡ once (found_of (map (offer_with tree) offers))
+  listed_codes store i codes types le v = rw (mapped_end (offer_with tree) offers i le) at v.codes_so_far
 
-  pub joined_type : (first store : Store) (i : ℕ) (codes : List Code) (ty : Ty) → length offers ≤ i
-      → IsJoined first store i codes ty → tree ty ≡ join_all bases (gives_of (map (offer_with tree) offers))
-  joined_type first store i codes ty le v = rw (mapped_end (offer_with tree) offers i le) at v.type_so_far
+  pub listed_types : (store : Store) (i : ℕ) (codes : List Code) (types : List Ty) → length offers ≤ i
+      → IsListed store i codes types → map tree types ≡ gives_of (map (offer_with tree) offers)
+  listed_types store i codes types le v = sym (append-nil (map tree types))
+      ∙ (rw (mapped_end (offer_with tree) offers i le) at v.types_so_far)
 
   -- the type of the label, and whether there is an error, by the codes found
   label_type : (t : Tree) (wrong : Test) → has_error (found_of (map (offer_with tree) offers)) ≡ wrong

@@ -11,7 +11,6 @@ ghost use Rattle.pc_rules.specs.Operations.{contain_member, length_member};
 ghost use Rattle.pc_operations.specs.JudgedOperations.{IsOffer, item_at};
 
 use pc_class::ClassTable;
-use pc_flow::join_or_object;
 use pc_rules::Offer;
 use pc_source::OutOfMemory;
 use pc_tree::Code;
@@ -93,11 +92,7 @@ pub(crate) fn join_types<S: TypeStore>(
     ensures value { IfOk result (λ t. Means S.has S.tree store.new t (join_all parents.now (map S.tree types.now))) }
     ensures kept { KeepsTypes S.has store.old store.new }
 {
-    let mut joined = store.never(alloc)?;
-    for ty in types {
-        joined = join_or_object(store, alloc, parents, &joined, ty)?;
-    }
-    Ok(joined)
+    store.join_all(alloc, parents, types)
 }
 
 /// What a loop comes to over a member: a list's items, a dict's keys, texts of a text, the join of a tuple's items.

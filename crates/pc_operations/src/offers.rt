@@ -14,10 +14,10 @@ ghost use Rattle.pc_rules.specs.Computed.Standing.{HasIfAny, HasOffer, offer_wit
 ghost use Rattle.pc_operations.specs.JudgedOperations.{IsOffer, offer_on};
 
 use crate::members::{
-    attribute_offer, contain_offer, index_offer, iterate_offer, length_offer, negative_offer,
+    attribute_offer, contain_offer, index_offer, iterate_offer, join_types, length_offer,
+    negative_offer,
 };
 use pc_class::ClassTable;
-use pc_flow::join_or_object;
 use pc_rules::{Label, Offer, add_found};
 use pc_source::OutOfMemory;
 use pc_tree::{Code, Expr};
@@ -114,15 +114,16 @@ pub fn offers_label<S: TypeStore>(
     ensures kept { KeepsTypes S.has store.old store.new }
 {
     let mut codes = Vec::new(alloc);
-    let mut ty = store.never(alloc)?;
+    let mut types = Vec::new(alloc);
     for offer in offers {
         add_found(&mut codes, offer.found)?;
-        ty = join_or_object(store, alloc, parents, &ty, &offer.gives)?;
+        types.push(store.copy(alloc, &offer.gives)?)?;
     }
     if has_error(&codes) {
         let ty = store.any(alloc)?;
         return Ok(Label { ty, codes });
     }
+    let ty = join_types(store, alloc, parents, &types)?;
     Ok(Label { ty, codes })
 }
 

@@ -105,7 +105,7 @@ module _ (bases : Bases) where
       sym (j ∙ ap (prefixed out) (λ n. each (p n) (q n)) ∙ prefixed_end out)
 
 -- equal tuples join to themselves
-same_join : (bases : Bases) (ss ts : Trees) → same_trees ss ts ≡ true → join_each bases ss ts ≡ Some ss
+pub same_join : (bases : Bases) (ss ts : Trees) → same_trees ss ts ≡ true → join_each bases ss ts ≡ Some ss
 same_join bases end end e = refl
 same_join bases end (more t ts) e = cc
 same_join bases (more s ss) end e = cc

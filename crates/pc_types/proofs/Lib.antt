@@ -15,7 +15,9 @@ pub mod Lookup
 pub mod Meets
 pub mod Nodes
 pub mod Rebuilt
+pub mod Rest
 pub mod Sound
+pub mod Staying
 pub mod Structural
 pub mod Together
 pub mod Truth

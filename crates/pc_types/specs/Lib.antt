@@ -4,6 +4,7 @@ pub mod Boxed
 pub mod Computed
 pub mod Head
 pub mod Join
+pub mod JoinedTypes
 pub mod Normal
 pub mod Shape
 pub mod Store

@@ -1,9 +1,13 @@
 //! Types in boxes, and the store that makes them.
 
+ghost use Rattle.std.specs.Prelude.{◌≡◌, IfOk, unwrap_or};
 ghost use Rattle.pc_types.specs.Boxed.{tree_of, IsGiven};
+ghost use Rattle.pc_types.specs.Join.{join};
+ghost use Rattle.pc_types.specs.Tree.{Object};
 
+use crate::adding::adds_nothing;
 use crate::flow::{is_assignable, is_static};
-use crate::join::join;
+use crate::join::{join, join_all, join_or_object};
 use crate::shape::{
     LIMIT, copies, copy, count_each, count_nodes, head, members, part, parts, union,
 };
@@ -39,6 +43,27 @@ impl BoxStore {
     /// A store.
     pub fn new() -> BoxStore {
         BoxStore
+    }
+
+    /// A join, and one more type joined to it; where they have no join, `object`. A join that stays as it is takes no
+    /// memory.
+    pub fn join_onto(
+        &self,
+        alloc: Global,
+        parents: &Parents,
+        joined: BoxType,
+        ty: &BoxType,
+    ) -> Result<BoxType, OutOfMemory>
+        requires left { IsGiven joined }
+        requires right { IsGiven ty.now }
+        ensures given { IfOk result IsGiven }
+        ensures value { IfOk result (λ u. tree_of u
+            ≡ unwrap_or (join parents.now (tree_of joined) (tree_of ty.now)) Object) }
+    {
+        if adds_nothing(parents, &joined, ty) {
+            return Ok(joined);
+        }
+        join_or_object(alloc, parents, &joined, ty)
     }
 }
 
@@ -154,6 +179,15 @@ impl TypeStore for BoxStore {
         t: &BoxType,
     ) -> Result<Option<BoxType>, OutOfMemory> {
         join(alloc, parents, s, t)
+    }
+
+    fn join_all(
+        &mut self,
+        alloc: Global,
+        parents: &Parents,
+        types: &[BoxType],
+    ) -> Result<BoxType, OutOfMemory> {
+        join_all(alloc, parents, types)
     }
 
     fn is_static(&mut self, parents: &Parents, s: &BoxType, t: &BoxType) -> bool {

@@ -1,127 +1,23 @@
-//! The join of two types.
+//! The join of two types, and of several.
 
-ghost use Rattle.std.specs.Prelude.{◌≡◌, IfOk, MatchOption, Some, None};
+ghost use Rattle.std.specs.Prelude.{◌≡◌, All, IfOk, MatchOption, Some, None, map, unwrap_or};
 ghost use Rattle.std.specs.Option.{option_map};
-ghost use Rattle.pc_types.specs.Tree.{Never};
-ghost use Rattle.pc_types.specs.Normal.{member_rank, IsNormal, AreNormal, IsOfMembers};
+ghost use Rattle.pc_types.specs.Tree.{Never, Object};
+ghost use Rattle.pc_types.specs.Normal.{IsNormal, AreNormal, IsOfMembers};
 ghost use Rattle.pc_types.specs.Shape.{ahead, union};
-ghost use Rattle.pc_types.specs.Join.{IsSplit, same_tree, same_trees, absorbs, is_absorbed, unabsorbed_members};
-ghost use Rattle.pc_types.specs.Join.{is_before, by_rule, kept_with, one_with, one_of, parts_of, put_all, join_each};
-ghost use Rattle.pc_types.specs.Join.{join_of, join, within_limit};
+ghost use Rattle.pc_types.specs.Join.{IsSplit, unabsorbed_members, by_rule, kept_with, one_with, one_of, parts_of};
+ghost use Rattle.pc_types.specs.Join.{put_all, join_each, join_of, join, within_limit};
+ghost use Rattle.pc_types.specs.JoinedTypes.{types_joined};
 ghost use Rattle.pc_types.specs.Boxed.{tree_of, trees_in, IsGiven};
 
+use crate::compare::{is_member_absorbed, is_same, stands_before};
 use crate::shape::{LIMIT, copy, count_nodes, put_ahead};
-use crate::{BoxType, Parents};
+use crate::{BoxStore, BoxType, Parents};
 use pc_source::OutOfMemory;
 use std::alloc::Global;
 
-/// Whether two types are equal.
-#[cycle(same)]
-fn is_same(s: &BoxType, t: &BoxType) -> bool
-    ensures { result ≡ same_tree (tree_of s.now) (tree_of t.now) }
-{
-    match s {
-        BoxType::Any => matches!(t, BoxType::Any),
-        BoxType::Object => matches!(t, BoxType::Object),
-        BoxType::Never => matches!(t, BoxType::Never),
-        BoxType::Int => matches!(t, BoxType::Int),
-        BoxType::Bool => matches!(t, BoxType::Bool),
-        BoxType::Str => matches!(t, BoxType::Str),
-        BoxType::NoneType => matches!(t, BoxType::NoneType),
-        BoxType::Class(c) => match t {
-            BoxType::Class(d) => c == d,
-            _ => false,
-        },
-        BoxType::List(a) => match t {
-            BoxType::List(b) => is_same(a, b),
-            _ => false,
-        },
-        BoxType::Dict(j, v) => match t {
-            BoxType::Dict(k, w) => is_same(j, k) && is_same(v, w),
-            _ => false,
-        },
-        BoxType::Tuple(ss) => match t {
-            BoxType::Tuple(ts) => are_same(ss, ts),
-            _ => false,
-        },
-        BoxType::Union(a, b) => match t {
-            BoxType::Union(c, d) => is_same(a, c) && is_same(b, d),
-            _ => false,
-        },
-    }
-}
-
-/// Whether the parts of two tuples are equal.
-#[cycle(same)]
-fn are_same(ss: &[BoxType], ts: &[BoxType]) -> bool
-    ensures { result ≡ same_trees (trees_in ss.now) (trees_in ts.now) }
-{
-    if ss.len() != ts.len() {
-        return false;
-    }
-    for i in 0..ss.len() {
-        if !is_same(&ss[i], &ts[i]) {
-            return false;
-        }
-    }
-    true
-}
-
-/// Whether the first absorbs the second in a union.
-fn does_absorb(parents: &Parents, a: &BoxType, m: &BoxType) -> bool
-    ensures { result ≡ absorbs parents.now (tree_of a.now) (tree_of m.now) }
-{
-    match a {
-        BoxType::Int => matches!(m, BoxType::Bool),
-        BoxType::Class(d) => match m {
-            BoxType::Class(c) => c != d && parents.is_within(*c, *d),
-            _ => false,
-        },
-        _ => false,
-    }
-}
-
-/// Whether some member of a type absorbs a member.
-fn is_member_absorbed(parents: &Parents, m: &BoxType, t: &BoxType) -> bool
-    ensures { result ≡ is_absorbed parents.now (tree_of m.now) (tree_of t.now) }
-{
-    match t {
-        BoxType::Never => false,
-        BoxType::Union(first, others) => {
-            does_absorb(parents, first, m) || is_member_absorbed(parents, m, others)
-        }
-        _ => does_absorb(parents, t, m),
-    }
-}
-
-/// Whether the first member has its place before the second's.
-fn stands_before(m: &BoxType, n: &BoxType) -> bool
-    ensures { result ≡ is_before (tree_of m.now) (tree_of n.now) }
-{
-    let (kind, detail) = rank(m);
-    let (other_kind, other_detail) = rank(n);
-    kind < other_kind || (kind == other_kind && detail < other_detail)
-}
-
-/// The place of a head among the members of a union.
-fn rank(t: &BoxType) -> (usize, usize)
-    ensures { result ≡ member_rank (tree_of t.now) }
-{
-    match t {
-        BoxType::Int => (1, 0),
-        BoxType::Bool => (2, 0),
-        BoxType::Str => (3, 0),
-        BoxType::NoneType => (4, 0),
-        BoxType::List(_) => (5, 0),
-        BoxType::Dict(_, _) => (6, 0),
-        BoxType::Tuple(parts) => (7, parts.len()),
-        BoxType::Class(c) => (8, *c),
-        BoxType::Any | BoxType::Object | BoxType::Never | BoxType::Union(_, _) => (0, 0),
-    }
-}
-
 /// A type's first member and a type with the others, or none for Never.
-fn split<'a>(t: &'a BoxType, never: &'a BoxType) -> Option<(&'a BoxType, &'a BoxType)>
+pub(crate) fn split<'a>(t: &'a BoxType, never: &'a BoxType) -> Option<(&'a BoxType, &'a BoxType)>
     requires { tree_of never.now ≡ Never }
     ensures { MatchOption result (tree_of t.now ≡ Never)
         (λ p. IsSplit (tree_of t.now) (tree_of p.0.now) (tree_of p.1.now)) }
@@ -180,10 +76,10 @@ fn parts_of(t: &BoxType) -> &[BoxType]
 
 /// Two types that are joined, and a type without members.
 #[derive(Drop)]
-struct Sides<'a> {
-    left: &'a BoxType,
-    right: &'a BoxType,
-    never: &'a BoxType,
+pub(crate) struct Sides<'a> {
+    pub(crate) left: &'a BoxType,
+    pub(crate) right: &'a BoxType,
+    pub(crate) never: &'a BoxType,
 }
 
 /// The join of two types, or none where a part has none or it has over 256 nodes.
@@ -201,6 +97,41 @@ pub(crate) fn join(
 {
     let u = joined(alloc, parents, s, t)?;
     Ok(within_limit(u))
+}
+
+/// The join of two types, or `object` where there is none.
+pub(crate) fn join_or_object(
+    alloc: Global,
+    parents: &Parents,
+    s: &BoxType,
+    t: &BoxType,
+) -> Result<BoxType, OutOfMemory>
+    requires left { IsGiven s.now }
+    requires right { IsGiven t.now }
+    ensures given { IfOk result IsGiven }
+    ensures value { IfOk result
+        (λ u. tree_of u ≡ unwrap_or (join parents.now (tree_of s.now) (tree_of t.now)) Object) }
+{
+    match join(alloc, parents, s, t)? {
+        Some(join) => Ok(join),
+        None => Ok(BoxType::Object),
+    }
+}
+
+/// The join of several types from the left; where there is none, `object`.
+pub(crate) fn join_all(
+    alloc: Global,
+    parents: &Parents,
+    types: &[BoxType],
+) -> Result<BoxType, OutOfMemory>
+    requires { All IsGiven types.now }
+    ensures { IfOk result (λ u. IsGiven u × (tree_of u ≡ types_joined parents.now (map tree_of types.now))) }
+{
+    let mut joined = BoxType::Never;
+    for ty in types {
+        joined = BoxStore::new().join_onto(alloc, parents, joined, ty)?;
+    }
+    Ok(joined)
 }
 
 /// A type within the limit of nodes.

@@ -1,7 +1,9 @@
 //! Types: what they are, when one flows into another, and the join of two.
 #![tactic(auto)]
 
+mod adding;
 mod boxed;
+mod compare;
 mod flow;
 mod head;
 mod join;

@@ -10,6 +10,7 @@ ghost use Rattle.pc_types.specs.Computed.{static_test, assignable_test};
 ghost use Rattle.pc_types.specs.Normal.{IsKey, IsNormal};
 ghost use Rattle.pc_types.specs.Shape.{nodes, node_limit, members, parts, trees, union};
 ghost use Rattle.pc_types.specs.Join.{join};
+ghost use Rattle.pc_types.specs.JoinedTypes.{types_joined};
 ghost use Rattle.pc_types.specs.Head.{head_of, part_count};
 ghost use Rattle.pc_types.specs.Store.{Means, KeepsTypes, MeansWithin, MeansAny};
 
@@ -149,6 +150,18 @@ pub trait TypeStore {
         requires left { has self.old s.now }
         requires right { has self.old t.now }
         ensures value { IfOk result (λ u. MeansAny has tree self.new u (join parents.now (tree s.now) (tree t.now))) }
+        ensures kept { KeepsTypes has self.old self.new };
+
+    /// The join of several types from the left, `Never` of none. Where one has no join with those before it, it is
+    /// `object`.
+    fn join_all(
+        &mut self,
+        alloc: Global,
+        parents: &Parents,
+        types: &[Self::Ty],
+    ) -> Result<Self::Ty, OutOfMemory>
+        requires { All (has self.old) types.now }
+        ensures value { IfOk result (λ t. Means has tree self.new t (types_joined parents.now (map tree types.now))) }
         ensures kept { KeepsTypes has self.old self.new };
 
     /// Whether the first is static to the second: below it, each `Any` read as `object`.

@@ -18,6 +18,8 @@ pub enum Question {
     Flow,
     /// The join of the two types.
     Join,
+    /// The join of all parts of the first type.
+    JoinAll,
     /// How many nodes the first type has.
     Nodes,
     /// The parts of the first type, at once and one by one.
@@ -100,6 +102,20 @@ fn join<S: TypeStore>(
         Some(joined) => type_text(store, alloc, outline.tree, &joined),
         None => Ok(String::from_str(alloc, "none")?),
     }
+}
+
+/// The text of the join of all parts of a type.
+fn join_all<S: TypeStore>(
+    store: &mut S,
+    alloc: Global,
+    outline: &ModuleOutline,
+    ty: &S::Ty,
+) -> Result<String, OutOfMemory>
+    requires { S.has store.old ty.now }
+{
+    let parts = store.parts(alloc, ty)?;
+    let joined = store.join_all(alloc, outline.parents, &parts)?;
+    type_text(store, alloc, outline.tree, &joined)
 }
 
 /// Adds the text of a type after those of others.
@@ -256,6 +272,7 @@ pub fn answer<S: TypeStore>(
     let text = match question {
         Question::Flow => flow(store, alloc, outline.parents, &s, &t),
         Question::Join => join(store, alloc, outline, &s, &t),
+        Question::JoinAll => join_all(store, alloc, outline, &s),
         Question::Nodes => Ok(format!(in alloc; "{}", store.nodes(&s))?),
         Question::Parts => parts(store, alloc, tree, &s),
         Question::Members => listed(store, alloc, tree, &store.members(alloc, &s)?),

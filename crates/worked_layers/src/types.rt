@@ -32,6 +32,7 @@ fn question_of(word: &str) -> Option<Question> {
     match word {
         "flow" => Some(Question::Flow),
         "join" => Some(Question::Join),
+        "join_all" => Some(Question::JoinAll),
         "nodes" => Some(Question::Nodes),
         "parts" => Some(Question::Parts),
         "members" => Some(Question::Members),

@@ -2,7 +2,7 @@ use Rattle.std.proofs.Common.{◌≡◌, ℕ, ◌+◌, ◌*◌, ◌<◌, length,
 use Rattle.pc_types.specs.declared.boxed.BoxType.{BoxType}
 use Rattle.pc_types.proofs.Weight.{weight, weights}
 use Rattle.pc_types.proofs.Tuples.{AreEqual}
-use Rattle.pc_types.proofs.join.+same.Given as goal
+use Rattle.pc_types.proofs.compare.+same.Given as goal
 
 abbrev pub decreases-is_same : goal.decreases-is_same
 decreases-is_same l = 2 * (weight l.s.now + weight l.t.now)

@@ -1,6 +1,6 @@
 use Rattle.std.proofs.Common.{◌∙◌}
 use Rattle.pc_types.proofs.Ancestors.{absorbs_other}
-use Rattle.pc_types.proofs.join.does_absorb.Goals as goal
+use Rattle.pc_types.proofs.compare.does_absorb.Goals as goal
 
 pub returns-then-c-d : goal.returns-then-c-d
 returns-then-c-d c =

@@ -3,7 +3,7 @@ use Rattle.std.proofs.lemmas.List.Elements.{AllZip-get_or, length_all_zip}
 use Rattle.pc_types.proofs.Weight.{weight, weights, weight_item, weight_tuple}
 use Rattle.pc_types.proofs.Tuples.{AreEqual, same_zip, zip_same, not_true, tuple_is, at_index}
 use Rattle.pc_types.proofs.Heads.{tuple_differs}
-use Rattle.pc_types.proofs.join.+same.Goals as goal
+use Rattle.pc_types.proofs.compare.+same.Goals as goal
 
 pub are_same-returns-then-ss-ts : goal.are_same-returns-then-ss-ts
 are_same-returns-then-ss-ts t c = not_true _ (λ h. c.if-ss-ts.true (length_all_zip _ _ _ (same_zip _ _ h)))

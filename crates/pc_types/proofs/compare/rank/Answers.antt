@@ -1,6 +1,6 @@
 use Rattle.std.proofs.Common.{ap, ◌∙◌}
 use Rattle.pc_types.proofs.Tuples.{tuple_is, count_in}
-use Rattle.pc_types.proofs.join.rank.Goals as goal
+use Rattle.pc_types.proofs.compare.rank.Goals as goal
 
 pub returns-in-Tuple : goal.returns-in-Tuple
 returns-in-Tuple c =
