@@ -13,8 +13,9 @@ use Rattle.pc_calls.specs.declared.call_offers.CallOffer.{CallOffer as RustCallO
 use Rattle.pc_types.specs.Shape.{members}
 use Rattle.pc_flow.proofs.Rest.{mapped_rest, mapped_end}
 use Rattle.pc_rules.specs.Calls.{CallOffer, value_offer, value_offers}
-use Rattle.pc_calls.specs.JudgedCalls.{offer_called, HasParam, HasCalled, HasCalledIfAny, HasCallOffer, IsCallOffer}
+use Rattle.pc_calls.specs.JudgedCalls.{offer_called, HasCalled, HasCalledIfAny, HasCallOffer, IsCallOffer}
 use Rattle.pc_calls.specs.JudgedCalls.{IsOnlyOffer, AreCallOffers}
+use Rattle.pc_class.specs.Listings.{listed_in}
 use Rattle.pc_class.specs.Tables.{HasParameter}
 
 module _ {Store Ty : Type 0} (has : Store → Ty → Type 0) where
@@ -25,12 +26,7 @@ module _ {Store Ty : Type 0} (has : Store → Ty → Type 0) where
   module _ (old new : Store) (k : KeepsTypes has old new) where
     called_kept : (c : Called Ty) → HasCalled (has old) c → HasCalled (has new) c
     called_kept (called.Listed ps) h = All-weaker (HasParameter (has old)) (HasParameter (has new)) (λ p. k p.ty)
-        ps.now h
-    called_kept (called.Named ps) h = record {
-      all = All-weaker (HasParam (has old)) (HasParam (has new)) (λ p. k p.ty)
-          ps.all.items h.all;
-      numbers = h.numbers;
-    }
+        (listed_in ps) h
     called_kept (called.Builtin types) h = All-weaker (has old) (has new) k types.items h
 
     called_kept_if_any : (c : Option (Called Ty)) → HasCalledIfAny (has old) c → HasCalledIfAny (has new) c

@@ -1,19 +1,19 @@
 -- The types of fields and methods of a table are of the store that gave the table's types.
 use Rattle.std.proofs.Common.{◌≡◌, ◌<◌, ◌∙◌, ℕ, zero, suc, List, [], ◌∷◌, Some, map, length, get_or, refl, sym, ap}
-use Rattle.std.specs.Prelude.{All, Bool as Test, true, false, if◌then◌else◌, slice_get}
+use Rattle.std.proofs.Common.{arith}
+use Rattle.std.specs.Prelude.{Bool as Test, true, false, if◌then◌else◌, slice_get, slice_index_or}
 use Rattle.std.specs.Option.{option_map}
 use Rattle.std.proofs.lemmas.Option.{slice_get_read}
-use Rattle.std.specs.Borrow.{Bor}
-use Rattle.std.proofs.lemmas.List.Elements.{All-contains, All-weaker}
+use Rattle.std.proofs.lemmas.List.Elements.{All-contains, All-nil}
 use Rattle.pc_tree.specs.declared.code.Code.TheVariants.{E14}
 use Rattle.pc_types.specs.Tree.{Tree}
 use Rattle.pc_class.specs.declared.table.Parameter.{Parameter as RustParameter}
 use Rattle.pc_class.specs.declared.table.Method.{Method as RustMethod}
 use Rattle.pc_class.specs.Facts.{TypedParameter}
-use Rattle.pc_class.specs.Tables.{ClassEntry, HasParameter, HasMethod, HasEntry, HasEntries, IsField, IsMethod, IsLent}
+use Rattle.pc_class.specs.Tables.{ClassEntry, empty_entry, HasParameter, HasMethod, HasEntry, HasEntries, IsField}
+use Rattle.pc_class.specs.Tables.{IsMethod}
 use Rattle.pc_rules.specs.Context.{Signature}
 use Rattle.pc_rules.specs.Calls.{GivenArguments, CallOffer, is_suited, signature_offer, fails_at_call}
-use Rattle.pc_calls.specs.JudgedCalls.{HasLent}
 
 module _ {Ty : Type 0} (has : Ty → Type 0) (cs : List (ClassEntry Ty)) (h : HasEntries has cs) where
   pub field_held : (p : RustParameter Ty) → IsField cs p → HasParameter has p
@@ -24,8 +24,12 @@ module _ {Ty : Type 0} (has : Ty → Type 0) (cs : List (ClassEntry Ty)) (h : Ha
   method_held x m = All-contains (HasMethod has) m.class.methods x
       (All-contains (HasEntry has) cs m.class h m.listed).methods m.among
 
-  pub fields_held : (ps : List (Bor (RustParameter Ty))) → All (IsLent cs) ps → All (HasLent has) ps
-  fields_held ps a = All-weaker (IsLent cs) (HasLent has) (λ p f. field_held p.now f) ps a
+-- of a class of a table, or of the one without fields where there is no class
+pub entry_held : {Ty : Type 0} (has : Ty → Type 0) (cs : List (ClassEntry Ty)) → HasEntries has cs → (class : ℕ)
+    → HasEntry has (slice_index_or cs class empty_entry)
+entry_held has [] h class = record { fields = All-nil (HasParameter has); methods = All-nil (HasMethod has) }
+entry_held has (e ∷ es) h zero = h zero empty_entry (omega arith)
+entry_held has (e ∷ es) h (suc c) = entry_held has es (λ k d less. h (suc k) d (omega (arith, less))) c
 
 -- a call of copies of parameters is one of the parameters
 pub called_meant : (g : GivenArguments) (ps qs : List TypedParameter) (r t : Tree) → ps ≡ qs → r ≡ t

@@ -1,7 +1,6 @@
 pub mod CallLabels
 pub mod CalleesMeant
 pub mod CallsKept
-pub mod Copied
 pub mod ErrorsOfCalls
 pub mod Filling
 pub mod FirstNames

@@ -10,7 +10,9 @@ use Rattle.std.proofs.lemmas.List.Elements.{All-nil, All-append, All-push}
 use Rattle.pc_tree.proofs.Stops.{cons_at}
 use Rattle.pc_types.specs.Tree.{Tree}
 use Rattle.pc_scope.specs.Resolution.{index_of}
-use Rattle.pc_calls.specs.declared.params.Param.{Param}
+use Rattle.pc_class.specs.declared.table.Parameter.{Parameter as RustParameter}
+use Rattle.pc_class.specs.Listed.{names_listed}
+use Rattle.pc_class.specs.Tables.{parameter_with}
 use Rattle.pc_class.specs.Facts.{TypedParameter, field_by_name}
 use Rattle.pc_calls.specs.declared.seats.Argument.{Argument}
 use Rattle.pc_calls.specs.declared.seats.Argument.TheVariants as argument
@@ -19,9 +21,9 @@ use Rattle.pc_rules.specs.Context.{Signature}
 use Rattle.pc_rules.specs.Operations.{has_error}
 use Rattle.pc_rules.specs.Computed.Standing.{HasIfAny}
 use Rattle.pc_calls.specs.declared.call_offers.CallOffer.{CallOffer as RustCallOffer}
-use Rattle.pc_calls.specs.JudgedCalls.{param_called, names_called, number_for, builtin_number, types_at, params_called}
+use Rattle.pc_calls.specs.JudgedCalls.{number_for, builtin_number, types_at, signature_listed}
 use Rattle.pc_calls.specs.JudgedCalls.{offer_called, seat_of}
-use Rattle.pc_calls.proofs.FirstNames.{lent_names}
+use Rattle.pc_calls.proofs.FirstNames.{listed_names}
 
 -- the type of the parameter of a number
 abbrev pub type_of_number : List TypedParameter → Option ℕ → List Tree
@@ -41,46 +43,39 @@ field_number (p ∷ ps) word = go (bytes_eq word p.name) (index_of word (paramet
     go false (Some k) e = e
 
 module _ {Ty : Type 0} (tree : Ty → Tree) where
-  types_number : (a : Argument) (returns : Tree) (ps : List (Param Ty)) → types_at a (params_called tree returns ps)
-      ≡ type_of_number (map (param_called tree) ps) (number_for a (names_called ps))
+  types_number : (a : Argument) (returns : Tree) (ps : List (RustParameter Ty))
+      → types_at a (signature_listed tree returns ps)
+      ≡ type_of_number (map (parameter_with tree) ps) (number_for a (names_listed ps))
   types_number (argument.Position k) returns ps = refl
-  types_number (argument.Name word) returns ps = field_number (map (param_called tree) ps) word.now
-      ∙ ap (λ l. type_of_number (map (param_called tree) ps) (index_of word.now l)) (lent_names tree ps)
+  types_number (argument.Name word) returns ps = field_number (map (parameter_with tree) ps) word.now
+      ∙ ap (λ l. type_of_number (map (parameter_with tree) ps) (index_of word.now l)) (listed_names tree ps)
 
-  lent_past : (ps : List (Param Ty)) (k : ℕ) → length ps ≤ k → type_at (slice_get (map (param_called tree) ps) k) ≡ []
-  lent_past ps k h = ap type_at (map_get ps k ∙ ap (option_map (param_called tree)) (slice_get_past ps k h))
-    where
-      map_get : (qs : List (Param Ty)) (j : ℕ) → slice_get (map (param_called tree) qs) j
-          ≡ option_map (param_called tree) (slice_get qs j)
-      map_get [] j = refl
-      map_get (q ∷ qs) zero = refl
-      map_get (q ∷ qs) (suc j) = map_get qs j
+  mapped : (ps : List (RustParameter Ty)) (k : ℕ) → slice_get (map (parameter_with tree) ps) k
+      ≡ option_map (parameter_with tree) (slice_get ps k)
+  mapped [] k = refl
+  mapped (p ∷ ps) zero = refl
+  mapped (p ∷ ps) (suc k) = mapped ps k
 
-  lent_there : (ps : List (Param Ty)) (k : ℕ) (p : Param Ty) → k < length ps → p ≡ get_or ps k p
-      → type_at (slice_get (map (param_called tree) ps) k) ≡ tree p.ty ∷ []
-  lent_there ps k p less is = ap type_at (map_get ps k ∙ ap (option_map (param_called tree))
-      (slice_get_read ps (length ps) k p refl less is))
-    where
-      map_get : (qs : List (Param Ty)) (j : ℕ) → slice_get (map (param_called tree) qs) j
-          ≡ option_map (param_called tree) (slice_get qs j)
-      map_get [] j = refl
-      map_get (q ∷ qs) zero = refl
-      map_get (q ∷ qs) (suc j) = map_get qs j
+  pub param_none : (a : Argument) (ps : List (RustParameter Ty)) → number_for a (names_listed ps) ≡ None
+      → (returns : Tree) → [] ≡ types_at a (signature_listed tree returns ps)
+  param_none a ps e returns = sym (types_number a returns ps ∙ ap (type_of_number (map (parameter_with tree) ps)) e)
 
-  pub param_none : (a : Argument) (ps : List (Param Ty)) → number_for a (names_called ps) ≡ None → (returns : Tree)
-      → [] ≡ types_at a (params_called tree returns ps)
-  param_none a ps e returns = sym (types_number a returns ps ∙ ap (type_of_number (map (param_called tree) ps)) e)
+  -- at a place with a parameter, or with none
+  types_there : (a : Argument) (ps : List (RustParameter Ty)) (k : ℕ) (o : Option (RustParameter Ty))
+      → number_for a (names_listed ps) ≡ Some k → slice_get ps k ≡ o → (returns : Tree)
+      → types_at a (signature_listed tree returns ps) ≡ type_at (option_map (parameter_with tree) o)
+  types_there a ps k o e is returns = types_number a returns ps ∙ ap (type_of_number (map (parameter_with tree) ps)) e
+      ∙ ap type_at (mapped ps k ∙ ap (option_map (parameter_with tree)) is)
 
-  pub param_past : (a : Argument) (ps : List (Param Ty)) (k : ℕ) → number_for a (names_called ps) ≡ Some k
-      → length ps ≤ k → (returns : Tree) → [] ≡ types_at a (params_called tree returns ps)
-  param_past a ps k e h returns = sym (types_number a returns ps ∙ ap (type_of_number (map (param_called tree) ps)) e
-      ∙ lent_past ps k h)
+  pub param_past : (a : Argument) (ps : List (RustParameter Ty)) (k : ℕ) → number_for a (names_listed ps) ≡ Some k
+      → slice_get ps k ≡ None → (returns : Tree) → [] ≡ types_at a (signature_listed tree returns ps)
+  param_past a ps k e is returns = sym (types_there a ps k None e is returns)
 
-  pub param_there : (a : Argument) (ps : List (Param Ty)) (k : ℕ) (p : Param Ty) (t : Tree)
-      → number_for a (names_called ps) ≡ Some k → k < length ps → p ≡ get_or ps k p → t ≡ tree p.ty → (returns : Tree)
-      → t ∷ [] ≡ types_at a (params_called tree returns ps)
-  param_there a ps k p t e less is same returns = ap (λ (u : Tree). u ∷ []) same
-      ∙ sym (types_number a returns ps ∙ ap (type_of_number (map (param_called tree) ps)) e ∙ lent_there ps k p less is)
+  pub param_there : (a : Argument) (ps : List (RustParameter Ty)) (k : ℕ) (p : RustParameter Ty) (t : Tree)
+      → number_for a (names_listed ps) ≡ Some k → slice_get ps k ≡ Some p → t ≡ tree p.ty → (returns : Tree)
+      → t ∷ [] ≡ types_at a (signature_listed tree returns ps)
+  param_there a ps k p t e is same returns = ap (λ (u : Tree). u ∷ []) same
+      ∙ sym (types_there a ps k (Some p) e is returns)
 
 -- of a built-in
 unnamed_first : (ts : List Tree) (word : List ℕ) → type_at (field_by_name (map unnamed_parameter ts) word)

@@ -4,7 +4,6 @@ use Rattle.std.specs.Prelude.{◌≡◌, ◌||◌, ◌&&◌, not, ℕ, List, [],
 use Rattle.std.specs.Prelude.{false, nat_eq, Option, Some, None, All, option_to_list, slice_get, bytes_eq}
 use Rattle.std.specs.Option.{option_map}
 use Rattle.std.specs.Borrow.{Bor}
-use Rattle.indexmap.specs.IndexMap.{IndexMap, get_by}
 use Rattle.indexmap.specs.IndexSet.{IndexSet}
 use Rattle.pc_tree.specs.declared.code.Code.{Code}
 use Rattle.pc_tree.specs.declared.code.Code.TheVariants.{A4, E15}
@@ -15,8 +14,9 @@ use Rattle.pc_types.specs.Tree.{Tree, Any, ListOf, DictOf}
 use Rattle.pc_types.specs.Below.{Bases}
 use Rattle.pc_types.specs.declared.head.Head.{Head}
 use Rattle.pc_types.specs.declared.head.Head.TheVariants as heads
-use Rattle.pc_class.specs.Facts.{TypedParameter, field_by_name}
+use Rattle.pc_class.specs.Facts.{field_by_name}
 use Rattle.pc_class.specs.declared.table.Parameter.{Parameter as RustParameter}
+use Rattle.pc_class.specs.Listings.{listed_in}
 use Rattle.pc_class.specs.Parts.{parameter_name}
 use Rattle.pc_class.specs.Tables.{HasParameter, parameters_with}
 use Rattle.pc_flow.specs.Narrowing.{second_argument, test_of_argument}
@@ -27,8 +27,6 @@ use Rattle.pc_rules.specs.Calls.{dict_offers, fails_at_callee, second_code}
 use Rattle.pc_rules.specs.Computed.Findings.{brief}
 use Rattle.pc_rules.specs.Computed.Standing.{label_with, HasIfAny}
 use Rattle.pc_calls.specs.declared.arguments.Given.{Given as RustGiven}
-use Rattle.pc_calls.specs.declared.params.Param.{Param}
-use Rattle.pc_calls.specs.declared.params.Params.{Params}
 use Rattle.pc_calls.specs.declared.call_offers.Called.{Called}
 use Rattle.pc_calls.specs.declared.call_offers.Called.TheVariants as called
 use Rattle.pc_calls.specs.declared.call_offers.CallOffer.{CallOffer as RustCallOffer}
@@ -49,38 +47,17 @@ names_in s = map (λ k. k.now) s.keys
 abbrev pub given_with : RustGiven → GivenArguments
 given_with g = record { positional = g.positional; named = names_in g.named }
 
--- the names of parameters of what is called
-abbrev pub names_called : {Ty : Type 0} → List (Param Ty) → List (List ℕ)
-names_called ps = map (λ p. p.name.now) ps
-
 -- each parameter of what is called has a default, or an argument by name, which the first of a name takes
-abbrev pub filled_called : {Ty : Type 0} → List (List ℕ) → List (List ℕ) → List (Param Ty) → Test
-filled_called named before [] = true
-filled_called named before (p ∷ ps) =
-    (p.has_default || (is_one_of p.name.now named && not (is_one_of p.name.now before)))
-    && filled_called named (p.name.now ∷ before) ps
+abbrev pub filled_listed : {Ty : Type 0} → List (List ℕ) → List (List ℕ) → List (RustParameter Ty) → Test
+filled_listed named before [] = true
+filled_listed named before (p ∷ ps) =
+    (p.has_default || (is_one_of (parameter_name p) named && not (is_one_of (parameter_name p) before)))
+    && filled_listed named (parameter_name p ∷ before) ps
 
 -- a place that was found is this one
 abbrev pub is_place : Option ℕ → ℕ → Test
 is_place None i = false
 is_place (Some j) i = nat_eq j i
-
--- the number that a map has at a name
-abbrev pub number_in : {S : Type 0} → IndexMap (Bor (List ℕ)) ℕ S → List ℕ → Option ℕ
-number_in m word = get_by (λ k. bytes_eq word k.now) m
-
--- a map has at each name the place where the name stands first
-abbrev pub AreNumbers : {S : Type 0} → IndexMap (Bor (List ℕ)) ℕ S → List (List ℕ) → Type 0
-AreNumbers m names = (word : List ℕ) → number_in m word ≡ index_of word names
-
--- a map, if there is one, has at each name the place where the name stands first
-abbrev pub AreNumbersIfAny : {S : Type 0} → Option (IndexMap (Bor (List ℕ)) ℕ S) → List (List ℕ) → Type 0
-AreNumbersIfAny None names = Unit {0}
-AreNumbersIfAny (Some m) names = AreNumbers m names
-
--- the map of parameters, if there is one, has the number of the first of each name
-abbrev pub AreNumbered : {Ty : Type 0} → Params Ty → Type 0
-AreNumbered ps = AreNumbersIfAny ps.numbers (names_called ps.all.items)
 
 -- an argument of these names is for the parameter of a place, the first of its name
 abbrev pub fills : {Ty : Type 0} → List (List ℕ) → Option (RustParameter Ty) → ℕ → List (List ℕ) → Test
@@ -90,14 +67,6 @@ fills named (Some p) i names = is_one_of (parameter_name p) named && is_place (i
 -- ---- what a call comes to
 
 module _ {Ty : Type 0} (tree : Ty → Tree) where
-  -- a parameter of what is called, with the type that it means
-  abbrev pub param_called : Param Ty → TypedParameter
-  param_called p = record { name = p.name.now; type = tree p.ty; has_default = p.has_default }
-
-  -- parameters as what is called, which returns this type
-  abbrev pub params_called : (returns : Tree) → List (Param Ty) → Signature
-  params_called returns ps = record { parameters = map param_called ps; returns = returns; takes_names = true }
-
   -- a list of parameters as what is called, which returns this type
   abbrev pub signature_listed : (returns : Tree) → List (RustParameter Ty) → Signature
   signature_listed returns ps = record {
@@ -108,8 +77,7 @@ module _ {Ty : Type 0} (tree : Ty → Tree) where
 
   -- what is called, which returns this type
   abbrev pub signature_called : (returns : Tree) → Called Ty → Signature
-  signature_called returns (called.Listed params) = signature_listed returns params.now
-  signature_called returns (called.Named params) = params_called returns params.all.items
+  signature_called returns (called.Listed params) = signature_listed returns (listed_in params)
   signature_called returns (called.Builtin types) = builtin_signature (map tree types.items) returns
 
   -- what a call comes to on one member, with the types that it means
@@ -135,23 +103,9 @@ rule_of rule.Length = length_rule
 rule_of rule.Test = test_rule
 
 module _ {Ty : Type 0} (has : Ty → Type 0) where
-  -- the store gave the type of a parameter that is lent
-  abbrev pub HasLent : Bor (RustParameter Ty) → Type 0
-  HasLent p = HasParameter has p.now
-
-  -- the store gave the type of a parameter of what is called
-  abbrev pub HasParam : Param Ty → Type 0
-  HasParam p = has p.ty
-
-  -- the store gave the types of parameters, and their map is right
-  pub record HasParams (ps : Params Ty) : Type 0 where
-    pub all : All HasParam ps.all.items
-    pub numbers : AreNumbered ps
-
   -- the store gave the types of what is called
   abbrev pub HasCalled : Called Ty → Type 0
-  HasCalled (called.Listed params) = All (HasParameter has) params.now
-  HasCalled (called.Named params) = HasParams params
+  HasCalled (called.Listed params) = All (HasParameter has) (listed_in params)
   HasCalled (called.Builtin types) = All has types.items
 
   -- of what is called, if anything is

@@ -5,26 +5,25 @@ ghost use Rattle.pc_types.specs.Tree.{Tree};
 ghost use Rattle.pc_types.specs.Store.{KeepsTypes};
 ghost use Rattle.pc_rules.specs.Calls.{signature_offer, plain_call, fails_at_call, fails_at_callee, value_offer};
 ghost use Rattle.pc_rules.specs.Calls.{value_offers, builtin_signature};
+ghost use Rattle.pc_class.specs.Listings.{listed_in};
 ghost use Rattle.pc_class.specs.Tables.{HasParameter};
-ghost use Rattle.pc_calls.specs.JudgedCalls.{given_with, params_called, offer_called, HasParam, HasCallOffer};
-ghost use Rattle.pc_calls.specs.JudgedCalls.{signature_listed};
-ghost use Rattle.pc_calls.specs.JudgedCalls.{IsCallOffer, AreCallOffers};
+ghost use Rattle.pc_calls.specs.JudgedCalls.{given_with, signature_listed, offer_called, HasCallOffer, IsCallOffer};
+ghost use Rattle.pc_calls.specs.JudgedCalls.{AreCallOffers};
 
 use crate::arguments::Given;
 use crate::listed::suits_list;
-use crate::params::{Param, Params, is_suited, is_suited_by};
-use pc_class::ParameterList;
+use crate::params::is_suited_by;
+use pc_class::Listing;
 use pc_source::OutOfMemory;
 use pc_tree::Code;
 use pc_types::{Head, TypeStore};
 use std::alloc::Global;
 
-/// What is called: something with a list of parameters, a class, which takes its fields, or a method of a built-in type,
-/// whose parameters no name can fill.
+/// What is called: a function, a method or a class, with what it takes, or a method of a built-in type, whose parameters
+/// no name can fill.
 #[derive(Drop)]
 pub enum Called<'t, Ty: Drop> {
-    Listed(&'t ParameterList<Ty>),
-    Named(Params<'t, Ty>),
+    Listed(Listing<'t, Ty>),
     Builtin(Vec<Ty>),
 }
 
@@ -96,51 +95,24 @@ pub fn fails_at_callee<'t, S: TypeStore>(
     })
 }
 
-/// A call of what has these parameters and returns this type: E14 where it does not suit. Language Reference 6.3.4
-/// "Calls".
-pub fn call_of<'t, S: TypeStore>(
-    store: &mut S,
-    alloc: Global,
-    given: &Given,
-    params: Vec<Param<'t, S::Ty>>,
-    returns: S::Ty,
-) -> Result<CallOffer<'t, S::Ty>, OutOfMemory>
-    requires params { All (HasParam (S.has store.old)) params.items }
-    requires returns { S.has store.old returns }
-    ensures offer { IfOk result
-        (λ o. IsCallOffer S.has S.tree store.new o
-        (signature_offer (given_with given.now) (params_called S.tree (S.tree returns) params.entry.items))) }
-    ensures kept { KeepsTypes S.has store.old store.new }
-{
-    let params = Params::new(alloc, given, params)?;
-    if !is_suited(given, &params) {
-        return fails_at_call(store, alloc, Code::E14);
-    }
-    Ok(CallOffer {
-        at_callee: None,
-        at_call: None,
-        gives: returns,
-        calls: Some(Called::Named(params)),
-    })
-}
-
 /// A call of what has this list of parameters and returns this type: E14 where it does not suit. Language Reference
 /// 6.3.4 "Calls".
 pub fn call_of_list<'t, S: TypeStore>(
     store: &mut S,
     alloc: Global,
     given: &Given,
-    params: &'t ParameterList<S::Ty>,
+    params: Listing<'t, S::Ty>,
     returns: S::Ty,
 ) -> Result<CallOffer<'t, S::Ty>, OutOfMemory>
-    requires params { All (HasParameter (S.has store.old)) params.now }
+    requires params { All (HasParameter (S.has store.old)) (listed_in params) }
     requires returns { S.has store.old returns }
     ensures offer { IfOk result
         (λ o. IsCallOffer S.has S.tree store.new o
-        (signature_offer (given_with given.now) (signature_listed S.tree (S.tree returns) params.entry.now))) }
+        (signature_offer (given_with given.now)
+        (signature_listed S.tree (S.tree returns) (listed_in params.entry)))) }
     ensures kept { KeepsTypes S.has store.old store.new }
 {
-    if !suits_list(given, params) {
+    if !suits_list(given, &params) {
         return fails_at_call(store, alloc, Code::E14);
     }
     Ok(CallOffer {

@@ -8,9 +8,8 @@ ghost use Rattle.pc_rules.specs.Computed.Standing.{signature_with, HasSignature}
 ghost use Rattle.pc_calls.specs.JudgedCalls.{given_with, IsCallOffer};
 
 use crate::arguments::Given;
-use crate::call_offers::{CallOffer, call_of, call_of_list, fails_at_call};
-use crate::params::copies_of_lent;
-use pc_class::ClassTable;
+use crate::call_offers::{CallOffer, call_of_list, fails_at_call};
+use pc_class::{ClassTable, Listing};
 use pc_rules::Signature;
 use pc_source::OutOfMemory;
 use pc_tree::Code;
@@ -36,7 +35,13 @@ pub fn function_offer<'t, S: TypeStore>(
     }
     let signature = &functions[function];
     let returns = store.copy(alloc, &signature.ret)?;
-    let offer = call_of_list(store, alloc, given, &signature.params, returns)?;
+    let offer = call_of_list(
+        store,
+        alloc,
+        given,
+        Listing::Parameters(&signature.params),
+        returns,
+    )?;
     Ok(offer)
 }
 
@@ -54,8 +59,12 @@ pub fn class_offer<'t, S: TypeStore>(
         (signature_offer (given_with given.now) (class_signature (classes_with S.tree classes.now) class))) }
     ensures kept { KeepsTypes S.has store.old store.new }
 {
-    let fields = classes.fields(alloc, class)?;
-    let params = copies_of_lent(store, alloc, &fields)?;
     let returns = store.class(alloc, class)?;
-    call_of(store, alloc, given, params, returns)
+    call_of_list(
+        store,
+        alloc,
+        given,
+        Listing::Fields(classes, class),
+        returns,
+    )
 }

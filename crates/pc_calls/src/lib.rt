@@ -22,6 +22,5 @@ pub use calling::{call_codes, members_label};
 pub use instances::{second_code, test_label};
 pub use methods::callee_of_method;
 pub use naming_callees::callee_of_name;
-pub use params::{Numbers, Param, Params};
 pub use ranging::{is_range, range_item, range_offers};
 pub use seats::{Seat, keyword_seat, positional_seat};

@@ -18,7 +18,7 @@ use crate::call_offers::{
 };
 use crate::callee::Callee;
 use crate::calling::codes_at_callee;
-use pc_class::{ClassTable, Method};
+use pc_class::{ClassTable, Listing, Method};
 use pc_flow::join_or_object;
 use pc_rules::{Label, Setting};
 use pc_source::OutOfMemory;
@@ -47,7 +47,13 @@ fn method_offer<'t, S: TypeStore>(
     ensures kept { KeepsTypes S.has store.old store.new }
 {
     let returns = store.copy(alloc, &method.ret)?;
-    let offer = call_of_list(store, alloc, given, &method.params, returns)?;
+    let offer = call_of_list(
+        store,
+        alloc,
+        given,
+        Listing::Parameters(&method.params),
+        returns,
+    )?;
     Ok(offer)
 }
 

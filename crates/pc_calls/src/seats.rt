@@ -8,16 +8,16 @@ ghost use Rattle.pc_rules.specs.Operations.{has_error};
 ghost use Rattle.pc_rules.specs.Calls.{all_codes, expected_type, positional_seat, named_seat, builtin_signature};
 ghost use Rattle.pc_rules.specs.Lawful.{keyword_seat};
 ghost use Rattle.pc_rules.specs.Computed.Standing.{HasIfAny};
-ghost use Rattle.pc_calls.specs.JudgedCalls.{names_in, names_called, number_for, builtin_number, offer_called};
-ghost use Rattle.pc_calls.specs.JudgedCalls.{params_called, signature_called, AreNumbered, HasParams, HasCalled};
+ghost use Rattle.pc_calls.specs.JudgedCalls.{names_in, number_for, builtin_number, offer_called, HasCalled};
+ghost use Rattle.pc_calls.specs.JudgedCalls.{signature_called};
 ghost use Rattle.pc_class.specs.Listed.{names_listed};
+ghost use Rattle.pc_class.specs.Listings.{listed_in};
 ghost use Rattle.pc_class.specs.Tables.{HasParameter};
 ghost use Rattle.pc_calls.specs.JudgedCalls.{HasCallOffer, types_at, seat_of, IsSeat, signature_listed};
 
 use crate::arguments::{Names, is_among};
 use crate::call_offers::{CallOffer, Called};
-use crate::params::Params;
-use pc_class::ParameterList;
+use pc_class::Listing;
 use pc_source::OutOfMemory;
 use pc_tree::{Code, Name};
 use pc_types::TypeStore;
@@ -37,45 +37,9 @@ pub enum Argument<'n> {
     Name(&'n str),
 }
 
-/// The number of the parameter that an argument is for: the one at its position, or the first of its name.
-fn param_number<Ty: Drop>(params: &Params<'_, Ty>, argument: Argument) -> Option<usize>
-    requires { AreNumbered params.now }
-    ensures { result ≡ number_for argument.entry (names_called params.now.all.items) }
-{
-    match argument {
-        Argument::Position(position) => Some(position),
-        Argument::Name(name) => params.number(name),
-    }
-}
-
-/// The type of a parameter: the one at a position, or the first of a name.
-fn param_type<S: TypeStore>(
-    store: &S,
-    alloc: Global,
-    params: &Params<'_, S::Ty>,
-    argument: Argument,
-) -> Result<Option<S::Ty>, OutOfMemory>
-    requires { HasParams (S.has store.now) params.now }
-    ensures held { IfOk result (λ t. HasIfAny (S.has store.now) t) }
-    ensures value { IfOk result
-        (λ t. (returns : Tree) → option_to_list (option_map S.tree t)
-        ≡ types_at argument.entry (params_called S.tree returns params.now.all.items)) }
-{
-    match param_number(params, argument) {
-        None => Ok(None),
-        Some(number) => {
-            if number >= params.all.len() {
-                return Ok(None);
-            }
-            let ty = store.copy(alloc, &params.all[number].ty)?;
-            Ok(Some(ty))
-        }
-    }
-}
-
 /// The place in a list of the parameter that an argument is for: its own position, or that of the first of its name.
-fn listed_place<Ty: Drop>(params: &ParameterList<Ty>, argument: Argument) -> Option<usize>
-    ensures { result ≡ number_for argument.entry (names_listed params.now) }
+fn listed_place<Ty: Drop>(params: &Listing<'_, Ty>, argument: Argument) -> Option<usize>
+    ensures { result ≡ number_for argument.entry (names_listed (listed_in params.now)) }
 {
     match argument {
         Argument::Position(position) => Some(position),
@@ -87,25 +51,24 @@ fn listed_place<Ty: Drop>(params: &ParameterList<Ty>, argument: Argument) -> Opt
 fn listed_type<S: TypeStore>(
     store: &S,
     alloc: Global,
-    params: &ParameterList<S::Ty>,
+    params: &Listing<'_, S::Ty>,
     argument: Argument,
 ) -> Result<Option<S::Ty>, OutOfMemory>
-    requires { All (HasParameter (S.has store.now)) params.now }
+    requires { All (HasParameter (S.has store.now)) (listed_in params.now) }
     ensures held { IfOk result (λ t. HasIfAny (S.has store.now) t) }
     ensures value { IfOk result
         (λ t. (returns : Tree) → option_to_list (option_map S.tree t)
-        ≡ types_at argument.entry (signature_listed S.tree returns params.now)) }
+        ≡ types_at argument.entry (signature_listed S.tree returns (listed_in params.now))) }
 {
     match listed_place(params, argument) {
         None => Ok(None),
-        Some(place) => {
-            let all = params.as_slice();
-            if place >= all.len() {
-                return Ok(None);
+        Some(place) => match params.at(place) {
+            None => Ok(None),
+            Some(param) => {
+                let ty = store.copy(alloc, &param.ty)?;
+                Ok(Some(ty))
             }
-            let ty = store.copy(alloc, &all[place].ty)?;
-            Ok(Some(ty))
-        }
+        },
     }
 }
 
@@ -159,7 +122,6 @@ fn type_for<S: TypeStore>(
 {
     match called {
         Called::Listed(params) => listed_type(store, alloc, params, argument),
-        Called::Named(params) => param_type(store, alloc, params, argument),
         Called::Builtin(types) => builtin_type(store, alloc, types, argument),
     }
 }

@@ -16,7 +16,7 @@ use Rattle.pc_class.specs.declared.table.Method.{Method as RustMethod}
 use Rattle.pc_class.specs.declared.parts.ClassNode.{ClassNode}
 use Rattle.pc_class.specs.Facts.{TypedParameter, Method, ClassFacts, base_facts, class_facts_behind, own_fields}
 use Rattle.pc_class.specs.Facts.{own_methods}
-use Rattle.pc_class.specs.NameMaps.{NameMaps, named_at, IsMap, KeepsNamed}
+use Rattle.pc_maps.specs.NameMaps.{NameMaps, named_at, IsMap, KeepsNamed}
 use Rattle.pc_class.specs.Entries as entries
 use Rattle.pc_class.specs.Entries.{HasMaps, inherited_by, inherited_in, entries_of, class_entries, defaulted_in}
 use Rattle.pc_class.specs.Outlines.{at_number, IsNumberIn, first_named, IsMapOf, field_name}

@@ -14,19 +14,22 @@ use Rattle.pc_class.proofs.ClassAdded.{entries_are_behind}
 all_part : {X : Type 0} (P : X → Type 0) (xs : List X) (s : Span) → All P xs → All P (part xs s)
 all_part P xs s h = All-take P _ _ (All-drop P s.start xs h)
 
-module _ {Ty : Type 0} (has : Ty → Type 0) (F : List (RustParameter Ty)) (M : List (RustMethod Ty))
-    (f : All (HasParameter has) F) (g : All (HasMethod has) M) where
-  inherited_given : (es : List (ClassEntry Ty)) (o : Option ℕ) → HasEntries has es → HasEntry has (inherited_entry es o)
+module _ {Ty : Type 0} (has : Ty → Type 0) where
+  -- what a class inherits, and so what a class has
+  pub inherited_given : (es : List (ClassEntry Ty)) (o : Option ℕ) → HasEntries has es
+      → HasEntry has (inherited_entry es o)
   inherited_given es None h = record { fields = All-nil (HasParameter has); methods = All-nil (HasMethod has) }
   inherited_given [] (Some b) h = record { fields = All-nil (HasParameter has); methods = All-nil (HasMethod has) }
   inherited_given (e ∷ es) (Some zero) h = All-head (HasEntry has) e es h
   inherited_given (e ∷ es) (Some (suc b)) h = inherited_given es (Some b) (All-tail (HasEntry has) e es h)
 
+module _ {Ty : Type 0} (has : Ty → Type 0) (F : List (RustParameter Ty)) (M : List (RustMethod Ty))
+    (f : All (HasParameter has) F) (g : All (HasMethod has) M) where
   entries_given : (es : List (ClassEntry Ty)) (ns : List ClassNode) → HasEntries has es
       → HasEntries has (entries_behind F M es ns)
   entries_given es [] h = h
   entries_given es (n ∷ ns) h =
-      let b = inherited_given es n.base h in
+      let b = inherited_given has es n.base h in
       entries_given (es ++ entry_over F M es n ∷ []) ns (All-push (HasEntry has) es (entry_over F M es n) h (record {
         fields = All-append (HasParameter has) (inherited_entry es n.base).fields (part F n.fields) b.fields
             (all_part (HasParameter has) F n.fields f);

@@ -1,29 +1,13 @@
 -- A map that tells fields, or methods, by their names: with one more, and where others are added.
-use Rattle.std.proofs.Common.{◌≡◌, ◌<◌, ℕ, zero, suc, List, [], ◌∷◌, ◌++◌, length, refl, sym, ap, ◌∙◌, subst, arith}
+use Rattle.std.proofs.Common.{◌≡◌, ℕ, List, [], ◌∷◌, ◌++◌, length, refl, sym, ap, ◌∙◌, subst, arith}
 use Rattle.std.proofs.Common.{length-append}
-use Rattle.std.specs.Prelude.{Bool, true, false, cond, if◌then◌else◌, Option, Some, None, slice_get, bytes_eq}
+use Rattle.std.specs.Prelude.{Bool, true, false, cond, if◌then◌else◌, Option, Some, None, bytes_eq}
 use Rattle.std.specs.Option.{option_or}
 use Rattle.std.proofs.lemmas.List.Folds.{find-append}
 use Rattle.std.proofs.lemmas.Slice.Eq.{bytes_eq-Decides}
-use Rattle.pc_class.specs.NameMaps.{NameMaps, IsMap, named_at, KeepsNamed}
+use Rattle.pc_maps.specs.NameMaps.{NameMaps, IsMap, named_at, KeepsNamed}
+use Rattle.pc_maps.proofs.ListsShared.{at_left, within_left, get_end}
 use Rattle.pc_class.specs.Outlines.{at_number, IsNumberIn, first_named, IsMapOf}
-
-get_left : {A : Type 0} (xs ys : List A) (i : ℕ) → i < length xs → slice_get (xs ++ ys) i ≡ slice_get xs i
-get_left [] ys i h = absurd (omega arith)
-get_left (x ∷ xs) ys zero h = refl
-get_left (x ∷ xs) ys (suc i) h = get_left xs ys i (omega arith)
-
-get_end : {A : Type 0} (xs : List A) (y : A) → slice_get (xs ++ y ∷ []) (length xs) ≡ Some y
-get_end [] y = refl
-get_end (x ∷ xs) y = get_end xs y
-
-pub at_left : {A : Type 0} (xs ys : List A) (o : Option ℕ) → IsNumberIn xs o → at_number (xs ++ ys) o ≡ at_number xs o
-at_left xs ys None h = refl
-at_left xs ys (Some i) h = get_left xs ys i h
-
-pub within_left : {A : Type 0} (xs ys : List A) (o : Option ℕ) → IsNumberIn xs o → IsNumberIn (xs ++ ys) o
-within_left xs ys None h = tt
-within_left xs ys (Some i) h = let e = length-append xs ys in omega arith
 
 module _ {X : Type 0} (name : X → List ℕ) where
   -- maps and lists that only grow

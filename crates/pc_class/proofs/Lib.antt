@@ -16,13 +16,12 @@ pub mod Holding
 pub mod ItemsBuilt
 pub mod Judged
 pub mod Listings
-pub mod Naming
+pub mod ListsOfFields
 pub mod Overridden
 pub mod OverrideWalk
 pub mod OwnMembers
 pub mod ReservedNames
 pub mod Shapes
-pub mod SharedParts
 pub mod StaticThrough
 pub mod TableFields
 pub mod TableMore

@@ -13,28 +13,11 @@ use Rattle.pc_tree.proofs.InMaps.{put_new, none_at}
 use Rattle.pc_tree.proofs.Stops.{more_at}
 use Rattle.pc_tree.proofs.Texts.{turned}
 use Rattle.pc_scope.specs.Resolution.{index_of}
+use Rattle.pc_maps.proofs.ListsShared.{index_behind}
 use Rattle.pc_class.specs.declared.table.Parameter.{Parameter as RustParameter}
 use Rattle.pc_class.specs.Parts.{parameter_name}
 use Rattle.pc_class.specs.Listed.{needed_in, names_listed}
 use Rattle.pc_class.proofs.TableMore.{get_before, get_last}
-
-index_behind : (word : List ℕ) (xs : List (List ℕ)) (n : List ℕ) → index_of word (xs ++ n ∷ [])
-    ≡ first_of (index_of word xs) (if bytes_eq word n then Some (length xs) else None)
-index_behind word [] n = go (bytes_eq word n)
-  where
-    go : (b : Test) → (if b then Some 0 else option_map suc None) ≡ (if b then Some 0 else None)
-    go true = refl
-    go false = refl
-index_behind word (x ∷ xs) n = go (bytes_eq word x) (bytes_eq word n) (index_of word xs) (index_behind word xs n)
-  where
-    go : (a b : Test) (o : Option ℕ) → index_of word (xs ++ n ∷ []) ≡ first_of o
-        (if b then Some (length xs) else None)
-        → (if a then Some 0 else option_map suc (index_of word (xs ++ n ∷ []))) ≡ first_of
-        (if a then Some 0 else option_map suc o) (if b then Some (suc (length xs)) else None)
-    go true b o e = refl
-    go false true None e = ap (option_map suc) e
-    go false false None e = ap (option_map suc) e
-    go false b (Some i) e = ap (option_map suc) e
 
 module _ {Ty : Type 0} where
   names_taken : (ps : List (RustParameter Ty)) (i : ℕ) → i < length ps → length (names_listed (take i ps)) ≡ i

@@ -1,25 +1,22 @@
--- The fields of a class, put one after another from the last of the class itself to the first of its first ancestor.
-use Rattle.std.proofs.Common.{◌≡◌, ◌<◌, ◌≤◌, ◌+◌, ◌-◌, ℕ, zero, suc, List, [], ◌∷◌, ◌++◌, length, map, take, drop}
-use Rattle.std.proofs.Common.{reverse, get_or, refl, sym, ap, ◌∙◌, arith, length-drop, append_assoc}
-use Rattle.std.specs.Prelude.{Option, Some, None, All, Contains, slice_get, slice_index_or}
-use Rattle.std.specs.Borrow.{Bor}
-use Rattle.std.proofs.lemmas.List.{map-append, reverse-append, reverse-reverse, get_or-drop}
-use Rattle.std.proofs.lemmas.List.Elements.{All-nil, All-cons}
+-- The fields and the methods of a class: those that it binds itself and those of its base.
+use Rattle.std.proofs.Common.{◌≡◌, ◌<◌, ◌≤◌, ◌+◌, ◌-◌, ℕ, zero, suc, List, [], ◌∷◌, ◌++◌, length, take, drop}
+use Rattle.std.proofs.Common.{get_or, refl, sym, ap, ◌∙◌, arith, length-drop}
+use Rattle.std.specs.Prelude.{Option, Some, None, Contains, slice_get, slice_index_or}
+use Rattle.std.proofs.lemmas.List.{get_or-drop}
 use Rattle.std.proofs.Math.Seq.{take-suc}
-use Rattle.pc_types.specs.Tree.{Tree}
 use Rattle.pc_class.specs.declared.table.Parameter.{Parameter as RustParameter}
 use Rattle.pc_class.specs.declared.table.Method.{Method as RustMethod}
 use Rattle.pc_class.specs.declared.parts.Span.{Span}
 use Rattle.pc_class.specs.declared.parts.ClassNode.{ClassNode}
-use Rattle.pc_class.specs.NameMaps.{NameMaps}
-use Rattle.pc_class.specs.Tables.{ClassEntry, empty_entry, inherited_entry, parameter_with, parameter_lent, IsLent}
-use Rattle.pc_class.specs.Parts.{part, lent_parameter, AreNodes}
+use Rattle.pc_maps.specs.NameMaps.{NameMaps}
+use Rattle.pc_class.specs.Tables.{ClassEntry, empty_entry, inherited_entry}
+use Rattle.pc_class.specs.Parts.{part, AreNodes}
 
-abbrev span : ℕ → ℕ → Span
+abbrev pub span : ℕ → ℕ → Span
 span start end = record { start = start; end = end }
 
 -- a part with one more
-part_more : {X : Type 0} (xs : List X) (start end : ℕ) (x : X) → start ≤ end → end < length xs → x ≡ get_or xs end x
+pub part_more : {X : Type 0} (xs : List X) (start end : ℕ) (x : X) → start ≤ end → end < length xs → x ≡ get_or xs end x
     → part xs (span start (suc end)) ≡ part xs (span start end) ++ x ∷ []
 part_more xs start end x order less is =
     let l = length-drop start xs in
@@ -41,25 +38,7 @@ fewer None n h = omega arith
 fewer (Some b) n h = let l = h b refl in omega arith
 
 module _ {Ty : Type 0} where
-  -- one more, from the last on
-  pub back_next : (F : List (RustParameter Ty)) (start end : ℕ) (all new : List (Bor (RustParameter Ty)))
-      (x : Bor (RustParameter Ty)) → start < end → end ≤ length F → x.now ≡ get_or F (end - 1) x.now
-      → new ≡ all ++ x ∷ []
-      → map lent_parameter new ++ reverse (part F (span start (end - 1))) ≡ map lent_parameter all
-      ++ reverse (part F (span start end))
-  back_next F start end all new x low high is e =
-      ap (λ (xs : List (Bor (RustParameter Ty))). map lent_parameter xs ++ reverse (part F (span start (end - 1)))) e
-      ∙ ap (λ (xs : List (RustParameter Ty)). xs ++ reverse (part F (span start (end - 1))))
-      (map-append lent_parameter all (x ∷ []))
-      ∙ append_assoc (map lent_parameter all) (x.now ∷ []) (reverse (part F (span start (end - 1))))
-      ∙ ap (λ (xs : List (RustParameter Ty)). map lent_parameter all ++ xs)
-      (sym (reverse-append (part F (span start (end - 1))) (x.now ∷ [])))
-      ∙ ap (λ (xs : List (RustParameter Ty)). map lent_parameter all ++ reverse xs)
-      (sym (part_more F start (end - 1) x.now (omega arith) (omega arith) is))
-      ∙ ap (λ n. map lent_parameter all ++ reverse (part F (span start n)))
-      (let f : suc (end - 1) ≡ end = omega arith in f)
-
-  index_is : (es : List (ClassEntry Ty)) (i : ℕ) (x other : ClassEntry Ty) → slice_get es i ≡ Some x
+  pub index_is : (es : List (ClassEntry Ty)) (i : ℕ) (x other : ClassEntry Ty) → slice_get es i ≡ Some x
       → slice_index_or es i other ≡ x
   index_is [] i x other e = absurd (grind (arith, e))
   index_is (y ∷ xs) zero x other e = grind (arith, e)
@@ -83,28 +62,6 @@ module _ {Ty : Type 0} where
       ap (λ (e : ClassEntry Ty). e.methods) here ∙ ap (λ (xs : List (RustMethod Ty)). xs
       ++ (inherited_entry es n.base).methods) (sym same)
       ∙ ap (λ (e : ClassEntry Ty). own ++ (inherited_entry es e.base).methods) (sym here)
-
-  -- one class more on the way up
-  pub up_next : (total base own : List (RustParameter Ty)) (all new : List (RustParameter Ty))
-      → total ≡ (base ++ own) ++ reverse all → new ≡ all ++ reverse own → total ≡ base ++ reverse new
-  up_next total base own all new e f =
-      e ∙ append_assoc base own (reverse all) ∙ ap (λ xs. base ++ (xs ++ reverse all)) (sym (reverse-reverse own))
-      ∙ ap (λ xs. base ++ xs) (sym (reverse-append all (reverse own))) ∙ ap (λ xs. base ++ reverse xs) (sym f)
-
-  -- what is lent means what it is
-  pub lent_with : (tree : Ty → Tree) (ps : List (Bor (RustParameter Ty))) → map (parameter_lent tree) ps
-      ≡ map (parameter_with tree) (map lent_parameter ps)
-  lent_with tree [] = refl
-  lent_with tree (p ∷ ps) = ap (λ xs. parameter_lent tree p ∷ xs) (lent_with tree ps)
-
-  -- fields of a class are fields of the table
-  pub lent_listed : (es : List (ClassEntry Ty)) (e : ClassEntry Ty) → Contains es e
-      → (ps : List (Bor (RustParameter Ty))) → ((x : RustParameter Ty) → Contains (map lent_parameter ps) x
-      → Contains e.fields x) → All (IsLent es) ps
-  lent_listed es e listed [] among = All-nil (IsLent es)
-  lent_listed es e listed (p ∷ ps) among =
-      All-cons (IsLent es) p ps (record { class = e; listed = listed; among = among p.now (0, omega arith, refl) })
-      (lent_listed es e listed ps (λ x c. among x (suc c.0, (let l = c.1 in omega arith), c.2)))
 
   pub entry_listed : (es : List (ClassEntry Ty)) (i : ℕ) (d : ClassEntry Ty) → i < length es
       → Contains es (slice_index_or es i d)

@@ -10,7 +10,7 @@ use Rattle.pc_class.specs.declared.table.Parameter.{Parameter as RustParameter}
 use Rattle.pc_class.specs.declared.table.Method.{Method as RustMethod}
 use Rattle.pc_class.specs.declared.parts.Span.{Span}
 use Rattle.pc_class.specs.declared.parts.ClassNode.{ClassNode}
-use Rattle.pc_class.specs.NameMaps.{NameMaps, KeepsNamed}
+use Rattle.pc_maps.specs.NameMaps.{NameMaps, KeepsNamed}
 use Rattle.pc_class.specs.Outlines.{IsMapOf}
 use Rattle.pc_class.specs.Tables.{ClassEntry, empty_entry, inherited_entry}
 use Rattle.pc_class.specs.Parts.{part, IsSpan, parameter_name, stored_method_name, entry_over, entries_behind}
@@ -44,7 +44,7 @@ get_before [] ys i h = absurd (omega arith)
 get_before (x ∷ xs) ys zero h = refl
 get_before (x ∷ xs) ys (suc i) h = get_before xs ys i (omega arith)
 
-index_before : {X : Type 0} (xs ys : List X) (i : ℕ) (d : X) → i < length xs → slice_index_or (xs ++ ys) i d
+pub index_before : {X : Type 0} (xs ys : List X) (i : ℕ) (d : X) → i < length xs → slice_index_or (xs ++ ys) i d
     ≡ slice_index_or xs i d
 index_before [] ys i d h = absurd (omega arith)
 index_before (x ∷ xs) ys zero d h = refl

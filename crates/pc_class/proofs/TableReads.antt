@@ -7,7 +7,7 @@ use Rattle.std.specs.Option.{option_map}
 use Rattle.std.proofs.lemmas.Option.{same_Some, slice_get_read}
 use Rattle.pc_types.specs.Tree.{Tree}
 use Rattle.pc_class.specs.Facts.{ClassFacts, class_in, class_facts_at, base_facts, field_by_name, method_by_name}
-use Rattle.pc_class.specs.NameMaps.{NameMaps, named_at}
+use Rattle.pc_maps.specs.NameMaps.{NameMaps, named_at}
 use Rattle.pc_class.specs.Outlines.{at_number, IsNumberIn, first_named, IsMapOf}
 use Rattle.pc_class.specs.Tables.{ClassEntry, empty_entry, inherited_entry, parameter_with, method_with, class_with}
 use Rattle.pc_class.specs.Tables.{classes_with}

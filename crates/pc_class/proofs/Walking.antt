@@ -5,7 +5,7 @@ use Rattle.std.specs.Prelude.{Bool, true, false, cond, Option, Some, None, All, 
 use Rattle.std.specs.Option.{option_map}
 use Rattle.std.proofs.lemmas.List.Elements.{All-nil, All-cons, All-append, All-weaker}
 use Rattle.std.proofs.lemmas.List.{map-append}
-use Rattle.pc_class.specs.NameMaps.{NameMaps}
+use Rattle.pc_maps.specs.NameMaps.{NameMaps}
 use Rattle.pc_class.specs.Entries.{MemberEntry}
 use Rattle.pc_class.specs.Outlines.{first_named, IsMapOf, all_own, AreOther, AreNew}
 use Rattle.pc_class.specs.Built.{Added}

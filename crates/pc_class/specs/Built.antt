@@ -7,7 +7,7 @@ use Rattle.pc_tree.specs.declared.code.Finding.{Finding}
 use Rattle.pc_scope.specs.Bindings.{classes_in}
 use Rattle.pc_tree.specs.Code.{at_code}
 use Rattle.pc_ann.specs.Bases.{bases_of, base_named}
-use Rattle.pc_class.specs.NameMaps.{NameMaps}
+use Rattle.pc_maps.specs.NameMaps.{NameMaps}
 use Rattle.pc_class.specs.Facts.{ClassFacts, base_facts, class_facts_behind}
 use Rattle.pc_class.specs.Entries.{missing_bases}
 use Rattle.pc_class.specs.Outlines.{IsMapOf, found_over, classes_found}

@@ -14,7 +14,7 @@ use Rattle.pc_ann.specs.Annotations.{read_ann}
 use Rattle.pc_class.specs.declared.entries.Entry.{Entry as RustEntry}
 use Rattle.pc_class.specs.declared.entries.Held.{Held}
 use Rattle.pc_class.specs.Facts.{TypedParameter, Method, ClassFacts, field_by_name, method_by_name, method_made}
-use Rattle.pc_class.specs.NameMaps.{NameMaps, IsMap, named_at}
+use Rattle.pc_maps.specs.NameMaps.{NameMaps, IsMap, named_at}
 
 -- which names the ancestors of a class have as fields, and which as methods
 pub record Inherited : Type 0 where

@@ -3,15 +3,15 @@ pub mod Built
 pub mod ClassFindingsLaw
 pub mod Entries
 pub mod Facts
+pub mod FieldLists
 pub mod Findings
 pub mod Listed
+pub mod Listings
 pub mod Outlines
 pub mod Overrides
 pub mod Parts
 pub mod Tables
 pub mod WellFormed
 pub mod Internal
-pub mod NameMaps
 pub mod NameFindings
 pub mod OverrideFindings
-pub mod SharedMaps

@@ -1,6 +1,7 @@
 -- What a map of names holds, what the entries of a class bind, and what is found of a class's members by their names.
 -- Own rule of the profile.
-use Rattle.std.specs.Prelude.{◌≡◌, ◌<◌, ℕ, suc, List, [], ◌∷◌, ◌++◌, find, length, if◌then◌else◌, Option, Some, None}
+pub use Rattle.pc_maps.specs.SharedLists.{at_number, IsNumberIn}
+use Rattle.std.specs.Prelude.{◌≡◌, ℕ, suc, List, [], ◌∷◌, ◌++◌, find, if◌then◌else◌, Option, Some, None}
 use Rattle.std.specs.Prelude.{slice_get, bytes_eq}
 use Rattle.std.specs.Borrow.{Bor}
 use Rattle.std.specs.List.{list_any}
@@ -13,7 +14,7 @@ use Rattle.pc_tree.specs.declared.code.Finding.{Finding}
 use Rattle.pc_scope.specs.Bindings.{as_class, classes_in}
 use Rattle.pc_tree.specs.Code.{at_code}
 use Rattle.pc_class.specs.Facts.{TypedParameter, Method, ClassFacts, method_made, base_facts, classes_of}
-use Rattle.pc_class.specs.NameMaps.{NameMaps, IsMap, named_at}
+use Rattle.pc_maps.specs.NameMaps.{NameMaps, IsMap, named_at}
 use Rattle.pc_class.specs.Entries.{MemberEntry, parameter_made, field_made, methods_made, inherited_by, class_entries}
 use Rattle.pc_class.specs.Entries.{clash_places, late_places}
 
@@ -26,16 +27,6 @@ fields_seen m (Some f) = parameter_made m (field_of f.now) ∷ []
 abbrev pub methods_seen : Module → ℕ → ℕ → Option (Bor RustFuncDef) → List Method
 methods_seen m c number None = []
 methods_seen m c number (Some f) = method_made m c number (func_of f.now) ∷ []
-
--- what stands at a number, if there is one
-abbrev pub at_number : {X : Type 0} → List X → Option ℕ → Option X
-at_number xs None = None
-at_number xs (Some i) = slice_get xs i
-
--- the number, if there is one, is one of the list
-abbrev pub IsNumberIn : {X : Type 0} → List X → Option ℕ → Type 0
-IsNumberIn xs None = Unit {0}
-IsNumberIn xs (Some i) = i < length xs
 
 module _ {X : Type 0} (name : X → List ℕ) where
   -- the first of a name

@@ -11,7 +11,7 @@ use Rattle.pc_class.specs.declared.table.Method.{Method as RustMethod}
 use Rattle.pc_class.specs.declared.parts.Span.{Span}
 use Rattle.pc_class.specs.declared.parts.ClassNode.{ClassNode}
 use Rattle.pc_class.specs.declared.parts.TableParts.{TableParts}
-use Rattle.pc_class.specs.NameMaps.{NameMaps}
+use Rattle.pc_maps.specs.NameMaps.{NameMaps}
 use Rattle.pc_class.specs.Outlines.{IsMapOf}
 use Rattle.pc_class.specs.Tables.{ClassEntry, inherited_entry, HasParameter, HasMethod}
 

@@ -15,10 +15,11 @@ ghost use Rattle.pc_class.specs.Built.{found_behind, class_findings};
 
 use crate::adding::add_class;
 use crate::bases::find_missing_bases;
-use crate::named::NamedMaps;
+use crate::field_lists::ClassLists;
 use crate::parts::TableParts;
 use crate::table::ClassTable;
 use pc_ann::{ModuleOutline, parents_of};
+use pc_maps::NamedMaps;
 use pc_scope::Scopes;
 use pc_source::OutOfMemory;
 use pc_tree::{Findings, Item, ItemKind, Module};
@@ -128,5 +129,6 @@ pub fn class_table<S: TypeStore>(
         parents: &parents,
     };
     let parts = all_classes(&outline, store, alloc, found)?;
-    Ok(ClassTable::of(parts, parents))
+    let lists = ClassLists::new(alloc, &parts)?;
+    Ok(ClassTable::of(parts, parents, lists))
 }

@@ -11,8 +11,8 @@ ghost use Rattle.pc_scope.specs.Internal.WalkViews.{texts_in};
 ghost use Rattle.pc_class.specs.Entries.{HasMaps, inherited_in, member_binds, member_clashes, entry_of, entries_of};
 ghost use Rattle.pc_class.specs.Entries.{entry_seen, entry_default, clash_places, late_places, defaulted_in};
 
-use crate::named::{NamedMaps, Texts, number};
 use indexmap::IndexSet;
+use pc_maps::{NamedMaps, Texts, number};
 use pc_source::OutOfMemory;
 use pc_tree::{Code, Findings, Member, find_if};
 use std::alloc::Global as Allocator;

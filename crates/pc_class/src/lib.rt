@@ -5,13 +5,13 @@ mod adding;
 mod bases;
 mod building;
 mod entries;
+mod field_lists;
 mod laws;
 mod listed;
-mod named;
+mod listing;
 mod overriding;
 mod parts;
 mod reading;
-mod shared;
 mod table;
 
 pub use building::class_table;
@@ -20,6 +20,7 @@ pub use laws::{
     methods_are_judged_once, names_are_found, overrides_are_found,
 };
 pub use listed::ParameterList;
+pub use listing::Listing;
 pub use overriding::override_findings;
 pub use pc_ann::bases_stand_before;
 pub use reading::read_param;

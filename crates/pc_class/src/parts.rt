@@ -1,8 +1,8 @@
 //! What a class table is made of.
 
 use crate::entries::Held;
-use crate::named::NamedMaps;
 use crate::table::{Method, Parameter};
+use pc_maps::NamedMaps;
 
 /// The places of a list from one on and before another.
 #[derive(Clone, Copy)]

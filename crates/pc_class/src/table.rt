@@ -1,20 +1,23 @@
 //! The class table, its fields and its methods.
 
-ghost use Rattle.std.specs.Prelude.{◌≡◌, ◌↔◌, ◌<◌, ◌≤◌, ◌-◌, ◌++◌, List, take, drop, length, map, reverse};
-ghost use Rattle.std.specs.Prelude.{slice_index_or, Some, All, IsTrue, IfOk, OnOk};
+ghost use Rattle.std.specs.Prelude.{◌≡◌, ◌↔◌, ◌<◌, ◌≤◌, ◌-◌, ◌++◌, List, take, drop, length, slice_get, slice_index_or};
+ghost use Rattle.std.specs.Prelude.{IsTrue};
 ghost use Rattle.std.specs.Option.{option_map};
+ghost use Rattle.pc_scope.specs.Resolution.{index_of};
 ghost use Rattle.pc_types.specs.Below.{Below};
 ghost use Rattle.pc_types.specs.Tree.{Tree, Class};
 ghost use Rattle.pc_class.specs.Facts.{field_by_name, method_by_name, class_facts_at};
-ghost use Rattle.pc_class.specs.Parts.{part, lent_parameter, IsSpan, bases_in, entries_in, IsClassTable};
+ghost use Rattle.pc_class.specs.FieldLists.{AreClassLists, fields_in};
+ghost use Rattle.pc_class.specs.Listed.{names_listed, needed_in};
+ghost use Rattle.pc_class.specs.Parts.{lent_parameter, bases_in, entries_in, IsClassTable};
 ghost use Rattle.pc_class.specs.Tables.{ClassEntry, empty_entry, inherited_entry, classes_with, parameter_lent};
-ghost use Rattle.pc_class.specs.Tables.{method_lent, IsLent, IsFieldIfAny, IsMethodIfAny};
+ghost use Rattle.pc_class.specs.Tables.{method_lent, IsFieldIfAny, IsMethodIfAny};
 
+use crate::field_lists::ClassLists;
 use crate::listed::ParameterList;
-use crate::parts::{Span, TableParts};
-use pc_source::{OutOfMemory, Place};
+use crate::parts::TableParts;
+use pc_source::Place;
 use pc_types::Parents;
-use std::alloc::Global;
 use std::marker::Model;
 
 /// A parameter of a function or a method, or a field as a parameter of its class. Its name is in the normal form NFKC.
@@ -39,46 +42,6 @@ pub struct Method<Ty: Drop> {
     pub ret: Ty,
 }
 
-/// Puts the fields of these places after others, from the last to the first.
-fn push_backwards<'t, Ty: Drop>(
-    all: &mut Vec<&'t Parameter<Ty>>,
-    fields: &'t [Parameter<Ty>],
-    span: Span,
-) -> Result<(), OutOfMemory>
-    requires { IsSpan (length fields.now) span }
-    ensures { OnOk result (map lent_parameter all.new.items
-        ≡ map lent_parameter all.old.items ++ reverse (part fields.entry.now span)) }
-{
-    let mut end = span.end;
-    while end > span.start {
-        end -= 1;
-        all.push(&fields[end])?;
-    }
-    Ok(())
-}
-
-/// The fields of a class, those of its ancestors first.
-fn fields_of<Ty: Drop>(
-    parts: &TableParts<Ty>,
-    alloc: Global,
-    class: usize,
-) -> Result<Vec<&Parameter<Ty>>, OutOfMemory>
-    requires table { IsClassTable parts.now }
-    requires class { class < length parts.now.classes.items }
-    ensures { IfOk result (λ ps. map lent_parameter ps.items
-        ≡ (inherited_entry (entries_in parts.entry.now) (Some class)).fields) }
-{
-    let mut all = Vec::new(alloc);
-    let mut at = Some(class);
-    while let Some(number) = at {
-        let node = parts.classes[number];
-        push_backwards(&mut all, &parts.fields, node.fields)?;
-        at = node.base;
-    }
-    all.reverse();
-    Ok(all)
-}
-
 /// The items of these places.
 fn items_within<X>(items: &[X], start: usize, end: usize) -> &[X]
     requires order { start ≤ end }
@@ -96,6 +59,7 @@ fn items_within<X>(items: &[X], start: usize, end: usize) -> &[X]
 pub struct ClassTable<Ty: Drop> {
     parts: TableParts<Ty>,
     parents: Parents,
+    lists: ClassLists,
 }
 
 impl<Ty: Drop> Model for ClassTable<Ty> {
@@ -103,17 +67,23 @@ impl<Ty: Drop> Model for ClassTable<Ty> {
 
     ghost view = { λ t. entries_in t.parts };
 
-    ghost invariant = { λ t. IsClassTable t.parts × (t.parents ≡ bases_in (entries_in t.parts)) };
+    ghost invariant = { λ t. IsClassTable t.parts × ((t.parents ≡ bases_in (entries_in t.parts))
+        × AreClassLists t.parts.fields.items t.lists (entries_in t.parts)) };
 }
 
 impl<Ty: Drop> ClassTable<Ty> {
-    /// The table that is made of these, with the parents of its classes.
-    pub(crate) fn of(parts: TableParts<Ty>, parents: Parents) -> ClassTable<Ty>
+    /// The table that is made of these, with the parents of its classes and the lists of their fields.
+    pub(crate) fn of(parts: TableParts<Ty>, parents: Parents, lists: ClassLists) -> ClassTable<Ty>
         requires table { IsClassTable parts }
         requires parents { parents ≡ bases_in (entries_in parts) }
+        requires lists { AreClassLists parts.fields.items lists (entries_in parts) }
         ensures { result ≡ entries_in parts }
     {
-        ClassTable { parts, parents }
+        ClassTable {
+            parts,
+            parents,
+            lists,
+        }
     }
 
     /// The parents of the classes.
@@ -181,17 +151,35 @@ impl<Ty: Drop> ClassTable<Ty> {
         items_within(&self.parts.methods, node.methods.start, node.methods.end)
     }
 
-    /// The fields of a class, those of its ancestors first: the parameters of a call of it.
-    pub fn fields(&self, alloc: Global, class: usize) -> Result<Vec<&Parameter<Ty>>, OutOfMemory>
-        ensures value { (tree : Ty → Tree)
-            → IfOk result (λ ps. map (parameter_lent tree) ps.items
-            ≡ (class_facts_at (classes_with tree self.now) class).fields) }
-        ensures listed { IfOk result (λ ps. All (IsLent self.now) ps.items) }
+    /// How many fields a class has, with those of its ancestors.
+    pub(crate) fn field_count(&self, class: usize) -> usize
+        ensures { result ≡ length (fields_in self.now class) }
     {
-        if class >= self.parts.classes.len() {
-            return Ok(Vec::new(alloc));
+        self.lists.of(class).count
+    }
+
+    /// The place of the first field of a name among those of a class.
+    pub(crate) fn field_place(&self, class: usize, name: &str) -> Option<usize>
+        ensures { result ≡ index_of name.now (names_listed (fields_in self.now class)) }
+    {
+        self.lists.lists.place(self.lists.of(class), name)
+    }
+
+    /// Up to where there is a field without default among the first so many of a class.
+    pub(crate) fn fields_needed(&self, class: usize, count: usize) -> usize
+        requires { count ≤ length (fields_in self.now class) }
+        ensures { result ≡ needed_in (fields_in self.now class) count }
+    {
+        self.lists.lists.needed(self.lists.of(class), count)
+    }
+
+    /// The field at a place of a class.
+    pub(crate) fn field_at(&self, class: usize, place: usize) -> Option<&Parameter<Ty>>
+        ensures { option_map lent_parameter result ≡ slice_get (fields_in self.now class) place }
+    {
+        match self.lists.lists.seat(self.lists.of(class), place) {
+            Some(seat) => self.parts.fields.get(seat.number),
+            None => None,
         }
-        let all = fields_of(&self.parts, alloc, class)?;
-        Ok(all)
     }
 }

@@ -6,7 +6,7 @@ ghost use Rattle.pc_types.specs.Boxed.{IsGiven};
 ghost use Rattle.pc_class.specs.Tables.{HasParameter, HasMethod, HasEntries};
 
 use pc_ann::type_text;
-use pc_class::{ClassTable, Method, Parameter, class_table, override_findings};
+use pc_class::{ClassTable, Listing, Method, Parameter, class_table, override_findings};
 use pc_front::module_in;
 use pc_scope::{Scopes, scopes};
 use pc_source::{Fault, Source, read_source};
@@ -169,7 +169,28 @@ fn add_class(
     out.push_str("\n")
 }
 
-/// The fields of a class in their order, and how each is told by its name, where that is otherwise.
+/// A field, and how it is told by its name, where that is otherwise.
+fn add_field(
+    alloc: Global,
+    tree: &Module,
+    table: &ClassTable<BoxType>,
+    class: usize,
+    field: &Parameter<BoxType>,
+    out: &mut String,
+) -> Result<(), Fault>
+    requires table { HasEntries IsGiven table.now }
+    requires field { HasParameter IsGiven field.now }
+{
+    let text = parameter_text(alloc, tree, field)?;
+    writeln!(out, "field {text}")?;
+    let named = field_named(alloc, tree, table, class, field.name.as_str())?;
+    if named.as_str() != text.as_str() {
+        writeln!(out, "by its name {named}")?;
+    }
+    Ok(())
+}
+
+/// The fields of a class in their order.
 fn add_fields(
     alloc: Global,
     tree: &Module,
@@ -179,13 +200,10 @@ fn add_fields(
 ) -> Result<(), Fault>
     requires { HasEntries IsGiven table.now }
 {
-    let fields = table.fields(alloc, class)?;
-    for i in 0..fields.len() {
-        let text = parameter_text(alloc, tree, fields[i])?;
-        writeln!(out, "field {text}")?;
-        let named = field_named(alloc, tree, table, class, fields[i].name.as_str())?;
-        if named.as_str() != text.as_str() {
-            writeln!(out, "by its name {named}")?;
+    let fields = Listing::Fields(table, class);
+    for place in 0..fields.len() {
+        if let Some(field) = fields.at(place) {
+            add_field(alloc, tree, table, class, field, out)?;
         }
     }
     Ok(())

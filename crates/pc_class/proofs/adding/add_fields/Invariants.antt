@@ -1,6 +1,6 @@
 use Rattle.std.proofs.Common.{◌++◌, List, map, drop}
 use Rattle.pc_types.specs.Store.{KeepsTypes}
-use Rattle.pc_class.specs.NameMaps.{IsMap, KeepsNamed}
+use Rattle.pc_maps.specs.NameMaps.{IsMap, KeepsNamed}
 use Rattle.pc_class.specs.Entries.{entry_seen}
 use Rattle.pc_class.specs.Outlines.{IsMapOf, field_name, own_field, AreNew}
 use Rattle.pc_class.specs.Tables.{HasParameter, parameter_with}

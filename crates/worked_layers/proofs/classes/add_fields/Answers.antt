@@ -1,5 +1,6 @@
-use Rattle.worked_layers.proofs.HeldTables.{fields_held}
+use Rattle.worked_layers.proofs.HeldTables.{place_held}
 use Rattle.worked_layers.proofs.classes.add_fields.Goals as goal
 
-pub loop-i-init : goal.loop-i-init
-loop-i-init c = fields_held c.requires c.in_ok-fields.fields.items c.in_ok-fields.ensures.listed
+pub add_field-requires-clause-field : goal.add_field-requires-clause-field
+add_field-requires-clause-field c = place_held _ c.requires c.args.class c.loop-place.place c.at.result c.in-Some.field
+    c.in-Some.is c.at.ensures

@@ -1,7 +1,0 @@
-use Rattle.pc_scope.specs.Internal.WalkViews.{texts_in}
-use Rattle.pc_class.proofs.Naming.{nothing_named}
-use Rattle.pc_class.proofs.named.NamedMaps.new.Goals as goal
-
-pub returns-clause-empty : goal.returns-clause-empty
-returns-clause-empty c = nothing_named (record { texts = texts_in c.new-texts.result; nodes = c.in_ok-maps.maps })
-    c.in_ok-maps.ensures.empty

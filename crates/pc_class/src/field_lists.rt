@@ -1,0 +1,79 @@
+//! The fields of each class, as parameters of a call of it: lists that share what they have in common.
+
+ghost use Rattle.std.specs.Prelude.{◌≡◌, ◌++◌, List, length, Some, IfOk, OnOk};
+ghost use Rattle.pc_maps.specs.SharedLists.{HasRoom, KeepsLists};
+ghost use Rattle.pc_class.specs.declared.table.Parameter.{Parameter as ParameterOf};
+ghost use Rattle.pc_class.specs.FieldLists.{IsListOf, AreClassLists, list_at, list_in};
+ghost use Rattle.pc_class.specs.Parts.{part, IsSpan, entries_in, IsClassTable};
+
+use crate::parts::{Span, TableParts};
+use crate::table::Parameter;
+use pc_maps::{SharedList, SharedLists};
+use pc_source::OutOfMemory;
+use std::alloc::Global;
+
+/// The list of the fields of each class.
+#[derive(Drop)]
+pub(crate) struct ClassLists {
+    pub lists: SharedLists,
+    pub classes: Vec<SharedList>,
+}
+
+/// The list with the fields of these places more.
+fn add_fields<Ty: Drop>(
+    lists: &mut SharedLists,
+    alloc: Global,
+    list: SharedList,
+    fields: &[Parameter<Ty>],
+    span: Span,
+) -> Result<SharedList, OutOfMemory>
+    requires room { HasRoom lists.old list }
+    requires span { IsSpan (length fields.now) span }
+    ensures room { IfOk result (HasRoom lists.new) }
+    ensures kept { OnOk result (KeepsLists lists.old lists.new) }
+    ensures list { (before : List (ParameterOf Ty)) → IsListOf fields.now lists.old before list
+        → IfOk result (IsListOf fields.now lists.new (before ++ part fields.now span)) }
+{
+    let mut longer = list;
+    for number in span.start..span.end {
+        let field = &fields[number];
+        let needed = !field.has_default;
+        longer = lists.push(alloc, longer, number, field.name.as_str(), needed)?;
+    }
+    Ok(longer)
+}
+
+/// The list of a class, if there is one, else the one without fields.
+fn list_at(classes: &[SharedList], class: Option<usize>) -> SharedList
+    ensures { result ≡ list_at classes.now class }
+{
+    match class {
+        Some(class) if class < classes.len() => classes[class],
+        _ => SharedList::empty(),
+    }
+}
+
+impl ClassLists {
+    /// The list of the fields of each class of a table.
+    pub fn new<Ty: Drop>(alloc: Global, parts: &TableParts<Ty>) -> Result<ClassLists, OutOfMemory>
+        requires { IsClassTable parts.now }
+        ensures { IfOk result (λ s. AreClassLists parts.now.fields.items s (entries_in parts.now)) }
+    {
+        let mut lists = SharedLists::new(alloc)?;
+        let mut classes = Vec::new(alloc);
+        for class in 0..parts.classes.len() {
+            let node = parts.classes[class];
+            let inherited = list_at(&classes, node.base);
+            let list = add_fields(&mut lists, alloc, inherited, &parts.fields, node.fields)?;
+            classes.push(list)?;
+        }
+        Ok(ClassLists { lists, classes })
+    }
+
+    /// The list of a class.
+    pub fn of(&self, class: usize) -> SharedList
+        ensures { result ≡ list_in self.now class }
+    {
+        list_at(&self.classes, Some(class))
+    }
+}

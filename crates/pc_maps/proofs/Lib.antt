@@ -1,0 +1,3 @@
+pub mod ListsShared
+pub mod Naming
+pub mod SharedParts

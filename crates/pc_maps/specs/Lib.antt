@@ -1,0 +1,3 @@
+pub mod NameMaps
+pub mod SharedLists
+pub mod SharedMaps
