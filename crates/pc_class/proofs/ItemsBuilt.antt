@@ -14,8 +14,9 @@ use Rattle.pc_types.specs.Tree.{Tree}
 use Rattle.pc_class.specs.Tables.{ClassEntry, classes_with}
 use Rattle.pc_class.specs.Parts.{bases_in}
 use Rattle.pc_class.specs.Facts.{ClassFacts, class_in, base_facts, class_facts_behind, classes_behind, classes_of}
-use Rattle.pc_class.specs.Outlines.{found_over, classes_found}
-use Rattle.pc_class.specs.Built.{found_behind}
+use Rattle.pc_class.specs.Outlines.{found_over, each_over_base, classes_found}
+use Rattle.pc_class.specs.Annotated.{class_annotated, classes_annotated}
+use Rattle.pc_class.specs.Built.{each_behind, found_behind, annotated_behind}
 use Rattle.pc_class.proofs.ClassesBuilt.{kept, below_class}
 
 module _ (m : Module) where
@@ -26,14 +27,14 @@ module _ (m : Module) where
   classes_on e n (Some class) rest = ap (λ k. classes_behind m (e ++ class_facts_behind m e n class ∷ []) k rest)
       (omega arith)
 
-  found_on : (e : List ClassFacts) (n : ℕ) (o : Option ClassDef) (rest : List ClassDef)
-      → found_behind m e n (cons_option o rest) ≡ found_behind m e n (cons_option o []) ++ found_behind m
-      (classes_behind m e n (cons_option o [])) (n + length (cons_option o [])) rest
-  found_on e n None rest = ap (λ k. found_behind m e k rest) (omega arith)
-  found_on e n (Some class) rest =
-      let here = found_over (base_facts e (base_named m n class.base)) class in
-      ap (λ k. here ++ found_behind m (e ++ class_facts_behind m e n class ∷ []) k rest) (omega arith)
-      ∙ ap (λ (fs : List Finding). fs ++ found_behind m (e ++ class_facts_behind m e n class ∷ []) (n + 1) rest)
+  found_on : (over : ClassFacts → ClassDef → List Finding) (e : List ClassFacts) (n : ℕ) (o : Option ClassDef)
+      (rest : List ClassDef) → each_behind over m e n (cons_option o rest) ≡ each_behind over m e n (cons_option o [])
+      ++ each_behind over m (classes_behind m e n (cons_option o [])) (n + length (cons_option o [])) rest
+  found_on over e n None rest = ap (λ k. each_behind over m e k rest) (omega arith)
+  found_on over e n (Some class) rest =
+      let here = over (base_facts e (base_named m n class.base)) class in
+      ap (λ k. here ++ each_behind over m (e ++ class_facts_behind m e n class ∷ []) k rest) (omega arith)
+      ∙ ap (λ (fs : List Finding). fs ++ each_behind over m (e ++ class_facts_behind m e n class ∷ []) (n + 1) rest)
       (sym (append-nil here))
 
   module _ (e : List ClassFacts) (n : ℕ) (items : List RustItem) (i : ℕ) (x : RustItem) (less : i < length items)
@@ -52,19 +53,20 @@ module _ (m : Module) where
         ∙ inv
 
     -- and what is found of them
-    pub found_next : (old mid total : List Finding) → old ++ found_behind m e n
-        (classes_in (map item_of (drop i items))) ≡ total → mid ≡ old ++ found_behind m e n
-        (classes_in (item_of x ∷ []))
-        → mid ++ found_behind m e2 k (classes_in (map item_of (drop (i + 1) items))) ≡ total
-    found_next old mid total inv here =
+    pub found_next : (over : ClassFacts → ClassDef → List Finding) (old mid total : List Finding)
+        → old ++ each_behind over m e n (classes_in (map item_of (drop i items))) ≡ total
+        → mid ≡ old ++ each_behind over m e n (classes_in (item_of x ∷ []))
+        → mid ++ each_behind over m e2 k (classes_in (map item_of (drop (i + 1) items))) ≡ total
+    found_next over old mid total inv here =
         let rest = classes_in (map item_of (drop (i + 1) items)) in
-        ap (λ (fs : List Finding). fs ++ found_behind m e2 k rest) here
-        ∙ append_assoc old (found_behind m e n (classes_in (item_of x ∷ []))) (found_behind m e2 k rest)
-        ∙ ap (λ c. old ++ (found_behind m e n (classes_in (item_of x ∷ [])) ++ found_behind m c k rest)) e2_is
-        ∙ ap (λ j. old ++ (found_behind m e n (classes_in (item_of x ∷ [])) ++ found_behind m
-        (classes_behind m e n (classes_in (item_of x ∷ []))) j rest)) number
-        ∙ ap (λ (fs : List Finding). old ++ fs) (sym (found_on e n (as_class (item_of x)) rest))
-        ∙ ap (λ (ys : List RustItem). old ++ found_behind m e n (classes_in (map item_of ys)))
+        let this = each_behind over m e n (classes_in (item_of x ∷ [])) in
+        ap (λ (fs : List Finding). fs ++ each_behind over m e2 k rest) here
+        ∙ append_assoc old this (each_behind over m e2 k rest)
+        ∙ ap (λ c. old ++ (this ++ each_behind over m c k rest)) e2_is
+        ∙ ap (λ j. old ++ (this ++ each_behind over m (classes_behind m e n (classes_in (item_of x ∷ []))) j rest))
+        number
+        ∙ ap (λ (fs : List Finding). old ++ fs) (sym (found_on over e n (as_class (item_of x)) rest))
+        ∙ ap (λ (ys : List RustItem). old ++ each_behind over m e n (classes_in (map item_of ys)))
         (sym (cons_at items i x less is))
         ∙ inv
 
@@ -73,16 +75,17 @@ module _ (m : Module) where
   classes_are_behind = refl
 
   -- what is found given the classes before is what is found given all
-  found_same : (e : List ClassFacts) (c : ℕ) (cs : List ClassDef) → length e ≡ c
-      → classes_behind m e c cs ≡ classes_of m → ((j : ℕ) → slice_get (classes_in m.items) (c + j) ≡ slice_get cs j)
-      → found_behind m e c cs ≡ classes_found m c cs
-  found_same e c [] long all ahead = refl
-  found_same e c (class ∷ rest) long all ahead =
+  found_same : (over : ClassFacts → ClassDef → List Finding) (e : List ClassFacts) (c : ℕ) (cs : List ClassDef)
+      → length e ≡ c → classes_behind m e c cs ≡ classes_of m
+      → ((j : ℕ) → slice_get (classes_in m.items) (c + j) ≡ slice_get cs j)
+      → each_behind over m e c cs ≡ each_over_base over m c cs
+  found_same over e c [] long all ahead = refl
+  found_same over e c (class ∷ rest) long all ahead =
       let more = length-append e (class_facts_behind m e c class ∷ []) in
-      ap (λ (b : ClassFacts). found_over b class ++ found_behind m (e ++ class_facts_behind m e c class ∷ []) (suc c)
+      ap (λ (b : ClassFacts). over b class ++ each_behind over m (e ++ class_facts_behind m e c class ∷ []) (suc c)
       rest) (go (base_named m c class.base) refl)
-      ∙ ap (λ (fs : List Finding). found_over (base_facts (classes_of m) (base_named m c class.base)) class ++ fs)
-      (found_same (e ++ class_facts_behind m e c class ∷ []) (suc c) rest (omega arith) all
+      ∙ ap (λ (fs : List Finding). over (base_facts (classes_of m) (base_named m c class.base)) class ++ fs)
+      (found_same over (e ++ class_facts_behind m e c class ∷ []) (suc c) rest (omega arith) all
       (λ j. ap (slice_get (classes_in m.items)) (omega arith) ∙ ahead (suc j)))
     where
       here : slice_get (classes_in m.items) c ≡ Some class
@@ -95,9 +98,16 @@ module _ (m : Module) where
           ap class_in (sym (kept m e c (class ∷ rest) b (omega arith)) ∙ ap (λ (cs : List ClassFacts). slice_get cs b)
           all)
 
-  pub found_listed : found_behind m [] 0 (classes_in m.items) ≡ classes_found m 0 (classes_in m.items)
-  found_listed = found_same [] 0 (classes_in m.items) refl (sym classes_are_behind)
+  each_listed : (over : ClassFacts → ClassDef → List Finding)
+      → each_behind over m [] 0 (classes_in m.items) ≡ each_over_base over m 0 (classes_in m.items)
+  each_listed over = found_same over [] 0 (classes_in m.items) refl (sym classes_are_behind)
       (λ j. ap (slice_get (classes_in m.items)) (omega arith))
+
+  pub found_listed : found_behind m [] 0 (classes_in m.items) ≡ classes_found m 0 (classes_in m.items)
+  found_listed = each_listed found_over
+
+  pub annotated_listed : annotated_behind m [] 0 (classes_in m.items) ≡ classes_annotated m 0 (classes_in m.items)
+  annotated_listed = each_listed (class_annotated m)
 
 -- the classes from an item on are those of the module from a number on
 abbrev pub AreAhead : List ClassDef → ℕ → List ClassDef → Type 0

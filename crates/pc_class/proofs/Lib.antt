@@ -1,8 +1,7 @@
+pub mod Annotations
 pub mod ClassAdded
-pub mod ClassOverrides
 pub mod ClassesBefore
 pub mod ClassesBuilt
-pub mod CleanClasses
 pub mod EachAncestor
 pub mod EntriesGiven
 pub mod EntryWalk
@@ -17,12 +16,8 @@ pub mod ItemsBuilt
 pub mod Judged
 pub mod Listings
 pub mod ListsOfFields
-pub mod Overridden
-pub mod OverrideWalk
 pub mod OwnMembers
 pub mod ReservedNames
-pub mod Shapes
-pub mod StaticThrough
 pub mod TableFields
 pub mod TableMore
 pub mod TableReads

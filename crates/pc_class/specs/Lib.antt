@@ -1,4 +1,5 @@
 pub use Rattle.pc_ann.specs.Bases
+pub mod Annotated
 pub mod Built
 pub mod ClassFindingsLaw
 pub mod Entries

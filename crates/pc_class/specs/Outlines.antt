@@ -3,30 +3,17 @@
 pub use Rattle.pc_maps.specs.SharedLists.{at_number, IsNumberIn}
 use Rattle.std.specs.Prelude.{◌≡◌, ℕ, suc, List, [], ◌∷◌, ◌++◌, find, if◌then◌else◌, Option, Some, None}
 use Rattle.std.specs.Prelude.{slice_get, bytes_eq}
-use Rattle.std.specs.Borrow.{Bor}
 use Rattle.std.specs.List.{list_any}
-use Rattle.pc_tree.specs.declared.tree.Field.{Field as RustField}
-use Rattle.pc_tree.specs.declared.tree.FuncDef.{FuncDef as RustFuncDef}
-use Rattle.pc_tree.specs.Tree.{ClassDef, Item, Module, field_of, func_of}
+use Rattle.pc_tree.specs.Tree.{ClassDef, Item, Module}
 use Rattle.pc_ann.specs.Bases.{base_named}
 use Rattle.pc_tree.specs.declared.code.Code.TheVariants.{E06, E08}
 use Rattle.pc_tree.specs.declared.code.Finding.{Finding}
 use Rattle.pc_scope.specs.Bindings.{as_class, classes_in}
 use Rattle.pc_tree.specs.Code.{at_code}
-use Rattle.pc_class.specs.Facts.{TypedParameter, Method, ClassFacts, method_made, base_facts, classes_of}
+use Rattle.pc_class.specs.Facts.{TypedParameter, Method, ClassFacts, base_facts, classes_of}
 use Rattle.pc_maps.specs.NameMaps.{NameMaps, IsMap, named_at}
-use Rattle.pc_class.specs.Entries.{MemberEntry, parameter_made, field_made, methods_made, inherited_by, class_entries}
+use Rattle.pc_class.specs.Entries.{MemberEntry, field_made, methods_made, inherited_by, class_entries}
 use Rattle.pc_class.specs.Entries.{clash_places, late_places}
-
--- the field that there is, if there is one, as a parameter of its class
-abbrev pub fields_seen : Module → Option (Bor RustField) → List TypedParameter
-fields_seen m None = []
-fields_seen m (Some f) = parameter_made m (field_of f.now) ∷ []
-
--- the method that there is, if there is one, with its class and its number there
-abbrev pub methods_seen : Module → ℕ → ℕ → Option (Bor RustFuncDef) → List Method
-methods_seen m c number None = []
-methods_seen m c number (Some f) = method_made m c number (func_of f.now) ∷ []
 
 module _ {X : Type 0} (name : X → List ℕ) where
   -- the first of a name
@@ -82,10 +69,15 @@ found_over base class =
 abbrev pub class_found : Module → ℕ → ClassDef → List Finding
 class_found m c class = found_over (base_facts (classes_of m) (base_named m c class.base)) class
 
--- what is found of the members of classes from this number on
+-- what is found of classes from this number on, of each of them over what its base has
+abbrev pub each_over_base : (over : ClassFacts → ClassDef → List Finding) → Module → ℕ → List ClassDef → List Finding
+each_over_base over m c [] = []
+each_over_base over m c (class ∷ rest) =
+    over (base_facts (classes_of m) (base_named m c class.base)) class ++ each_over_base over m (suc c) rest
+
+-- what is found of the members of classes from this number on by their names: E06, E08
 abbrev pub classes_found : Module → ℕ → List ClassDef → List Finding
-classes_found m c [] = []
-classes_found m c (class ∷ rest) = class_found m c class ++ classes_found m (suc c) rest
+classes_found m c classes = each_over_base found_over m c classes
 
 -- an item that is a class is the one of this number
 abbrev pub IsClassNumbered : Module → ℕ → Item → Type 0

@@ -1,59 +1,42 @@
 //! One more class in a class table.
 
-ghost use Rattle.std.specs.Prelude.{◌≡◌, ◌+◌, ℕ, length, ◌++◌, ◌∷◌, [], List, map, None, OnOk, IfOk};
-ghost use Rattle.pc_tree.specs.Tree.{Module as Tree, class_of};
+ghost use Rattle.std.specs.Prelude.{◌≡◌, ◌+◌, length, ◌++◌, ◌∷◌, [], List, map, None, OnOk, IfOk};
+ghost use Rattle.pc_tree.specs.Tree.{class_of, member_of};
 ghost use Rattle.pc_types.specs.Store.{KeepsTypes};
 ghost use Rattle.pc_ann.specs.Bases.{base_named};
 ghost use Rattle.pc_class.specs.declared.table.Parameter.{Parameter as ParameterOf};
 ghost use Rattle.pc_class.specs.declared.table.Method.{Method as MethodOf};
+ghost use Rattle.pc_class.specs.Annotated.{field_annotated, method_annotated, fields_annotated, methods_annotated};
+ghost use Rattle.pc_class.specs.Annotated.{class_annotated};
 ghost use Rattle.pc_class.specs.Facts.{class_facts_behind, base_facts};
 ghost use Rattle.pc_maps.specs.NameMaps.{IsMap, KeepsNamed};
 ghost use Rattle.pc_class.specs.Entries.{entry_seen};
 ghost use Rattle.pc_class.specs.Outlines.{IsMapOf, first_named, field_name, method_name as class_method_name};
-ghost use Rattle.pc_class.specs.Outlines.{fields_seen, methods_seen, own_field, own_method, all_own, AreOther, AreNew};
+ghost use Rattle.pc_class.specs.Outlines.{own_field, own_method, all_own, AreOther, AreNew};
 ghost use Rattle.pc_class.specs.Outlines.{found_over};
 ghost use Rattle.pc_class.specs.Tables.{HasParameter, HasMethod, parameter_with, method_with, classes_with};
 ghost use Rattle.pc_class.specs.Parts.{parameter_name, stored_method_name, inherited_node, entries_in, IsClassTable};
 ghost use Rattle.pc_class.specs.Parts.{HasParts};
 ghost use Rattle.pc_ann.specs.ModuleOutlines.{IsModuleOutline, module_in};
-ghost use Rattle.pc_class.specs.Built.{Added, IsClassAt};
+ghost use Rattle.pc_class.specs.Built.{Added, IsClassAt, members_of_entries};
+ghost use Rattle.pc_class.specs.Internal.Readers.{IsLentSame};
 
 use crate::entries::{Entry, Held, entries, find_clashes, find_late_fields};
 use crate::parts::{ClassNode, Span, TableParts};
-use crate::reading::{read_field, read_method};
+use crate::reading::{TypeReader, read_field, read_method};
 use crate::table::{Method, Parameter};
 use pc_ann::ModuleOutline;
 use pc_maps::NamedMaps;
 use pc_source::OutOfMemory;
-use pc_tree::{ClassDef, Field, Findings, FuncDef, Member};
+use pc_tree::{ClassDef, Findings, Member};
 use pc_types::TypeStore;
 use std::alloc::Global as Allocator;
 
-/// The field that an entry binds, if it binds one.
-fn own_field<'m>(entry: &Entry<'m>) -> Option<&'m Field>
-    ensures { (m : Tree) → fields_seen m result ≡ own_field m (entry_seen entry.now) }
-{
-    if !entry.binds {
-        return None;
-    }
-    match entry.member {
-        Member::Field(field) => Some(field),
-        Member::Method(_) => None,
-    }
-}
-
-/// The method that an entry of a class binds, if it binds one.
-fn own_method<'m>(entry: &Entry<'m>) -> Option<&'m FuncDef>
-    ensures { (m : Tree) (class : ℕ)
-        → methods_seen m class entry.now.number result ≡ own_method m class (entry_seen entry.now) }
-{
-    if !entry.binds {
-        return None;
-    }
-    match entry.member {
-        Member::Field(_) => None,
-        Member::Method(def) => Some(def),
-    }
+/// A class of a module: the outline of the module, and the number of the class.
+#[derive(Drop)]
+struct NumberedClass<'m> {
+    pub outline: &'m ModuleOutline<'m>,
+    pub number: usize,
 }
 
 /// Adds a field of a class after those that it has, and to the map by name.
@@ -103,11 +86,10 @@ fn add_method<Ty: Drop>(
     Ok(new)
 }
 
-/// Adds the entry's field, if it declares one.
+/// Reads the entry's field, if it is one, and adds it where it binds its name.
 fn add_own_field<S: TypeStore>(
+    reader: &mut TypeReader<'_, S>,
     outline: &ModuleOutline,
-    store: &mut S,
-    alloc: Allocator,
     named: &mut NamedMaps,
     fields: &mut Vec<Parameter<S::Ty>>,
     at: usize,
@@ -117,64 +99,75 @@ fn add_own_field<S: TypeStore>(
     requires outline { IsModuleOutline outline.now }
     ensures within { IfOk result (λ new. IsMap named.new new) }
     ensures kept { OnOk result (KeepsNamed named.old named.new) }
-    ensures store { KeepsTypes S.has store.old store.new }
+    ensures store { KeepsTypes S.has reader.old.store.now reader.new.store.now }
+    ensures same { IsLentSame reader.old reader.new }
+    ensures found { OnOk result (reader.new.found.now.items ≡ reader.old.found.now.items
+        ++ field_annotated (module_in outline.now) (member_of entry.now.member.now)) }
     ensures added { (front back : List (ParameterOf S.Ty))
         → IsMapOf parameter_name named.old fields.old.items at (front ++ back)
         → AreOther field_name (map (parameter_with S.tree) front)
         (own_field (module_in outline.now) (entry_seen entry.now))
-        → IfOk result (λ new. Added parameter_name (HasParameter (S.has store.new))
+        → IfOk result (λ new. Added parameter_name (HasParameter (S.has reader.new.store.now))
         (parameter_with S.tree) named.new fields.old.items fields.new.items new front back
         (own_field (module_in outline.now) (entry_seen entry.now))) }
 {
-    match own_field(entry) {
-        Some(field) => {
-            let parameter = read_field(outline, store, alloc, field)?;
-            let new = add_field(named, alloc, fields, at, parameter)?;
+    match entry.member {
+        Member::Field(field) => {
+            let parameter = read_field(reader, outline, field)?;
+            if !entry.binds {
+                return Ok(at);
+            }
+            let new = add_field(named, reader.alloc, fields, at, parameter)?;
             Ok(new)
         }
-        None => Ok(at),
+        Member::Method(_) => Ok(at),
     }
 }
 
-/// Adds the entry's method, if it declares one.
+/// Reads and adds the entry's method, if it binds one.
 fn add_own_method<S: TypeStore>(
-    outline: &ModuleOutline,
-    store: &mut S,
-    alloc: Allocator,
+    reader: &mut TypeReader<'_, S>,
+    class: &NumberedClass,
     named: &mut NamedMaps,
     methods: &mut Vec<Method<S::Ty>>,
-    class: usize,
     at: usize,
     entry: &Entry,
 ) -> Result<usize, OutOfMemory>
     requires map { IsMap named.old at }
-    requires outline { IsModuleOutline outline.now }
+    requires outline { IsModuleOutline class.now.outline.now }
     ensures within { IfOk result (λ new. IsMap named.new new) }
     ensures kept { OnOk result (KeepsNamed named.old named.new) }
-    ensures store { KeepsTypes S.has store.old store.new }
+    ensures store { KeepsTypes S.has reader.old.store.now reader.new.store.now }
+    ensures same { IsLentSame reader.old reader.new }
+    ensures found { OnOk result (reader.new.found.now.items ≡ reader.old.found.now.items
+        ++ method_annotated (module_in class.now.outline.now) entry.now.binds (member_of entry.now.member.now)) }
     ensures added { (front back : List (MethodOf S.Ty))
         → IsMapOf stored_method_name named.old methods.old.items at (front ++ back)
         → AreOther class_method_name (map (method_with S.tree) front)
-        (own_method (module_in outline.now) class (entry_seen entry.now))
-        → IfOk result (λ new. Added stored_method_name (HasMethod (S.has store.new))
+        (own_method (module_in class.now.outline.now) class.now.number (entry_seen entry.now))
+        → IfOk result (λ new. Added stored_method_name (HasMethod (S.has reader.new.store.now))
         (method_with S.tree) named.new methods.old.items methods.new.items new front back
-        (own_method (module_in outline.now) class (entry_seen entry.now))) }
+        (own_method (module_in class.now.outline.now) class.now.number (entry_seen entry.now))) }
 {
-    match own_method(entry) {
-        Some(def) => {
-            let method = read_method(outline, store, alloc, class, entry.number, def)?;
-            let new = add_method(named, alloc, methods, at, method)?;
+    match entry.member {
+        Member::Field(_) => Ok(at),
+        Member::Method(def) => {
+            // What binds no name is no method of the class; its annotations are read with its signature.
+            if !entry.binds {
+                return Ok(at);
+            }
+            let method = read_method(reader, class.outline, class.number, entry.number, def)?;
+            let new = add_method(named, reader.alloc, methods, at, method)?;
             Ok(new)
         }
-        None => Ok(at),
     }
 }
 
-/// Adds the fields that the entries of a class bind, after those that it inherits; the map that tells them all.
+/// Adds the fields that the entries of a class bind, after those that it inherits; the map that tells them all. The
+/// annotations of all its fields are read.
 fn add_fields<S: TypeStore>(
+    reader: &mut TypeReader<'_, S>,
     outline: &ModuleOutline,
-    store: &mut S,
-    alloc: Allocator,
     named: &mut NamedMaps,
     fields: &mut Vec<Parameter<S::Ty>>,
     inherited: usize,
@@ -184,49 +177,54 @@ fn add_fields<S: TypeStore>(
     requires outline { IsModuleOutline outline.now }
     ensures within { IfOk result (λ new. IsMap named.new new) }
     ensures kept { OnOk result (KeepsNamed named.old named.new) }
-    ensures store { KeepsTypes S.has store.old store.new }
+    ensures store { KeepsTypes S.has reader.old.store.now reader.new.store.now }
+    ensures same { IsLentSame reader.old reader.new }
+    ensures found { OnOk result (reader.new.found.now.items ≡ reader.old.found.now.items
+        ++ fields_annotated (module_in outline.now) (members_of_entries entries.now)) }
     ensures added { (front back : List (ParameterOf S.Ty))
         → IsMapOf parameter_name named.old fields.old.items inherited (front ++ back)
         → AreNew field_name (own_field (module_in outline.now)) (map (parameter_with S.tree) front)
         (map entry_seen entries.now)
-        → IfOk result (λ new. Added parameter_name (HasParameter (S.has store.new))
+        → IfOk result (λ new. Added parameter_name (HasParameter (S.has reader.new.store.now))
         (parameter_with S.tree) named.new fields.old.items fields.new.items new front back
         (all_own (own_field (module_in outline.now)) (map entry_seen entries.now))) }
 {
     let mut at = inherited;
     for entry in entries {
-        at = add_own_field(outline, store, alloc, named, fields, at, entry)?;
+        at = add_own_field(reader, outline, named, fields, at, entry)?;
     }
     Ok(at)
 }
 
 /// Adds the methods that the entries of a class bind, ahead of those that it inherits; the map that tells them all.
+/// Their annotations are read.
 fn add_methods<S: TypeStore>(
-    outline: &ModuleOutline,
-    store: &mut S,
-    alloc: Allocator,
+    reader: &mut TypeReader<'_, S>,
+    class: &NumberedClass,
     named: &mut NamedMaps,
     methods: &mut Vec<Method<S::Ty>>,
-    class: usize,
     inherited: usize,
     entries: &[Entry],
 ) -> Result<usize, OutOfMemory>
     requires map { IsMap named.old inherited }
-    requires outline { IsModuleOutline outline.now }
+    requires outline { IsModuleOutline class.now.outline.now }
     ensures within { IfOk result (λ new. IsMap named.new new) }
     ensures kept { OnOk result (KeepsNamed named.old named.new) }
-    ensures store { KeepsTypes S.has store.old store.new }
+    ensures store { KeepsTypes S.has reader.old.store.now reader.new.store.now }
+    ensures same { IsLentSame reader.old reader.new }
+    ensures found { OnOk result (reader.new.found.now.items ≡ reader.old.found.now.items
+        ++ methods_annotated (module_in class.now.outline.now) (map entry_seen entries.now)) }
     ensures added { (front back : List (MethodOf S.Ty))
         → IsMapOf stored_method_name named.old methods.old.items inherited (front ++ back)
-        → AreNew class_method_name (own_method (module_in outline.now) class) (map (method_with S.tree) front)
-        (map entry_seen entries.now)
-        → IfOk result (λ new. Added stored_method_name (HasMethod (S.has store.new))
+        → AreNew class_method_name (own_method (module_in class.now.outline.now) class.now.number)
+        (map (method_with S.tree) front) (map entry_seen entries.now)
+        → IfOk result (λ new. Added stored_method_name (HasMethod (S.has reader.new.store.now))
         (method_with S.tree) named.new methods.old.items methods.new.items new front back
-        (all_own (own_method (module_in outline.now) class) (map entry_seen entries.now))) }
+        (all_own (own_method (module_in class.now.outline.now) class.now.number) (map entry_seen entries.now))) }
 {
     let mut at = inherited;
     for entry in entries {
-        at = add_own_method(outline, store, alloc, named, methods, class, at, entry)?;
+        at = add_own_method(reader, class, named, methods, at, entry)?;
     }
     Ok(at)
 }
@@ -268,22 +266,23 @@ fn places_between(start: usize, end: usize) -> Span
 }
 
 /// Adds a class, over its base among those before it; finds what its members' names tell: E06, E08. Library
-/// reference, `dataclasses`; own rules of the profile.
+/// reference, `dataclasses`; own rules of the profile. Reads the annotations of its fields, and of the methods that it
+/// binds.
 pub(crate) fn add_class<S: TypeStore>(
+    reader: &mut TypeReader<'_, S>,
     outline: &ModuleOutline,
-    store: &mut S,
-    alloc: Allocator,
     parts: &mut TableParts<S::Ty>,
     found: &mut Findings,
     definition: &ClassDef,
 ) -> Result<(), OutOfMemory>
     requires outline { IsModuleOutline outline.now }
     requires table { IsClassTable parts.old }
-    requires given { HasParts (S.has store.old) parts.old }
+    requires given { HasParts (S.has reader.old.store.now) parts.old }
     requires class { IsClassAt (module_in outline.now) (length parts.old.classes.items) (class_of definition.now) }
-    ensures store { KeepsTypes S.has store.old store.new }
+    ensures store { KeepsTypes S.has reader.old.store.now reader.new.store.now }
+    ensures same { IsLentSame reader.old reader.new }
     ensures table { OnOk result (IsClassTable parts.new) }
-    ensures given { OnOk result (HasParts (S.has store.new) parts.new) }
+    ensures given { OnOk result (HasParts (S.has reader.new.store.now) parts.new) }
     ensures more { OnOk result (length parts.new.classes.items ≡ length parts.old.classes.items + 1) }
     ensures classes { OnOk result
         (classes_with S.tree (entries_in parts.new)
@@ -295,18 +294,27 @@ pub(crate) fn add_class<S: TypeStore>(
         ++ found_over (base_facts (classes_with S.tree (entries_in parts.old))
         (base_named (module_in outline.now) (length parts.old.classes.items) (class_of definition.now).base))
         (class_of definition.now)) }
+    ensures annotated { OnOk result (reader.new.found.now.items ≡ reader.old.found.now.items
+        ++ class_annotated (module_in outline.now) (base_facts (classes_with S.tree (entries_in parts.old))
+        (base_named (module_in outline.now) (length parts.old.classes.items) (class_of definition.now).base))
+        (class_of definition.now)) }
 {
-    let class = parts.classes.len();
-    let base = outline.parents.base(class);
+    let number = parts.classes.len();
+    let class = NumberedClass { outline, number };
+    let base = outline.parents.base(number);
     let inherited = inherited(&parts.classes, base);
-    let members = entries(alloc, &parts.named, inherited.held, &definition.members)?;
+    let members = entries(
+        reader.alloc,
+        &parts.named,
+        inherited.held,
+        &definition.members,
+    )?;
     find_clashes(found, &members)?;
     let defaulted = find_late_fields(found, inherited.defaulted, &members)?;
     let fields_start = parts.fields.len();
     let fields = add_fields(
+        reader,
         outline,
-        store,
-        alloc,
         &mut parts.named,
         &mut parts.fields,
         inherited.held.fields,
@@ -315,12 +323,10 @@ pub(crate) fn add_class<S: TypeStore>(
     let fields_end = parts.fields.len();
     let methods_start = parts.methods.len();
     let methods = add_methods(
-        outline,
-        store,
-        alloc,
+        reader,
+        &class,
         &mut parts.named,
         &mut parts.methods,
-        class,
         inherited.held.methods,
         &members,
     )?;

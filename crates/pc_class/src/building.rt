@@ -4,19 +4,21 @@ ghost use Rattle.std.specs.Prelude.{◌≡◌, ◌++◌, ◌∷◌, ◌+◌, [],
 ghost use Rattle.pc_tree.specs.Tree.{item_of, module_of};
 ghost use Rattle.pc_scope.specs.Bindings.{classes_in};
 ghost use Rattle.pc_scope.specs.ModuleScopes.{AreScopes};
-ghost use Rattle.pc_ann.specs.Bases.{bases_of};
 ghost use Rattle.pc_types.specs.Store.{KeepsTypes};
+ghost use Rattle.pc_class.specs.Annotated.{member_annotations};
 ghost use Rattle.pc_class.specs.Facts.{classes_behind, classes_of};
 ghost use Rattle.pc_class.specs.Outlines.{IsClassNumbered};
 ghost use Rattle.pc_class.specs.Tables.{classes_with, HasEntries};
 ghost use Rattle.pc_class.specs.Parts.{entries_in, IsClassTable, HasParts};
 ghost use Rattle.pc_ann.specs.ModuleOutlines.{IsModuleOutline, module_in};
-ghost use Rattle.pc_class.specs.Built.{found_behind, class_findings};
+ghost use Rattle.pc_class.specs.Built.{found_behind, annotated_behind, class_findings};
+ghost use Rattle.pc_class.specs.Internal.Readers.{IsLentSame};
 
 use crate::adding::add_class;
 use crate::bases::find_missing_bases;
 use crate::field_lists::ClassLists;
 use crate::parts::TableParts;
+use crate::reading::TypeReader;
 use crate::table::ClassTable;
 use pc_ann::{ModuleOutline, parents_of};
 use pc_maps::NamedMaps;
@@ -42,24 +44,25 @@ fn no_classes<Ty: Drop>(alloc: Allocator) -> Result<TableParts<Ty>, OutOfMemory>
     })
 }
 
-/// Adds an item of the module: the class, if it is one, and what is found of its members by their names.
+/// Adds an item of the module: the class, if it is one, with what is found of its members.
 fn add_item<S: TypeStore>(
+    reader: &mut TypeReader<'_, S>,
     outline: &ModuleOutline,
-    store: &mut S,
-    alloc: Allocator,
     parts: &mut TableParts<S::Ty>,
     found: &mut Findings,
     item: &Item,
 ) -> Result<(), OutOfMemory>
     requires outline { IsModuleOutline outline.now }
     requires table { IsClassTable parts.old }
-    requires given { HasParts (S.has store.old) parts.old }
+    requires given { HasParts (S.has reader.old.store.now) parts.old }
     requires class { IsClassNumbered (module_in outline.now) (length parts.old.classes.items) (item_of item.now) }
-    ensures store { KeepsTypes S.has store.old store.new }
+    ensures store { KeepsTypes S.has reader.old.store.now reader.new.store.now }
+    ensures same { IsLentSame reader.old reader.new }
     ensures table { OnOk result (IsClassTable parts.new) }
-    ensures given { OnOk result (HasParts (S.has store.new) parts.new) }
+    ensures given { OnOk result (HasParts (S.has reader.new.store.now) parts.new) }
     ensures more { OnOk result
-        (length parts.new.classes.items ≡ length parts.old.classes.items + length (classes_in (item_of item.now ∷ []))) }
+        (length parts.new.classes.items
+        ≡ length parts.old.classes.items + length (classes_in (item_of item.now ∷ []))) }
     ensures classes { OnOk result
         (classes_with S.tree (entries_in parts.new)
         ≡ classes_behind (module_in outline.now) (classes_with S.tree (entries_in parts.old))
@@ -68,11 +71,14 @@ fn add_item<S: TypeStore>(
         (found.new.items ≡ found.old.items
         ++ found_behind (module_in outline.now) (classes_with S.tree (entries_in parts.old))
         (length parts.old.classes.items) (classes_in (item_of item.now ∷ []))) }
+    ensures annotated { OnOk result (reader.new.found.now.items ≡ reader.old.found.now.items
+        ++ annotated_behind (module_in outline.now) (classes_with S.tree (entries_in parts.old))
+        (length parts.old.classes.items) (classes_in (item_of item.now ∷ []))) }
 {
     match &item.kind {
         ItemKind::Constant(_) => Ok(()),
         ItemKind::Class(definition) => {
-            add_class(outline, store, alloc, parts, found, definition)?;
+            add_class(reader, outline, parts, found, definition)?;
             Ok(())
         }
         ItemKind::Def(_) => Ok(()),
@@ -81,10 +87,38 @@ fn add_item<S: TypeStore>(
 
 /// What the table of all classes of the module is made of.
 fn all_classes<S: TypeStore>(
+    reader: &mut TypeReader<'_, S>,
     outline: &ModuleOutline,
+    found: &mut Findings,
+) -> Result<TableParts<S::Ty>, OutOfMemory>
+    requires { IsModuleOutline outline.now }
+    ensures store { KeepsTypes S.has reader.old.store.now reader.new.store.now }
+    ensures same { IsLentSame reader.old reader.new }
+    ensures table { IfOk result IsClassTable }
+    ensures given { IfOk result (HasParts (S.has reader.new.store.now)) }
+    ensures classes { IfOk result (λ p. classes_with S.tree (entries_in p) ≡ classes_of (module_in outline.now)) }
+    ensures found { OnOk result
+        (found.new.items ≡ found.old.items
+        ++ found_behind (module_in outline.now) [] 0 (classes_in (module_in outline.now).items)) }
+    ensures annotated { OnOk result (reader.new.found.now.items ≡ reader.old.found.now.items
+        ++ annotated_behind (module_in outline.now) [] 0 (classes_in (module_in outline.now).items)) }
+{
+    let items = outline.tree.items.as_slice();
+    let mut parts = no_classes(reader.alloc)?;
+    for item in items {
+        add_item(reader, outline, &mut parts, found, item)?;
+    }
+    Ok(parts)
+}
+
+/// What the table of all classes of the module is made of; what is found in the annotations of their members is
+/// appended to a list of its own.
+fn read_classes<S: TypeStore>(
     store: &mut S,
     alloc: Allocator,
+    outline: &ModuleOutline,
     found: &mut Findings,
+    in_annotations: &mut Findings,
 ) -> Result<TableParts<S::Ty>, OutOfMemory>
     requires { IsModuleOutline outline.now }
     ensures store { KeepsTypes S.has store.old store.new }
@@ -94,17 +128,20 @@ fn all_classes<S: TypeStore>(
     ensures found { OnOk result
         (found.new.items ≡ found.old.items
         ++ found_behind (module_in outline.now) [] 0 (classes_in (module_in outline.now).items)) }
+    ensures annotated { OnOk result (in_annotations.new.items ≡ in_annotations.old.items
+        ++ annotated_behind (module_in outline.now) [] 0 (classes_in (module_in outline.now).items)) }
 {
-    let items = outline.tree.items.as_slice();
-    let mut parts = no_classes(alloc)?;
-    for item in items {
-        add_item(outline, store, alloc, &mut parts, found, item)?;
-    }
-    Ok(parts)
+    let mut reader = TypeReader {
+        store,
+        alloc,
+        found: in_annotations,
+    };
+    all_classes(&mut reader, outline, found)
 }
 
-/// The class table of a module, with what is found of its classes appended to `found`: E06, E07 and E08. The
-/// annotations of the members are read for their types alone.
+/// The class table of a module, with what is found of its classes appended to `found`: E07, then of each class E06 and
+/// E08; and after these what is found in the annotations of fields, and of methods that bind their names: E09, E10 and
+/// E26. The annotations of a method that binds no name are not read here, since the table has no such method.
 ///
 /// Library reference, `dataclasses`; Language Reference 3.12, 8.8 "Class definitions"; the codes are own rules of the
 /// profile.
@@ -119,7 +156,8 @@ pub fn class_table<S: TypeStore>(
     ensures classes { IfOk result (λ t. classes_with S.tree t ≡ classes_of (module_of tree.now)) }
     ensures given { IfOk result (HasEntries (S.has store.new)) }
     ensures kept { KeepsTypes S.has store.old store.new }
-    ensures found { OnOk result (found.new.items ≡ found.old.items ++ class_findings (module_of tree.now)) }
+    ensures found { OnOk result (found.new.items ≡ found.old.items
+        ++ (class_findings (module_of tree.now) ++ member_annotations (module_of tree.now))) }
 {
     let parents = parents_of(alloc, tree, scopes)?;
     find_missing_bases(found, &parents, &tree.items)?;
@@ -128,7 +166,9 @@ pub fn class_table<S: TypeStore>(
         scopes,
         parents: &parents,
     };
-    let parts = all_classes(&outline, store, alloc, found)?;
+    let mut in_annotations = Vec::new(alloc);
+    let parts = read_classes(store, alloc, &outline, found, &mut in_annotations)?;
+    found.extend_from_slice(&in_annotations)?;
     let lists = ClassLists::new(alloc, &parts)?;
     Ok(ClassTable::of(parts, parents, lists))
 }

@@ -9,7 +9,6 @@ mod field_lists;
 mod laws;
 mod listed;
 mod listing;
-mod overriding;
 mod parts;
 mod reading;
 mod table;
@@ -21,7 +20,6 @@ pub use laws::{
 };
 pub use listed::ParameterList;
 pub use listing::Listing;
-pub use overriding::override_findings;
 pub use pc_ann::bases_stand_before;
 pub use reading::read_param;
 pub use table::{ClassTable, Field, Method, Parameter};

@@ -135,14 +135,14 @@ impl<Ty: Drop> ClassTable<Ty> {
     }
 
     /// How many classes there are.
-    pub(crate) fn count(&self) -> usize
+    pub fn count(&self) -> usize
         ensures { result ≡ length self.now }
     {
         self.parts.classes.len()
     }
 
     /// The methods that a class binds itself, in text order.
-    pub(crate) fn own_methods(&self, class: usize) -> &[Method<Ty>]
+    pub fn own_methods(&self, class: usize) -> &[Method<Ty>]
         requires { class < length self.now }
         ensures over { (slice_index_or self.now class empty_entry).methods
             ≡ result.now ++ (inherited_entry self.now (slice_index_or self.now class empty_entry).base).methods }

@@ -32,6 +32,7 @@ use Rattle.pc_module_rules.specs.Computed.Modules.{module_finds}
 use Rattle.pc_module_rules.specs.Computed.DynamicFlows.{dynamic_flow}
 use Rattle.pc_module_rules.specs.Modules.{IsFinding}
 use Rattle.pc_module_rules.proofs.RightModules.{right_module}
+use Rattle.pc_module_rules.proofs.RightSignatures.{annotations_plain}
 use Rattle.pc_module_rules.proofs.WalkedModule.{findings_computed}
 
 -- ---- findings of scopes and of classes
@@ -154,14 +155,17 @@ flow_found m p = (to, from)
       | inl s ↦ absurd (cc (scope_plain m (finding p A1) s))
       | inr r ↦ elim r [
         | inl c ↦ absurd (cc (class_plain m (finding p A1) c))
-        | inr x ↦ noted (bases_of m) p (module_finds m []) (all_right m) x
+        | inr x ↦ elim x [
+          | inl a ↦ absurd (cc (annotations_plain m (finding p A1) a))
+          | inr n ↦ noted (bases_of m) p (module_finds m []) (all_right m) n
+        ]
       ]
     ]
 
     from : IsSome (dynamic_flow m p) → IsFinding m (finding p A1)
     from some = (findings_computed m (finding p A1)).1
-        (inr (inr (stands_of (bases_of m) p (module_finds m []) (dynamic_flow m p)
-        (told (bases_of m) p (module_finds m []) (all_right m)) some)))
+        (inr (inr (inr (stands_of (bases_of m) p (module_finds m []) (dynamic_flow m p)
+        (told (bases_of m) p (module_finds m []) (all_right m)) some))))
 
 told_of : (m : Module) (p : Place) (s t : Tree) → dynamic_flow m p ≡ Some (s, t)
     → Told (bases_of m) p (module_finds m []) (s, t)

@@ -1,6 +1,7 @@
 -- The notes of the signatures of a module and of its constants are right, and the types of its constants are
 -- well-formed.
-use Rattle.std.proofs.Common.{ℕ, Bool as Test, true, false, List, [], ◌∷◌, ◌++◌, Option, Some, None, refl, map}
+use Rattle.std.proofs.Common.{ℕ, Bool as Test, true, false, List, [], ◌∷◌, ◌++◌, Option, Some, None, refl, map, subst}
+use Rattle.std.proofs.Common.{suc, inl, inr, Contains}
 use Rattle.std.specs.Prelude.{if◌then◌else◌, nat_le, codes}
 use Rattle.std.specs.List.{AllByRecursion}
 use Rattle.pc_source.specs.declared.place.Place.{Place}
@@ -12,7 +13,9 @@ use Rattle.pc_tree.specs.Depth.{place_of, place_of_ann}
 use Rattle.pc_tree.specs.Stopping.{name_of_member}
 use Rattle.pc_tree.specs.Tree.{Ann, Anns, named, none_type, applied, applied_empty, no_anns, more_anns, Expr, Literal}
 use Rattle.pc_tree.specs.Tree.{Param, FuncDef, Field, Member, field_member, method_member, Constant, Item}
-use Rattle.pc_tree.specs.Tree.{constant_item, class_item, def_item, Module}
+use Rattle.pc_tree.specs.Tree.{ClassDef, constant_item, class_item, def_item, Module}
+use Rattle.pc_tree.proofs.Among.{none_among, among_first}
+use Rattle.pc_scope.specs.Bindings.{classes_in}
 use Rattle.pc_tree.specs.Tree as tree
 use Rattle.pc_scope.specs.Resolution.{resolve_in_module}
 use Rattle.pc_types.specs.Tree.{Tree}
@@ -24,8 +27,11 @@ use Rattle.pc_ann.specs.Annotations.{read_option}
 use Rattle.pc_ann.proofs.Earlier.{smaller}
 use Rattle.pc_ann.proofs.Readings.{read_ann_well_formed, read_option_well_formed}
 use Rattle.pc_ann.specs.Listed.{without_type, inside_type, part_findings, parts_findings, ann_findings, option_findings}
-use Rattle.pc_class.specs.Bases.{bases_of}
-use Rattle.pc_class.specs.Facts.{ClassFacts}
+use Rattle.pc_class.specs.Annotated.{params_annotated, def_annotated, fields_annotated, method_annotated}
+use Rattle.pc_class.specs.Annotated.{methods_annotated, class_annotated, classes_annotated, member_annotations}
+use Rattle.pc_class.specs.Bases.{bases_of, base_named}
+use Rattle.pc_class.specs.Entries.{MemberEntry, inherited_by, class_entries}
+use Rattle.pc_class.specs.Facts.{ClassFacts, base_facts, classes_of}
 use Rattle.pc_flow.specs.WellFormed.{AreWellFormed}
 use Rattle.pc_notes.specs.Notes.{Note, plain_note}
 use Rattle.pc_rules.specs.Operations.{clean}
@@ -34,11 +40,13 @@ use Rattle.pc_rules.specs.Computed.Findings.{flows_at}
 use Rattle.pc_rules.specs.Signatures.{literal_type, literal_place, constant_type, annotated_types, first_of_types}
 use Rattle.pc_rules.specs.Computed.Signatures.{no_name, with_name, binds_text, binds_as_field, default_findings}
 use Rattle.pc_rules.specs.Computed.Signatures.{ItemsReached, nothing_reached, param_findings, params_findings}
-use Rattle.pc_rules.specs.Computed.Signatures.{def_findings, function_findings, functions_findings, field_findings}
+use Rattle.pc_rules.specs.Computed.Signatures.{def_findings, function_findings, functions_findings}
 use Rattle.pc_rules.specs.Computed.Signatures.{member_findings, members_findings, base_at, initial, initializer_types}
 use Rattle.pc_rules.specs.Computed.Signatures.{initializer_label, type_of_constant, value_findings, constant_findings}
 use Rattle.pc_rules.specs.Computed.Signatures.{behind, behind_all, item_findings, items_findings, constants_of}
 use Rattle.pc_rules.specs.Computed.Signatures.{signatures_find}
+use Rattle.pc_rules.specs.Computed.Signatures.{param_default, params_defaults, field_default, binds_as_method}
+use Rattle.pc_rules.specs.Computed.Signatures.{method_findings}
 use Rattle.pc_rules.specs.Computed.Standing.{label_in, finds_in}
 use Rattle.pc_rules.proofs.Contexts.{initializers_well_formed}
 use Rattle.pc_rules.proofs.SignaturesListed.{literal_well_formed}
@@ -98,6 +106,58 @@ module _ (m : Module) (bases : Bases) where
   right_option : (a : Option Ann) → AreRight bases (map plain_note (option_findings m bases a))
   right_option a = right_plain bases (option_findings m bases a) (option_plain a)
 
+-- what is found in the annotations of the members of classes has codes other than that of a dynamic flow
+module _ (m : Module) where
+  params_plain : (ps : List Param) → PlainFindings (params_annotated m ps)
+  params_plain [] = tt
+  params_plain (p ∷ ps) = plain_then (option_findings m (bases_of m) p.annotation) (params_annotated m ps)
+      (option_plain m (bases_of m) p.annotation) (params_plain ps)
+
+  def_plain : (d : FuncDef) → PlainFindings (def_annotated m d)
+  def_plain d = plain_then (params_annotated m d.params) (option_findings m (bases_of m) d.returns)
+      (params_plain d.params) (option_plain m (bases_of m) d.returns)
+
+  fields_plain : (ms : List Member) → PlainFindings (fields_annotated m ms)
+  fields_plain [] = tt
+  fields_plain (field_member d ∷ ms) = plain_then (ann_findings m (bases_of m) d.annotation) (fields_annotated m ms)
+      (ann_plain m (bases_of m) d.annotation) (fields_plain ms)
+  fields_plain (method_member d ∷ ms) = fields_plain ms
+
+  method_plain : (binds : Test) (x : Member) → PlainFindings (method_annotated m binds x)
+  method_plain binds (field_member d) = tt
+  method_plain true (method_member d) = def_plain d
+  method_plain false (method_member d) = tt
+
+  methods_plain : (es : List MemberEntry) → PlainFindings (methods_annotated m es)
+  methods_plain [] = tt
+  methods_plain (e ∷ es) = plain_then (method_annotated m e.binds e.member) (methods_annotated m es)
+      (method_plain e.binds e.member) (methods_plain es)
+
+  class_plain : (base : ClassFacts) (c : ClassDef) → PlainFindings (class_annotated m base c)
+  class_plain base c =
+      let entries = class_entries (inherited_by base) c in
+      plain_then (fields_annotated m c.members) (methods_annotated m entries) (fields_plain c.members)
+      (methods_plain entries)
+
+  classes_plain : (n : ℕ) (cs : List ClassDef) → PlainFindings (classes_annotated m n cs)
+  classes_plain n [] = tt
+  classes_plain n (c ∷ cs) =
+      let base = base_facts (classes_of m) (base_named m n c.base) in
+      plain_then (class_annotated m base c) (classes_annotated m (suc n) cs) (class_plain base c)
+      (classes_plain (suc n) cs)
+
+  plain_among : (fs : List Finding) → PlainFindings fs → (f : Finding) → Contains fs f → IsPlain f.code
+  plain_among [] h f c = absurd (none_among f c)
+  plain_among (g ∷ gs) h f c = elim (among_first g gs f c) [
+    | inl e ↦ subst (λ (x : Finding). IsPlain x.code) e h.0
+    | inr r ↦ plain_among gs h.1 f r
+  ]
+
+  pub annotations_plain : (f : Finding) → Contains (member_annotations m) f → IsPlain f.code
+  unfolding member_annotations
+  annotations_plain f c =
+      plain_among (classes_annotated m 0 (classes_in m.items)) (classes_plain 0 (classes_in m.items)) f c
+
 module _ (m : Module) where
   abbrev bases : Bases
   bases = bases_of m
@@ -119,13 +179,14 @@ module _ (m : Module) where
 
   -- ---- functions
 
+  right_param_default : (bound : List ℕ → Test) (p : Param) → Right (param_default m bound p)
+  right_param_default bound p = right_default (binds_text bound p.name.text) p.default
+      (read_option m bases p.annotation) (read_option_well_formed m bases (smaller m) p.annotation)
+
   right_param : (bound : List ℕ → Test) (p : Param) → Right (param_findings m bound p)
   right_param bound p =
-      right_then (map plain_note (option_findings m bases p.annotation))
-      (default_findings bases (binds_text bound p.name.text) p.default (read_option m bases p.annotation))
-      (right_option m bases p.annotation)
-      (right_default (binds_text bound p.name.text) p.default (read_option m bases p.annotation)
-      (read_option_well_formed m bases (smaller m) p.annotation))
+      right_then (map plain_note (option_findings m bases p.annotation)) (param_default m bound p)
+      (right_option m bases p.annotation) (right_param_default bound p)
 
   right_params : (bound : List ℕ → Test) (ps : List Param) → Right (params_findings m bound ps)
   right_params bound [] = tt
@@ -149,17 +210,23 @@ module _ (m : Module) where
 
   -- ---- classes
 
-  right_field : (base : ClassFacts) (bound : List ℕ → Test) (d : Field) → Right (field_findings m base bound d)
-  right_field base bound d =
-      right_then (map plain_note (ann_findings m bases d.annotation))
-      (default_findings bases (binds_as_field base bound d.name.text) d.default (read_ann m bases d.annotation))
-      (right_annotation m bases d.annotation)
-      (right_default (binds_as_field base bound d.name.text) d.default (read_ann m bases d.annotation)
-      (read_ann_well_formed m bases (smaller m) d.annotation))
+  right_field : (base : ClassFacts) (bound : List ℕ → Test) (d : Field) → Right (field_default m base bound d)
+  right_field base bound d = right_default (binds_as_field base bound d.name.text) d.default
+      (read_ann m bases d.annotation) (read_ann_well_formed m bases (smaller m) d.annotation)
+
+  right_defaults : (bound : List ℕ → Test) (ps : List Param) → Right (params_defaults m bound ps)
+  right_defaults bound [] = tt
+  right_defaults bound (p ∷ ps) = right_then (param_default m bound p)
+      (params_defaults m (with_name bound p.name.text) ps) (right_param_default bound p)
+      (right_defaults (with_name bound p.name.text) ps)
+
+  right_method : (binds : Test) (d : FuncDef) → Right (method_findings m binds d)
+  right_method true d = right_defaults (with_name no_name (codes "self")) d.params
+  right_method false d = right_def (with_name no_name (codes "self")) d
 
   right_member : (base : ClassFacts) (bound : List ℕ → Test) (x : Member) → Right (member_findings m base bound x)
   right_member base bound (field_member d) = right_field base bound d
-  right_member base bound (method_member d) = right_def (with_name no_name (codes "self")) d
+  right_member base bound (method_member d) = right_method (binds_as_method base bound d.name.text) d
 
   right_members : (base : ClassFacts) (bound : List ℕ → Test) (xs : List Member)
       → Right (members_findings m base bound xs)

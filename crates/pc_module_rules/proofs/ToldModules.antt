@@ -20,9 +20,9 @@ use Rattle.pc_ann.specs.Annotations.{read_ann, read_option}
 use Rattle.pc_types.specs.Computed.{static_test}
 use Rattle.pc_ann.proofs.Earlier.{smaller}
 use Rattle.pc_ann.proofs.Readings.{read_ann_well_formed, read_option_well_formed}
-use Rattle.pc_ann.specs.Listed.{ann_findings, option_findings}
+use Rattle.pc_ann.specs.Listed.{option_findings}
 use Rattle.pc_class.specs.Bases.{bases_of}
-use Rattle.pc_class.specs.Facts.{ClassFacts, return_type, base_facts, classes_of, binds_field}
+use Rattle.pc_class.specs.Facts.{ClassFacts, return_type, base_facts, classes_of, binds_field, binds_method}
 use Rattle.pc_class.specs.Findings.{base_class}
 use Rattle.pc_class.proofs.ClassesBuilt.{base_here}
 use Rattle.pc_class.proofs.WellFormed.{returned_well_formed}
@@ -40,6 +40,7 @@ use Rattle.pc_rules.specs.Computed.Signatures.{constants_of, signatures_find, no
 use Rattle.pc_rules.specs.Computed.Signatures.{default_findings, params_findings, def_findings, function_findings}
 use Rattle.pc_rules.specs.Computed.Signatures.{functions_findings, members_findings, base_at, initial, type_of_constant}
 use Rattle.pc_rules.specs.Computed.Signatures.{value_findings, constant_findings, class_notes, behind, items_findings}
+use Rattle.pc_rules.specs.Computed.Signatures.{params_defaults, method_findings, field_default}
 use Rattle.pc_rules.specs.Computed.Standing.{label_in, finds_in}
 use Rattle.pc_rules.proofs.ComputedFlows.{flows_are_lawful}
 use Rattle.pc_rules.proofs.ComputedLawful.{labels_are_lawful}
@@ -117,27 +118,43 @@ module _ (m : Module) where
       (map plain_note (option_findings m bases f.returns)) (dynamic_in_params f.params labels)
       (params_tell before f.params labels h) (tell_plain (option_findings m bases f.returns))
 
+  -- defaults of parameters, after these names
+  defaults_tell : (before : List (List ℕ)) (ps : List Param) (labels : ParamsLabels ps)
+      → LawfulParams m before ps labels → Tells (params_defaults m (λ t. is_one_of t before) ps)
+      (dynamic_in_params ps labels)
+  defaults_tell before [] labels h = λ q. refl
+  defaults_tell before (p ∷ ps) labels h =
+      tell_then (default_findings bases (binds_name before p.name) p.default (read_option m bases p.annotation))
+      (params_defaults m (λ t. is_one_of t (p.name.text ∷ before)) ps) (dynamic_at_default p.default labels.default)
+      (dynamic_in_params ps labels.rest)
+      (default_tells (binds_name before p.name) p.default (read_option m bases p.annotation) labels.default
+      (read_option_well_formed m bases (smaller m) p.annotation) h.default)
+      (defaults_tell (p.name.text ∷ before) ps labels.rest h.rest)
+
+  -- a method, whose annotations tell of no flow
+  method_tells : (binds : Test) (d : FuncDef) (labels : ParamsLabels d.params)
+      → LawfulParams m (codes "self" ∷ []) d.params labels → Tells (method_findings m binds d)
+      (dynamic_in_params d.params labels)
+  method_tells true d labels l = defaults_tell (codes "self" ∷ []) d.params labels l
+  method_tells false d labels l = def_tells (codes "self" ∷ []) d labels l
+
   -- members, after these names
   members_tell : (all : List Tree) (base : ClassFacts) (c number : ℕ) (before : List (List ℕ)) (ms : List Member)
       (labels : MembersLabels ms) → LawfulMembers m all base c number before ms labels
       → Tells (members_findings m base (λ t. is_one_of t before) ms) (dynamic_in_members ms labels)
   members_tell all base c number before [] labels l = λ q. refl
   members_tell all base c number before (field_member d ∷ rest) labels l =
-      let notes = map plain_note (ann_findings m bases d.annotation) in
-      let default = default_findings bases (binds_field base before d.name.text) d.default
-      (read_ann m bases d.annotation) in
-      let ds = dynamic_at_default d.default labels.default in
-      tell_then (notes ++ default) (members_findings m base (λ t. is_one_of t (d.name.text ∷ before)) rest) ds
-      (dynamic_in_members rest labels.rest)
-      (tell_then notes default [] ds (tell_plain (ann_findings m bases d.annotation))
+      tell_then (field_default m base (λ t. is_one_of t before) d)
+      (members_findings m base (λ t. is_one_of t (d.name.text ∷ before)) rest)
+      (dynamic_at_default d.default labels.default) (dynamic_in_members rest labels.rest)
       (default_tells (binds_field base before d.name.text) d.default (read_ann m bases d.annotation) labels.default
-      (read_ann_well_formed m bases (smaller m) d.annotation) l.default))
+      (read_ann_well_formed m bases (smaller m) d.annotation) l.default)
       (members_tell all base c number (d.name.text ∷ before) rest labels.rest l.others)
   members_tell all base c number before (method_member d ∷ rest) labels l =
-      tell_then (def_findings m (λ t. is_one_of t (codes "self" ∷ [])) d)
+      tell_then (method_findings m (binds_method base before d.name.text) d)
       (members_findings m base (λ t. is_one_of t (d.name.text ∷ before)) rest)
       (dynamic_in_params d.params labels.method.params) (dynamic_in_members rest labels.rest)
-      (def_tells (codes "self" ∷ []) d labels.method.params l.method.params)
+      (method_tells (binds_method base before d.name.text) d labels.method.params l.method.params)
       (members_tell all base c (suc number) (d.name.text ∷ before) rest labels.rest l.others)
 
   -- ---- constants

@@ -17,6 +17,7 @@ use Rattle.pc_notes.specs.Notes.{Note, plain_note, findings_of}
 use Rattle.pc_rules.specs.Operations.{clean}
 use Rattle.pc_rules.specs.Labels.{FlowLabels, Labels, is_of_scopes, IsFoundAt, IsFlowAt, Finds}
 use Rattle.pc_rules.specs.Computed.Findings.{codes_at, flows_at, notes_under}
+use Rattle.pc_rules.proofs.FoundBeside.{noted_beside, noted_apart, noted_together, told_apart, told_together}
 use Rattle.pc_rules.proofs.FoundList.{findings_listed, plain_findings}
 use Rattle.pc_module_rules.specs.Laws.Walks.{Adds, Lists}
 use Rattle.pc_module_rules.proofs.SaidByStatements.{no_annotation}
@@ -132,6 +133,48 @@ adds_list before xs h f = (
             Contains-append_right (findings_of before) (findings_of xs) f ((h f).1 b)
       ]),
 )
+
+-- two lists, and then what is found in annotations of both of them
+pub lists_beside : {P Q : Finding → Type 0} (xs ys : List Note) (as' bs cs : List Finding)
+    → ((f : Finding) → Contains cs f ↔ Contains (as' ++ bs) f) → Lists (xs ++ map plain_note as') P
+    → Lists (ys ++ map plain_note bs) Q → Lists ((xs ++ ys) ++ map plain_note cs) (λ f. P f ⊎ Q f)
+lists_beside xs ys as' bs cs order h k f =
+    let r = noted_beside f xs ys as' bs cs (order f) ((h f).0, λ p own. (h f).1 (p, own))
+    ((k f).0, λ q own. (k f).1 (q, own)) in
+    (r.0, λ q. r.1 q.0 q.1)
+
+-- a list after what was found, and then more, with what is found in annotations behind all of it
+pub adds_around : {P Q : Finding → Type 0} (before xs after : List Note) (fs : List Finding)
+    → Lists (xs ++ map plain_note fs) P → Adds (before ++ xs) after Q
+    → Adds before (after ++ map plain_note fs) (λ f. P f ⊎ Q f)
+adds_around {P = P} {Q = Q} before xs after fs h k f = (to, from)
+  where
+    listed : Contains (findings_of xs) f ⊎ Contains fs f → Contains (findings_of before) f
+        ⊎ ((P f ⊎ Q f) × IsElsewhere f)
+    listed s = let r = (h f).0 (told_together f xs fs s) in inr (inl r.0, r.1)
+
+    to : Contains (findings_of (after ++ map plain_note fs)) f → Contains (findings_of before) f
+        ⊎ ((P f ⊎ Q f) × IsElsewhere f)
+    to c = elim (told_apart f after fs c) [
+      | inl a ↦ elim ((k f).0 a) [
+        | inl b ↦ elim (noted_apart f before xs b) [ inl x ↦ inl x | inr y ↦ listed (inl y) ]
+        | inr q ↦ inr (inr q.0, q.1)
+      ]
+      | inr b ↦ listed (inr b)
+    ]
+
+    from : Contains (findings_of before) f ⊎ ((P f ⊎ Q f) × IsElsewhere f)
+        → Contains (findings_of (after ++ map plain_note fs)) f
+    from s = elim s [
+      | inl a ↦ told_together f after fs (inl ((k f).1 (inl (noted_together f before xs (inl a)))))
+      | inr b ↦ elim b.0 [
+        | inl p ↦ told_together f after fs (elim (told_apart f xs fs ((h f).1 (p, b.1))) [
+          | inl x ↦ inl ((k f).1 (inl (noted_together f before xs (inr x))))
+          | inr y ↦ inr y
+        ])
+        | inr q ↦ told_together f after fs (inl ((k f).1 (inr (q, b.1))))
+      ]
+    ]
 
 -- two lists after what was found
 pub adds_both : {P Q : Finding → Type 0} (before mid after : List Note) → Adds before mid P → Adds mid after Q

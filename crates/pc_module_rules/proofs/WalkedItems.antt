@@ -13,6 +13,7 @@ use Rattle.pc_types.specs.Tree.{Tree}
 use Rattle.pc_types.specs.WellFormed.{IsWellFormed}
 use Rattle.pc_ann.specs.Annotations.{OptionAnnFinds}
 use Rattle.pc_ann.specs.Listed.{option_findings}
+use Rattle.pc_class.specs.Annotated.{class_annotated, classes_annotated}
 use Rattle.pc_class.specs.Bases.{bases_of}
 use Rattle.pc_class.specs.Facts.{ClassFacts, base_facts, classes_of}
 use Rattle.pc_class.specs.Findings.{base_class}
@@ -37,9 +38,10 @@ use Rattle.pc_module_rules.specs.Computed.Statements.{function_finds}
 use Rattle.pc_module_rules.specs.Computed.Modules.{methods_find, bodies_find}
 use Rattle.pc_module_rules.specs.Laws.Walks.{Adds, BodySays, Lists}
 use Rattle.pc_module_rules.proofs.LabelledModule.{wants_well_formed, first_well_formed, constant_well_formed, one_more}
-use Rattle.pc_module_rules.proofs.WalkedFindings.{lists_nothing, lists_both, adds_nothing, adds_both}
+use Rattle.pc_module_rules.proofs.WalkedFindings.{lists_nothing, lists_both, lists_beside, adds_nothing, adds_both}
 use Rattle.pc_module_rules.proofs.WalkedFunctions.{bodies_say}
 use Rattle.pc_module_rules.proofs.WalkedMembers.{signature_listed, MethodsSay, members_listed, methods_say, lists_each}
+use Rattle.pc_module_rules.proofs.WalkedMembers.{without_annotations}
 
 -- what a walk has reached at an item
 abbrev pub reached_at : BeforeItem → ItemsReached
@@ -110,19 +112,22 @@ module _ (m : Module) where
   -- a class is the first of those from its number on
   class_listed : (all : List Tree) (b : BeforeItem) (p : _) (c : ClassDef) (labels : ItemLabels (class_item p c))
       → slice_get (classes_in m.items) b.classes ≡ Some c → LawfulItem m all b (class_item p c) labels
-      → Lists (class_notes m b.classes c) (MembersSay m c.members labels)
+      → Lists (class_notes m b.classes c ++ map plain_note (class_annotated m (base_class m b.classes c) c))
+      (MembersSay m c.members labels)
   class_listed all b p c labels is l =
       let same : base_at m b.classes ≡ base_class m b.classes c = ap (base_facts (classes_of m))
       (base_here m b.classes c is) in
-      subst (λ (x : ClassFacts). Lists (members_findings m x no_name c.members) (MembersSay m c.members labels))
+      subst (λ (x : ClassFacts). Lists (members_findings m x no_name c.members
+      ++ map plain_note (class_annotated m (base_class m b.classes c) c)) (MembersSay m c.members labels))
       (sym same) (members_listed m all (base_class m b.classes c) b.classes 0 [] c.members labels l)
 
-  -- a walk over items comes to the types of their constants, which are well-formed, and finds what is said of their
-  -- constants and classes
+  -- a walk over items comes to the types of their constants, which are well-formed, and finds, with what the class
+  -- table finds in annotations, what is said of their constants and classes
   pub record ItemsWalked (b : BeforeItem) (items : List Item) (labels : ItemsLabels items) : Type 0 where
     pub types : (behind_all m (reached_at b) items).constants ≡ b.constants ++ constant_types m items labels
     pub well_formed : AreWellFormed (bases_of m) (b.constants ++ constant_types m items labels)
-    pub listed : Lists (items_findings m (reached_at b) items) (ItemsSay m items labels)
+    pub listed : Lists (items_findings m (reached_at b) items ++ map plain_note (classes_annotated m b.classes
+        (classes_in items))) (ItemsSay m items labels)
 
   pub items_walked : (all : List Tree) (b : BeforeItem) → AreWellFormed (bases_of m) b.constants → (items : List Item)
       → ClassesFrom m b.classes (classes_in items) → (labels : ItemsLabels items)
@@ -135,6 +140,7 @@ module _ (m : Module) where
   items_walked all b kb (constant_item p c ∷ rest) from labels l =
       let mk = labels.first in
       let t = constant_type m c.annotation (type_of c.value mk.value) in
+      let annotated = classes_annotated m b.classes (classes_in rest) in
       let next = before_next m b (constant_item p c) mk in
       let r = items_walked all next (one_more m b.constants t kb (type_well_formed b kb p c mk all l.0)) rest from
       labels.rest l.1 in
@@ -150,30 +156,36 @@ module _ (m : Module) where
       record {
         types = ap (λ (x : ItemsReached). (behind_all m x rest).constants) here ∙ r.types ∙ more;
         well_formed = subst (AreWellFormed (bases_of m)) more r.well_formed;
-        listed = lists_both (constant_findings m (reached_at b) c)
-            (items_findings m (behind m (reached_at b) (constant_item p c)) rest)
-            (constant_listed b kb p c mk all l.0)
-            (subst (λ (x : ItemsReached). Lists (items_findings m x rest) (ItemsSay m rest labels.rest)) (sym here)
-            r.listed);
+        listed = lists_beside (constant_findings m (reached_at b) c)
+            (items_findings m (behind m (reached_at b) (constant_item p c)) rest) [] annotated annotated
+            (λ f. (λ h. h, λ h. h)) (without_annotations (constant_findings m (reached_at b) c)
+            (constant_listed b kb p c mk all l.0))
+            (subst (λ (x : ItemsReached). Lists (items_findings m x rest ++ map plain_note annotated)
+            (ItemsSay m rest labels.rest)) (sym here) r.listed);
       }
   items_walked all b kb (class_item p c ∷ rest) from labels l =
+      let here = class_annotated m (base_class m b.classes c) c in
+      let annotated = classes_annotated m (suc b.classes) (classes_in rest) in
       let next = before_next m b (class_item p c) labels.first in
       let r = items_walked all next kb rest (λ i. ap (slice_get (classes_in m.items)) (omega arith) ∙ from (suc i))
       labels.rest l.1 in
       record {
         types = r.types;
         well_formed = r.well_formed;
-        listed = lists_both (class_notes m b.classes c) (items_findings m (reached_at next) rest)
+        listed = lists_beside (class_notes m b.classes c) (items_findings m (reached_at next) rest)
+            here annotated (here ++ annotated) (λ f. (λ h. h, λ h. h))
             (class_listed all b p c labels.first (ap (slice_get (classes_in m.items)) (omega arith) ∙ from 0) l.0)
             r.listed;
       }
   items_walked all b kb (def_item p d ∷ rest) from labels l =
+      let annotated = classes_annotated m b.classes (classes_in rest) in
       let next = before_next m b (def_item p d) labels.first in
       let r = items_walked all next kb rest from labels.rest l.1 in
       record {
         types = r.types;
         well_formed = r.well_formed;
-        listed = lists_both [] (items_findings m (reached_at next) rest) lists_nothing r.listed;
+        listed = lists_beside [] (items_findings m (reached_at next) rest) [] annotated annotated
+            (λ f. (λ h. h, λ h. h)) lists_nothing r.listed;
       }
 
   -- ---- bodies

@@ -1,33 +1,47 @@
 -- What is found of the signatures of functions and of the members of classes, and in the bodies of methods, is what
 -- lawful labels say of them.
-use Rattle.std.proofs.Common.{◌⊎◌, ℕ, suc, List, [], ◌∷◌, inl, inr}
-use Rattle.std.specs.Prelude.{codes}
+use Rattle.std.proofs.Common.{◌≡◌, ◌⊎◌, ◌↔◌, ℕ, suc, List, [], ◌∷◌, ◌++◌, inl, inr, sym, subst, Contains, append_assoc}
+use Rattle.std.proofs.Common.{append-nil}
+use Rattle.std.specs.Prelude.{map, Bool as Test, true, false, if◌then◌else◌, codes}
 use Rattle.pc_tree.specs.declared.code.Finding.{Finding}
 use Rattle.pc_tree.specs.Tree.{FuncDef, Member, field_member, method_member, Module}
 use Rattle.pc_scope.specs.Resolution.{is_one_of}
 use Rattle.pc_scope.specs.declared.resolution.Owner.{Owner}
 use Rattle.pc_scope.specs.declared.resolution.Owner.TheVariants as owners
 use Rattle.pc_types.specs.Tree.{Tree}
-use Rattle.pc_ann.specs.Annotations.{AnnFinds, OptionAnnFinds}
+use Rattle.pc_ann.specs.Listed.{ann_findings}
+use Rattle.pc_class.specs.Annotated.{def_annotated, fields_annotated, methods_annotated}
 use Rattle.pc_class.specs.Bases.{bases_of}
-use Rattle.pc_class.specs.Facts.{ClassFacts}
+use Rattle.pc_class.specs.Entries.{inherited_by, entries_of}
+use Rattle.pc_class.specs.Facts.{ClassFacts, binds_method}
 use Rattle.pc_flow.specs.WellFormed.{AreWellFormed}
-use Rattle.pc_notes.specs.Notes.{Note}
-use Rattle.pc_rules.specs.Signatures.{DefaultFinds, LawfulParams, ParamsLabels, ParamsFind}
-use Rattle.pc_rules.specs.Computed.Signatures.{def_findings, field_findings, members_findings}
+use Rattle.pc_notes.specs.Notes.{Note, plain_note}
+use Rattle.pc_rules.specs.Signatures.{LawfulParams, ParamsLabels}
+use Rattle.pc_rules.specs.Computed.Signatures.{def_findings, field_default, method_defaults, method_findings}
+use Rattle.pc_rules.specs.Computed.Signatures.{members_findings}
+use Rattle.pc_rules.proofs.FoundBeside.{moved}
 use Rattle.pc_rules.proofs.FoundList.{Noted as ListsOne}
-use Rattle.pc_rules.proofs.SignaturesListed.{def_listed, field_listed}
+use Rattle.pc_rules.proofs.SignaturesListed.{def_listed, method_listed, field_listed}
 use Rattle.pc_module_rules.specs.Modules.{FunctionLabels, FunctionFinds, MembersLabels, LawfulMembers, MembersFind}
 use Rattle.pc_module_rules.specs.SignaturesSaid.{SignatureSays, MembersSay}
 use Rattle.pc_module_rules.specs.Computed.Statements.{function_finds}
 use Rattle.pc_module_rules.specs.Computed.Modules.{methods_find}
 use Rattle.pc_module_rules.specs.Laws.Walks.{Adds, BodySays, Lists}
-use Rattle.pc_module_rules.proofs.WalkedFindings.{lists_nothing, lists_both, adds_nothing, adds_both}
+use Rattle.pc_module_rules.proofs.WalkedFindings.{lists_nothing, lists_beside, adds_nothing, adds_both}
 use Rattle.pc_module_rules.proofs.WalkedFunctions.{bodies_say}
 
 -- a list that has each finding of which something stands
 pub lists_each : {Says : Finding → Type 0} (xs : List Note) → ((f : Finding) → ListsOne f xs (Says f)) → Lists xs Says
 lists_each xs h f = ((h f).0, λ q. (h f).1 q.0 q.1)
+
+-- equal lists have the same
+pub same_among : {xs ys : List Finding} → xs ≡ ys → (f : Finding) → Contains xs f ↔ Contains ys f
+same_among e f = (subst (λ (l : List Finding). Contains l f) e, subst (λ (l : List Finding). Contains l f) (sym e))
+
+-- a list that has no annotations of members
+pub without_annotations : {Says : Finding → Type 0} (xs : List Note) → Lists xs Says
+    → Lists (xs ++ map plain_note []) Says
+without_annotations {Says = Says} xs h = subst (λ (l : List Note). Lists l Says) (sym (append-nil xs)) h
 
 -- ---- what is said in two parts
 
@@ -59,6 +73,16 @@ module _ (m : Module) where
   signature_listed before f params l = lists_each (def_findings m (λ t. is_one_of t before) f)
       (λ g. def_listed m g before f params l)
 
+  -- what is found of a method beside the class table, and with the table
+  method_part : (binds : Test) (d : FuncDef) (params : ParamsLabels d.params)
+      → LawfulParams m (codes "self" ∷ []) d.params params
+      → Lists (method_findings m binds d ++ map plain_note (if binds then def_annotated m d else []))
+      (SignatureSays m d params)
+  method_part true d params l = lists_each (method_defaults m d ++ map plain_note (def_annotated m d))
+      (λ g. method_listed m g d params l)
+  method_part false d params l = without_annotations (def_findings m (λ t. is_one_of t (codes "self" ∷ [])) d)
+      (signature_listed (codes "self" ∷ []) d params l)
+
   module _ (constants : List Tree) where
     -- what is said in the bodies of methods
     abbrev pub MethodsSay : (c number : ℕ) → (ms : List Member) → MembersLabels ms → Finding → Type 0
@@ -69,20 +93,32 @@ module _ (m : Module) where
 
     -- ---- lists
 
-    -- what is found of members after these names
+    -- what is found of members after these names and so many methods, beside the class table and with the table
     pub members_listed : (base : ClassFacts) (c number : ℕ) (before : List (List ℕ)) (ms : List Member)
         (labels : MembersLabels ms) → LawfulMembers m constants base c number before ms labels
-        → Lists (members_findings m base (λ t. is_one_of t before) ms) (MembersSay m ms labels)
+        → Lists (members_findings m base (λ t. is_one_of t before) ms
+        ++ map plain_note (fields_annotated m ms ++ methods_annotated m
+        (entries_of (inherited_by base) before number ms))) (MembersSay m ms labels)
     members_listed base c number before [] labels l = lists_nothing
     members_listed base c number before (field_member d ∷ rest) labels l =
-        let one = field_findings m base (λ t. is_one_of t before) d in
-        lists_both one (members_findings m base (λ t. is_one_of t (d.name.text ∷ before)) rest)
-        (lists_each one (λ g. field_listed m g base before d labels.default l.default))
+        let one = field_default m base (λ t. is_one_of t before) d in
+        let anns = ann_findings m (bases_of m) d.annotation in
+        let fields = fields_annotated m rest in
+        let methods = methods_annotated m (entries_of (inherited_by base) (d.name.text ∷ before) number rest) in
+        lists_beside one (members_findings m base (λ t. is_one_of t (d.name.text ∷ before)) rest) anns
+        (fields ++ methods) ((anns ++ fields) ++ methods) (same_among (append_assoc anns fields methods))
+        (lists_each (one ++ map plain_note anns) (λ g. field_listed m g base before d labels.default l.default))
         (members_listed base c number (d.name.text ∷ before) rest labels.rest l.others)
     members_listed base c number before (method_member d ∷ rest) labels l =
-        lists_both (def_findings m (λ t. is_one_of t (codes "self" ∷ [])) d)
-        (members_findings m base (λ t. is_one_of t (d.name.text ∷ before)) rest)
-        (signature_listed (codes "self" ∷ []) d labels.method.params l.method.params)
+        let binds = binds_method base before d.name.text in
+        let one = method_findings m binds d in
+        let anns = if binds then def_annotated m d else [] in
+        let fields = fields_annotated m rest in
+        let methods = methods_annotated m (entries_of (inherited_by base) (d.name.text ∷ before) (suc number) rest) in
+        lists_beside one (members_findings m base (λ t. is_one_of t (d.name.text ∷ before)) rest) anns
+        (fields ++ methods) (fields ++ (anns ++ methods))
+        (λ g. (moved fields anns methods g, moved anns fields methods g))
+        (method_part binds d labels.method.params l.method.params)
         (members_listed base c (suc number) (d.name.text ∷ before) rest labels.rest l.others)
 
     -- what the walks over the bodies of methods find

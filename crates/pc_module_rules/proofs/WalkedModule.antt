@@ -1,6 +1,6 @@
 -- What is computed of a module is what its lawful labelling says: the types of its constants, and what is found.
 use Rattle.std.proofs.Common.{◌≡◌, ◌⊎◌, ◌↔◌, List, [], ◌∷◌, ◌++◌, sym, ap, subst, inl, inr, Contains, arith}
-use Rattle.std.specs.Prelude.{slice_get}
+use Rattle.std.specs.Prelude.{map, slice_get}
 use Rattle.pc_tree.specs.declared.code.Finding.{Finding}
 use Rattle.pc_tree.specs.Tree.{Item, constant_item, class_item, def_item, Module}
 use Rattle.pc_scope.specs.Bindings.{classes_in}
@@ -8,10 +8,11 @@ use Rattle.pc_scope_findings.specs.Findings.{ScopeFinds}
 use Rattle.pc_scope.specs.declared.resolution.Owner.TheVariants as owners
 use Rattle.pc_tree.proofs.Among.{none_among}
 use Rattle.pc_types.specs.Tree.{Tree}
+use Rattle.pc_class.specs.Annotated.{classes_annotated, member_annotations}
 use Rattle.pc_class.specs.Bases.{bases_of}
 use Rattle.pc_class.specs.Findings.{ClassFinds}
 use Rattle.pc_flow.specs.WellFormed.{AreWellFormed}
-use Rattle.pc_notes.specs.Notes.{Note, findings_of}
+use Rattle.pc_notes.specs.Notes.{Note, plain_note, findings_of}
 use Rattle.pc_rules.specs.Computed.Signatures.{constants_of, signatures_find, nothing_reached, functions_findings}
 use Rattle.pc_rules.specs.Computed.Signatures.{items_findings}
 use Rattle.pc_module_rules.specs.Modules.{Labelling, IsLawful, ItemsLabels, BeforeItem, nothing_before, before_next}
@@ -22,10 +23,12 @@ use Rattle.pc_module_rules.specs.Laws.Walks.{Adds, Lists}
 use Rattle.pc_module_rules.specs.Laws.Modules.{ConstantsHaveTheTypesOfLabels, SignaturesFindWhatLabelsSay}
 use Rattle.pc_module_rules.specs.Laws.Modules.{ModulesFindWhatLabelsSay, ModulesFindWhatLabelsFind}
 use Rattle.pc_module_rules.specs.Laws.Modules.{FindingsOfModulesAreComputed}
+use Rattle.pc_rules.proofs.FoundBeside.{told_apart, told_together}
 use Rattle.pc_module_rules.proofs.LabelledModule.{every_module_has_a_labelling}
-use Rattle.pc_module_rules.proofs.WalkedFindings.{lists_both, adds_same, adds_list, adds_both}
+use Rattle.pc_module_rules.proofs.WalkedFindings.{lists_beside, adds_same, adds_around}
 use Rattle.pc_module_rules.proofs.WalkedItems.{BodiesSay, ItemsWalked, functions_listed, items_walked, all_bodies_say}
 use Rattle.pc_module_rules.proofs.WalkedMembers.{function_split, function_joined, members_split, members_joined}
+use Rattle.pc_module_rules.proofs.WalkedMembers.{without_annotations}
 
 -- ---- what is said of items, in three parts
 
@@ -121,25 +124,31 @@ module _ (m : Module) (labels : Labelling m) (l : IsLawful m labels) where
   unfolding constants_of
   constants_are = walked.types
 
-  signatures_listed : Lists (signatures_find m) (SignaturesSay m labels)
-  unfolding signatures_find
-  signatures_listed = lists_both (functions_findings m m.items) (items_findings m nothing_reached m.items)
-      (functions_listed m all nothing_before m.items labels l) walked.listed
+  signatures_listed : Lists (signatures_find m ++ map plain_note (member_annotations m)) (SignaturesSay m labels)
+  unfolding signatures_find member_annotations
+  signatures_listed =
+      let anns = classes_annotated m 0 (classes_in m.items) in
+      lists_beside (functions_findings m m.items) (items_findings m nothing_reached m.items) [] anns anns
+      (λ f. (λ h. h, λ h. h)) (without_annotations (functions_findings m m.items)
+      (functions_listed m all nothing_before m.items labels l)) walked.listed
 
-  module_adds : (found : List Note) → Adds found (module_finds m found) (LabelsSay m labels)
+  module_adds : (found : List Note) → Adds found (module_finds m found ++ map plain_note (member_annotations m))
+      (LabelsSay m labels)
   unfolding module_finds
   module_adds found =
       let signed = found ++ signatures_find m in
-      let adds : Adds found (bodies_find m all 0 0 m.items signed) (LabelsSay m labels) =
-      adds_same found (bodies_find m all 0 0 m.items signed)
+      let anns = map plain_note (member_annotations m) in
+      let adds : Adds found (bodies_find m all 0 0 m.items signed ++ anns) (LabelsSay m labels) =
+      adds_same found (bodies_find m all 0 0 m.items signed ++ anns)
       (λ f. items_joined m all f nothing_before m.items labels)
       (λ f. items_split m all f nothing_before m.items labels)
-      (adds_both found signed (bodies_find m all 0 0 m.items signed)
-      (adds_list found (signatures_find m) signatures_listed)
-      (all_bodies_say m all walked.well_formed nothing_before m.items labels l signed)) in
-      subst (λ ts. Adds found (bodies_find m ts 0 0 m.items signed) (LabelsSay m labels)) (sym constants_are) adds
+      (adds_around found (signatures_find m) (bodies_find m all 0 0 m.items signed) (member_annotations m)
+      signatures_listed (all_bodies_say m all walked.well_formed nothing_before m.items labels l signed)) in
+      subst (λ ts. Adds found (bodies_find m ts 0 0 m.items signed ++ anns) (LabelsSay m labels)) (sym constants_are)
+      adds
 
-  module_found : (f : Finding) → Contains (findings_of (module_finds m [])) f ↔ LabelsFind m labels f
+  module_found : (f : Finding) → Contains (findings_of (module_finds m [] ++ map plain_note (member_annotations m))) f
+      ↔ LabelsFind m labels f
   module_found f = (
     λ h. elim ((module_adds [] f).0 h) [
       | inl none ↦ absurd (none_among f none)
@@ -172,13 +181,24 @@ constants_well_formed m =
 pub findings_computed : FindingsOfModulesAreComputed
 findings_computed m f = (to, from)
   where
-    to : IsFinding m f → ScopeFinds m f ⊎ (ClassFinds m f ⊎ Contains (findings_of (module_finds m [])) f)
+    InParts : Type 0
+    InParts = Contains (member_annotations m) f ⊎ Contains (findings_of (module_finds m [])) f
+
+    to : IsFinding m f → ScopeFinds m f ⊎ (ClassFinds m f ⊎ InParts)
     to h = elim h.found [
       | inl s ↦ inl s
-      | inr t ↦ elim t [ inl c ↦ inr (inl c) | inr x ↦ inr (inr ((module_found m h.labels h.lawful f).1 x)) ]
+      | inr t ↦ elim t [
+        | inl c ↦ inr (inl c)
+        | inr x ↦ elim (told_apart f (module_finds m []) (member_annotations m)
+            ((module_found m h.labels h.lawful f).1 x)) [ inl a ↦ inr (inr (inr a)) | inr b ↦ inr (inr (inl b)) ]
+      ]
     ]
 
-    from : ScopeFinds m f ⊎ (ClassFinds m f ⊎ Contains (findings_of (module_finds m [])) f) → IsFinding m f
+    listed : InParts → Contains (findings_of (module_finds m [] ++ map plain_note (member_annotations m))) f
+    listed s = told_together f (module_finds m []) (member_annotations m)
+        (elim s [ inl a ↦ inr a | inr b ↦ inl b ])
+
+    from : ScopeFinds m f ⊎ (ClassFinds m f ⊎ InParts) → IsFinding m f
     from s =
         let h = every_module_has_a_labelling m in
         record {
@@ -186,6 +206,9 @@ findings_computed m f = (to, from)
           lawful = h.lawful;
           found = elim s [
             | inl x ↦ inl x
-            | inr t ↦ elim t [ inl c ↦ inr (inl c) | inr x ↦ inr (inr ((module_found m h.labels h.lawful f).0 x)) ]
+            | inr t ↦ elim t [
+              | inl c ↦ inr (inl c)
+              | inr x ↦ inr (inr ((module_found m h.labels h.lawful f).0 (listed x)))
+            ]
           ];
         }

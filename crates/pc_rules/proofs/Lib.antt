@@ -7,6 +7,7 @@ pub mod Contexts
 pub mod Expected
 pub mod Flowing
 pub mod Forgotten
+pub mod FoundBeside
 pub mod FoundList
 pub mod InitializersListed
 pub mod Kept

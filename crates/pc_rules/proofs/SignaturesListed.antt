@@ -2,7 +2,7 @@
 -- what is found of
 -- scopes.
 use Rattle.std.proofs.Common.{◌≡◌, ◌⊎◌, List, [], ◌∷◌, ◌++◌, refl, sym, ap, ◌∙◌, subst, inl, inr, arith}
-use Rattle.std.specs.Prelude.{ℕ, Bool as Test, true, false, Option, Some, None, MatchOption, map}
+use Rattle.std.specs.Prelude.{ℕ, Bool as Test, true, false, Option, Some, None, MatchOption, codes, map}
 use Rattle.pc_source.specs.declared.place.Place.{Place}
 use Rattle.pc_tree.specs.declared.code.Code.{Code}
 use Rattle.pc_tree.specs.declared.code.Code.TheVariants.{E09, E10, E26}
@@ -22,6 +22,7 @@ use Rattle.pc_ann.proofs.Earlier.{smaller}
 use Rattle.pc_ann.proofs.Readings.{read_ann_well_formed}
 use Rattle.pc_ann.specs.Listed.{ann_findings, option_findings}
 use Rattle.pc_ann.proofs.Listing.{listed}
+use Rattle.pc_class.specs.Annotated.{params_annotated, def_annotated}
 use Rattle.pc_class.specs.Bases.{bases_of}
 use Rattle.pc_class.specs.Facts.{ClassFacts, binds_field}
 use Rattle.pc_rules.specs.Operations.{clean}
@@ -32,11 +33,11 @@ use Rattle.pc_rules.specs.Labels.{FlowLabels, IsFlowAt, is_of_scopes}
 use Rattle.pc_rules.specs.Signatures.{literal_type, literal_place, LawfulDefault, DefaultFinds, binds_name}
 use Rattle.pc_rules.specs.Signatures.{ParamsLabels, LawfulParams, ParamsFind}
 use Rattle.pc_rules.specs.Computed.Signatures.{default_findings, param_findings, params_findings, def_findings}
-use Rattle.pc_rules.specs.Computed.Signatures.{field_findings}
+use Rattle.pc_rules.specs.Computed.Signatures.{params_defaults, method_defaults, field_default}
 use Rattle.pc_rules.proofs.ComputedFlows.{flows_are_lawful}
-use Rattle.pc_rules.proofs.FoundList.{IsFoundElsewhere, Lists, Noted, noted_same as same_listed}
+use Rattle.pc_rules.proofs.FoundList.{IsFoundElsewhere, Noted, noted_same as same_listed}
 use Rattle.pc_rules.proofs.FoundList.{noted_in_turn as in_turn, noted_flows as at_flows, noted_plain, nothing_noted}
-use Rattle.pc_rules.proofs.FoundList.{nothing_listed}
+use Rattle.pc_rules.proofs.FoundBeside.{with_annotations, noted_beside, noted_behind}
 use Rattle.pc_rules.proofs.One.{into_one}
 
 -- ---- defaults
@@ -150,14 +151,40 @@ module _ (m : Module) (f : Finding) where
       (map plain_note (option_findings m bases d.returns)) (params_listed before d.params labels h)
       (option_listed d.returns)
 
-  -- what is found of a field of a class with this base
+  -- what is found at the defaults of parameters after names, and in their annotations
+  method_params_listed : (before : List (List ℕ)) (ps : List Param) (labels : ParamsLabels ps)
+      → LawfulParams m before ps labels → Noted f (params_defaults m (λ t. is_one_of t before) ps
+      ++ map plain_note (params_annotated m ps)) (ParamsFind m ps labels f)
+  method_params_listed before [] labels h = nothing_noted f
+  method_params_listed before (p ∷ ps) labels h =
+      let anns = option_findings m bases p.annotation in
+      let default = default_findings bases (binds_name before p.name) p.default (read_option m bases p.annotation) in
+      let rest = params_defaults m (λ t. is_one_of t (p.name.text ∷ before)) ps in
+      let one = with_annotations f default anns (default_listed (binds_name before p.name) p.default
+      (read_option m bases p.annotation) labels.default (option_well_formed p.annotation) h.default)
+      (option_listed p.annotation) in
+      same_listed f ((default ++ rest) ++ map plain_note (anns ++ params_annotated m ps)) first_two two_first
+      (noted_beside f default rest anns (params_annotated m ps) (anns ++ params_annotated m ps) (λ c. c, λ c. c) one
+      (method_params_listed (p.name.text ∷ before) ps labels.rest h.rest))
+
+  -- what is found at the defaults of a method, and in its annotations
+  pub method_listed : (d : FuncDef) (labels : ParamsLabels d.params)
+      → LawfulParams m (codes "self" ∷ []) d.params labels
+      → Noted f (method_defaults m d ++ map plain_note (def_annotated m d))
+      (ParamsFind m d.params labels f ⊎ OptionAnnFinds m bases d.returns f)
+  method_listed d labels h =
+      let anns = option_findings m bases d.returns in
+      noted_behind f (method_defaults m d) (params_annotated m d.params) anns
+      (method_params_listed (codes "self" ∷ []) d.params labels h) (option_listed d.returns)
+
+  -- what is found at the default of a field of a class with this base, and in its annotation
   pub field_listed : (base : ClassFacts) (before : List (List ℕ)) (d : Field) (flows : FlowLabels)
       → LawfulDefault bases (binds_field base before d.name.text) d.default (read_ann m bases d.annotation) flows
-      → Noted f (field_findings m base (λ t. is_one_of t before) d) (AnnFinds m bases d.annotation f
-      ⊎ DefaultFinds d.default flows f)
+      → Noted f (field_default m base (λ t. is_one_of t before) d ++ map plain_note (ann_findings m bases d.annotation))
+      (AnnFinds m bases d.annotation f ⊎ DefaultFinds d.default flows f)
   field_listed base before d flows h =
-      in_turn f (map plain_note (ann_findings m bases d.annotation))
-      (default_findings bases (binds_field base before d.name.text) d.default (read_ann m bases d.annotation))
-      (ann_listed d.annotation)
+      let default = default_findings bases (binds_field base before d.name.text) d.default
+      (read_ann m bases d.annotation) in
+      with_annotations f default (ann_findings m bases d.annotation)
       (default_listed (binds_field base before d.name.text) d.default (read_ann m bases d.annotation) flows
-      (read_ann_well_formed m bases (smaller m) d.annotation) h)
+      (read_ann_well_formed m bases (smaller m) d.annotation) h) (ann_listed d.annotation)

@@ -2,10 +2,11 @@
 use Rattle.std.proofs.Common.{◌≡◌, List, ◌++◌, ◌∷◌, [], All, map, refl, ap, subst, sym}
 use Rattle.std.specs.Prelude.{Vec}
 use Rattle.std.specs.Global.{Global}
-use Rattle.std.proofs.lemmas.List.Elements.{All-weaker, All-push}
+use Rattle.std.proofs.lemmas.List.Elements.{All-weaker, All-push, All-contains}
 use Rattle.pc_types.specs.Tree.{Tree}
 use Rattle.pc_types.specs.Store.{KeepsTypes}
-use Rattle.pc_class.specs.Tables.{ClassEntry, HasParameter, HasMethod, HasEntry, HasEntries}
+use Rattle.pc_class.specs.Tables.{ClassEntry, HasParameter, HasMethod, HasEntry, HasEntries, IsField, IsMethod}
+use Rattle.pc_class.specs.declared.table.Method.{Method as RustMethod}
 use Rattle.pc_class.specs.declared.table.Parameter.{Parameter as RustParameter}
 use Rattle.pc_rules.specs.declared.setting.Signature.{Signature as RustSignature}
 use Rattle.pc_rules.specs.Computed.Standing.{HasSignature}
@@ -36,6 +37,16 @@ module _ {Store Ty : Type 0} (has : Store → Ty → Type 0) (a b : Store) (k : 
     methods = All-weaker (HasMethod (has a)) (HasMethod (has b))
         (λ x y. record { params = params_kept x.params y.params; ret = k x.ret y.ret }) c.methods g.methods;
   }) cs h
+
+-- the types of a field, and of a method, of a table are of the store that gave the table's types
+module _ {Ty : Type 0} (has : Ty → Type 0) (cs : List (ClassEntry Ty)) (h : HasEntries has cs) where
+  pub field_held : (p : RustParameter Ty) → IsField cs p → HasParameter has p
+  field_held p f = All-contains (HasParameter has) f.class.fields p
+      (All-contains (HasEntry has) cs f.class h f.listed).fields f.among
+
+  pub method_held : (x : RustMethod Ty) → IsMethod cs x → HasMethod has x
+  method_held x m = All-contains (HasMethod has) m.class.methods x
+      (All-contains (HasEntry has) cs m.class h m.listed).methods m.among
 
 -- one more, pushed after those that are held
 pub held_push : {X : Type 0} (P : X → Type 0) (old new : List X) (x : X) → All P old → P x → new ≡ old ++ x ∷ []

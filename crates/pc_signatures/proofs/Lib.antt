@@ -1,5 +1,6 @@
 pub mod HeldSignatures
 pub mod InitializerStanding
 pub mod LiteralPlaces
+pub mod MembersHeld
 pub mod NamesBound
 pub mod SignatureWalks

@@ -1,44 +1,37 @@
-//! The members of classes and the constants of a module, in text order.
+//! The classes and the constants of a module, in text order.
 #![tactic(auto, using(pc_rules::proofs::Checkers::goes_further))]
 
-ghost use Rattle.std.specs.Prelude.{◌≡◌, ◌++◌, ◌∷◌, [], if◌then◌else◌, map, length, codes, IfOk, OnOk, All};
+ghost use Rattle.std.specs.Prelude.{◌≡◌, ◌++◌, ◌∷◌, [], if◌then◌else◌, map, length, IfOk, OnOk, All};
 ghost use Rattle.std.specs.Option.{option_map};
 ghost use Rattle.pc_source.specs.declared.place.Place.{Place};
-ghost use Rattle.pc_tree.specs.Tree.{name_of, expr_of, func_of, field_of, member_of, class_of, constant_of, item_of};
+ghost use Rattle.pc_tree.specs.Tree.{expr_of, class_of, constant_of, item_of};
 ghost use Rattle.pc_tree.specs.Tree.{constant_item, class_item};
-ghost use Rattle.pc_tree.specs.Stopping.{name_of_member};
-ghost use Rattle.pc_scope.specs.Bindings.{classes_in, methods_in};
-ghost use Rattle.pc_types.specs.Tree.{Tree as TypeTree};
+ghost use Rattle.pc_scope.specs.Bindings.{classes_in};
 ghost use Rattle.pc_types.specs.Store.{Means};
-ghost use Rattle.pc_ann.specs.ModuleOutlines.{module_in, IsModuleOutline};
-ghost use Rattle.pc_class.specs.Facts.{base_facts, classes_of};
-ghost use Rattle.pc_class.specs.Tables.{classes_with};
-ghost use Rattle.pc_rules.specs.Signatures.{signature_of};
-ghost use Rattle.pc_rules.specs.Computed.Signatures.{bound_in, base_has_member, binds_as_field, member_findings};
-ghost use Rattle.pc_rules.specs.Computed.Signatures.{members_findings, class_methods, signatures_of_methods, initial};
+ghost use Rattle.pc_ann.specs.ModuleOutlines.{module_in};
+ghost use Rattle.pc_class.specs.Built.{IsClassAt};
+ghost use Rattle.pc_class.specs.Outlines.{IsClassNumbered};
+ghost use Rattle.pc_rules.specs.Computed.Signatures.{class_methods, signatures_of_methods, initial};
 ghost use Rattle.pc_rules.specs.Computed.Signatures.{type_of_constant, constant_findings, behind, item_findings};
-ghost use Rattle.pc_rules.specs.Computed.Signatures.{items_findings, constants_of, method_signatures, no_name};
-ghost use Rattle.pc_rules.specs.Computed.Signatures.{with_name};
-ghost use Rattle.pc_rules.specs.Computed.Signatures.{def_findings, field_findings, class_notes, value_findings};
+ghost use Rattle.pc_rules.specs.Computed.Signatures.{items_findings, constants_of, method_signatures};
+ghost use Rattle.pc_rules.specs.Computed.Signatures.{class_notes, value_findings};
 ghost use Rattle.pc_rules.specs.Computed.Signatures.{nothing_reached};
-ghost use Rattle.pc_signatures.specs.Internal.SignaturesRead.{AreGlobals, AreSignatures};
-ghost use Rattle.pc_signatures.specs.Internal.SignaturesRead.{HasSignatures};
-ghost use Rattle.pc_signatures.specs.Internal.SignaturesRead.{HasReached, signatures_with, methods_with, reached_with};
+ghost use Rattle.pc_signatures.specs.Internal.SignaturesRead.{AreGlobals};
+ghost use Rattle.pc_signatures.specs.Internal.SignaturesRead.{HasReached, methods_with, reached_with};
 ghost use Rattle.pc_rules.specs.Computed.Standing.{HasIfAny, label_in, finds_in};
 ghost use Rattle.pc_rules.specs.Computed.Checkers.{Finds, GoesOn, IsLabel};
 
-use crate::bound::{Texts, bind, is_bound};
-use crate::defaults::{binds, find_default, find_into, is_reserved};
-use crate::signatures::{read_annotation, read_signature};
+use crate::bound::{Texts, bind};
+use crate::defaults::{binds, find_into};
+use crate::members::{ClassNumbers, read_members};
+use crate::signatures::read_annotation;
 use indexmap::IndexSet;
-use pc_ann::ModuleOutline;
-use pc_class::ClassTable;
 use pc_expr::type_expr;
 use pc_flow::{DeclaredTypes, Env, OwnerNames};
 use pc_rules::{Checker, Label, ModuleContext, Setting, Signature};
 use pc_scope::Owner;
 use pc_source::OutOfMemory;
-use pc_tree::{ClassDef, Constant, Expr, Field, FuncDef, Item, ItemKind, Member, Name};
+use pc_tree::{ClassDef, Constant, Expr, Item, ItemKind};
 use pc_types::TypeStore;
 
 /// What a walk over items has reached: the types of the constants, the methods of each class, the names that are bound.
@@ -47,139 +40,6 @@ pub(crate) struct Walk<Ty: Drop> {
     pub constants: Vec<Ty>,
     pub methods: Vec<Vec<Signature<Ty>>>,
     pub bound: Texts,
-}
-
-/// Whether a base has a field or a method of a name.
-fn has_member<Ty: Drop>(classes: &ClassTable<Ty>, base: Option<usize>, name: &str) -> bool
-    ensures { (tree : Ty → TypeTree)
-        → result ≡ base_has_member (base_facts (classes_with tree classes.now) base) name.now }
-{
-    match base {
-        None => false,
-        Some(base) => classes.field(base, name).is_some() || classes.method(base, name).is_some(),
-    }
-}
-
-/// Whether a field binds its name: not reserved, not `mro`, not bound already, no field's or method's of an ancestor.
-/// Own rule of the profile.
-fn binds_as_field<Ty: Drop>(
-    classes: &ClassTable<Ty>,
-    base: Option<usize>,
-    bound: &Texts,
-    name: &str,
-) -> bool
-    ensures { (tree : Ty → TypeTree)
-        → result ≡ binds_as_field (base_facts (classes_with tree classes.now) base) (bound_in bound.now) name.now }
-{
-    !(is_reserved(name) || name == "mro")
-        && (!is_bound(bound, name) && !has_member(classes, base, name))
-}
-
-/// Reads a field of a class over this base: what is found in its annotation and at its default.
-fn read_field<S: TypeStore>(
-    checker: &mut Checker<'_, S>,
-    globals: &ModuleContext<'_, S::Ty>,
-    base: Option<usize>,
-    bound: &Texts,
-    field: &Field,
-) -> Result<(), OutOfMemory>
-    requires { AreGlobals S.has S.tree checker.old.store.now globals.now }
-    ensures found { OnOk result (Finds checker.old checker.new
-        (field_findings (module_in globals.now.outline.now)
-        (base_facts (classes_of (module_in globals.now.outline.now)) base) (bound_in bound.now) (field_of field.now))) }
-    ensures goes_on { GoesOn S.TypeStore checker.old checker.new }
-{
-    let outline = globals.outline;
-    let ty = read_annotation(checker, outline, &field.annotation)?;
-    let binds = binds_as_field(globals.classes, base, bound, field.name.text.as_str());
-    find_default(checker, outline.parents, binds, &field.default, &ty)
-}
-
-/// Adds the signature of a method.
-fn add_method<S: TypeStore>(
-    checker: &mut Checker<'_, S>,
-    outline: &ModuleOutline,
-    def: &FuncDef,
-    methods: &mut Vec<Signature<S::Ty>>,
-) -> Result<(), OutOfMemory>
-    requires outline { IsModuleOutline outline.now }
-    requires held { HasSignatures (S.has checker.old.store.now) methods.old.items }
-    ensures held { OnOk result (HasSignatures (S.has checker.new.store.now) methods.new.items) }
-    ensures typed { OnOk result
-        (signatures_with S.tree methods.new.items
-        ≡ signatures_with S.tree methods.old.items ++ signature_of (module_in outline.now) (func_of def.now) ∷ []) }
-    ensures found { OnOk result (Finds checker.old checker.new
-        (def_findings (module_in outline.now) (with_name no_name (codes "self")) (func_of def.now))) }
-    ensures goes_on { GoesOn S.TypeStore checker.old checker.new }
-{
-    let mut bound = IndexSet::new(checker.alloc);
-    bind(&mut bound, checker.alloc, "self")?;
-    let signature = read_signature(checker, outline, &mut bound, def)?;
-    methods.push(signature)?;
-    Ok(())
-}
-
-/// Reads a member of a class over this base: adds the signature of a method.
-fn add_member<S: TypeStore>(
-    checker: &mut Checker<'_, S>,
-    globals: &ModuleContext<'_, S::Ty>,
-    base: Option<usize>,
-    bound: &Texts,
-    member: &Member,
-    methods: &mut Vec<Signature<S::Ty>>,
-) -> Result<(), OutOfMemory>
-    requires globals { AreGlobals S.has S.tree checker.old.store.now globals.now }
-    requires held { HasSignatures (S.has checker.old.store.now) methods.old.items }
-    ensures held { OnOk result (HasSignatures (S.has checker.new.store.now) methods.new.items) }
-    ensures typed { OnOk result
-        (signatures_with S.tree methods.new.items
-        ≡ signatures_with S.tree methods.old.items
-        ++ map (signature_of (module_in globals.now.outline.now)) (methods_in (member_of member.now ∷ []))) }
-    ensures found { OnOk result (Finds checker.old checker.new
-        (member_findings (module_in globals.now.outline.now)
-        (base_facts (classes_of (module_in globals.now.outline.now)) base) (bound_in bound.now) (member_of member.now))) }
-    ensures goes_on { GoesOn S.TypeStore checker.old checker.new }
-{
-    match member {
-        Member::Field(field) => read_field(checker, globals, base, bound, field),
-        Member::Method(def) => add_method(checker, globals.outline, def, methods),
-    }
-}
-
-/// The name of a member.
-fn name_of(member: &Member) -> &Name
-    ensures { name_of result.now ≡ name_of_member (member_of member.now) }
-{
-    match member {
-        Member::Field(field) => &field.name,
-        Member::Method(def) => &def.name,
-    }
-}
-
-/// What the methods of a class over this base take and return; what is found in annotations and at defaults of its
-/// members. Language Reference 3.12, 8.8 "Class definitions"; library reference, `dataclasses`.
-fn read_members<S: TypeStore>(
-    checker: &mut Checker<'_, S>,
-    globals: &ModuleContext<'_, S::Ty>,
-    base: Option<usize>,
-    members: &[Member],
-) -> Result<Vec<Signature<S::Ty>>, OutOfMemory>
-    requires { AreGlobals S.has S.tree checker.old.store.now globals.now }
-    ensures typed { IfOk result
-        (λ ss. AreSignatures S.has S.tree checker.new.store.now ss.items
-        (map (signature_of (module_in globals.now.outline.now)) (methods_in (map member_of members.now)))) }
-    ensures found { OnOk result (Finds checker.old checker.new
-        (members_findings (module_in globals.now.outline.now)
-        (base_facts (classes_of (module_in globals.now.outline.now)) base) no_name (map member_of members.now))) }
-    ensures goes_on { GoesOn S.TypeStore checker.old checker.new }
-{
-    let mut methods = Vec::new(checker.alloc);
-    let mut bound = IndexSet::new(checker.alloc);
-    for member in members {
-        add_member(checker, globals, base, &bound, member, &mut methods)?;
-        bind(&mut bound, checker.alloc, name_of(member).text.as_str())?;
-    }
-    Ok(methods)
 }
 
 /// The label of an initializer after this many classes, with what is found in it.
@@ -318,6 +178,8 @@ fn add_class<S: TypeStore>(
 ) -> Result<(), OutOfMemory>
     requires globals { AreGlobals S.has S.tree checker.old.store.now globals.now }
     requires held { HasReached (S.has checker.old.store.now) walk.old }
+    requires class { IsClassAt (module_in globals.now.outline.now) (length walk.old.methods.items)
+        (class_of class.now) }
     ensures held { OnOk result (HasReached (S.has checker.new.store.now) walk.new) }
     ensures methods { OnOk result
         (map (methods_with S.tree) walk.new.methods.items
@@ -325,13 +187,16 @@ fn add_class<S: TypeStore>(
         ++ class_methods (module_in globals.now.outline.now) (class_of class.now) ∷ []) }
     ensures reached { (p : Place)
         → OnOk result (reached_with S.tree walk.new
-        ≡ behind (module_in globals.now.outline.now) (reached_with S.tree walk.old) (class_item p (class_of class.now))) }
+        ≡ behind (module_in globals.now.outline.now) (reached_with S.tree walk.old)
+        (class_item p (class_of class.now))) }
     ensures found { OnOk result (Finds checker.old checker.new
         (class_notes (module_in globals.now.outline.now) (length walk.old.methods.items) (class_of class.now))) }
     ensures goes_on { GoesOn S.TypeStore checker.old checker.new }
 {
-    let base = globals.outline.parents.base(walk.methods.len());
-    let methods = read_members(checker, globals, base, &class.members)?;
+    let number = walk.methods.len();
+    let base = globals.outline.parents.base(number);
+    let numbers = ClassNumbers { number, base };
+    let methods = read_members(checker, globals, numbers, &class.members)?;
     walk.methods.push(methods)?;
     bind(&mut walk.bound, checker.alloc, class.name.text.as_str())
 }
@@ -345,6 +210,8 @@ fn add_item<S: TypeStore>(
 ) -> Result<(), OutOfMemory>
     requires globals { AreGlobals S.has S.tree checker.old.store.now globals.now }
     requires held { HasReached (S.has checker.old.store.now) walk.old }
+    requires class { IsClassNumbered (module_in globals.now.outline.now) (length walk.old.methods.items)
+        (item_of item.now) }
     ensures held { OnOk result (HasReached (S.has checker.new.store.now) walk.new) }
     ensures methods { OnOk result
         (map (methods_with S.tree) walk.new.methods.items
@@ -378,7 +245,8 @@ pub(crate) fn read_items<S: TypeStore>(
     ensures methods { IfOk result
         (λ w. map (methods_with S.tree) w.methods.items ≡ method_signatures (module_in globals.now.outline.now)) }
     ensures found { OnOk result (Finds checker.old checker.new
-        (items_findings (module_in globals.now.outline.now) nothing_reached (module_in globals.now.outline.now).items)) }
+        (items_findings (module_in globals.now.outline.now) nothing_reached
+        (module_in globals.now.outline.now).items)) }
     ensures goes_on { GoesOn S.TypeStore checker.old checker.new }
 {
     let mut walk = Walk {

@@ -1,22 +1,28 @@
 //! Defaults of parameters and fields.
 #![tactic(auto, using(pc_rules::proofs::Checkers::goes_further))]
 
-ghost use Rattle.std.specs.Prelude.{◌≡◌, ◌∷◌, [], IfOk, OnOk};
-ghost use Rattle.pc_tree.specs.Tree.{literal_of, option_literal_of};
+ghost use Rattle.std.specs.Prelude.{◌≡◌, ◌∷◌, [], map, All, IfOk, OnOk};
+ghost use Rattle.pc_tree.specs.Tree.{literal_of, option_literal_of, param_of};
 ghost use Rattle.pc_scope.specs.Reserved.{is_builtin_name};
 ghost use Rattle.pc_types.specs.Store.{Means, KeepsTypes};
+ghost use Rattle.pc_ann.specs.ModuleOutlines.{module_in, IsModuleOutline};
+ghost use Rattle.pc_class.specs.Facts.{parameters_of};
+ghost use Rattle.pc_class.specs.Tables.{HasParameter, parameters_with};
 ghost use Rattle.pc_rules.specs.Operations.{Label as LabelOf, clean};
 ghost use Rattle.pc_rules.specs.Computed.Expressions.{flows_of};
 ghost use Rattle.pc_rules.specs.Computed.Findings.{brief, flows_at};
 ghost use Rattle.pc_rules.specs.Signatures.{literal_type};
 ghost use Rattle.pc_rules.specs.Computed.Signatures.{bound_in, binds_text, literal_findings, default_findings};
+ghost use Rattle.pc_rules.specs.Computed.Signatures.{params_defaults};
 ghost use Rattle.pc_rules.specs.Computed.Standing.{MeansLabel, label_with};
 ghost use Rattle.pc_rules.specs.Computed.Checkers.{Finds, GoesOn};
 
-use crate::bound::{Texts, is_bound};
+use crate::bound::{Texts, bind, is_bound};
+use pc_ann::ModuleOutline;
+use pc_class::Parameter;
 use pc_rules::{Checker, Label, find_flow};
 use pc_source::{OutOfMemory, Place};
-use pc_tree::{Literal, LiteralKind};
+use pc_tree::{Literal, LiteralKind, Param};
 use pc_types::{Parents, TypeStore};
 use std::alloc::Global;
 
@@ -129,4 +135,29 @@ pub(crate) fn find_default<S: TypeStore>(
             }
         }
     }
+}
+
+/// Finds what stands at the defaults of parameters of these types, after names that are bound already.
+pub(crate) fn find_defaults<S: TypeStore>(
+    checker: &mut Checker<'_, S>,
+    outline: &ModuleOutline,
+    bound: &mut Texts,
+    params: &[Param],
+    typed: &[Parameter<S::Ty>],
+) -> Result<(), OutOfMemory>
+    requires outline { IsModuleOutline outline.now }
+    requires given { All (HasParameter (S.has checker.old.store.now)) typed.now }
+    requires same { parameters_with S.tree typed.now ≡ parameters_of (module_in outline.now) (map param_of params.now) }
+    ensures found { OnOk result (Finds checker.old checker.new
+        (params_defaults (module_in outline.now) (bound_in bound.old) (map param_of params.now))) }
+    ensures goes_on { GoesOn S.TypeStore checker.old checker.new }
+{
+    for number in 0..params.len() {
+        let param = &params[number];
+        let binds = binds(bound, param.name.text.as_str());
+        let ty = &typed[number].ty;
+        find_default(checker, outline.parents, binds, &param.default, ty)?;
+        bind(bound, checker.alloc, param.name.text.as_str())?;
+    }
+    Ok(())
 }

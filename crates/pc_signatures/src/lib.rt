@@ -3,7 +3,9 @@
 
 mod bound;
 mod constants;
+mod copies;
 mod defaults;
+mod members;
 mod signatures;
 mod sigs;
 

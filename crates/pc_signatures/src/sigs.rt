@@ -78,7 +78,8 @@ impl<Ty: Drop> Sigs<Ty> {
 
 /// The types of the constants of a module, and what its functions and methods take and return, with what is found in
 /// annotations, in initializers and of their flows, and at defaults, appended to `found`: first what is found of
-/// functions, then of classes and constants in text order.
+/// functions, then of classes and constants in text order. Not among it is what is found in the annotations of fields,
+/// and of methods that bind their names: `class_table` finds it, and has the types.
 ///
 /// Language Reference 3.12, 7.2 "Assignment statements" and 8.7 "Function definitions"; library reference,
 /// `dataclasses`; typing specification, "Type annotations"; own rules of the profile.

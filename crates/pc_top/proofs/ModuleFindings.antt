@@ -1,8 +1,7 @@
 -- What is found under the labels of a module, of its scopes and of its classes are together just its findings; and the
--- dynamic flows
--- are those found under the labels.
+-- dynamic flows are those found under the labels.
 use Rattle.std.proofs.Common.{◌≡◌, List, [], ◌∷◌, ◌++◌, map, refl, ap, ◌∙◌, sym, subst, inl, inr, Contains, ◌↔◌, Option}
-use Rattle.std.proofs.Common.{None, append-nil}
+use Rattle.std.proofs.Common.{None}
 use Rattle.std.specs.Prelude.{◌⊎◌, Bool, true, false, if◌then◌else◌}
 use Rattle.std.proofs.lemmas.List.{map-append}
 use Rattle.std.proofs.lemmas.List.Elements.{Contains-append_left, Contains-append_right, Contains-append_cases}
@@ -11,6 +10,7 @@ use Rattle.pc_tree.specs.declared.code.Finding.{Finding}
 use Rattle.pc_tree.specs.Tree.{Module}
 use Rattle.pc_scope_findings.specs.Findings.{ScopeFinds}
 use Rattle.pc_types.specs.Tree.{Tree}
+use Rattle.pc_class.specs.Annotated.{member_annotations}
 use Rattle.pc_class.specs.Built.{class_findings}
 use Rattle.pc_class.specs.Findings.{ClassFinds}
 use Rattle.pc_class.specs.OverrideFindings.{override_findings}
@@ -39,16 +39,28 @@ with_plain notes fs = map-append (λ (n : Note). n.finding) notes (map plain_not
 module _ (m : Module) (of_scopes : List Finding) (scopes_found : (f : Finding) → Contains of_scopes f
     ↔ ScopeFinds m f) where
   of_classes : List Finding
-  of_classes = class_findings m ++ override_findings m
+  of_classes = (class_findings m ++ member_annotations m) ++ override_findings m
 
-  classes_found : (f : Finding) → Contains of_classes f ↔ ClassFinds m f
+  classes_found : (f : Finding) → Contains of_classes f ↔ (ClassFinds m f ⊎ Contains (member_annotations m) f)
   unfolding of_classes
   classes_found f =
-      let lists = just_their_lists m f in (
-        (λ h. lists.0 (Contains-append_cases (class_findings m) (override_findings m) f h)),
-        (λ c. elim (lists.1 c) [
-          | inl n ↦ Contains-append_left (class_findings m) (override_findings m) f n
-          | inr o ↦ Contains-append_right (class_findings m) (override_findings m) f o
+      let lists = just_their_lists m f in
+      let first = class_findings m ++ member_annotations m in (
+        (λ h. elim (Contains-append_cases first (override_findings m) f h) [
+          | inl t ↦ elim (Contains-append_cases (class_findings m) (member_annotations m) f t) [
+            | inl n ↦ inl (lists.0 (inl n))
+            | inr a ↦ inr a
+          ]
+          | inr o ↦ inl (lists.0 (inr o))
+        ]),
+        (λ s. elim s [
+          | inl c ↦ elim (lists.1 c) [
+            | inl n ↦ Contains-append_left first (override_findings m) f
+                (Contains-append_left (class_findings m) (member_annotations m) f n)
+            | inr o ↦ Contains-append_right first (override_findings m) f o
+          ]
+          | inr a ↦ Contains-append_left first (override_findings m) f
+              (Contains-append_right (class_findings m) (member_annotations m) f a)
         ]),
       )
 
@@ -58,26 +70,33 @@ module _ (m : Module) (of_scopes : List Finding) (scopes_found : (f : Finding) �
       let computed = findings_computed m f in (
         (λ h. elim (Contains-append_cases (labels ++ of_scopes) of_classes f h) [
           | inl a ↦ elim (Contains-append_cases labels of_scopes f a) [
-            | inl l ↦ computed.1 (inr (inr l))
+            | inl l ↦ computed.1 (inr (inr (inr l)))
             | inr s ↦
                 computed.1 (inl ((scopes_found f).0 s))
           ]
-          | inr c ↦ computed.1 (inr (inl ((classes_found f).0 c)))
+          | inr c ↦ elim ((classes_found f).0 c) [
+            | inl k ↦ computed.1 (inr (inl k))
+            | inr a ↦ computed.1 (inr (inr (inl a)))
+          ]
         ]),
         (λ h. elim (computed.0 h) [
           | inl s ↦ Contains-append_left (labels ++ of_scopes) of_classes f
               (Contains-append_right labels of_scopes f ((scopes_found f).1 s))
           | inr rest ↦ elim rest [
-            | inl c ↦ Contains-append_right (labels ++ of_scopes) of_classes f ((classes_found f).1 c)
-            | inr l ↦ Contains-append_left (labels ++ of_scopes) of_classes f
-                (Contains-append_left labels of_scopes f l)
+            | inl c ↦ Contains-append_right (labels ++ of_scopes) of_classes f ((classes_found f).1 (inl c))
+            | inr x ↦ elim x [
+              | inl a ↦ Contains-append_right (labels ++ of_scopes) of_classes f ((classes_found f).1 (inr a))
+              | inr l ↦ Contains-append_left (labels ++ of_scopes) of_classes f
+                  (Contains-append_left labels of_scopes f l)
+            ]
           ]
         ]),
       )
 
   -- what the walk over a module finds, with what is found of scopes and of classes after it, are just its findings
   pub exactly : (notes : List Note) → notes ≡ (module_finds m [] ++ map plain_note of_scopes) ++ map plain_note
-      (class_findings m ++ override_findings m) → (f : Finding) → Contains (findings_of notes) f ↔ IsFinding m f
+      ((class_findings m ++ member_annotations m) ++ override_findings m)
+      → (f : Finding) → Contains (findings_of notes) f ↔ IsFinding m f
   unfolding of_classes
   exactly notes is f =
       let whole : findings_of notes ≡ (findings_of (module_finds m []) ++ of_scopes) ++ of_classes =

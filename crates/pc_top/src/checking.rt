@@ -11,9 +11,10 @@ ghost use Rattle.pc_module_rules.specs.Laws.Flows.{TellsFlows};
 
 use pc_ann::parents_of;
 use pc_check::check_module;
-use pc_class::{class_table, override_findings};
+use pc_class::class_table;
 use pc_intern::InternStore;
 use pc_notes::Notes;
+use pc_overrides::override_findings;
 use pc_scope::{Scopes, scopes};
 use pc_scope_findings::scope_findings;
 use pc_source::OutOfMemory;

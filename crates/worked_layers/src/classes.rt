@@ -6,8 +6,9 @@ ghost use Rattle.pc_types.specs.Boxed.{IsGiven};
 ghost use Rattle.pc_class.specs.Tables.{HasParameter, HasMethod, HasEntries};
 
 use pc_ann::type_text;
-use pc_class::{ClassTable, Listing, Method, Parameter, class_table, override_findings};
+use pc_class::{ClassTable, Listing, Method, Parameter, class_table};
 use pc_front::module_in;
+use pc_overrides::override_findings;
 use pc_scope::{Scopes, scopes};
 use pc_source::{Fault, Source, read_source};
 use pc_tree::{Finding, ItemKind, Member, Module};

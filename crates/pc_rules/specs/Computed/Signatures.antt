@@ -1,9 +1,11 @@
 -- What is found of the signatures of a module and of its constants, as lists, and the types of the constants: computed
--- twin of the rules on annotations, defaults and initializers. First what is found of functions, which each initializer
--- may come upon; then of classes and constants, in text order. What is bound already is told by a test of texts.
+-- twin of the rules on annotations, defaults and initializers. What is found in the annotations of fields, and of
+-- methods that bind their names, is not among it: that is `member_annotations` of pc_class. First what is found of
+-- functions, which each initializer may come upon; then of classes and constants, in text order. What is bound already
+-- is told by a test of texts.
 -- Own rule of the profile.
 use Rattle.std.specs.Prelude.{ℕ, suc, List, [], ◌∷◌, ◌++◌, map, Bool as Test, true, false, ◌&&◌, ◌||◌, not, Option}
-use Rattle.std.specs.Prelude.{Some, None, is_some, codes, bytes_eq, String}
+use Rattle.std.specs.Prelude.{Some, None, is_some, codes, bytes_eq, String, if◌then◌else◌}
 use Rattle.std.specs.Global.{Global}
 use Rattle.indexmap.specs.IndexSet.{IndexSet}
 use Rattle.pc_tree.specs.Tree.{Expr, Literal, Param, FuncDef, Field, Member, field_member, method_member, ClassDef}
@@ -17,7 +19,7 @@ use Rattle.pc_scope.specs.Internal.WalkViews.{texts_in}
 use Rattle.pc_types.specs.Tree.{Tree}
 use Rattle.pc_types.specs.Below.{Bases, base_of}
 use Rattle.pc_ann.specs.Annotations.{read_ann, read_option}
-use Rattle.pc_ann.specs.Listed.{ann_findings, option_findings}
+use Rattle.pc_ann.specs.Listed.{option_findings}
 use Rattle.pc_class.specs.Bases.{bases_of}
 use Rattle.pc_class.specs.Facts.{ClassFacts, field_by_name, method_by_name, base_facts, classes_of}
 use Rattle.pc_notes.specs.Notes.{Note, plain_note}
@@ -56,6 +58,11 @@ abbrev pub binds_as_field : ClassFacts → (bound : List ℕ → Test) → List 
 binds_as_field base bound name = not (is_builtin_name name || bytes_eq name (codes "mro"))
     && (not (bound name) && not (base_has_member base name))
 
+-- a method binds its name: not reserved, not bound already, no field's of an ancestor
+abbrev pub binds_as_method : ClassFacts → (bound : List ℕ → Test) → List ℕ → Test
+binds_as_method base bound name = not (is_builtin_name name)
+    && (not (bound name) && not (is_some (field_by_name base.fields name)))
+
 -- ---- defaults
 
 -- what is found of the flow of a default's literal, at the literal
@@ -83,12 +90,14 @@ nothing_reached = record { constants = []; classes = 0; bound = no_name }
 module _ (m : Module) where
   -- ---- functions
 
+  -- what is found at the default of a parameter
+  abbrev pub param_default : (bound : List ℕ → Test) → Param → List Note
+  param_default bound p = default_findings (bases_of m) (binds_text bound p.name.text) p.default
+      (read_option m (bases_of m) p.annotation)
+
   -- what is found of a parameter: in its annotation, and at its default
   abbrev pub param_findings : (bound : List ℕ → Test) → Param → List Note
-  param_findings bound p =
-      map plain_note (option_findings m (bases_of m) p.annotation)
-      ++ default_findings (bases_of m) (binds_text bound p.name.text) p.default
-      (read_option m (bases_of m) p.annotation)
+  param_findings bound p = map plain_note (option_findings m (bases_of m) p.annotation) ++ param_default bound p
 
   -- what is found of parameters, after names that are bound already
   abbrev pub params_findings : (bound : List ℕ → Test) → List Param → List Note
@@ -112,19 +121,30 @@ module _ (m : Module) where
 
   -- ---- classes
 
-  -- what is found of a field: in its annotation, and at its default
-  abbrev pub field_findings : ClassFacts → (bound : List ℕ → Test) → Field → List Note
-  field_findings base bound d =
-      map plain_note (ann_findings m (bases_of m) d.annotation)
-      ++ default_findings (bases_of m) (binds_as_field base bound d.name.text) d.default
+  -- what is found at the default of a field
+  abbrev pub field_default : ClassFacts → (bound : List ℕ → Test) → Field → List Note
+  field_default base bound d = default_findings (bases_of m) (binds_as_field base bound d.name.text) d.default
       (read_ann m (bases_of m) d.annotation)
 
-  -- what is found of a member: of a field, or of a method's signature, after `self`
-  abbrev pub member_findings : ClassFacts → (bound : List ℕ → Test) → Member → List Note
-  member_findings base bound (field_member d) = field_findings base bound d
-  member_findings base bound (method_member d) = def_findings (with_name no_name (codes "self")) d
+  -- what is found at the defaults of parameters, after names that are bound already
+  abbrev pub params_defaults : (bound : List ℕ → Test) → List Param → List Note
+  params_defaults bound [] = []
+  params_defaults bound (p ∷ ps) = param_default bound p ++ params_defaults (with_name bound p.name.text) ps
 
-  -- what is found of members, after names that are bound already
+  -- what is found at the defaults of a method, after `self`
+  abbrev pub method_defaults : FuncDef → List Note
+  method_defaults d = params_defaults (with_name no_name (codes "self")) d.params
+
+  -- what is found of a method beside the class table: at its defaults, and of one that binds no name in its annotations
+  abbrev pub method_findings : (binds : Test) → FuncDef → List Note
+  method_findings binds d = if binds then method_defaults d else def_findings (with_name no_name (codes "self")) d
+
+  -- what is found of a member beside the class table
+  abbrev pub member_findings : ClassFacts → (bound : List ℕ → Test) → Member → List Note
+  member_findings base bound (field_member d) = field_default base bound d
+  member_findings base bound (method_member d) = method_findings (binds_as_method base bound d.name.text) d
+
+  -- what is found of members beside the class table, after names that are bound already
   abbrev pub members_findings : ClassFacts → (bound : List ℕ → Test) → List Member → List Note
   members_findings base bound [] = []
   members_findings base bound (x ∷ xs) = member_findings base bound x
@@ -134,7 +154,7 @@ module _ (m : Module) where
   abbrev pub base_at : ℕ → ClassFacts
   base_at c = base_facts (classes_of m) (base_of (bases_of m) c)
 
-  -- what is found of the members of a class of this number
+  -- what is found of the members of a class of this number beside the class table
   abbrev pub class_notes : ℕ → ClassDef → List Note
   class_notes c d = members_findings (base_at c) no_name d.members
 
@@ -201,7 +221,7 @@ module _ (m : Module) where
   behind_all r [] = r
   behind_all r (i ∷ is) = behind_all (behind r i) is
 
-  -- what is found of an item that is a constant or a class
+  -- what is found of an item that is a constant, or of the members of one that is a class
   abbrev pub item_findings : ItemsReached → Item → List Note
   item_findings r (constant_item p c) = constant_findings r c
   item_findings r (class_item p c) = class_notes r.classes c
@@ -222,6 +242,6 @@ module _ (m : Module) where
   unfoldable pub method_signatures : List (List Signature)
   method_signatures = signatures_of_methods (classes_in m.items)
 
-  -- what is found of the signatures and the constants of a module
+  -- what is found of the signatures and the constants of a module, but for what the class table finds in annotations
   unfoldable pub signatures_find : List Note
   signatures_find = functions_findings m.items ++ items_findings nothing_reached m.items

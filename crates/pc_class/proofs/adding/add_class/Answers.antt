@@ -17,7 +17,9 @@ use Rattle.pc_class.specs.Outlines.{all_own, AreNew}
 use Rattle.pc_class.specs.Tables.{inherited_entry, HasParameter, HasMethod, parameter_with, method_with}
 use Rattle.pc_class.specs.Parts.{parameter_name, stored_method_name, inherited_node, entries_in}
 use Rattle.pc_ann.specs.ModuleOutlines.{module_in}
-use Rattle.pc_class.specs.Built.{Added}
+use Rattle.pc_class.specs.Annotated.{fields_annotated, methods_annotated}
+use Rattle.pc_class.specs.Built.{Added, members_of_entries}
+use Rattle.pc_class.proofs.Annotations.{members_are}
 use Rattle.pc_class.proofs.ClassesBuilt.{base_here}
 use Rattle.pc_class.proofs.ClassAdded.{table_new, classes_new, given_new, held, base_class, entries_are, fields_new}
 use Rattle.pc_class.proofs.ClassAdded.{methods_new, base_defaulted, held_on, node_same}
@@ -35,9 +37,9 @@ entries-requires g c =
     let ns = p.classes.items in
     let es = entries_in p in
     let base = c.base-base.result in
-    let number : c.len-class.result ≡ length ns = search rules in
+    let number : c.len-number.result ≡ length ns = search rules in
     let based : base ≡ base_named m (length ns) class.base = c.base-base.ensures.value
-    ∙ ap (λ (bs : Bases). base_of bs c.len-class.result) c.requires.outline.parents
+    ∙ ap (λ (bs : Bases). base_of bs c.len-number.result) c.requires.outline.parents
     ∙ ap (base_of (bases_of m)) number ∙ base_here m (length ns) class c.requires.class in
     let o = c.inherited-inherited.result in
     let o_is : o ≡ inherited_node ns base = c.inherited-inherited.ensures
@@ -59,9 +61,9 @@ add_fields-requires-clause-map g c =
     let ns = p.classes.items in
     let es = entries_in p in
     let base = c.base-base.result in
-    let number : c.len-class.result ≡ length ns = search rules in
+    let number : c.len-number.result ≡ length ns = search rules in
     let based : base ≡ base_named m (length ns) class.base = c.base-base.ensures.value
-    ∙ ap (λ (bs : Bases). base_of bs c.len-class.result) c.requires.outline.parents
+    ∙ ap (λ (bs : Bases). base_of bs c.len-number.result) c.requires.outline.parents
     ∙ ap (base_of (bases_of m)) number ∙ base_here m (length ns) class c.requires.class in
     let o = c.inherited-inherited.result in
     let o_is : o ≡ inherited_node ns base = c.inherited-inherited.ensures
@@ -83,9 +85,9 @@ add_methods-requires-clause-map g c =
     let ns = p.classes.items in
     let es = entries_in p in
     let base = c.base-base.result in
-    let number : c.len-class.result ≡ length ns = search rules in
+    let number : c.len-number.result ≡ length ns = search rules in
     let based : base ≡ base_named m (length ns) class.base = c.base-base.ensures.value
-    ∙ ap (λ (bs : Bases). base_of bs c.len-class.result) c.requires.outline.parents
+    ∙ ap (λ (bs : Bases). base_of bs c.len-number.result) c.requires.outline.parents
     ∙ ap (base_of (bases_of m)) number ∙ base_here m (length ns) class c.requires.class in
     let o = c.inherited-inherited.result in
     let o_is : o ≡ inherited_node ns base = c.inherited-inherited.ensures
@@ -109,9 +111,9 @@ returns-clause-table g c =
     let ns = p.classes.items in
     let es = entries_in p in
     let base = c.base-base.result in
-    let number : c.len-class.result ≡ length ns = search rules in
+    let number : c.len-number.result ≡ length ns = search rules in
     let based : base ≡ base_named m (length ns) class.base = c.base-base.ensures.value
-    ∙ ap (λ (bs : Bases). base_of bs c.len-class.result) c.requires.outline.parents
+    ∙ ap (λ (bs : Bases). base_of bs c.len-number.result) c.requires.outline.parents
     ∙ ap (base_of (bases_of m)) number ∙ base_here m (length ns) class c.requires.class in
     let o = c.inherited-inherited.result in
     let o_is : o ≡ inherited_node ns base = c.inherited-inherited.ensures
@@ -131,8 +133,8 @@ returns-clause-table g c =
     c.deref-5.ensures.value ∙ found_entries in
     let entries6 : map entry_seen c.deref-6.result.now ≡ xs = ap (λ (ys : List RustEntry). map entry_seen ys)
     c.deref-6.ensures.value ∙ found_entries in
-    let has = g.S.TypeStore.has c.add_fields.new.store in
-    let has2 = g.S.TypeStore.has c.add_methods.new.store in
+    let has = g.S.TypeStore.has c.add_fields.new.reader.store.now in
+    let has2 = g.S.TypeStore.has c.add_methods.new.reader.store.now in
     let f = subst (λ (ys : List MemberEntry). Added parameter_name (HasParameter has) (parameter_with tree)
     c.add_fields.new.named F c.add_fields.new.fields.items c.in_ok-fields.fields I.fields []
     (all_own (own_field m) ys)) entries5
@@ -145,12 +147,12 @@ returns-clause-table g c =
     c.add_methods.new.methods.items c.in_ok-methods.methods [] I.methods (all_own (own_method m j) xs)) number
     (subst (λ (ys : List MemberEntry). Added stored_method_name (HasMethod has2) (method_with tree)
     c.add_methods.new.named M c.add_methods.new.methods.items c.in_ok-methods.methods [] I.methods
-    (all_own (own_method m c.len-class.result) ys)) entries6
+    (all_own (own_method m c.len-number.result) ys)) entries6
     (c.in_ok-methods.ensures.added [] I.methods (held_on stored_method_name d c.add_fields.new.named M o.held.methods
     I.methods (subst (λ (n : ClassNode). IsMapOf stored_method_name d M n.held.methods I.methods) (sym o_is)
     H.methods) c.in_ok-fields.ensures.kept)
-    (subst (AreNew class_method_name (own_method m c.len-class.result) []) (sym entries6)
-    (methods_new tree m d F M ns es c.requires.table class c.requires.class base based c.len-class.result)))) in
+    (subst (AreNew class_method_name (own_method m c.len-number.result) []) (sym entries6)
+    (methods_new tree m d F M ns es c.requires.table class c.requires.class base based c.len-number.result)))) in
     let b_is = c.in_ok-defaulted.ensures.defaulted ∙ ap (defaulted_in o.defaulted) entries4
     ∙ ap (λ (n : ClassNode). defaulted_in n.defaulted xs) o_is in
     let fs0 : c.len-fields_start.result ≡ length F = search rules in
@@ -172,7 +174,7 @@ returns-clause-table g c =
     } in
     table_new tree m p q c.requires.table class c.requires.class base based c.add_fields.new.named
     c.in_ok-fields.ensures.kept c.in_ok-methods.ensures.kept c.in_ok-fields.fields c.in_ok-methods.methods
-    (g.S.TypeStore.has c.args.store.now) has has2 xs refl c.in_ok-defaulted.defaulted b_is f k _ n_is
+    (g.S.TypeStore.has c.args.reader.now.store.now) has has2 xs refl c.in_ok-defaulted.defaulted b_is f k _ n_is
     c.in_ok-push.ensures.items
 
 pub returns-clause-given : goal.returns-clause-given
@@ -187,9 +189,9 @@ returns-clause-given g c =
     let ns = p.classes.items in
     let es = entries_in p in
     let base = c.base-base.result in
-    let number : c.len-class.result ≡ length ns = search rules in
+    let number : c.len-number.result ≡ length ns = search rules in
     let based : base ≡ base_named m (length ns) class.base = c.base-base.ensures.value
-    ∙ ap (λ (bs : Bases). base_of bs c.len-class.result) c.requires.outline.parents
+    ∙ ap (λ (bs : Bases). base_of bs c.len-number.result) c.requires.outline.parents
     ∙ ap (base_of (bases_of m)) number ∙ base_here m (length ns) class c.requires.class in
     let o = c.inherited-inherited.result in
     let o_is : o ≡ inherited_node ns base = c.inherited-inherited.ensures
@@ -209,8 +211,8 @@ returns-clause-given g c =
     c.deref-5.ensures.value ∙ found_entries in
     let entries6 : map entry_seen c.deref-6.result.now ≡ xs = ap (λ (ys : List RustEntry). map entry_seen ys)
     c.deref-6.ensures.value ∙ found_entries in
-    let has = g.S.TypeStore.has c.add_fields.new.store in
-    let has2 = g.S.TypeStore.has c.add_methods.new.store in
+    let has = g.S.TypeStore.has c.add_fields.new.reader.store.now in
+    let has2 = g.S.TypeStore.has c.add_methods.new.reader.store.now in
     let f = subst (λ (ys : List MemberEntry). Added parameter_name (HasParameter has) (parameter_with tree)
     c.add_fields.new.named F c.add_fields.new.fields.items c.in_ok-fields.fields I.fields []
     (all_own (own_field m) ys)) entries5
@@ -223,12 +225,12 @@ returns-clause-given g c =
     c.add_methods.new.methods.items c.in_ok-methods.methods [] I.methods (all_own (own_method m j) xs)) number
     (subst (λ (ys : List MemberEntry). Added stored_method_name (HasMethod has2) (method_with tree)
     c.add_methods.new.named M c.add_methods.new.methods.items c.in_ok-methods.methods [] I.methods
-    (all_own (own_method m c.len-class.result) ys)) entries6
+    (all_own (own_method m c.len-number.result) ys)) entries6
     (c.in_ok-methods.ensures.added [] I.methods (held_on stored_method_name d c.add_fields.new.named M o.held.methods
     I.methods (subst (λ (n : ClassNode). IsMapOf stored_method_name d M n.held.methods I.methods) (sym o_is)
     H.methods) c.in_ok-fields.ensures.kept)
-    (subst (AreNew class_method_name (own_method m c.len-class.result) []) (sym entries6)
-    (methods_new tree m d F M ns es c.requires.table class c.requires.class base based c.len-class.result)))) in
+    (subst (AreNew class_method_name (own_method m c.len-number.result) []) (sym entries6)
+    (methods_new tree m d F M ns es c.requires.table class c.requires.class base based c.len-number.result)))) in
     let b_is = c.in_ok-defaulted.ensures.defaulted ∙ ap (defaulted_in o.defaulted) entries4
     ∙ ap (λ (n : ClassNode). defaulted_in n.defaulted xs) o_is in
     let fs0 : c.len-fields_start.result ≡ length F = search rules in
@@ -250,7 +252,7 @@ returns-clause-given g c =
     } in
     given_new tree m p q c.requires.table class c.requires.class base based c.add_fields.new.named
     c.in_ok-fields.ensures.kept c.in_ok-methods.ensures.kept c.in_ok-fields.fields c.in_ok-methods.methods
-    (g.S.TypeStore.has c.args.store.now) has has2 xs refl c.in_ok-defaulted.defaulted b_is f k _ n_is
+    (g.S.TypeStore.has c.args.reader.now.store.now) has has2 xs refl c.in_ok-defaulted.defaulted b_is f k _ n_is
     c.in_ok-push.ensures.items c.requires.given (λ t h. c.add_methods.ensures.store t
     (c.add_fields.ensures.store t h)) c.add_methods.ensures.store
 
@@ -266,9 +268,9 @@ returns-clause-classes g c =
     let ns = p.classes.items in
     let es = entries_in p in
     let base = c.base-base.result in
-    let number : c.len-class.result ≡ length ns = search rules in
+    let number : c.len-number.result ≡ length ns = search rules in
     let based : base ≡ base_named m (length ns) class.base = c.base-base.ensures.value
-    ∙ ap (λ (bs : Bases). base_of bs c.len-class.result) c.requires.outline.parents
+    ∙ ap (λ (bs : Bases). base_of bs c.len-number.result) c.requires.outline.parents
     ∙ ap (base_of (bases_of m)) number ∙ base_here m (length ns) class c.requires.class in
     let o = c.inherited-inherited.result in
     let o_is : o ≡ inherited_node ns base = c.inherited-inherited.ensures
@@ -288,8 +290,8 @@ returns-clause-classes g c =
     c.deref-5.ensures.value ∙ found_entries in
     let entries6 : map entry_seen c.deref-6.result.now ≡ xs = ap (λ (ys : List RustEntry). map entry_seen ys)
     c.deref-6.ensures.value ∙ found_entries in
-    let has = g.S.TypeStore.has c.add_fields.new.store in
-    let has2 = g.S.TypeStore.has c.add_methods.new.store in
+    let has = g.S.TypeStore.has c.add_fields.new.reader.store.now in
+    let has2 = g.S.TypeStore.has c.add_methods.new.reader.store.now in
     let f = subst (λ (ys : List MemberEntry). Added parameter_name (HasParameter has) (parameter_with tree)
     c.add_fields.new.named F c.add_fields.new.fields.items c.in_ok-fields.fields I.fields []
     (all_own (own_field m) ys)) entries5
@@ -302,12 +304,12 @@ returns-clause-classes g c =
     c.add_methods.new.methods.items c.in_ok-methods.methods [] I.methods (all_own (own_method m j) xs)) number
     (subst (λ (ys : List MemberEntry). Added stored_method_name (HasMethod has2) (method_with tree)
     c.add_methods.new.named M c.add_methods.new.methods.items c.in_ok-methods.methods [] I.methods
-    (all_own (own_method m c.len-class.result) ys)) entries6
+    (all_own (own_method m c.len-number.result) ys)) entries6
     (c.in_ok-methods.ensures.added [] I.methods (held_on stored_method_name d c.add_fields.new.named M o.held.methods
     I.methods (subst (λ (n : ClassNode). IsMapOf stored_method_name d M n.held.methods I.methods) (sym o_is)
     H.methods) c.in_ok-fields.ensures.kept)
-    (subst (AreNew class_method_name (own_method m c.len-class.result) []) (sym entries6)
-    (methods_new tree m d F M ns es c.requires.table class c.requires.class base based c.len-class.result)))) in
+    (subst (AreNew class_method_name (own_method m c.len-number.result) []) (sym entries6)
+    (methods_new tree m d F M ns es c.requires.table class c.requires.class base based c.len-number.result)))) in
     let b_is = c.in_ok-defaulted.ensures.defaulted ∙ ap (defaulted_in o.defaulted) entries4
     ∙ ap (λ (n : ClassNode). defaulted_in n.defaulted xs) o_is in
     let fs0 : c.len-fields_start.result ≡ length F = search rules in
@@ -329,7 +331,7 @@ returns-clause-classes g c =
     } in
     classes_new tree m p q c.requires.table class c.requires.class base based c.add_fields.new.named
     c.in_ok-fields.ensures.kept c.in_ok-methods.ensures.kept c.in_ok-fields.fields c.in_ok-methods.methods
-    (g.S.TypeStore.has c.args.store.now) has has2 xs refl c.in_ok-defaulted.defaulted b_is f k _ n_is
+    (g.S.TypeStore.has c.args.reader.now.store.now) has has2 xs refl c.in_ok-defaulted.defaulted b_is f k _ n_is
     c.in_ok-push.ensures.items
 
 pub returns-clause-found : goal.returns-clause-found
@@ -344,9 +346,9 @@ returns-clause-found g c =
     let ns = p.classes.items in
     let es = entries_in p in
     let base = c.base-base.result in
-    let number : c.len-class.result ≡ length ns = search rules in
+    let number : c.len-number.result ≡ length ns = search rules in
     let based : base ≡ base_named m (length ns) class.base = c.base-base.ensures.value
-    ∙ ap (λ (bs : Bases). base_of bs c.len-class.result) c.requires.outline.parents
+    ∙ ap (λ (bs : Bases). base_of bs c.len-number.result) c.requires.outline.parents
     ∙ ap (base_of (bases_of m)) number ∙ base_here m (length ns) class c.requires.class in
     let o = c.inherited-inherited.result in
     let o_is : o ≡ inherited_node ns base = c.inherited-inherited.ensures
@@ -377,3 +379,40 @@ returns-clause-found g c =
     (late_places n.defaulted xs))) o_is
     ∙ ap (λ b. c.args.found.now.items ++ (at_code E06 (clash_places xs) ++ at_code E08 (late_places b xs)))
     (base_defaulted tree m d F M ns es c.requires.table class c.requires.class base based)
+
+pub returns-clause-annotated : goal.returns-clause-annotated
+returns-clause-annotated g c =
+    let m = module_in c.args.outline.now in
+    let tree = g.S.TypeStore.tree in
+    let p = c.args.parts.now in
+    let d = p.named in
+    let class = class_of c.args.definition.now in
+    let F = p.fields.items in
+    let M = p.methods.items in
+    let ns = p.classes.items in
+    let es = entries_in p in
+    let old = c.args.reader.now.found.now.items in
+    let ms = class.members in
+    let base = c.base-base.result in
+    let number : c.len-number.result ≡ length ns = search rules in
+    let based : base ≡ base_named m (length ns) class.base = c.base-base.ensures.value
+    ∙ ap (λ (bs : Bases). base_of bs c.len-number.result) c.requires.outline.parents
+    ∙ ap (base_of (bases_of m)) number ∙ base_here m (length ns) class c.requires.class in
+    let o = c.inherited-inherited.result in
+    let o_is : o ≡ inherited_node ns base = c.inherited-inherited.ensures
+    ∙ ap (λ (xs : List ClassNode). inherited_node xs base) c.deref.ensures.value in
+    let BC = base_class tree m d F M ns es c.requires.table class c.requires.class base based in
+    let xs = class_entries (inherited_by BC) class in
+    let found_entries : map entry_seen c.in_ok-members.members.items ≡ entries_of (inherited_in d o.held) [] 0 ms =
+    c.in_ok-members.ensures ∙ ap (λ (ys : List RustMember). entries_of (inherited_in d o.held) [] 0 (map member_of ys))
+    c.deref-2.ensures.value in
+    let are = members_are c.in_ok-members.members.items (inherited_in d o.held) ms found_entries in
+    let fields : members_of_entries c.deref-5.result.now ≡ ms = ap members_of_entries c.deref-5.ensures.value ∙ are in
+    let methods : map entry_seen c.deref-6.result.now ≡ xs = ap (λ (ys : List RustEntry). map entry_seen ys)
+    c.deref-6.ensures.value ∙ found_entries ∙ ap (λ (n : ClassNode). entries_of (inherited_in d n.held) [] 0 ms) o_is
+    ∙ entries_are tree m d F M ns es c.requires.table class c.requires.class base based in
+    c.in_ok-methods.ensures.found
+    ∙ ap (λ (fs : List Finding). fs ++ methods_annotated m (map entry_seen c.deref-6.result.now))
+    c.in_ok-fields.ensures.found
+    ∙ (λ i. (old ++ fields_annotated m (fields i)) ++ methods_annotated m (methods i))
+    ∙ append_assoc old (fields_annotated m ms) (methods_annotated m xs)

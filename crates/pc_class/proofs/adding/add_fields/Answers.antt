@@ -9,6 +9,7 @@ use Rattle.pc_class.specs.Parts.{parameter_name}
 use Rattle.pc_ann.specs.ModuleOutlines.{module_in}
 use Rattle.pc_class.proofs.Holding.{named_on, named_same}
 use Rattle.pc_class.proofs.Walking.{Walk, walk_start, walk_next, walk_end}
+use Rattle.pc_class.proofs.Annotations.{lent_same, lent_on, stepped, fields_next}
 use Rattle.pc_class.proofs.adding.add_fields.Goals as goal
 
 pub loop-entry-init : goal.loop-entry-init
@@ -19,9 +20,11 @@ loop-entry-init g c =
       kept = named_same c.args.named.now;
       store = λ t h. h;
       added = λ front back h new. walk_start parameter_name field_name (parameter_with tree) (λ x. refl)
-          (own_field (module_in c.args.outline.now)) (HasParameter (g.S.TypeStore.has c.args.store.now))
+          (own_field (module_in c.args.outline.now)) (HasParameter (g.S.TypeStore.has c.args.reader.now.store.now))
           c.args.named.now c.args.fields.now.items c.args.inherited front back (map entry_seen c.args.entries.now) h
           new;
+      same = lent_same c.args.reader.now;
+      found = refl;
     }
 
 pub loop-entry-preserved : goal.loop-entry-preserved
@@ -32,8 +35,8 @@ loop-entry-preserved g c =
     let rest = map entry_seen (drop (i + 1) entries) in
     let e = entry_seen c.entry-item.result in
     let cons = cons_at entries i c.entry-item.result c.loop-entry-test.true c.entry-item.is in
-    let has = HasParameter (g.S.TypeStore.has c.loop-entry.store) in
-    let has2 = HasParameter (g.S.TypeStore.has c.add_own_field.new.store) in
+    let has = HasParameter (g.S.TypeStore.has c.loop-entry.reader.store.now) in
+    let has2 = HasParameter (g.S.TypeStore.has c.add_own_field.new.reader.store.now) in
     let k = c.add_own_field.ensures.store in
     record {
       within = c.in_ok-at.ensures.within;
@@ -48,13 +51,17 @@ loop-entry-preserved g c =
           c.loop-entry.fields.items c.loop-entry.at front back (map entry_seen entries) (map entry_seen es)) cons
           (c.loop-entry.invariant.added front back h new))
           (λ these. c.in_ok-at.ensures.added these back);
+      same = lent_on c.loop-entry.invariant.same c.add_own_field.ensures.same;
+      found = stepped c.loop-entry.reader.found.now.items c.add_own_field.new.reader.found.now.items _ _ _ _
+          c.loop-entry.invariant.found (fields_next (module_in c.args.outline.now) entries i c.entry-item.result
+          c.loop-entry-test.true c.entry-item.is) c.in_ok-at.ensures.found;
     }
 
 pub returns-clause-added : goal.returns-clause-added
 returns-clause-added g c front back h new =
     let tree = g.S.TypeStore.tree in
     let entries = c.args.entries.now in
-    let has = HasParameter (g.S.TypeStore.has c.loop-entry.store) in
+    let has = HasParameter (g.S.TypeStore.has c.loop-entry.reader.store.now) in
     walk_end parameter_name field_name (parameter_with tree) (λ x. refl) (own_field (module_in c.args.outline.now)) has
     c.loop-entry.named c.args.fields.now.items c.loop-entry.fields.items c.loop-entry.at front back
     (map entry_seen entries)

@@ -6,10 +6,13 @@ use Rattle.pc_tree.specs.declared.tree.Item.{Item as RustItem}
 use Rattle.pc_tree.specs.Tree.{item_of}
 use Rattle.pc_scope.specs.Bindings.{classes_in}
 use Rattle.pc_class.specs.Facts.{ClassFacts, classes_behind}
+use Rattle.pc_class.specs.Annotated.{class_annotated}
+use Rattle.pc_class.specs.Outlines.{found_over}
 use Rattle.pc_class.specs.Tables.{HasParameter, HasMethod, classes_with}
 use Rattle.pc_class.specs.Parts.{entries_in, entries_behind}
 use Rattle.pc_ann.specs.ModuleOutlines.{module_in}
-use Rattle.pc_class.specs.Built.{found_behind}
+use Rattle.pc_class.specs.Built.{found_behind, annotated_behind}
+use Rattle.pc_class.proofs.Annotations.{lent_same, lent_on}
 use Rattle.pc_class.proofs.ClassAdded.{entries_are_behind}
 use Rattle.pc_class.proofs.ItemsBuilt.{item_ahead, items_ahead, classes_next, found_next, classes_are_behind}
 use Rattle.pc_class.proofs.building.all_classes.Goals as goal
@@ -18,7 +21,7 @@ pub loop-item-init : goal.loop-item-init
 loop-item-init g c =
     let m = module_in c.args.outline.now in
     let tree = g.S.TypeStore.tree in
-    let has = g.S.TypeStore.has c.args.store.now in
+    let has = g.S.TypeStore.has c.args.reader.now.store.now in
     let p = c.in_ok-parts.parts in
     let all = classes_in (map item_of c.as_slice-items.result.now) in
     let none : entries_in p ≡ [] = entries_are_behind p ∙ ap (entries_behind p.fields.items p.methods.items [])
@@ -38,6 +41,10 @@ loop-item-init g c =
           ∙ ap (λ n. classes_behind m [] n all) long;
       found = ap (λ (e : List ClassFacts). c.args.found.now.items ++ found_behind m e (length p.classes.items) all) same
           ∙ ap (λ n. c.args.found.now.items ++ found_behind m [] n all) long;
+      same = lent_same c.args.reader.now;
+      annotated = ap (λ (e : List ClassFacts). c.args.reader.now.found.now.items ++ annotated_behind m e
+          (length p.classes.items) all) same
+          ∙ ap (λ n. c.args.reader.now.found.now.items ++ annotated_behind m [] n all) long;
     }
 
 pub add_item-requires-clause-class : goal.add_item-requires-clause-class
@@ -72,8 +79,12 @@ loop-item-preserved g c =
       given = c.in_ok-add_item.ensures.given;
       ahead = items_ahead all n items i x less is inv.ahead k more;
       classes = classes_next m e n items i x less is e2 c.in_ok-add_item.ensures.classes k more _ inv.classes;
-      found = found_next m e n items i x less is e2 c.in_ok-add_item.ensures.classes k more c.loop-item.found.items
-          c.add_item.new.found.items _ inv.found c.in_ok-add_item.ensures.found;
+      found = found_next m e n items i x less is e2 c.in_ok-add_item.ensures.classes k more found_over
+          c.loop-item.found.items c.add_item.new.found.items _ inv.found c.in_ok-add_item.ensures.found;
+      same = lent_on c.loop-item.invariant.same c.add_item.ensures.same;
+      annotated = found_next m e n items i x less is e2 c.in_ok-add_item.ensures.classes k more (class_annotated m)
+          c.loop-item.reader.found.now.items c.add_item.new.reader.found.now.items _ inv.annotated
+          c.in_ok-add_item.ensures.annotated;
     }
 
 pub returns-clause-classes : goal.returns-clause-classes
@@ -101,4 +112,20 @@ returns-clause-found g c =
     (sym (drop_of_length-le items c.loop-item-test.false))
     ∙ c.loop-item.invariant.found
     ∙ ap (λ (xs : List RustItem). c.args.found.now.items ++ found_behind m [] 0 (classes_in (map item_of xs)))
+    c.as_slice-items.ensures.value
+
+pub returns-clause-annotated : goal.returns-clause-annotated
+returns-clause-annotated g c =
+    let m = module_in c.args.outline.now in
+    let tree = g.S.TypeStore.tree in
+    let items = c.as_slice-items.result.now in
+    let n = length c.loop-item.parts.classes.items in
+    let e = classes_with tree (entries_in c.loop-item.parts) in
+    let now = c.loop-item.reader.found.now.items in
+    let old = c.args.reader.now.found.now.items in
+    sym (append-nil now)
+    ∙ ap (λ (xs : List RustItem). now ++ annotated_behind m e n (classes_in (map item_of xs)))
+    (sym (drop_of_length-le items c.loop-item-test.false))
+    ∙ c.loop-item.invariant.annotated
+    ∙ ap (λ (xs : List RustItem). old ++ annotated_behind m [] 0 (classes_in (map item_of xs)))
     c.as_slice-items.ensures.value

@@ -2,19 +2,21 @@ use Rattle.std.proofs.Common.{◌≡◌, ◌++◌, [], map, drop, length}
 use Rattle.pc_tree.specs.Tree.{item_of}
 use Rattle.pc_scope.specs.Bindings.{classes_in}
 use Rattle.pc_types.specs.Store.{KeepsTypes}
+use Rattle.pc_class.specs.Internal.Readers.{IsLentSame}
 use Rattle.pc_class.specs.Facts.{classes_behind}
 use Rattle.pc_class.specs.Tables.{classes_with}
 use Rattle.pc_class.specs.Parts.{entries_in, IsClassTable, HasParts}
 use Rattle.pc_ann.specs.ModuleOutlines.{module_in}
-use Rattle.pc_class.specs.Built.{found_behind}
+use Rattle.pc_class.specs.Built.{found_behind, annotated_behind}
 use Rattle.pc_class.proofs.ItemsBuilt.{AreAhead}
 use Rattle.pc_class.proofs.building.all_classes.Given as goal
 
 abbrev pub invariant-loop-item : goal.invariant-loop-item
 invariant-loop-item g l = record {
-  store : KeepsTypes g.S.TypeStore.has l.fn.store l.store;
+  same : IsLentSame l.fn.reader l.reader;
+  store : KeepsTypes g.S.TypeStore.has l.fn.reader.store.now l.reader.store.now;
   table : IsClassTable l.parts;
-  given : HasParts (g.S.TypeStore.has l.store) l.parts;
+  given : HasParts (g.S.TypeStore.has l.reader.store.now) l.parts;
   ahead : AreAhead (classes_in (map item_of l.items)) (length l.parts.classes.items)
       (classes_in (map item_of (drop l.item-index l.items)));
   classes : classes_behind (module_in l.outline) (classes_with g.S.TypeStore.tree (entries_in l.parts))
@@ -23,4 +25,8 @@ invariant-loop-item g l = record {
   found : l.found.items ++ found_behind (module_in l.outline) (classes_with g.S.TypeStore.tree (entries_in l.parts))
       (length l.parts.classes.items) (classes_in (map item_of (drop l.item-index l.items))) ≡ l.fn.found.items
       ++ found_behind (module_in l.outline) [] 0 (classes_in (map item_of l.items));
+  annotated : l.reader.found.now.items ++ annotated_behind (module_in l.outline)
+      (classes_with g.S.TypeStore.tree (entries_in l.parts)) (length l.parts.classes.items)
+      (classes_in (map item_of (drop l.item-index l.items))) ≡ l.fn.reader.found.now.items ++ annotated_behind
+      (module_in l.outline) [] 0 (classes_in (map item_of l.items));
 }

@@ -1,4 +1,4 @@
-use Rattle.std.proofs.Common.{◌∙◌, ◌++◌, [], List, map, sym, ap, subst, append_assoc}
+use Rattle.std.proofs.Common.{◌≡◌, ◌∙◌, ◌++◌, [], List, map, sym, ap, subst, append_assoc}
 use Rattle.pc_tree.specs.declared.code.Code.TheVariants.{E07}
 use Rattle.pc_tree.specs.declared.code.Finding.{Finding}
 use Rattle.pc_tree.specs.declared.tree.Item.{Item as RustItem}
@@ -7,32 +7,39 @@ use Rattle.pc_scope.specs.Bindings.{classes_in}
 use Rattle.pc_tree.specs.Code.{at_code}
 use Rattle.pc_types.specs.Below.{Bases}
 use Rattle.pc_ann.specs.Bases.{bases_of}
+use Rattle.pc_class.specs.Annotated.{classes_annotated, member_annotations}
 use Rattle.pc_class.specs.Entries.{missing_bases}
-use Rattle.pc_class.specs.Built.{found_behind, class_findings}
+use Rattle.pc_class.specs.Built.{found_behind, annotated_behind, class_findings}
 use Rattle.pc_class.specs.Facts.{ClassFacts}
 use Rattle.pc_class.specs.Parts.{entries_in}
 use Rattle.pc_class.specs.Tables.{HasEntries}
 use Rattle.pc_class.proofs.EntriesGiven.{table_given}
-use Rattle.pc_class.proofs.ItemsBuilt.{found_listed, bases_are, bases_there}
+use Rattle.pc_class.proofs.ItemsBuilt.{found_listed, annotated_listed, bases_are, bases_there}
 use Rattle.pc_class.proofs.building.class_table.Goals as goal
 
 pub returns-clause-found : goal.returns-clause-found
-unfolding class_findings
+unfolding class_findings member_annotations
 returns-clause-found g c =
     let m = module_of c.args.tree.now in
     let old = c.args.found.now.items in
     let cs = classes_in m.items in
-    c.in_ok-parts.ensures.found
+    let of_names : c.read_classes.new.found.items ≡ old ++ class_findings m = c.in_ok-parts.ensures.found
     ∙ ap (λ (fs : List Finding). fs ++ found_behind m [] 0 cs) (c.in_ok-find_missing_bases.ensures
     ∙ ap (λ (xs : List RustItem). old ++ at_code E07 (missing_bases c.in_ok-parents.parents 0
     (classes_in (map item_of xs)))) c.deref.ensures.value
     ∙ ap (λ (bs : Bases). old ++ at_code E07 (missing_bases bs 0 cs)) c.in_ok-parents.ensures)
     ∙ append_assoc old (at_code E07 (missing_bases (bases_of m) 0 cs)) (found_behind m [] 0 cs)
-    ∙ ap (λ (fs : List Finding). old ++ (at_code E07 (missing_bases (bases_of m) 0 cs) ++ fs)) (found_listed m)
+    ∙ ap (λ (fs : List Finding). old ++ (at_code E07 (missing_bases (bases_of m) 0 cs) ++ fs)) (found_listed m) in
+    let annotated : c.read_classes.new.in_annotations.items ≡ classes_annotated m 0 cs =
+    c.in_ok-parts.ensures.annotated ∙ ap (λ (fs : List Finding). fs ++ annotated_behind m [] 0 cs)
+    c.new-in_annotations.ensures.items ∙ annotated_listed m in
+    c.in_ok-extend_from_slice.ensures.items
+    ∙ (λ i. of_names i ++ (c.deref-2.ensures.value ∙ annotated) i)
+    ∙ append_assoc old (class_findings m) (classes_annotated m 0 cs)
 
 pub returns-clause-given : goal.returns-clause-given
-returns-clause-given g c = subst (HasEntries (g.S.TypeStore.has c.all_classes.new.store)) (sym c.of.ensures)
-    (table_given (g.S.TypeStore.has c.all_classes.new.store) c.in_ok-parts.parts c.in_ok-parts.ensures.given)
+returns-clause-given g c = subst (HasEntries (g.S.TypeStore.has c.read_classes.new.store)) (sym c.of.ensures)
+    (table_given (g.S.TypeStore.has c.read_classes.new.store) c.in_ok-parts.parts c.in_ok-parts.ensures.given)
 
 pub of-requires-clause-parents : goal.of-requires-clause-parents
 of-requires-clause-parents g c =

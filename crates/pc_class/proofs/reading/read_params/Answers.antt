@@ -8,16 +8,19 @@ use Rattle.pc_tree.proofs.Stops.{cons_at}
 use Rattle.pc_class.specs.Facts.{TypedParameter, parameters_of}
 use Rattle.pc_ann.specs.ModuleOutlines.{module_in}
 use Rattle.pc_class.specs.Tables.{HasParameter, parameter_with, parameters_with}
+use Rattle.pc_class.proofs.Annotations.{lent_same, lent_on, stepped, params_next}
 use Rattle.pc_class.proofs.reading.read_params.Goals as goal
 
 pub loop-param-init : goal.loop-param-init
 loop-param-init g c =
     let tree = g.S.TypeStore.tree in
-    let has = HasParameter (g.S.TypeStore.has c.args.store.now) in
+    let has = HasParameter (g.S.TypeStore.has c.args.reader.now.store.now) in
     record {
       store = λ t h. h;
       given = rw c.new-all.ensures.items (All-nil has);
       means = rw c.new-all.ensures.items refl;
+      same = lent_same c.args.reader.now;
+      found = refl;
     }
 
 pub loop-param-preserved : goal.loop-param-preserved
@@ -30,7 +33,7 @@ loop-param-preserved g c =
     let all = c.loop-param.all.items in
     let p = c.in_ok-parameter.parameter in
     let k = c.read_param.ensures.kept in
-    let has = HasParameter (g.S.TypeStore.has c.loop-param.store) in
+    let has = HasParameter (g.S.TypeStore.has c.loop-param.reader.store.now) in
     let has2 = HasParameter (g.S.TypeStore.has c.read_param.new.store) in
     record {
       store = λ t h. k t (c.loop-param.invariant.store t h);
@@ -44,6 +47,10 @@ loop-param-preserved g c =
           ∙ ap (λ (ps : List RustParam). parameters_with tree all ++ parameters_of m (map param_of ps))
           (sym (cons_at params i c.param-item.result c.loop-param-test.true c.param-item.is))
           ∙ c.loop-param.invariant.means;
+      same = lent_on c.loop-param.invariant.same (record { same_store = refl; same_found = refl });
+      found = stepped c.loop-param.reader.found.now.items c.read_param.new.found.items _ _ _ _
+          c.loop-param.invariant.found (params_next m params i c.param-item.result c.loop-param-test.true
+          c.param-item.is) c.in_ok-parameter.ensures.found;
     }
 
 pub returns-clause-means : goal.returns-clause-means

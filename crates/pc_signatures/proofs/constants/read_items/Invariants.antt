@@ -1,6 +1,7 @@
-use Rattle.std.proofs.Common.{◌≡◌, ◌++◌, map, drop}
+use Rattle.std.proofs.Common.{◌≡◌, ◌++◌, map, drop, length}
 use Rattle.pc_tree.specs.Tree.{item_of}
 use Rattle.pc_scope.specs.Bindings.{classes_in}
+use Rattle.pc_class.proofs.ItemsBuilt.{AreAhead}
 use Rattle.pc_notes.specs.Notes.{notes_of}
 use Rattle.pc_rules.specs.Computed.Signatures.{nothing_reached, signatures_of_methods, behind_all, items_findings}
 use Rattle.pc_rules.specs.Computed.Checkers.{GoesOn}
@@ -11,6 +12,8 @@ use Rattle.pc_signatures.proofs.constants.read_items.Given as goal
 abbrev pub invariant-loop-item : goal.invariant-loop-item
 invariant-loop-item g l = record {
   globals : AreGlobals g.S.TypeStore.has g.S.TypeStore.tree l.checker.store.now l.globals;
+  ahead : AreAhead (classes_in (map item_of l.items)) (length l.walk.methods.items)
+      (classes_in (map item_of (drop l.item-index l.items)));
   held : HasReached (g.S.TypeStore.has l.checker.store.now) l.walk;
   reached : behind_all (module_in l.globals.outline.now) (reached_with g.S.TypeStore.tree l.walk)
       (map item_of (drop l.item-index l.items)) ≡ behind_all (module_in l.globals.outline.now) nothing_reached

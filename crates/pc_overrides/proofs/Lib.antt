@@ -1,0 +1,11 @@
+pub mod AlikeMethods
+pub mod ClassOverrides
+pub mod Demands
+pub mod KnownMethods
+pub mod ListedMethods
+pub mod Overridden
+pub mod OverrideWalk
+pub mod Parts
+pub mod PlainTypes
+pub mod SettledTypes
+pub mod StandIns

@@ -1,0 +1,72 @@
+//! Types that are the same, and methods that ask the same.
+
+ghost use Rattle.std.specs.Prelude.{◌≡◌, IfOk, IsTrue, true};
+ghost use Rattle.pc_class.specs.Parts.{parameter_name};
+ghost use Rattle.pc_class.specs.Tables.{HasMethod, method_with};
+ghost use Rattle.pc_overrides.specs.Internal.Standing.{AreAlike};
+
+use pc_class::{Method, Parameter};
+use pc_source::OutOfMemory;
+use pc_types::TypeStore;
+use std::alloc::Global;
+
+/// Whether two types are seen to be the same, by their heads and parts.
+pub(crate) fn is_same<S: TypeStore>(
+    store: &S,
+    alloc: Global,
+    s: &S::Ty,
+    t: &S::Ty,
+) -> Result<bool, OutOfMemory>
+    requires left { S.has store.now s.now }
+    requires right { S.has store.now t.now }
+    ensures { IfOk result (λ same. same ≡ true → S.tree s.now ≡ S.tree t.now) }
+{
+    let head = store.head(s);
+    if head != store.head(t) {
+        return Ok(false);
+    }
+    if head.part_count() == 0 {
+        return Ok(true);
+    }
+    let left = store.parts(alloc, s)?;
+    let right = store.parts(alloc, t)?;
+    for part in 0..left.len() {
+        if !is_same(store, alloc, &left[part], &right[part])? {
+            return Ok(false);
+        }
+    }
+    Ok(true)
+}
+
+/// Whether two parameters have the same name, and both a default or neither.
+fn agrees<Ty: Drop>(p: &Parameter<Ty>, q: &Parameter<Ty>) -> bool
+    ensures { IsTrue result → (parameter_name p.now ≡ parameter_name q.now) × (p.now.has_default ≡ q.now.has_default) }
+{
+    p.name.as_str() == q.name.as_str() && p.has_default == q.has_default
+}
+
+/// Whether two methods are seen to have the same parameters and to return the same type.
+pub(crate) fn is_alike<S: TypeStore>(
+    store: &S,
+    alloc: Global,
+    x: &Method<S::Ty>,
+    y: &Method<S::Ty>,
+) -> Result<bool, OutOfMemory>
+    requires left { HasMethod (S.has store.now) x.now }
+    requires right { HasMethod (S.has store.now) y.now }
+    ensures { IfOk result (λ alike. alike ≡ true → AreAlike (method_with S.tree x.now) (method_with S.tree y.now)) }
+{
+    let left = x.params.as_slice();
+    let right = y.params.as_slice();
+    if left.len() != right.len() || !is_same(store, alloc, &x.ret, &y.ret)? {
+        return Ok(false);
+    }
+    for number in 0..left.len() {
+        let p = &left[number];
+        let q = &right[number];
+        if !agrees(p, q) || !is_same(store, alloc, &p.ty, &q.ty)? {
+            return Ok(false);
+        }
+    }
+    Ok(true)
+}
