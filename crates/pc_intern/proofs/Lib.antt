@@ -1,3 +1,5 @@
+pub mod AtOnce
+pub mod Basic
 pub mod Held
 pub mod Itself
 pub mod Keys

@@ -2,7 +2,7 @@
 use Rattle.std.proofs.Common.{◌≡◌, ◌≤◌, ◌<◌, ◌+◌, ℕ, List, [], ◌∷◌, All, Some, unwrap_or, length, drop, map, get_or}
 use Rattle.std.proofs.Common.{slice_get, sym, ap, subst, ◌∙◌}
 use Rattle.std.proofs.lemmas.List.Elements.{All-weaker, All-get_or}
-use Rattle.pc_types.specs.Tree.{Tree, Object, Never, TupleOf}
+use Rattle.pc_types.specs.Tree.{Tree, Object, TupleOf}
 use Rattle.pc_types.specs.Below.{Bases}
 use Rattle.pc_types.specs.Shape.{nodes, node_limit, parts, trees}
 use Rattle.pc_types.specs.Store.{KeepsTypes}
@@ -10,11 +10,11 @@ use Rattle.pc_types.specs.Boxed.{tree_of}
 use Rattle.pc_types.specs.Join.{join}
 use Rattle.pc_types.specs.JoinedTypes.{joined_onto, types_joined}
 use Rattle.pc_types.specs.declared.boxed.BoxType.{BoxType}
-use Rattle.pc_types.proofs.JoinNormal.{within_is}
 use Rattle.pc_types.proofs.Nodes.{listed_trees}
 use Rattle.pc_types.proofs.Rest.{mapped_rest}
 use Rattle.pc_intern.specs.declared.store.TypeId.{TypeId}
 use Rattle.pc_intern.specs.Store.{meaning, IsHeld}
+use Rattle.pc_intern.proofs.AtOnce.{never_join}
 use Rattle.pc_intern.proofs.Held.{held_within, means_now}
 
 -- a type of those that are held
@@ -38,10 +38,6 @@ joined_more bases types now tys k x b s u e all l read at j h =
     read in
     let g : u ≡ unwrap_or (join bases s (meaning x)) Object = j ∙ ap (λ t. unwrap_or (join bases s t) Object) q in
     ap (λ t. joined_onto bases t (drop (k + 1) (map meaning tys))) g ∙ ap (joined_onto bases s) (sym r) ∙ h
-
-never_join : (bases : Bases) (t : Tree) → nodes t ≤ node_limit → join bases Never t ≡ Some t
-never_join bases Never l = within_is Never l
-never_join bases t l = within_is t l
 
 -- the join of one type is that type
 pub only_joined : (bases : Bases) (r t : Tree) → nodes t ≤ node_limit → r ≡ t → r ≡ types_joined bases (t ∷ [])

@@ -1,8 +1,8 @@
 -- The table of an interned store: what its numbers mean, and what it keeps true.
 -- Own rule of the profile.
-use Rattle.std.specs.Prelude.{◌≡◌, ℕ, List, ◌++◌, map, slice_get, Option, Some}
+use Rattle.std.specs.Prelude.{◌≡◌, ℕ, List, [], ◌∷◌, ◌++◌, map, slice_get, Option, Some}
 use Rattle.std.specs.Map.{values_of}
-use Rattle.pc_types.specs.Tree.{Tree}
+use Rattle.pc_types.specs.Tree.{Tree, Any, Object, Never, Int, Bool, Str, NoneType}
 use Rattle.pc_types.specs.Shape.{parts}
 use Rattle.pc_types.specs.Head.{head_of}
 use Rattle.pc_types.specs.Boxed.{tree_of, IsGiven}
@@ -36,3 +36,12 @@ pub record IsTable (entries : List (Node × BoxType)) : Type 0 where
   pub told : (n : ℕ) (e : Node × BoxType) → slice_get entries n ≡ Some e → IsNode (values_of entries) e.0 (tree_of e.1)
   pub once : (m n : ℕ) (t : Tree) → tree_at (values_of entries) m ≡ Some t → tree_at (values_of entries) n ≡ Some t
       → m ≡ n
+
+-- the basic types, which have no parts and are no class, in the order of their places
+abbrev pub basic_types : List Tree
+basic_types = Any ∷ Object ∷ Never ∷ Int ∷ Bool ∷ Str ∷ NoneType ∷ []
+
+-- a number that is kept at a place is that of the basic type of the place
+abbrev pub AreBasic : List BoxType → List (Option ℕ) → Type 0
+AreBasic types numbers = (place n : ℕ) (t : Tree) → slice_get numbers place ≡ Some (Some n)
+    → slice_get basic_types place ≡ Some t → tree_at types n ≡ Some t

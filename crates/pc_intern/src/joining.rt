@@ -1,6 +1,9 @@
-//! The join of several types of an interned store.
+//! Joins of types of an interned store: of two that tell it at once, and of several.
 
-ghost use Rattle.std.specs.Prelude.{◌≡◌, All, IfOk, IfSome, map};
+ghost use Rattle.std.specs.Prelude.{◌≡◌, ◌↔◌, All, IfOk, IfSome, IsTrue, Some, map};
+ghost use Rattle.pc_types.specs.Tree.{Never};
+ghost use Rattle.pc_types.specs.Below.{Bases};
+ghost use Rattle.pc_types.specs.Join.{join};
 ghost use Rattle.pc_types.specs.Boxed.{tree_of, IsGiven};
 ghost use Rattle.pc_types.specs.Shape.{parts};
 ghost use Rattle.pc_types.specs.Store.{Means, KeepsTypes};
@@ -21,6 +24,32 @@ const MANY_TYPES: usize = 8;
 const MOST_NODES: usize = 256;
 
 impl InternStore {
+    /// Whether a type of the store is `Never`.
+    fn is_never(&self, ty: &TypeId) -> bool
+        requires { IsHeld self.now ty.now }
+        ensures { IsTrue result ↔ (meaning ty.now ≡ Never) }
+    {
+        matches!(self.table.ty(ty.number), BoxType::Never)
+    }
+
+    /// The join of two types where it is one of them without a look at their members: of equal types, and where one is
+    /// `Never`.
+    pub(crate) fn join_at_once(&self, s: &TypeId, t: &TypeId) -> Option<TypeId>
+        requires left { IsHeld self.now s.now }
+        requires right { IsHeld self.now t.now }
+        ensures held { IfSome result (IsHeld self.now) }
+        ensures value { (bases : Bases)
+            → IfSome result (λ u. join bases (meaning s.now) (meaning t.now) ≡ Some (meaning u)) }
+    {
+        if self.is_same(s, t) || self.is_never(t) {
+            return Some(self.held(s.number));
+        }
+        if self.is_never(s) {
+            return Some(self.held(t.number));
+        }
+        None
+    }
+
     /// Whether what types join to is kept: they are many, or one has parts, and a tuple of them is not too large.
     pub(crate) fn are_kept(&self, types: &[TypeId]) -> bool
         requires { All (IsHeld self.now) types.now }

@@ -315,6 +315,9 @@ impl TypeStore for InternStore {
     }
 
     fn union(&mut self, alloc: Global, types: &[TypeId]) -> Result<Option<TypeId>, OutOfMemory> {
+        if let [single] = types {
+            return Ok(Some(self.held(single.number)));
+        }
         let numbers = self.numbers(alloc, types)?;
         if let Some(known) = self.known(Head::Union(types.len()), numbers) {
             return Ok(Some(known));
@@ -333,8 +336,8 @@ impl TypeStore for InternStore {
         s: &TypeId,
         t: &TypeId,
     ) -> Result<Option<TypeId>, OutOfMemory> {
-        if self.is_same(s, t) {
-            return Ok(Some(self.held(s.number)));
+        if let Some(joined) = self.join_at_once(s, t) {
+            return Ok(Some(joined));
         }
         let (s, t) = (self.table.ty(s.number), self.table.ty(t.number));
         match BoxStore::new().join(alloc, parents, s, t)? {

@@ -5,7 +5,7 @@ ghost use Rattle.std.specs.Prelude.{IsTrue, OnOk, Some};
 ghost use Rattle.pc_types.specs.Tree.{Tree};
 ghost use Rattle.pc_types.specs.Boxed.{tree_of, IsGiven};
 ghost use Rattle.pc_types.specs.Shape.{members, parts};
-ghost use Rattle.pc_intern.specs.Table.{tree_at, IsNode, IsNodeAt, Grows};
+ghost use Rattle.pc_intern.specs.Table.{tree_at, basic_types, IsNode, IsNodeAt, Grows};
 
 use indexmap::IndexMap;
 use pc_source::OutOfMemory;
@@ -13,6 +13,9 @@ use pc_types::{BoxStore, BoxType, Head, TypeStore};
 use smallvec::SmallVec;
 use std::alloc::Global;
 use std::marker::Model;
+
+/// How many basic types there are: types that have no parts and are no class.
+const BASIC_TYPES: usize = 7;
 
 /// Numbers of types, in order. Few types have more than four parts.
 pub(crate) type Numbers = SmallVec<usize, 4>;
@@ -28,6 +31,8 @@ pub(crate) struct Node {
 #[derive(Drop)]
 pub(crate) struct Table {
     entries: IndexMap<Node, BoxType>,
+    /// The number of each basic type that is in the table, at its place, so that it is found without hashing.
+    basic: [Option<usize>; BASIC_TYPES],
 }
 
 impl Model for Table {
@@ -41,11 +46,27 @@ impl Model for Table {
 
     ghost coded = { coded_list boxed.the_row.coded };
 
-    ghost use Rattle.pc_intern.specs.Table.{IsTable};
+    ghost use Rattle.pc_intern.specs.Table.{IsTable, AreBasic};
 
     ghost view = { λ t. values_of t.entries.entries };
 
-    ghost invariant = { λ t. IsTable t.entries.entries };
+    ghost invariant = { λ t. IsTable t.entries.entries × AreBasic (values_of t.entries.entries) t.basic };
+}
+
+/// The place of a basic type.
+fn basic_place(ty: &BoxType) -> Option<usize>
+    ensures { IfSome result (λ p. slice_get basic_types p ≡ Some (tree_of ty.now)) }
+{
+    match ty {
+        BoxType::Any => Some(0),
+        BoxType::Object => Some(1),
+        BoxType::Never => Some(2),
+        BoxType::Int => Some(3),
+        BoxType::Bool => Some(4),
+        BoxType::Str => Some(5),
+        BoxType::NoneType => Some(6),
+        _ => None,
+    }
 }
 
 impl Table {
@@ -55,6 +76,7 @@ impl Table {
     {
         Table {
             entries: IndexMap::new(alloc),
+            basic: [None; BASIC_TYPES],
         }
     }
 
@@ -121,6 +143,30 @@ impl Table {
         Ok(number)
     }
 
+    /// The number of the basic type of a place. It is put into the table where it isn't in it.
+    fn intern_basic(
+        &mut self,
+        alloc: Global,
+        place: usize,
+        ty: &BoxType,
+    ) -> Result<usize, OutOfMemory>
+        requires given { IsGiven ty.now }
+        requires place { slice_get basic_types place ≡ Some (tree_of ty.now) }
+        ensures value { IfOk result (λ n. tree_at self.new n ≡ Some (tree_of ty.now)) }
+        ensures grows { Grows self.old self.new }
+    {
+        if let Some(known) = self.basic[place] {
+            return Ok(known);
+        }
+        let node = Node {
+            head: BoxStore::new().head(ty),
+            parts: Numbers::new(alloc),
+        };
+        let number = self.add(alloc, node, ty)?;
+        self.basic[place] = Some(number);
+        Ok(number)
+    }
+
     /// The number of a type. It and its parts are put into the table where they aren't in it.
     #[cycle(intern)]
     pub(crate) fn intern(&mut self, alloc: Global, ty: &BoxType) -> Result<usize, OutOfMemory>
@@ -128,6 +174,9 @@ impl Table {
         ensures value { IfOk result (λ n. tree_at self.new n ≡ Some (tree_of ty.now)) }
         ensures grows { Grows self.old self.new }
     {
+        if let Some(place) = basic_place(ty) {
+            return self.intern_basic(alloc, place, ty);
+        }
         let parts = self.intern_parts(alloc, ty)?;
         let node = Node {
             head: BoxStore::new().head(ty),

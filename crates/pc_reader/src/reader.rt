@@ -97,6 +97,7 @@ impl<X: AsStr + Drop, I: Iterator<Item = Result<Token<X>, Fault>> + Drop> Reader
     }
 
     /// Takes the token ahead. Where there is none, the text ends too early.
+    #[inline(always)]
     pub fn take(&mut self) -> Result<Token<X>, Fault>
         requires { IsReady I.can_next I.remaining self.old }
         ensures { MatchResult result (λ t. Takes X.text I.next_gives I.can_next I.remaining self.old self.new t)
@@ -153,6 +154,7 @@ impl<X: AsStr + Drop, I: Iterator<Item = Result<Token<X>, Fault>> + Drop> Reader
     }
 
     /// Takes the token ahead, which is of this kind, or names what stands there instead.
+    #[inline(always)]
     pub fn expect(&mut self, kind: TokenKind) -> Result<Token<X>, Fault>
         requires { IsReady I.can_next I.remaining self.old }
         ensures taken { MatchResult result (λ t. Takes X.text I.next_gives I.can_next I.remaining self.old self.new t)

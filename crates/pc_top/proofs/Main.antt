@@ -1,9 +1,12 @@
 -- The main theorem, of what the parts ensure.
-use Rattle.std.proofs.Common.{ℕ, List, Contains, ◌↔◌}
+use Rattle.std.proofs.Common.{◌≡◌, ℕ, List, Contains, ◌↔◌, Result}
+use Rattle.std.specs.Prelude.{IfErr, IsErrAnd}
 use Rattle.std.specs.List.{AllByRecursion}
+use Rattle.std.proofs.lemmas.Result.{err_from_is_err_and}
 use Rattle.pc_source.specs.declared.place.Place.{Place}
 use Rattle.pc_source.specs.declared.fault.Fault.{Fault}
 use Rattle.pc_source.specs.declared.fault.Fault.TheVariants as fault
+use Rattle.pc_source.specs.declared.fault.Refusal.{Refusal}
 use Rattle.pc_source.specs.Answers.{OnRefusal}
 use Rattle.pc_tree.specs.declared.code.Finding.{Finding}
 use Rattle.pc_tree.specs.Tree.{Module}
@@ -16,6 +19,8 @@ use Rattle.pc_report.specs.declared.report.Row.{Row}
 use Rattle.pc_report.specs.Report.{Lists, row_findings}
 use Rattle.pc_top.specs.Headline.{HasNoErrorRow, HasEvaluatedRow, Headline, IsExplainedRow, OnCheckFault}
 use Rattle.pc_top.specs.Headline.{check_fault_of}
+use Rattle.pc_top.specs.declared.fault.CheckFault.{CheckFault}
+use Rattle.pc_top.specs.declared.fault.CheckFault.TheVariants as check_fault
 use Rattle.pc_front.proofs.BytesLaws.{one_module}
 
 module _ (bytes : List ℕ) (whole : Module) where
@@ -57,3 +62,8 @@ pub refused_bytes : (bytes : List ℕ) (f : Fault) → OnRefusal (IsRefusalOf by
     → OnCheckFault (IsRefusalOf bytes) (check_fault_of f)
 refused_bytes bytes (fault.Refused r) h = h
 refused_bytes bytes fault.OutOfMemory h = tt
+
+-- where memory failed there is no refusal
+pub no_refusal : {T : Type 0} (P : Refusal → Type 0) (r : Result T CheckFault)
+    → IsErrAnd r (λ f. f ≡ check_fault.OutOfMemory) → IfErr r (OnCheckFault P)
+no_refusal P r h = let p = err_from_is_err_and r h in rw (p.1, p.2) tt

@@ -52,14 +52,27 @@ pub fn findings_by<S: TypeStore>(
     Ok(found)
 }
 
+/// What is found in a module, and what it was found with.
+#[derive(Drop)]
+pub(crate) struct Found {
+    pub(crate) notes: Notes,
+    scopes: Scopes,
+    store: InternStore,
+}
+
 /// What is found in a module, by types that are kept once each.
-pub(crate) fn findings(alloc: Global, module: &Module) -> Result<Notes, OutOfMemory>
+pub(crate) fn findings(alloc: Global, module: &Module) -> Result<Found, OutOfMemory>
     ensures found { IfOk result
-        (λ v. (f : Finding) → Contains (findings_of (notes_of v)) f ↔ IsFinding (module_of «module».now) f) }
-    ensures flows { IfOk result (λ v. TellsFlows (module_of «module».now) (notes_of v)) }
+        (λ v. (f : Finding) → Contains (findings_of (notes_of v.notes)) f ↔ IsFinding (module_of «module».now) f) }
+    ensures flows { IfOk result (λ v. TellsFlows (module_of «module».now) (notes_of v.notes)) }
 {
     let scopes = scopes(alloc, module)?;
     let parents = parents_of(alloc, module, &scopes)?;
     let mut store = InternStore::new(alloc, parents)?;
-    findings_by(&mut store, alloc, module, &scopes)
+    let notes = findings_by(&mut store, alloc, module, &scopes)?;
+    Ok(Found {
+        notes,
+        scopes,
+        store,
+    })
 }

@@ -4,6 +4,7 @@
 mod checking;
 mod fault;
 mod laws;
+mod memory;
 mod stream;
 mod top;
 

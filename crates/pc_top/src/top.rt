@@ -6,10 +6,28 @@ ghost use Rattle.pc_top.specs.Headline.{Headline, OnCheckFault};
 
 use crate::checking::findings;
 use crate::fault::CheckFault;
+use crate::memory::Memory;
 use pc_front::module_in;
 use pc_report::Report;
 use pc_source::read_source;
 use std::alloc::Global;
+
+/// The report of the module that the bytes spell, as `check` tells; what else the check took is let go of as `memory`
+/// says.
+pub(crate) fn report_of(alloc: Global, bytes: &[u8], memory: Memory) -> Result<Report, CheckFault>
+    ensures headline { IfOk result (Headline bytes.now) }
+    ensures refused { IfErr result (OnCheckFault (IsRefusalOf bytes.now)) }
+    ensures within { IfErr result (OnCheckFault (λ refusal. refusal.byte ≤ length bytes.now)) }
+{
+    let source = read_source(alloc, bytes)?;
+    let module = module_in(alloc, &source)?;
+    let found = findings(alloc, &module)?;
+    let flows = found.notes.texts(alloc, &module)?;
+    let findings = found.notes.findings(alloc)?;
+    memory.let_go((module, found), findings.len());
+    let report = Report::of(alloc, &source, &findings, &flows)?;
+    Ok(report)
+}
 
 /// The report of the module that the bytes spell.
 ///
@@ -26,14 +44,6 @@ pub fn check(alloc: Global, bytes: &[u8]) -> Result<Report, CheckFault>
     ensures refused { IfErr result (OnCheckFault (IsRefusalOf bytes.now)) }
     ensures within { IfErr result (OnCheckFault (λ refusal. refusal.byte ≤ length bytes.now)) }
 {
-    let source = read_source(alloc, bytes)?;
-    let module = module_in(alloc, &source)?;
-    let notes = findings(alloc, &module)?;
-    let flows = notes.texts(alloc, &module)?;
-    let found = notes.findings(alloc)?;
     // The report is made in the memory that the module and its notes took.
-    drop(notes);
-    drop(module);
-    let report = Report::of(alloc, &source, &found, &flows)?;
-    Ok(report)
+    report_of(alloc, bytes, Memory::GivenBack)
 }

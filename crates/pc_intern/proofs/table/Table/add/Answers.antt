@@ -3,7 +3,8 @@ use Rattle.std.specs.Map.{values_of}
 use Rattle.std.proofs.lemmas.List.{map-append}
 use Rattle.indexmap.proofs.CallerLemmas.{insert_entry-new}
 use Rattle.pc_types.specs.Boxed.{tree_of}
-use Rattle.pc_intern.specs.Table.{tree_at, IsTable, IsNode}
+use Rattle.pc_intern.specs.Table.{tree_at, IsTable, IsNode, AreBasic}
+use Rattle.pc_intern.proofs.Basic.{basic_stays}
 use Rattle.pc_intern.proofs.Keys.{node_eq, node_decides}
 use Rattle.pc_intern.proofs.Places.{passes}
 use Rattle.pc_intern.proofs.Standing.{added, found, found_tree, pushed_tree}
@@ -12,7 +13,7 @@ use Rattle.pc_intern.proofs.table.Table.add.Goals as goal
 pub returns-in-Some-clause-value : goal.returns-in-Some-clause-value
 returns-in-Some-clause-value c =
     let w = found c.self.inside.entries.entries c.args.node (c.in-Some.field-0-1.now, c.in-Some.field-0-2.now)
-    c.in-Some.number c.self.invariant c.in-Some.ensures.entry
+    c.in-Some.number c.self.invariant.0 c.in-Some.ensures.entry
     (passes (node_eq c.args.node) c.self.inside.entries.entries c.in-Some.field-0-1.now
     (sym c.in-Some.ensures.key)) in
     let q : values_of c.self.inside.entries.entries ≡ c.args.self.now = c.self.view_is in
@@ -33,9 +34,14 @@ invariant_of-self-2 c =
     let t = same.1 in
     let h : IsNode (values_of c.self.inside.entries.entries) c.args.node (tree_of c.in_ok-ty.ty) =
     rw (q, t) c.requires.node in
-    subst IsTable (sym e)
-    (added es (node_eq c.args.node) c.args.node c.in_ok-ty.ty c.self.invariant
-    (λ n a b. (node_decides c.args.node n).1 (a, b)) same.0 h none)
+    let v : values_of c.insert.new.self.entries ≡ values_of es ++ c.in_ok-ty.ty ∷ [] = ap values_of e
+    ∙ map-append (λ x. x.1) es ((c.args.node, c.in_ok-ty.ty) ∷ []) in (
+      subst IsTable (sym e)
+          (added es (node_eq c.args.node) c.args.node c.in_ok-ty.ty c.self.invariant.0
+          (λ n a b. (node_decides c.args.node n).1 (a, b)) same.0 h none),
+      subst (λ l. AreBasic l c.self.inside.basic) (sym v)
+          (basic_stays (values_of es) (c.in_ok-ty.ty ∷ []) c.self.inside.basic c.self.invariant.1),
+    )
 
 pub returns-clause-value : goal.returns-clause-value
 returns-clause-value c =
