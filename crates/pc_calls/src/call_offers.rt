@@ -19,8 +19,8 @@ use pc_tree::Code;
 use pc_types::{Head, TypeStore};
 use std::alloc::Global;
 
-/// What is called: a function, a method or a class, with what it takes, or a method of a built-in type, whose parameters
-/// no name can fill.
+/// What is called: a function, a method or a class, with what it takes, or a method of a built-in type, whose
+/// parameters no name can fill.
 #[derive(Drop)]
 pub enum Called<'t, Ty: Drop> {
     Listed(Listing<'t, Ty>),

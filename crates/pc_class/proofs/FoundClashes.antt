@@ -123,7 +123,8 @@ module _ (m : Module) where
           | inl x ↦ names.clash c class (record { is = ap (slice_get (classes_in m.items)) (omega arith) ∙ a 0 })
               (subst (Contains (at_code E06 (clashes c class))) (sym (ap (finding f.place) code))
               (to_code E06 (clashes c class) f.place x))
-          | inr x ↦ from_clashes code (suc c) rest (λ j. ap (slice_get (classes_in m.items)) (omega arith) ∙ a (suc j)) x
+          | inr x ↦ from_clashes code (suc c) rest
+              (λ j. ap (slice_get (classes_in m.items)) (omega arith) ∙ a (suc j)) x
         ]
 
     by_names : NamesFind m f → ClassFinds m f

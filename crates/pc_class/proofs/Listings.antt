@@ -94,7 +94,8 @@ module _ {Ty : Type 0} where
         go b e (Some j) f = refl
         go false e None f = refl
         go true e None f = let g = sym there ∙ ap is_some (ap (λ (u : List ℕ). lookup
-            (λ x. bytes_eq u (string_bytes x)) es) (sym ((bytes_eq-Decides word (parameter_name p)).0 e)) ∙ inv word ∙ f)
+            (λ x. bytes_eq u (string_bytes x)) es) (sym ((bytes_eq-Decides word (parameter_name p)).0 e))
+            ∙ inv word ∙ f)
             in absurd (grind (arith, g))
 
   -- ---- parameters without default

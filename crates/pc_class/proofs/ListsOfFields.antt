@@ -1,5 +1,6 @@
 -- The lists of the fields of classes: with one field more, and where others are added.
-use Rattle.std.proofs.Common.{◌≡◌, ◌<◌, ◌≤◌, ◌+◌, ◌-◌, ◌≢◌, ℕ, zero, suc, List, [], ◌∷◌, ◌++◌, length, get_or, refl, sym, ap}
+use Rattle.std.proofs.Common.{◌≡◌, ◌<◌, ◌≤◌, ◌+◌, ◌-◌, ◌≢◌, ℕ, zero, suc, List, [], ◌∷◌, ◌++◌, length, get_or, refl}
+use Rattle.std.proofs.Common.{sym, ap}
 use Rattle.std.proofs.Common.{◌∙◌, ◌⊎◌, inl, inr, subst, arith, length-append, append_assoc, append-nil}
 use Rattle.std.specs.Prelude.{Bool, true, false, if◌then◌else◌, ◌==◌, Option, Some, None, slice_get, slice_index_or}
 use Rattle.std.specs.Prelude.{IfSome, MatchOption, not}
@@ -200,7 +201,8 @@ module _ {Ty : Type 0} (fields : List (RustParameter Ty)) (s : SharedLists) (es 
           go (inl l) = subst (IsListOf fields t (fields_in es c))
               (sym (index_before classes (list ∷ []) c empty_list (omega (arith, l, many))))
               (list_kept s t kept fields (fields_in es c) _ (each c l))
-          go (inr e) = subst (λ k. IsListOf fields t (fields_in es k) (slice_index_or (classes ++ list ∷ []) k empty_list))
+          go (inr e) = subst (λ k. IsListOf fields t (fields_in es k)
+              (slice_index_or (classes ++ list ∷ []) k empty_list))
               (sym e) (subst (IsListOf fields t (fields_in es (length classes)))
               (sym (get_or-append_seam classes list [] empty_list))
               (subst (λ k. IsListOf fields t (fields_in es k) list) (sym many) here))

@@ -132,7 +132,8 @@ pub fn entries<'m>(
 
 /// Finds the members whose names clash: E06. Own rule of the profile.
 pub fn find_clashes(found: &mut Findings, entries: &[Entry]) -> Result<(), OutOfMemory>
-    ensures { OnOk result (found.new.items ≡ found.old.items ++ at_code E06 (clash_places (map entry_seen entries.now))) }
+    ensures { OnOk result (found.new.items
+        ≡ found.old.items ++ at_code E06 (clash_places (map entry_seen entries.now))) }
 {
     for entry in entries {
         find_if(found, entry.clashes, Code::E06, entry.member.name().place)?;

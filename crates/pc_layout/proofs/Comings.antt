@@ -44,11 +44,14 @@ faulty text x [] e h = absurd (cc)
 faulty text x (Err f ∷ ls) e h = ([], laid_fault text x f ls ∙ (let q : f ≡ e = cc in ap (λ z. Err z ∷ []) q))
 faulty text x (Ok l ∷ ls) e h = elim (step (length text) x l) as (λ o. step (length text) x l ≡ o
     → (front : List Lexeme) × (layout_lexemes text x (Ok l ∷ ls) ≡ give front (Err e ∷ []))) [
-      | Ok p ↦ λ s. let g : (front : List Lexeme) × (layout_lexemes text (after p l.lexemes) ls ≡ give front (Err e ∷ [])) =
+      | Ok p ↦ λ s. let g : (front : List Lexeme) × (layout_lexemes text (after p l.lexemes) ls
+          ≡ give front (Err e ∷ [])) =
           faulty text (after p l.lexemes) ls e h in (
-            dedents p.dedents (first_byte (length text) l.lexemes) ++ (indents p.indent (first_byte (length text) l.lexemes)
+            dedents p.dedents (first_byte (length text) l.lexemes)
+                ++ (indents p.indent (first_byte (length text) l.lexemes)
                 ++ (written_line text l.lexemes ++ g.0)),
-            laid_line text x l p ls s ∙ ap (placed_line text p l.lexemes) g.1 ∙ given_is text p l.lexemes g.0 (Err e ∷ []),
+            laid_line text x l p ls s ∙ ap (placed_line text p l.lexemes) g.1
+                ∙ given_is text p l.lexemes g.0 (Err e ∷ []),
           )
       | Err r ↦ λ s. ([], laid_refused text x l r ls s ∙ ap (λ z. Err z ∷ []) (settle_fault r ls e h))
     ] refl

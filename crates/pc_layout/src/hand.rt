@@ -1,6 +1,6 @@
 //! The line at hand.
 ghost use Rattle.std.specs.Prelude.{◌≡◌, ℕ, ◌+◌, ◌-◌, ◌^◌, ◌<◌, ◌≤◌, ◌*◌, true, false, List, [], ◌∷◌, length, map, Ok};
-ghost use Rattle.std.specs.Prelude.{Err, MatchResult, OnOk};
+ghost use Rattle.std.specs.Prelude.{◌++◌, Err, MatchOption, MatchResult, OnOk};
 ghost use Rattle.pc_token.specs.Lexeme.{lexeme_of, line_of};
 ghost use Rattle.pc_layout.specs.Stepping.{settle, start, layout_lexemes};
 ghost use Rattle.pc_layout.specs.TokenIterator.Levels.{context_of, line_at, StepsTo};
@@ -11,7 +11,9 @@ use crate::sign::{LineEnd, line_end, mark};
 use pc_source::{Place, Refusal, RefusalCode, Source};
 use pc_token::{Line, Tok, Token, TokenKind};
 use std::alloc::Global;
-use std::vec::IntoIter;
+
+/// After how many tokens of a long line the room that they took is given back.
+const ROOM: usize = 65_536;
 
 /// What comes next.
 #[derive(Clone, Copy, Debug)]
@@ -34,9 +36,23 @@ pub struct Hand<'a> {
     mark: usize,
     dedents: usize,
     indent: bool,
-    tokens: IntoIter<Tok<'a>>,
+    /// What is left of the line's tokens, the last one first.
+    tokens: Vec<Tok<'a>>,
     end: LineEnd<'a>,
     pub due: Due,
+}
+
+/// Takes the last token. Of a long line the room of those that were taken is given back from time to time: what is made
+/// of them takes room too.
+fn pop<'a>(tokens: &mut Vec<Tok<'a>>) -> Option<Tok<'a>>
+    ensures { MatchOption result ((tokens.old.items ≡ []) × (tokens.new.items ≡ []))
+        (λ t. tokens.old.items ≡ tokens.new.items ++ t ∷ []) }
+{
+    let token = tokens.pop();
+    if tokens.len() % ROOM == 0 {
+        tokens.shrink_to_fit();
+    }
+    token
 }
 
 /// Where a line stands among the suites, or what is wrong with it.
@@ -79,7 +95,7 @@ impl<'a> Hand<'a> {
             mark: 0,
             dedents: 0,
             indent: false,
-            tokens: Vec::new(alloc).into_iter(),
+            tokens: Vec::new(alloc),
             end: line_end(text, 0),
             due: Due::Lines,
         }
@@ -94,7 +110,7 @@ impl<'a> Hand<'a> {
         ensures due { OnOk result (self.new.due ≡ Due.Line) }
         ensures count { OnOk result (at_hand self.new < 2 ^ 65 + 3) }
     {
-        let Line { column, tokens } = line;
+        let Line { column, mut tokens } = line;
         let len = self.text.len();
         let signs = match step(&mut self.levels, len, column, tokens.as_slice()) {
             Ok(signs) => signs,
@@ -104,7 +120,8 @@ impl<'a> Hand<'a> {
         self.dedents = signs.dedents;
         self.indent = signs.indent;
         self.end = line_end(self.text, last_byte(len, tokens.as_slice()));
-        self.tokens = tokens.into_iter();
+        tokens.reverse();
+        self.tokens = tokens;
         self.due = Due::Line;
         Ok(())
     }
@@ -133,7 +150,7 @@ impl<'a> Hand<'a> {
             self.indent = false;
             return mark(TokenKind::Indent, self.mark);
         }
-        match self.tokens.next() {
+        match pop(&mut self.tokens) {
             Some(token) => token,
             None => {
                 self.due = Due::Lines;

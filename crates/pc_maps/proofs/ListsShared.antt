@@ -126,7 +126,8 @@ module _ (s t : SharedLists) (named : KeepsNamed s.named t.named) (placed : Keep
       (put : (k : ℕ) → held_at t.placed m.seats k
       ≡ (if k == l.count then Some (length s.seats.items) else held_at s.placed l.seats k)) where
     number_more : (k : ℕ) (b : Bool)
-        → IsNumberIn (s.seats.items ++ seat ∷ []) (if b then Some (length s.seats.items) else held_at s.placed l.seats k)
+        → IsNumberIn (s.seats.items ++ seat ∷ [])
+        (if b then Some (length s.seats.items) else held_at s.placed l.seats k)
     number_more k true = let e = length-append s.seats.items (seat ∷ []) in omega (arith, e)
     number_more k false = within_left s.seats.items (seat ∷ []) (held_at s.placed l.seats k) (r.numbered k)
 

@@ -1,6 +1,7 @@
 //! Lists that share what they have in common: each is an earlier one with something more at its end.
 
-ghost use Rattle.std.specs.Prelude.{◌≡◌, ◌+◌, ◌++◌, ◌∷◌, ◌==◌, [], ℕ, List, length, if◌then◌else◌, None, Some, IfOk, OnOk};
+ghost use Rattle.std.specs.Prelude.{◌≡◌, ◌+◌, ◌++◌, ◌∷◌, ◌==◌, [], ℕ, List, length, if◌then◌else◌, None, Some, IfOk};
+ghost use Rattle.std.specs.Prelude.{OnOk};
 ghost use Rattle.pc_scope.specs.Resolution.{index_of};
 ghost use Rattle.pc_maps.specs.declared.lists.Seat.{Seat as SeatOf};
 ghost use Rattle.pc_maps.specs.NameMaps.{IsMap, named_at, KeepsNamed};

@@ -93,9 +93,9 @@ pub fn walks_say_what_labels_say()
 {}
 
 /// The law that what is computed of a module is what its lawful labelling says: the types of its constants are those of
-/// the labels; what is found of its signatures and its constants is just what the labels say of these; and the walks over
-/// its signatures, its constants and its bodies find just what stands under the labels, but for what is found of scopes.
-/// The findings of a module are then those of scopes, those of classes, and what these walks find.
+/// the labels; what is found of its signatures and its constants is just what the labels say of these; and the walks
+/// over its signatures, its constants and its bodies find just what stands under the labels, but for what is found of
+/// scopes. The findings of a module are then those of scopes, those of classes, and what these walks find.
 pub fn modules_find_what_labels_say()
     ensures constants { ConstantsHaveTheTypesOfLabels }
     ensures signatures { SignaturesFindWhatLabelsSay }

@@ -20,7 +20,8 @@ use Rattle.pc_types.specs.Boxed.{tree_of}
 use Rattle.pc_ann.specs.Text.{type_text}
 use Rattle.pc_notes.specs.declared.notes.Flow.{Flow}
 use Rattle.pc_notes.specs.declared.notes.Entry.{Entry}
-use Rattle.pc_notes.specs.Notes.{Note, is_same_place, or_else, flow_or, flow_types, flow_noted, note_of, notes_of}
+use Rattle.pc_notes.specs.Notes.{Note, is_same_place, kept_flow, or_else, flow_or, flow_types, flow_noted, note_of}
+use Rattle.pc_notes.specs.Notes.{notes_of}
 use Rattle.pc_notes.specs.Notes.{IsGivenFlow}
 use Rattle.pc_notes.specs.Texts.{FlowText, IsFlowText, place_cmp, places_of, HasGivenFlows, HasFirstFlows}
 
@@ -107,7 +108,7 @@ other_place : (p k : Place) (o : Option (Tree × Tree)) → is_eq (place_cmp k p
 other_place p k o h b e = rw (not_same p k h b e) refl
 
 -- an entry without a flow is left out
-pub left_out : (es : List Entry) (e : Entry) (flows : BTreeMap Place (Bor Flow)) → e.flow ≡ None
+pub left_out : (es : List Entry) (e : Entry) (flows : BTreeMap Place (Bor Flow)) → kept_flow e ≡ None
     → HasFirstFlows (notes_of es) flows → HasFirstFlows (notes_of es ++ note_of e ∷ []) flows
 left_out es e flows n has = record { first = first; given = has.given }
   where
@@ -120,7 +121,7 @@ left_out es e flows n has = record { first = first; given = has.given }
     first : (p : Place) → option_map (λ (f : Bor Flow). flow_types f.now) (get place_cmp flows p) ≡ flow_noted p
         (notes_of es ++ note_of e ∷ [])
     first p = has.first p ∙ sym (noted_more p (notes_of es) (note_of e) ∙ ap (or_else (flow_noted p (notes_of es)))
-        (nothing (is_same_place p e.finding.place) e.flow n) ∙ or_else_none (flow_noted p (notes_of es)))
+        (nothing (is_same_place p e.finding.place) (kept_flow e) n) ∙ or_else_none (flow_noted p (notes_of es)))
 
 kept_first : (o x : Option (Tree × Tree)) → is_some o ≡ true → or_else o x ≡ o
 kept_first None x h = cc
@@ -157,7 +158,8 @@ none_first None x h = refl
 none_first (Some a) x h = cc
 
 -- at a place without a flow one is put in
-pub new_place : (es : List Entry) (e : Entry) (f : Bor Flow) (old new : BTreeMap Place (Bor Flow)) → e.flow ≡ Some f.now
+pub new_place : (es : List Entry) (e : Entry) (f : Bor Flow) (old new : BTreeMap Place (Bor Flow))
+    → kept_flow e ≡ Some f.now
     → IsGivenFlow f.now → is_some (get place_cmp old e.finding.place) ≡ false
     → ((q : Place) → get place_cmp new q ≡ cond (is_eq (place_cmp e.finding.place q)) (Some f) (get place_cmp old q))
     → HasFirstFlows (notes_of es) old → HasFirstFlows (notes_of es ++ note_of e ∷ []) new
@@ -181,7 +183,7 @@ new_place es e f old new is is_given fresh step has =
     own_if false o h e = cc
 
     own : flow_or e.finding.place (note_of e) None ≡ Some (flow_types f.now)
-    own = own_if (is_same_place e.finding.place e.finding.place) e.flow (self_tested e.finding.place) is
+    own = own_if (is_same_place e.finding.place e.finding.place) (kept_flow e) (self_tested e.finding.place) is
 
     by : (p : Place) (b : Bool) → is_eq (place_cmp e.finding.place p) ≡ b
         → option_map (λ (g : Bor Flow). flow_types g.now) (cond b (Some f) (get place_cmp old p))

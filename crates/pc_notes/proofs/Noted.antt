@@ -7,7 +7,7 @@ use Rattle.pc_tree.proofs.Stops.{cons_at}
 use Rattle.pc_types.specs.Tree.{Tree}
 use Rattle.pc_notes.specs.declared.notes.Flow.{Flow}
 use Rattle.pc_notes.specs.declared.notes.Entry.{Entry}
-use Rattle.pc_notes.specs.Notes.{is_same_place, or_else, flow_types, flow_noted, notes_of}
+use Rattle.pc_notes.specs.Notes.{is_same_place, kept_flow, or_else, flow_types, flow_noted, notes_of}
 
 none_test : (b : Test) (o : Option Flow) (rest : Option (Tree × Tree)) → (if b then o else None) ≡ None
     → (if b then or_else (option_map flow_types o) rest else rest) ≡ rest
@@ -26,14 +26,15 @@ module _ (p : Place) (es : List Entry) (i : ℕ) (e : Entry) (lt : i < length es
   next = ap (λ l. flow_noted p (notes_of l)) (cons_at es i e lt is)
 
   -- no flow is noted at the next entry
-  pub later_flow : (if is_same_place p e.finding.place then e.flow else None) ≡ None
+  pub later_flow : (if is_same_place p e.finding.place then kept_flow e else None) ≡ None
       → flow_noted p (notes_of (drop i es)) ≡ flow_noted p (notes_of (drop (i + 1) es))
-  later_flow n = next ∙ none_test (is_same_place p e.finding.place) e.flow (flow_noted p (notes_of (drop (i + 1) es))) n
+  later_flow n = next ∙ none_test (is_same_place p e.finding.place) (kept_flow e)
+      (flow_noted p (notes_of (drop (i + 1) es))) n
 
   -- this one is
-  pub this_flow : (f : Flow) → (if is_same_place p e.finding.place then e.flow else None) ≡ Some f
+  pub this_flow : (f : Flow) → (if is_same_place p e.finding.place then kept_flow e else None) ≡ Some f
       → flow_noted p (notes_of (drop i es)) ≡ Some (flow_types f)
-  this_flow f s = next ∙ some_test (is_same_place p e.finding.place) e.flow f
+  this_flow f s = next ∙ some_test (is_same_place p e.finding.place) (kept_flow e) f
       (flow_noted p (notes_of (drop (i + 1) es))) s
 
 -- nothing is left

@@ -1,7 +1,7 @@
 -- Findings as they are gathered: each by itself, or with the two types of the flow that it tells of.
 -- Own rule of the profile.
 use Rattle.std.specs.Prelude.{◌≡◌, List, [], ◌∷◌, Option, Some, None, option_map, map, IfSome, Bool as Test, ◌&&◌}
-use Rattle.std.specs.Prelude.{nat_eq, if◌then◌else◌}
+use Rattle.std.specs.Prelude.{nat_eq, if◌then◌else◌, box_value}
 use Rattle.std.specs.List.{AllByRecursion}
 use Rattle.pc_source.specs.declared.place.Place.{Place}
 use Rattle.pc_tree.specs.declared.code.Code.TheVariants.{A1}
@@ -51,9 +51,13 @@ flow_noted p (n ∷ ns) = flow_or p n (flow_noted p ns)
 abbrev pub flow_types : Flow → Tree × Tree
 flow_types f = (tree_of f.from, tree_of f.into)
 
+-- the flow of an entry, which lies in a box
+abbrev pub kept_flow : Entry → Option Flow
+kept_flow e = option_map box_value e.flow
+
 -- what an entry means
 abbrev pub note_of : Entry → Note
-note_of e = record { finding = e.finding; flow = option_map flow_types e.flow }
+note_of e = record { finding = e.finding; flow = option_map flow_types (kept_flow e) }
 
 -- what entries mean
 abbrev pub notes_of : List Entry → List Note
@@ -66,7 +70,7 @@ pub record IsGivenFlow (f : Flow) : Type 0 where
 
 -- each flow that is kept is of such types
 abbrev pub AreGiven : List Entry → Type 0
-AreGiven es = AllByRecursion (λ e. IfSome e.flow IsGivenFlow) es
+AreGiven es = AllByRecursion (λ e. IfSome (kept_flow e) IsGivenFlow) es
 
 -- types of a store that mean these two, or none where there are none
 abbrev pub ExplainsFlow : {Store Ty : Type 0} → (has : Store → Ty → Type 0) → (tree : Ty → Tree) → Store

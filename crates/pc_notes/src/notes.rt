@@ -5,7 +5,7 @@ ghost use Rattle.pc_tree.specs.Code.{finding};
 ghost use Rattle.pc_tree.specs.Tree.{module_of};
 ghost use Rattle.pc_types.specs.Store.{KeepsTypes};
 ghost use Rattle.pc_notes.specs.Notes.{IsGivenFlow, Note, note_of, notes_of, plain_note, dynamic, findings_of};
-ghost use Rattle.pc_notes.specs.Notes.{is_same_place, flow_noted, ExplainsFlow};
+ghost use Rattle.pc_notes.specs.Notes.{is_same_place, kept_flow, flow_noted, ExplainsFlow};
 ghost use Rattle.pc_notes.specs.declared.notes.Entry.{Entry as Kept};
 ghost use Rattle.pc_notes.specs.Texts.{AreFlowTexts, HasFirstFlows, HasGivenFlows};
 
@@ -29,18 +29,21 @@ pub(crate) struct Flow {
 #[derive(Drop)]
 pub(crate) struct Entry {
     pub(crate) finding: Finding,
-    pub(crate) flow: Option<Flow>,
+    pub(crate) flow: Option<Box<Flow>>,
 }
 
 impl Entry {
     /// The flow that an entry tells of, if it stands at this place.
     fn flow_at(&self, place: Place) -> Option<&Flow>
         ensures { option_map (λ f. f.now) result
-            ≡ (if is_same_place place self.now.finding.place then self.now.flow else None) }
+            ≡ (if is_same_place place self.now.finding.place then kept_flow self.now else None) }
     {
         let own = self.finding.place;
         if place.start == own.start && place.end == own.end {
-            self.flow.as_ref()
+            match &self.flow {
+                Some(flow) => Some(flow.as_ref()),
+                None => None,
+            }
         } else {
             None
         }
@@ -125,7 +128,7 @@ impl Notes {
         };
         self.entries.push(Entry {
             finding,
-            flow: Some(Flow { from, into }),
+            flow: Some(Box::new(alloc, Flow { from, into })?),
         })?;
         Ok(())
     }
@@ -192,7 +195,7 @@ fn keep_first<'n>(
     flows: &mut BTreeMap<Place, &'n Flow>,
     entry: &'n Entry,
 ) -> Result<(), OutOfMemory>
-    requires { IfSome entry.now.flow IsGivenFlow }
+    requires { IfSome (kept_flow entry.now) IsGivenFlow }
     ensures { OnOk result ((entries : List Kept) → HasFirstFlows (notes_of entries) flows.old
         → HasFirstFlows (notes_of entries ++ note_of entry.now ∷ []) flows.new) }
 {

@@ -243,8 +243,8 @@ mutual
   stmts_begin len no_stmts = record { over = λ ts h s. absurd s }
   stmts_begin len (more_stmts x xs) = record {
     over = λ ts h s.
-        (begin_both (wholes_of_stmt x) (wholes_of_stmts xs) (stmt_begins len x) (of_rest xs (stmts_begin len xs))).over ts
-        h s;
+        (begin_both (wholes_of_stmt x) (wholes_of_stmts xs) (stmt_begins len x)
+        (of_rest xs (stmts_begin len xs))).over ts h s;
   }
 
   branches_begin : (len : ℕ) (bs : Branches) → Tells len (λ ts. SpellsBranches bs ts)
@@ -266,7 +266,10 @@ after_comma : {len : ℕ} {last : Type 0} {A : Spelling} → (ws : List Whole) �
     → Tells len A (BeginWithin len ws) → Tells len (AfterComma last A) (BeginWithin len ws)
 after_comma {len = len} ws none f = record {
   over = λ ts h s.
-      elim s [ inl more ↦ (of_right f).over ts h more | inr end ↦ subst (λ us. BeginWithin len us) (sym (none end.0)) tt ];
+      elim s [
+        | inl more ↦ (of_right f).over ts h more
+        | inr end ↦ subst (λ us. BeginWithin len us) (sym (none end.0)) tt
+      ];
 }
 
 param_begins : (len : ℕ) (p : Param) → Tells len (SpellsParam p) (BeginWithin len (optional_anns p.annotation))

@@ -18,7 +18,7 @@ use crate::parser::Parser;
 use pc_reader::{Reader, above, deeper};
 use pc_source::{Fault, Place};
 use pc_token::{Keyword, Operator, Token, TokenKind};
-use pc_tree::{Ann, Name};
+use pc_tree::{Ann, Name, put_last};
 use std::alloc::Global;
 use std::convert::AsStr;
 
@@ -56,7 +56,7 @@ impl Annotations {
             → KeepsAnns self.new (add_ann rest a)) (λ e. e ≡ fault.OutOfMemory) }
     {
         self.depth = deeper(self.depth, above(annotation.depth));
-        self.anns.push(annotation.ann)?;
+        put_last(&mut self.anns, annotation.ann)?;
         Ok(())
     }
 }

@@ -7,7 +7,7 @@ use crate::parser::Parser;
 use pc_reader::Reader;
 use pc_source::Fault;
 use pc_token::{Keyword, Operator, Token, TokenKind};
-use pc_tree::{ClassDef, Field, Member, Name};
+use pc_tree::{ClassDef, Field, Member, Name, put_last};
 use std::alloc::Global;
 use std::convert::AsStr;
 
@@ -86,7 +86,7 @@ impl<X: AsStr + Drop, I: Iterator<Item = Result<Token<X>, Fault>> + Drop> Parser
         }
         loop {
             let member = self.member(alloc)?;
-            members.push(member)?;
+            put_last(&mut members, member)?;
             if self.reader.sees(TokenKind::Dedent) {
                 self.reader.take()?;
                 return Ok(members);

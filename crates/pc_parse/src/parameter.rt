@@ -6,7 +6,7 @@ ghost use Rattle.pc_parse.specs.Internal.Signatures.{ReadsOpened, ReadsParam, Re
 use crate::parser::Parser;
 use pc_source::Fault;
 use pc_token::{Operator, Token, TokenKind};
-use pc_tree::{Ann, Param};
+use pc_tree::{Ann, Param, put_last};
 use std::alloc::Global;
 use std::convert::AsStr;
 
@@ -58,7 +58,7 @@ impl<X: AsStr + Drop, I: Iterator<Item = Result<Token<X>, Fault>> + Drop> Parser
                 return Ok(params);
             }
             let param = self.parameter(alloc)?;
-            params.push(param)?;
+            put_last(&mut params, param)?;
             if !self.reader.sees(TokenKind::Operator(Operator::Comma)) {
                 self.reader
                     .expect(TokenKind::Operator(Operator::RightParenthesis))?;

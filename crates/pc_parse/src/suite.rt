@@ -8,7 +8,7 @@ use crate::parser::Parser;
 use crate::statement::{Lead, Word};
 use pc_source::Fault;
 use pc_token::{Keyword, Operator, Token, TokenKind};
-use pc_tree::{Branch, Expr, Stmt, StmtKind};
+use pc_tree::{Branch, Expr, Stmt, StmtKind, put_last};
 use std::alloc::Global;
 use std::convert::AsStr;
 
@@ -25,7 +25,7 @@ impl<X: AsStr + Drop, I: Iterator<Item = Result<Token<X>, Fault>> + Drop> Parser
         let mut stmts = Vec::new(alloc);
         loop {
             let stmt = self.statement(alloc)?;
-            stmts.push(stmt)?;
+            put_last(&mut stmts, stmt)?;
             if self.reader.sees(TokenKind::Dedent) {
                 self.reader.take()?;
                 return Ok(stmts);
@@ -99,7 +99,7 @@ impl<X: AsStr + Drop, I: Iterator<Item = Result<Token<X>, Fault>> + Drop> Parser
         let mut branches = Vec::new(alloc);
         loop {
             let (condition, body) = self.headed(alloc)?;
-            branches.push(Branch { condition, body })?;
+            put_last(&mut branches, Branch { condition, body })?;
             if !self.reader.sees(TokenKind::Keyword(Keyword::Elif)) {
                 let otherwise = self.otherwise(alloc)?;
                 return Ok(Stmt {

@@ -11,7 +11,7 @@ ghost use Rattle.pc_reader.specs.Internal.Brackets.{KeepsItems, KeepsEntries, Ke
 
 use crate::operand::{Operand, above, deeper, kept, node};
 use pc_source::{Fault, Place};
-use pc_tree::{Entry, Expr, KeywordArgument, Name};
+use pc_tree::{Entry, Expr, KeywordArgument, Name, put_last};
 use std::alloc::Global;
 
 /// Expressions, and the depth of a node over them, 65 where it is deeper than 64.
@@ -67,7 +67,7 @@ impl Items {
             → KeepsItems self.new (add_expr es p.tree)) (λ e. e ≡ fault.OutOfMemory) }
     {
         self.depth = deeper(self.depth, above(item.depth));
-        self.exprs.push(item.expr)?;
+        put_last(&mut self.exprs, item.expr)?;
         Ok(())
     }
 }
@@ -91,10 +91,13 @@ impl Entries {
             → KeepsEntries self.new (add_entry es k.tree v.tree)) (λ e. e ≡ fault.OutOfMemory) }
     {
         self.depth = deeper(self.depth, above(deeper(key.depth, value.depth)));
-        self.entries.push(Entry {
-            key: key.expr,
-            value: value.expr,
-        })?;
+        put_last(
+            &mut self.entries,
+            Entry {
+                key: key.expr,
+                value: value.expr,
+            },
+        )?;
         Ok(())
     }
 }
@@ -117,10 +120,13 @@ impl Keywords {
             → KeepsKeywords self.new (add_keyword ks (name_of name) v.tree)) (λ e. e ≡ fault.OutOfMemory) }
     {
         self.depth = deeper(self.depth, above(value.depth));
-        self.arguments.push(KeywordArgument {
-            name,
-            value: value.expr,
-        })?;
+        put_last(
+            &mut self.arguments,
+            KeywordArgument {
+                name,
+                value: value.expr,
+            },
+        )?;
         Ok(())
     }
 }

@@ -9,7 +9,7 @@ ghost use Rattle.pc_reader.specs.Internal.Expressions.{ReadsName};
 use crate::reader::Reader;
 use pc_source::Fault;
 use pc_token::{Token, TokenKind};
-use pc_tree::Name;
+use pc_tree::{Name, Text};
 use std::alloc::Global;
 use std::convert::AsStr;
 
@@ -24,11 +24,14 @@ pub(crate) fn named<X: AsStr + Drop>(alloc: Global, token: Token<X>) -> Result<N
         form,
     } = token;
     match form {
-        Some(form) => Ok(Name { place, text: form }),
-        None => {
-            let text = String::from_str(alloc, text.as_str())?;
-            Ok(Name { place, text })
-        }
+        Some(form) => Ok(Name {
+            place,
+            text: Text::of(alloc, form.as_str())?,
+        }),
+        None => Ok(Name {
+            place,
+            text: Text::of(alloc, text.as_str())?,
+        }),
     }
 }
 

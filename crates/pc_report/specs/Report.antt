@@ -1,6 +1,6 @@
 -- The report of findings: sorted, without repeats, with lines and columns; and its text. Own rule of the profile.
 use Rattle.std.specs.Prelude.{◌≡◌, ℕ, Option, None, Some, string_bytes, ◌<◌, ◌⊎◌, List, [], ◌∷◌, ◌++◌, ◌↔◌, map}
-use Rattle.std.specs.Prelude.{Contains, codes, count_by, not}
+use Rattle.std.specs.Prelude.{Contains, codes, count_by, not, option_map, box_value}
 use Rattle.std.specs.declared.cmp.Ordering.TheVariants.{Less}
 use Rattle.std.specs.Ordering.{nat_cmp}
 use Rattle.std.specs.Cmp.Lexicographic.{slice_cmp}
@@ -36,9 +36,13 @@ abbrev pub IsPlaced : List ℕ → Row → Type 0
 IsPlaced source row = (row.line ≡ line_of source row.finding.place.start)
     × (row.column ≡ column_of source row.finding.place.start)
 
+-- the texts of the flow of a row, which lie in a box
+abbrev pub row_flow : Row → Option FlowTexts
+row_flow row = option_map box_value row.flow
+
 -- each row of a flow through `Any` has the texts that the flows have at its place, and no other row has texts
 abbrev pub ExplainsRows : List FlowEntry → List Row → Type 0
-ExplainsRows flows rows = AllByRecursion (λ row. IsExplained flows row.finding row.flow) rows
+ExplainsRows flows rows = AllByRecursion (λ row. IsExplained flows row.finding (row_flow row)) rows
 
 -- the rows list exactly the findings of which P holds
 pub record Lists (source : List ℕ) (P : Finding → Type 0) (rows : List Row) : Type 0 where
@@ -49,7 +53,7 @@ pub record Lists (source : List ℕ) (P : Finding → Type 0) (rows : List Row) 
 -- what a format shows of a row's flow
 abbrev pub shown_flow : Format → Row → Option FlowTexts
 shown_flow One row = None
-shown_flow Two row = row.flow
+shown_flow Two row = row_flow row
 
 -- the two types of a flow
 abbrev pub flow_text : Option FlowTexts → List ℕ

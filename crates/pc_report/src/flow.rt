@@ -1,6 +1,6 @@
 //! The texts of explained flows.
 
-ghost use Rattle.std.specs.Prelude.{IfOk};
+ghost use Rattle.std.specs.Prelude.{IfOk, option_map, box_value};
 ghost use Rattle.pc_report.specs.Flows.{IsExplained, HasFlows};
 
 use pc_source::{OutOfMemory, Place};
@@ -31,19 +31,24 @@ pub(crate) fn by_place<'a>(
 
 /// The texts of the flow that a finding tells of.
 pub(crate) fn texts_of(
+    alloc: Global,
     finding: Finding,
     flows: &BTreeMap<Place, &(Place, String, String)>,
-) -> Result<Option<FlowTexts>, OutOfMemory>
-    ensures { IfOk result (λ t. (listed : _) → HasFlows listed flows.now → IsExplained listed finding t) }
+) -> Result<Option<Box<FlowTexts>>, OutOfMemory>
+    ensures { IfOk result (λ t. (listed : _) → HasFlows listed flows.now
+        → IsExplained listed finding (option_map box_value t)) }
 {
     if finding.code != Code::A1 {
         return Ok(None);
     }
     match flows.get(&finding.place) {
         None => Ok(None),
-        Some((_, from, to)) => Ok(Some(FlowTexts {
-            from: from.clone()?,
-            to: to.clone()?,
-        })),
+        Some((_, from, to)) => {
+            let texts = FlowTexts {
+                from: from.clone()?,
+                to: to.clone()?,
+            };
+            Ok(Some(Box::new(alloc, texts)?))
+        }
     }
 }

@@ -1,7 +1,7 @@
 //! The report: findings in order, with lines and columns.
 
 ghost use Rattle.std.specs.Prelude.{◌≡◌, ◌↔◌, ◌≤◌, ◌⊎◌, ◌++◌, ◌∷◌, [], List, ℕ, IfOk, OnOk, Contains, option_map};
-ghost use Rattle.std.specs.Prelude.{string_bytes, length};
+ghost use Rattle.std.specs.Prelude.{string_bytes, length, count_by, ◌==◌, ◌<◌};
 ghost use Rattle.std.specs.List.{AllByRecursion};
 ghost use Rattle.pc_source.specs.Lines.{line_of, column_of};
 ghost use Rattle.pc_tree.specs.declared.code.Finding.{Finding};
@@ -25,7 +25,7 @@ pub struct Row {
     pub finding: Finding,
     pub line: u64,
     pub column: u64,
-    pub flow: Option<FlowTexts>,
+    pub flow: Option<Box<FlowTexts>>,
 }
 
 impl Row {
@@ -35,7 +35,10 @@ impl Row {
     {
         match format {
             Format::One => None,
-            Format::Two => self.flow.as_ref(),
+            Format::Two => match &self.flow {
+                Some(flow) => Some(flow.as_ref()),
+                None => None,
+            },
         }
     }
 }
@@ -79,23 +82,42 @@ const START: Position = Position {
     column: 1,
 };
 
-/// The line of a byte, found from a known position before it. A number is added for each byte and no branch is taken,
-/// so that one instruction looks at many bytes.
+/// How many bytes are looked at for line feeds together: below 256, so that the count fits a byte, and a multiple of
+/// the 16 that one instruction looks at.
+const TOGETHER: usize = 240;
+
+/// How many of a few bytes are line feeds. A number is added for each byte and no branch is taken, and the numbers are
+/// bytes, so that one instruction looks at 16 of them.
+fn line_feeds(bytes: &[u8]) -> u8
+    requires { length bytes.now < 256 }
+    ensures { result ≡ count_by (λ b. b == 10) bytes.now }
+{
+    let mut count = 0;
+    for byte in bytes {
+        count += u8::from(*byte == b'\n');
+    }
+    count
+}
+
+/// The line of a byte, found from a known position before it.
 fn line_at(source: &[u8], known: Position, byte: usize) -> u64
     requires line { known.line ≡ line_of source.now known.byte }
     requires onward { known.byte ≤ byte }
     requires inside { byte ≤ length source.now }
     ensures { result ≡ line_of source.now byte }
 {
-    let source = &source[..byte];
     let mut line = known.line;
-    for at in known.byte..source.len() {
-        line += u64::from(source[at] == b'\n');
+    let mut start = known.byte;
+    while start < byte {
+        let end = byte.min(start + TOGETHER);
+        line += u64::from(line_feeds(&source[start..end]));
+        start = end;
     }
     line
 }
 
-/// The first byte of the last line that begins after one byte and not after another, or the former byte where none does.
+/// The first byte of the last line that begins after one byte and not after another, or the former byte where none
+/// does.
 fn last_line_start(source: &[u8], after: usize, byte: usize) -> usize
     requires onward { after ≤ byte }
     requires inside { byte ≤ length source.now }
@@ -111,8 +133,8 @@ fn last_line_start(source: &[u8], after: usize, byte: usize) -> usize
     after
 }
 
-/// The position of the first byte of the last line that begins after a known position and not after a byte, or the known
-/// position where none does.
+/// The position of the first byte of the last line that begins after a known position and not after a byte, or the
+/// known position where none does.
 fn line_before(source: &[u8], known: Position, byte: usize) -> Position
     requires line { known.line ≡ line_of source.now known.byte }
     requires column { known.column ≡ column_of source.now known.byte }
@@ -192,7 +214,7 @@ fn rows(
             finding: *finding,
             line: position.line,
             column: position.column,
-            flow: texts_of(*finding, flows)?,
+            flow: texts_of(alloc, *finding, flows)?,
         })?;
     }
     Ok(rows)

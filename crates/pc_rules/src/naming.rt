@@ -1,7 +1,8 @@
 //! Names as values.
 #![tactic(auto, using(crate::proofs::NamesRead::by_name))]
 
-ghost use Rattle.std.specs.Prelude.{All, IfOk, map, slice_get, string_bytes};
+ghost use Rattle.std.specs.Prelude.{All, IfOk, map, slice_get};
+ghost use Rattle.pc_tree.specs.Text.{text_bytes};
 ghost use Rattle.pc_types.specs.Store.{KeepsTypes};
 ghost use Rattle.pc_flow.specs.Environment.{current};
 ghost use Rattle.pc_flow.specs.Stored.{HasEach, env_of};
@@ -67,7 +68,7 @@ pub fn name_label<S: TypeStore>(
     ensures value { IfOk result
         (λ l. MeansLabel S.has S.tree store.new l
         (name_label (context_with S.tree setting.now) (env_of S.tree env.now)
-        (meanings setting.now.names.now (string_bytes name.now.text)))) }
+        (meanings setting.now.names.now (text_bytes name.now.text)))) }
     ensures kept { KeepsTypes S.has store.old store.new }
 {
     match setting.names.resolve(name.text.as_str()) {

@@ -1,5 +1,6 @@
 -- Calls and loops told apart by their forms.
 use Rattle.std.proofs.Common.{◌≡◌, ◌≢◌, List, [], ◌∷◌, length, get_or, refl, ap, ◌∙◌, arith, true}
+use Rattle.pc_tree.specs.Text.{text_bytes}
 use Rattle.pc_tree.specs.declared.tree.Expr.{Expr as RustExpr}
 use Rattle.pc_tree.specs.Tree.{Name, name, no_exprs, more_exprs, expr_of, Keywords, no_keywords}
 use Rattle.pc_tree.specs.declared.tree.KeywordArgument.{KeywordArgument as RustKeyword}
@@ -12,7 +13,7 @@ use Rattle.pc_source.specs.declared.place.Place.{Place}
 use Rattle.pc_tree.specs.Tree.{Expr, Exprs, name_of, call}
 use Rattle.pc_tree.specs.declared.tree.Name.{Name as RustName}
 use Rattle.pc_tree.specs.declared.tree.Expr.TheViews as View
-use Rattle.std.specs.Prelude.{Box, codes, string_bytes}
+use Rattle.std.specs.Prelude.{Box, codes}
 use Rattle.pc_tree.specs.declared.tree.Expr.TheVariants as rust
 use Rattle.pc_machine.specs.Evaluation.{iterable_form, range_call}
 use Rattle.pc_tree.proofs.Trees.{call_tree}
@@ -50,7 +51,7 @@ range_at : (p : Place) (x : Expr) (n : Name) (es : Exprs) (ks : Keywords) → x 
 range_at p x n es ks e h = rw (e, h) refl
 
 pub range_here : (p : Place) (callee : Box RustExpr Global) (v : Vec RustExpr Global) (ks : Vec RustKeyword Global)
-    (n : RustName) → callee.value ≡ rust.Name n → same_text (string_bytes n.text) (codes "range") ≡ true
+    (n : RustName) → callee.value ≡ rust.Name n → same_text (text_bytes n.text) (codes "range") ≡ true
     → iterable_form (expr_of (View.Call p callee v ks)) ≡ range_call p (name_of n) (exprs_of_list v.items)
     (keywords_of_list ks.items)
 range_here p callee v ks n e h = ap iterable_form (call_tree p callee v ks)

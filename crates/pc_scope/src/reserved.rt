@@ -1,28 +1,31 @@
 //! The reserved names, each with the built-in that it means.
 
-ghost use Rattle.std.specs.Prelude.{◌≡◌, map};
-ghost use Rattle.pc_scope.specs.Reserved.{beside, builtin_of};
+ghost use Rattle.std.specs.Prelude.{◌≡◌, ◌==◌, map, slice_index};
+ghost use Rattle.std.specs.List.{filter};
+ghost use Rattle.pc_scope.specs.Reserved.{beside, builtin_of, reserved_builtins};
 ghost use Rattle.pc_scope.specs.Internal.WalkViews.{reserved_entry_seen};
 
 use crate::resolution::Builtin;
 
-/// The reserved names, each with the built-in that it means. Own rule of the profile.
-const RESERVED: [(&str, Builtin); 14] = [
-    ("Any", Builtin::Any),
-    ("annotations", Builtin::Annotations),
-    ("bool", Builtin::Bool),
-    ("dataclass", Builtin::Dataclass),
-    ("dict", Builtin::Dict),
-    ("int", Builtin::Int),
-    ("isinstance", Builtin::IsInstance),
-    ("len", Builtin::Len),
-    ("list", Builtin::List),
-    ("object", Builtin::Object),
-    ("print", Builtin::Print),
-    ("range", Builtin::Range),
-    ("str", Builtin::Str),
-    ("tuple", Builtin::Tuple),
-];
+/// The reserved names that begin with a byte, each with the built-in that it means. Own rule of the profile.
+fn beginning_with(byte: u8) -> &'static [(&'static str, Builtin)]
+    ensures { map reserved_entry_seen result.now ≡ filter (λ e. slice_index e.0 0 == byte) reserved_builtins }
+{
+    match byte {
+        b'A' => &[("Any", Builtin::Any)],
+        b'a' => &[("annotations", Builtin::Annotations)],
+        b'b' => &[("bool", Builtin::Bool)],
+        b'd' => &[("dataclass", Builtin::Dataclass), ("dict", Builtin::Dict)],
+        b'i' => &[("int", Builtin::Int), ("isinstance", Builtin::IsInstance)],
+        b'l' => &[("len", Builtin::Len), ("list", Builtin::List)],
+        b'o' => &[("object", Builtin::Object)],
+        b'p' => &[("print", Builtin::Print)],
+        b'r' => &[("range", Builtin::Range)],
+        b's' => &[("str", Builtin::Str)],
+        b't' => &[("tuple", Builtin::Tuple)],
+        _ => &[],
+    }
+}
 
 /// What stands beside a name in a table.
 fn beside(table: &[(&str, Builtin)], name: &str) -> Option<Builtin>
@@ -36,10 +39,14 @@ fn beside(table: &[(&str, Builtin)], name: &str) -> Option<Builtin>
     None
 }
 
-/// The built-in that a name means, if it is reserved.
+/// The built-in that a name means, if it is reserved: it is sought among those that begin as it does.
 #[tactic(auto, unfolding(crate::specs::Reserved::builtin_of))]
 pub fn builtin(name: &str) -> Option<Builtin>
     ensures { result ≡ builtin_of name.now }
 {
-    beside(&RESERVED, name)
+    let bytes = name.as_bytes();
+    if bytes.is_empty() {
+        return None;
+    }
+    beside(beginning_with(bytes[0]), name)
 }

@@ -1,6 +1,6 @@
 //! The tables of a module's names.
 
-ghost use Rattle.std.specs.Prelude.{◌≡◌, length, map};
+ghost use Rattle.std.specs.Prelude.{◌≡◌, length, map, position, bytes_eq, string_bytes};
 ghost use Rattle.pc_scope.specs.Resolution.{index_of};
 ghost use Rattle.pc_scope.specs.Reserved.{beside};
 ghost use Rattle.pc_scope.specs.Tables.{Tables, meaning_by_tables, locals_for};
@@ -31,6 +31,26 @@ impl Model for Names {
     } };
 }
 
+/// Up to how many locals a name is compared with each of them: hashing it costs more.
+const FEW: usize = 8;
+
+/// The place of a text among these.
+fn place_of(texts: &[String], name: &str) -> Option<usize>
+    ensures { result ≡ position (λ t. bytes_eq name.now (string_bytes t)) texts.now }
+{
+    texts.iter().position(|text| name == text.as_str())
+}
+
+/// The number of a name among locals, if it is one of them.
+fn number_of(locals: &Locals, name: &str) -> Option<usize>
+    ensures { result ≡ index_of name.now (texts_in locals.now) }
+{
+    if locals.len() > FEW {
+        return locals.get_index_of(name);
+    }
+    place_of(locals.as_slice(), name)
+}
+
 impl Names {
     /// The locals of an owner, if it is a function or a method of the module.
     fn locals(&self, owner: Owner) -> Option<&Locals>
@@ -51,7 +71,7 @@ impl Names {
         ensures { result ≡ index_of name.now (locals_for self.now owner) }
     {
         match self.locals(owner) {
-            Some(locals) => locals.get_index_of(name),
+            Some(locals) => number_of(locals, name),
             None => None,
         }
     }

@@ -63,7 +63,8 @@ module _ (resolve : List ℕ → Res) where
         item = r.item;
         found =
             moved (k + length (constants_in (take r.at is))) (k + length (constants_in (take r.at is)))
-            (suc c + length (classes_in (take r.at is))) (c + suc (length (classes_in (take r.at is)))) r.constant p refl
+            (suc c + length (classes_in (take r.at is))) (c + suc (length (classes_in (take r.at is)))) r.constant p
+            refl
             (omega arith) r.found;
       }
   early_constant k c (def_item q f ∷ is) p h = let r = early_constant k c is p h in

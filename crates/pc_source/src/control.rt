@@ -21,12 +21,30 @@ fn is_control(bytes: &[u8], byte: usize) -> bool
     }
 }
 
+/// Whether a NUL, a form feed or a carriage return is among the bytes. No byte ends the loop, and it stands in a
+/// function of its own, so that one instruction looks at many bytes.
+#[inline(never)]
+fn has_suspect(bytes: &[u8]) -> bool
+    ensures { (k : ℕ) → IsControl bytes.now k → IsTrue result }
+{
+    let mut found = false;
+    'bytes: for byte in 0..bytes.len() {
+        let next = bytes[byte];
+        found |= (next == 0) | (next == 12) | (next == b'\r');
+    }
+    found
+}
+
 /// The first byte at which one stands.
 pub fn first_control(bytes: &[u8]) -> Option<usize>
     ensures { MatchOption result
         ((k : ℕ) → ¬ (IsControl bytes.now k))
         (λ b. IsControl bytes.now b × ((k : ℕ) → k < b → ¬ (IsControl bytes.now k))) }
 {
+    // Most texts have none, nor a carriage return.
+    if !has_suspect(bytes) {
+        return None;
+    }
     'bytes: for byte in 0..bytes.len() {
         if is_control(bytes, byte) {
             return Some(byte);

@@ -1,4 +1,5 @@
 pub mod Passed
+pub mod Earlier
 pub mod SharedTables
 pub mod HeldNames
 pub mod Clashes

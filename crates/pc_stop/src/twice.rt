@@ -69,6 +69,48 @@ fn put_self(before: &mut NameSet<'_>, is_method: bool) -> Result<(), OutOfMemory
     Ok(())
 }
 
+/// Up to how many parameters each is compared with those before it: a set of so few costs more than it saves.
+const FEW: usize = 8;
+
+/// Whether one of the parameters has this name.
+fn is_named(params: &[Param], name: &str) -> bool
+    ensures { result ≡ is_among (map (λ p. (name_of_param (param_of p)).text) params.now) name.now }
+{
+    for param in params {
+        if param.name.text.as_str() == name {
+            return true;
+        }
+    }
+    false
+}
+
+/// Whether a name is that of one of the parameters, or of the object of a method.
+fn is_bound(is_method: bool, params: &[Param], name: &str) -> bool
+    ensures { result
+        ≡ is_among (map (λ p. (name_of_param (param_of p)).text) params.now ++ self_before is_method) name.now }
+{
+    is_named(params, name) || (is_method && name == "self")
+}
+
+/// Finds the parameters that have the name of an earlier one, or of the object of a method: each is compared with all
+/// before it.
+fn find_few_again(
+    found: &mut Findings,
+    is_method: bool,
+    params: &[Param],
+) -> Result<(), OutOfMemory>
+    ensures { OnOk result (found.new.items
+        ≡ found.old.items ++ at_code E01
+        (bound_again (self_before is_method) (map name_of_param (map param_of params.now)))) }
+{
+    for at in 0..params.len() {
+        let name = &params[at].name;
+        let again = is_bound(is_method, &params[..at], name.text.as_str());
+        find_again(found, again, name)?;
+    }
+    Ok(())
+}
+
 /// Finds the parameters that have the name of an earlier one, or of the object of a method.
 pub fn find_parameters_again(
     found: &mut Findings,
@@ -81,6 +123,9 @@ pub fn find_parameters_again(
         ≡ found.old.items ++ at_code E01
         (bound_again (self_before is_method) (map name_of_param (map param_of params.now)))) }
 {
+    if params.len() <= FEW {
+        return find_few_again(found, is_method, params);
+    }
     let mut names = Vec::new(alloc);
     add_params(&mut names, params)?;
     let mut before = IndexSet::with_hasher(alloc, keys);

@@ -3,6 +3,7 @@ use Rattle.std.proofs.Common.{◌≡◌, ℕ, ◌+◌, ◌-◌, ◌<◌, ◌≤�
 use Rattle.std.proofs.Common.{Some, None, MatchOption, length, take, drop, get_or, refl, sym, ap, ◌∙◌, subst, inl, inr}
 use Rattle.std.proofs.Common.{arith, lit<, slice_range, IsUtf8, chars, encode_utf8_all, append_assoc, length-append}
 use Rattle.std.specs.Prelude.{encode_utf8, slice_get, find, bytes_eq, nat_eq, String, IsTrue, ◌↔◌, is_some}
+use Rattle.std.specs.Global.{Box}
 use Rattle.std.specs.declared.alloc.Global.{Global}
 use Rattle.std.specs.List.{prefix_len, list_all, starts_with}
 use Rattle.std.specs.Str.{IsCharBoundary}
@@ -225,8 +226,9 @@ module _ (c : LexicalContext) (text : List ℕ) (end : ℕ) (utf8 : IsUtf8 text)
       (word_name, no_keyword (slice_range text c.at end) none) word_stops
 
   -- a name
-  pub name_read : (form : Option (String Global)) → find (λ x. bytes_eq (keyword_text x) (slice_range text c.at end))
-      keywords ≡ None → is_bad_name c.last (slice_range text c.at end) ≡ false
+  pub name_read : (form : Option (Box (String Global)))
+      → find (λ x. bytes_eq (keyword_text x) (slice_range text c.at end)) keywords ≡ None
+      → is_bad_name c.last (slice_range text c.at end) ≡ false
       → form_of (slice_range text c.at end) form ≡ name_form (slice_range text c.at end)
       → IsFound c text (record { kind = t.Name; end = end; form = form })
   name_read form none good is = record {

@@ -2,6 +2,7 @@
 use Rattle.std.proofs.Common.{◌≡◌, ℕ, ◌+◌, ◌-◌, ◌≤◌, List, [], ◌∷◌, ◌++◌, Option, Some, Result, Err, length, drop, map}
 use Rattle.std.proofs.Common.{refl, sym, ap, ◌∙◌, arith, slice_range, add-zero, inl}
 use Rattle.std.specs.Borrow.{Bor}
+use Rattle.std.specs.Global.{Box}
 use Rattle.std.specs.Prelude.{String}
 use Rattle.std.specs.declared.alloc.Global.{Global}
 use Rattle.std.proofs.lemmas.List.{length-take-le, length-drop, map-append, drop_all}
@@ -86,8 +87,8 @@ taken c text end kind brackets done h g b d =
     d
 
 -- the token as a lexeme
-pub lexeme_is : (text : List ℕ) (at end : ℕ) (kind : TokenKind) (piece : Bor (List ℕ)) (form : Option (String Global))
-    → at ≤ end → end ≤ length text
+pub lexeme_is : (text : List ℕ) (at end : ℕ) (kind : TokenKind) (piece : Bor (List ℕ))
+    (form : Option (Box (String Global))) → at ≤ end → end ≤ length text
     → piece.now ≡ slice_range text at end → form_of (slice_range text at end) form ≡ form_by_kind kind
     (slice_range text at end)
     → lexeme_of (record { kind = kind; place = record { start = at; end = end }; text = piece; form = form })

@@ -10,6 +10,7 @@ use Rattle.std.proofs.lemmas.Str.{IsUtf8-drop, IsCharBoundary-from_rest, encodes
 use Rattle.unicode_ident.specs.Ident.{is_xid_continue}
 use Rattle.unicode_ident.proofs.IdentLemmas.{is_xid_continue-ascii}
 use Rattle.pc_token.specs.Gaps.{is_blank}
+use Rattle.pc_token.specs.Names.{is_ascii}
 use Rattle.pc_token.specs.Internal.WordBytes.{is_word_byte}
 use Rattle.pc_token.proofs.Boundaries.{IsCharBoundary-ascii_run}
 use Rattle.pc_token.proofs.Names.{ascii_bytes}
@@ -45,6 +46,11 @@ module _ (text : List ℕ) (start n : ℕ) (utf8 : IsUtf8 text) (boundary : IsCh
   word_edge = IsCharBoundary-from_rest text start n boundary.0
       (rw is (IsCharBoundary-ascii_run is_word_byte (drop start text) (IsUtf8-drop text start utf8 boundary)
       word_byte_low))
+
+  -- they are ASCII
+  pub word_ascii : is_ascii (slice_range text start (start + n)) ≡ true
+  word_ascii = ap is_ascii (piece_from text start n)
+      ∙ low (take n (drop start text)) (front_passes is_word_byte (drop start text) n (omega arith))
 
   -- the ASCII bytes of a name are characters that may continue a name
   pub word_run : (cs : List ℕ) × (list_all is_xid_continue cs ≡ true)

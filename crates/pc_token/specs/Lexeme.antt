@@ -1,6 +1,7 @@
 -- Tokens and logical lines without where they lie in memory.
 use Rattle.std.specs.Prelude.{ℕ, List, map, Option, Some, None, String, string_bytes}
 use Rattle.std.specs.Borrow.{Bor}
+use Rattle.std.specs.Global.{Box}
 use Rattle.std.specs.declared.alloc.Global.{Global}
 use Rattle.pc_source.specs.declared.place.Place.{Place}
 use Rattle.pc_token.specs.declared.token.TokenKind.{TokenKind}
@@ -20,9 +21,9 @@ pub record LogicalLine : Type 0 where
   pub lexemes : List Lexeme
 
 -- where a token carries no normal form, it is compared as it is spelled
-abbrev pub form_of : List ℕ → Option (String Global) → List ℕ
+abbrev pub form_of : List ℕ → Option (Box (String Global)) → List ℕ
 form_of text None = text
-form_of text (Some form) = string_bytes form
+form_of text (Some form) = string_bytes form.value
 
 -- a token, without where its bytes lie in memory
 abbrev pub lexeme_of : Token (Bor (List ℕ)) → Lexeme

@@ -1,7 +1,7 @@
 //! Names and their forms.
 ghost use Rattle.std.specs.Prelude.{◌≡◌, ℕ, ◌+◌, ◌-◌, ◌≤◌, ◌<◌, ◌==◌, ◌||◌, not, List, [], ◌++◌, true, false, length};
 ghost use Rattle.std.specs.Prelude.{drop, take, slice_get, slice_range, chars, encode_utf8_all, IfOk, MatchOption, IsUtf8};
-ghost use Rattle.std.specs.Prelude.{is_some};
+ghost use Rattle.std.specs.Prelude.{is_some, IsTrue};
 ghost use Rattle.std.specs.Char.{is_ascii_alphabetic};
 ghost use Rattle.std.specs.List.{list_all, prefix_len};
 ghost use Rattle.std.specs.Str.{IsCharBoundary};
@@ -69,16 +69,17 @@ fn ascii_len(bytes: &[u8]) -> usize
         .count()
 }
 
-/// Where the characters that may continue a name end.
-pub(crate) fn name_end(text: &str, start: usize) -> usize
+/// Where the characters that may continue a name end, and whether they are known to be ASCII.
+pub(crate) fn name_end(text: &str, start: usize) -> (usize, bool)
     requires { IsCharBoundary text.now start }
     ensures utf8 { IsUtf8 text.now }
-    ensures boundary { IsCharBoundary text.now result }
-    ensures later { start ≤ result }
+    ensures boundary { IsCharBoundary text.now result.0 }
+    ensures later { start ≤ result.0 }
     ensures run { (cs : List ℕ) × (list_all is_xid_continue cs ≡ true)
-        × (slice_range text.now start result ≡ encode_utf8_all cs) }
-    ensures all { MatchOption (slice_get (chars (drop result text.now)) 0) (length text.now ≡ result)
+        × (slice_range text.now start result.0 ≡ encode_utf8_all cs) }
+    ensures all { MatchOption (slice_get (chars (drop result.0 text.now)) 0) (length text.now ≡ result.0)
         (λ c. is_xid_continue c ≡ false) }
+    ensures ascii { IsTrue result.1 → is_ascii (slice_range text.now start result.0) ≡ true }
 {
     let bytes = text.as_bytes();
     let rest = bytes_from(bytes, start);
@@ -86,15 +87,15 @@ pub(crate) fn name_end(text: &str, start: usize) -> usize
     let mut end = start + len;
     let next = byte_at(bytes, end);
     if next < 128 {
-        return end;
+        return (end, true);
     }
     while let Some(c) = char_at(text, end) {
         if !is_xid_continue(c) {
-            return end;
+            return (end, false);
         }
         end += c.len_utf8();
     }
-    end
+    (end, false)
 }
 
 fn is_ascii(bytes: &[u8]) -> bool
@@ -103,15 +104,21 @@ fn is_ascii(bytes: &[u8]) -> bool
     bytes.iter().all(|b| *b < 128)
 }
 
-/// The form of a name, where the name is not ASCII.
-pub(crate) fn form_of(alloc: Global, name: &str) -> Result<Option<String>, AllocError>
+/// The form of a name, where the name is not ASCII. One that is known to be ASCII is not looked at.
+pub(crate) fn form_of(
+    alloc: Global,
+    name: &str,
+    known_ascii: bool,
+) -> Result<Option<Box<String>>, AllocError>
+    requires { IsTrue known_ascii → is_ascii name.now ≡ true }
     ensures form { IfOk result (λ form. form_of name.now form ≡ name_form name.now) }
     ensures ascii { IfOk result (λ form. is_some form ≡ not (is_ascii name.now)) }
 {
-    if is_ascii(name.as_bytes()) {
+    if known_ascii || is_ascii(name.as_bytes()) {
         return Ok(None);
     }
-    Ok(Some(to_nfkc(alloc, name)?))
+    let form = to_nfkc(alloc, name)?;
+    Ok(Some(Box::new(alloc, form)?))
 }
 
 /// Whether the last token is the keyword `from`.
@@ -122,7 +129,7 @@ fn is_from(last: Option<TokenKind>) -> bool
 }
 
 /// Whether a name of this form may not stand after the last token.
-pub(crate) fn is_bad_name(last: Option<TokenKind>, name: &str, form: &Option<String>) -> bool
+pub(crate) fn is_bad_name(last: Option<TokenKind>, name: &str, form: &Option<Box<String>>) -> bool
     requires form { form_of name.now form.now ≡ name_form name.now }
     requires ascii { is_some form.now ≡ not (is_ascii name.now) }
     ensures { result ≡ is_bad_name last name.now }

@@ -46,7 +46,7 @@ pub(crate) struct Reading<'a> {
 pub(crate) struct Found {
     pub kind: TokenKind,
     pub end: usize,
-    pub form: Option<String>,
+    pub form: Option<Box<String>>,
 }
 
 /// What stands next, up to its end.
@@ -211,7 +211,7 @@ impl<'a> Reading<'a> {
         ensures next { IfOk result (IsFound (context_of self.now) self.now.text.now) }
         ensures refused { IfErr result (OnRefusal (IsRefusedHere (context_of self.now) self.now.text.now)) }
     {
-        let end = name_end(self.text, self.at);
+        let (end, known_ascii) = name_end(self.text, self.at);
         let name = &self.text[self.at..end];
         if let Some(keyword) = keyword_of(name) {
             return Ok(Found {
@@ -220,7 +220,7 @@ impl<'a> Reading<'a> {
                 form: None,
             });
         }
-        let form = form_of(self.alloc, name)?;
+        let form = form_of(self.alloc, name, known_ascii)?;
         if is_bad_name(self.last, name, &form) {
             return Err(Fault::refused_at(RefusalCode::L4, self.at));
         }

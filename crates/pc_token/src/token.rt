@@ -170,7 +170,7 @@ pub struct Token<X> {
     pub kind: TokenKind,
     pub place: Place,
     pub text: X,
-    pub form: Option<String>,
+    pub form: Option<Box<String>>,
 }
 
 /// A token whose text is a slice of the source.

@@ -19,7 +19,7 @@ use Rattle.pc_module_rules.proofs.StandingFlows.{flows_found}
 use Rattle.pc_report.specs.declared.flow.FlowTexts.{FlowTexts}
 use Rattle.pc_report.specs.declared.report.Row.{Row}
 use Rattle.pc_report.specs.Flows.{IsListed, IsExplained}
-use Rattle.pc_report.specs.Report.{ExplainsRows, row_findings}
+use Rattle.pc_report.specs.Report.{ExplainsRows, row_findings, row_flow}
 use Rattle.pc_top.specs.Headline.{AreTextsOfFlow, IsExplainedRow}
 
 -- membership in lists
@@ -108,6 +108,7 @@ module _ (m : Module) (notes : List Note) (texts : List FlowText) (are : AreFlow
   pub rows_explained : (rows : List Row) → ((f : Finding) → Contains (row_findings rows) f → IsFinding m f)
       → ExplainsRows texts rows → AllByRecursion (IsExplainedRow m) rows
   rows_explained rows found all =
-      each_of_both (λ (row : Row). IsFinding m row.finding) (λ (row : Row). IsExplained texts row.finding row.flow)
-      (IsExplainedRow m) rows (λ row f h. explained row.finding row.flow f h)
+      each_of_both (λ (row : Row). IsFinding m row.finding) (λ (row : Row). IsExplained texts row.finding
+      (row_flow row))
+      (IsExplainedRow m) rows (λ row f h. explained row.finding (row_flow row) f h)
       (each_finding (IsFinding m) rows found) all

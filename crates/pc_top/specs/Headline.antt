@@ -19,7 +19,7 @@ use Rattle.pc_report.specs.declared.flow.FlowTexts.{FlowTexts}
 use Rattle.pc_report.specs.declared.report.Row.{Row}
 use Rattle.pc_top.specs.declared.fault.CheckFault.{CheckFault}
 use Rattle.pc_top.specs.declared.fault.CheckFault.TheVariants as check_fault
-use Rattle.pc_report.specs.Report.{Lists, row_findings}
+use Rattle.pc_report.specs.Report.{Lists, row_findings, row_flow}
 
 -- no row has the code of an error
 abbrev pub HasNoErrorRow : List Row → Type 0
@@ -44,7 +44,7 @@ pub record AreTextsOfFlow (m : Module) (place : Place) (texts : FlowTexts) : Typ
 -- a row of a dynamic flow has the texts of its two types, and no other row has texts
 abbrev pub IsExplainedRow : Module → Row → Type 0
 IsExplainedRow m row =
-    MatchOption row.flow (¬ (row.finding.code ≡ A1))
+    MatchOption (row_flow row) (¬ (row.finding.code ≡ A1))
     (λ texts. (row.finding.code ≡ A1) × AreTextsOfFlow m row.finding.place texts)
 
 -- What a report says. The bytes spell exactly one module; the rows list exactly the findings of its typing, each

@@ -40,8 +40,8 @@ fn write_report<W: Write + Drop>(
 /// more than a source text may have. The writer is not flushed.
 ///
 /// It is for a program that ends after it: with at most 4,096 findings it leaves what the module, its scopes, its notes
-/// and its types took, since the end of the program gives all memory back at once, and to give it back piece by piece is
-/// nearly a tenth of a check. A program that goes on calls `check`, which gives everything back.
+/// and its types took, since the end of the program gives all memory back at once, and to give it back piece by piece
+/// is nearly a tenth of a check. A program that goes on calls `check`, which gives everything back.
 ///
 /// Own rule of the profile.
 ///
@@ -62,7 +62,8 @@ pub fn check_stream<R: Read + Drop, W: Write + Drop>(
         (λ counts. IsReported W.contents
         (R.remaining reader.old.device) json format writer.old writer.new counts.0 counts.1) }
     ensures refused { IfErr result (WhenRefused (IsRefusedStream (R.remaining reader.old.device))) }
-    ensures within { IfErr result (WhenRefused (λ refusal. IsWithinStream (R.remaining reader.old.device) refusal.byte)) }
+    ensures within { IfErr result
+        (WhenRefused (λ refusal. IsWithinStream (R.remaining reader.old.device) refusal.byte)) }
     ensures read_through { OnceRead result (IsReadThrough R.remaining reader.old reader.new) }
     ensures begun { IfErr result
         (WhenWriteFails (IsBegun W.contents (R.remaining reader.old.device) json format writer.old writer.new)) }

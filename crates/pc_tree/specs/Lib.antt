@@ -8,4 +8,5 @@ pub mod Machine
 pub mod Names
 pub mod Stopping
 pub mod Suites
+pub mod Text
 pub mod Tree

@@ -6,6 +6,7 @@ use Rattle.pc_source.specs.declared.place.Place.{Place}
 use Rattle.pc_tree.specs.declared.tree.BinaryOperator.{BinaryOperator}
 use Rattle.pc_tree.specs.declared.tree.ComparisonOperator.{ComparisonOperator}
 use Rattle.pc_tree.specs.declared.tree.Name.{Name as RustName}
+use Rattle.pc_tree.specs.Text.{text_bytes}
 use Rattle.pc_tree.specs.declared.tree.Ann.{Ann as RustAnn, Row_of-Ann, end_of-Ann, more_of-Ann}
 use Rattle.pc_tree.specs.declared.tree.Ann.TheVariants as rust_ann
 use Rattle.pc_tree.specs.declared.tree.Expr.{Expr as RustExpr, Row_of-Expr, end_of-Expr, more_of-Expr, Row_of-Entry}
@@ -188,7 +189,7 @@ pub record Module : Type 0 where
 
 -- a name of the program, as trees have it
 abbrev pub name_of : RustName → Name
-name_of n = record { place = n.place; text = string_bytes n.text }
+name_of n = record { place = n.place; text = text_bytes n.text }
 
 -- the trees of expressions of the program, and of rows of their parts
 abbrev mutual

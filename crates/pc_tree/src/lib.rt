@@ -6,12 +6,14 @@ mod code;
 mod found;
 mod keys;
 mod laws;
+mod lists;
 mod maps;
 mod names;
 mod places;
 mod reserved;
 mod sets;
 mod suites;
+mod text;
 mod tree;
 
 pub use bound::{add_bound, add_bound_by, add_bound_in};
@@ -19,9 +21,11 @@ pub use code::{Code, Finding, Findings};
 pub use found::{find, find_if};
 pub use keys::fixed_keys;
 pub use laws::{fronts, one_module};
+pub use lists::put_last;
 pub use maps::{NameMap, bind_first};
 pub use reserved::is_reserved;
 pub use sets::{NameSet, put};
+pub use text::Text;
 pub use tree::{
     Ann, BinaryOperator, Branch, ClassDef, ComparisonOperator, Constant, Entry, Expr, Field,
     FuncDef, Item, ItemKind, KeywordArgument, Literal, LiteralKind, Member, Module, Name, Param,

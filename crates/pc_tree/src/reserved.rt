@@ -1,25 +1,27 @@
 //! The names that nothing may bind.
-ghost use Rattle.std.specs.Prelude.{◌≡◌, map, bytes_eq};
-ghost use Rattle.std.specs.List.{list_any};
-ghost use Rattle.pc_token.specs.Keywords.{is_reserved};
+ghost use Rattle.std.specs.Prelude.{◌≡◌, ◌==◌, map, bytes_eq, slice_index};
+ghost use Rattle.std.specs.List.{list_any, filter};
+ghost use Rattle.pc_token.specs.Keywords.{is_reserved, reserved_names};
 
-/// The names that nothing may bind. Own rule of the profile.
-const RESERVED: [&str; 14] = [
-    "Any",
-    "annotations",
-    "bool",
-    "dataclass",
-    "dict",
-    "int",
-    "isinstance",
-    "len",
-    "list",
-    "object",
-    "print",
-    "range",
-    "str",
-    "tuple",
-];
+/// The names that nothing may bind, of those that begin with a byte. Own rule of the profile.
+fn beginning_with(byte: u8) -> &'static [&'static str]
+    ensures { map (λ n. n.now) result.now ≡ filter (λ n. slice_index n 0 == byte) reserved_names }
+{
+    match byte {
+        b'A' => &["Any"],
+        b'a' => &["annotations"],
+        b'b' => &["bool"],
+        b'd' => &["dataclass", "dict"],
+        b'i' => &["int", "isinstance"],
+        b'l' => &["len", "list"],
+        b'o' => &["object"],
+        b'p' => &["print"],
+        b'r' => &["range"],
+        b's' => &["str"],
+        b't' => &["tuple"],
+        _ => &[],
+    }
+}
 
 /// Whether a name is one of these names.
 fn is_among(names: &[&str], name: &str) -> bool
@@ -33,9 +35,13 @@ fn is_among(names: &[&str], name: &str) -> bool
     false
 }
 
-/// Whether a name is reserved. Own rule of the profile.
+/// Whether a name is reserved: it is sought among those that begin as it does. Own rule of the profile.
 pub fn is_reserved(name: &str) -> bool
     ensures { result ≡ is_reserved name.now }
 {
-    is_among(&RESERVED, name)
+    let bytes = name.as_bytes();
+    if bytes.is_empty() {
+        return false;
+    }
+    is_among(beginning_with(bytes[0]), name)
 }

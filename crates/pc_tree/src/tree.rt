@@ -1,5 +1,6 @@
 //! The tree of a module.
 
+use crate::text::Text;
 use pc_source::Place;
 
 /// A name at its place, in the normal form NFKC by which names are compared.
@@ -7,7 +8,7 @@ use pc_source::Place;
 #[derive(Debug, Drop)]
 pub struct Name {
     pub place: Place,
-    pub text: String,
+    pub text: Text,
 }
 
 /// A module: whether it has the headers that import `dataclass` and `Any`, its items in the order of

@@ -3,8 +3,8 @@
 use pc_flow::OwnerNames;
 use pc_rules::ModuleContext;
 
-/// What the statements of a function stand in: what they may name, what names mean there, and the type that the function
-/// returns.
+/// What the statements of a function stand in: what they may name, what names mean there, and the type that the
+/// function returns.
 ///
 /// Own rule of the profile.
 #[derive(Drop)]

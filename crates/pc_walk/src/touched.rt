@@ -114,7 +114,8 @@ pub fn touched_by(
     otherwise: &[Stmt],
 ) -> Result<Vec<usize>, OutOfMemory>
     ensures { (x : ℕ) → IfOk result (λ locals. is_among locals.items x
-        ≡ is_among (touched_by_if (meanings names.now) (branches_of_list branches.now) (stmts_of_list otherwise.now)) x) }
+        ≡ is_among
+        (touched_by_if (meanings names.now) (branches_of_list branches.now) (stmts_of_list otherwise.now)) x) }
 {
     let mut bound = Vec::new(alloc);
     add_bound_in(&mut bound, branches)?;

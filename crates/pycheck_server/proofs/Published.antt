@@ -5,6 +5,7 @@ use Rattle.std.specs.Prelude.{codes, option_map, string_bytes, ◌++◌}
 use Rattle.serde_json.specs.Data.{Data}
 use Rattle.pc_report.specs.declared.flow.FlowTexts.{FlowTexts}
 use Rattle.pc_report.specs.declared.report.Row.{Row}
+use Rattle.pc_report.specs.Report.{row_flow}
 use Rattle.pc_session.specs.declared.checker.Flow.{Flow}
 use Rattle.pc_session.specs.declared.checker.Found.{Found}
 use Rattle.pc_session.specs.declared.checker.Found.TheVariants.{Items, Refused}
@@ -66,7 +67,7 @@ module _ (agreed : Agreed) (text : List ℕ) where
   rows_said : (rows : List Row) → map (row_data agreed text) rows ≡ map (said_data agreed text) (map said_by_row rows)
   rows_said [] = refl
   rows_said (row ∷ rows) =
-      ap₂ (λ x xs. x ∷ xs) (ap (of_finding row.finding) (row_text row.finding.code row.flow)) (rows_said rows)
+      ap₂ (λ x xs. x ∷ xs) (ap (of_finding row.finding) (row_text row.finding.code (row_flow row))) (rows_said rows)
 
   -- items and rows that say the same have the same diagnostics
   same_data : (items : List Item) (rows : List Row) → map said_by_item items ≡ map said_by_row rows

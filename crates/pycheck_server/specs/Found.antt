@@ -3,6 +3,7 @@ use Rattle.std.specs.Prelude.{◌≡◌, ℕ, List, Option, string_bytes, map, o
 use Rattle.pc_tree.specs.declared.code.Finding.{Finding}
 use Rattle.pc_front.specs.Bytes.{IsRefusalOf}
 use Rattle.pc_report.specs.declared.report.Row.{Row}
+use Rattle.pc_report.specs.Report.{row_flow}
 use Rattle.pc_session.specs.declared.checker.Item.{Item}
 use Rattle.pc_session.specs.declared.checker.Found.{Found}
 use Rattle.pc_session.specs.declared.checker.Found.TheVariants.{Items, Refused}
@@ -17,7 +18,7 @@ pub record Said : Type 0 where
 abbrev pub said_by_row : Row → Said
 said_by_row row = record {
   finding = row.finding;
-  flow = option_map (λ texts. (string_bytes texts.from, string_bytes texts.to)) row.flow;
+  flow = option_map (λ texts. (string_bytes texts.from, string_bytes texts.to)) (row_flow row);
 }
 
 -- what an item says

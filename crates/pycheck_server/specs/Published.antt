@@ -8,6 +8,7 @@ use Rattle.pc_tree.specs.Code.{text_of}
 use Rattle.pc_front.specs.Bytes.{IsRefusalOf}
 use Rattle.pc_report.specs.declared.flow.FlowTexts.{FlowTexts}
 use Rattle.pc_report.specs.declared.report.Row.{Row}
+use Rattle.pc_report.specs.Report.{row_flow}
 use Rattle.pc_top.specs.Headline.{Headline}
 use Rattle.pc_help.specs.Findings.{meaning_of}
 use Rattle.pc_session.specs.declared.session.Stage.TheVariants.{Running}
@@ -32,7 +33,7 @@ abbrev pub row_data : Agreed → List ℕ → Row → Data
 row_data agreed text row = diagnostic_data agreed.codes_page
     (range_data agreed.encoding text row.finding.place.start row.finding.place.end)
     (severity_of agreed.dynamic_severity row.finding.code)
-    (text_of row.finding.code) (row_message row.finding.code row.flow)
+    (text_of row.finding.code) (row_message row.finding.code (row_flow row))
 
 -- the diagnostics are exactly the rows of a report of which the headline holds, in their order
 pub record AreRows (agreed : Agreed) (text : List ℕ) (diagnostics : List Data) : Type 0 where

@@ -41,7 +41,7 @@ fn bound_by(alloc: Global, def: &FuncDef) -> Result<String, OutOfMemory> {
     add_bound(&mut names, &def.body)?;
     let mut text = String::new(alloc);
     for name in &names {
-        write!(text, "{} {} ", name.text, name.place.start)?;
+        write!(text, "{} {} ", name.text.as_str(), name.place.start)?;
     }
     Ok(text)
 }
@@ -51,7 +51,7 @@ fn bound_by(alloc: Global, def: &FuncDef) -> Result<String, OutOfMemory> {
 fn names_in(alloc: Global, module: &Module) -> Result<String, OutOfMemory> {
     let mut text = String::new(alloc);
     for item in &module.items {
-        write!(text, "{} ", item.name().text)?;
+        write!(text, "{} ", item.name().text.as_str())?;
         match &item.kind {
             ItemKind::Constant(constant) => {
                 write!(text, "{} ", constant.value.place().start)?;
@@ -61,7 +61,7 @@ fn names_in(alloc: Global, module: &Module) -> Result<String, OutOfMemory> {
             }
             ItemKind::Class(class) => {
                 for member in &class.members {
-                    write!(text, ".{} ", member.name().text)?;
+                    write!(text, ".{} ", member.name().text.as_str())?;
                 }
             }
             ItemKind::Def(def) => text.push_str(bound_by(alloc, def)?.as_str())?,

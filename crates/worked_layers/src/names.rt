@@ -3,7 +3,7 @@ use indexmap::{IndexMap, IndexSet};
 use pc_front::read_module;
 use pc_scope::{Owner, scopes};
 use pc_source::Fault;
-use pc_tree::{bind_first, fixed_keys, is_reserved, put};
+use pc_tree::{Text, bind_first, fixed_keys, is_reserved, put, put_last};
 use std::alloc::{AllocError, Global};
 
 /// Whose names are looked up, as a row says it: `Module`, `Func 0` or `Method 0 1`.
@@ -57,6 +57,20 @@ fn repeated(alloc: Global, words: &str) -> Result<String, Fault> {
     Ok(text)
 }
 
+/// Each word as the text of a name, in a list to which it was added, and whether it lies in the name itself.
+fn listed(alloc: Global, words: &str) -> Result<String, Fault> {
+    let mut names = Vec::new(alloc);
+    for word in words.split(' ') {
+        put_last(&mut names, Text::of(alloc, word)?)?;
+    }
+    let mut text = String::new(alloc);
+    for name in &names {
+        let is_short = matches!(name, Text::Short(_));
+        write!(text, "{} {is_short}; ", name.as_str())?;
+    }
+    Ok(text)
+}
+
 /// Whether each word is reserved.
 fn reserved(alloc: Global, words: &str) -> Result<String, AllocError> {
     let mut text = String::new(alloc);
@@ -72,6 +86,7 @@ pub fn words_text(alloc: Global, part: &str, words: &str) -> Result<String, Faul
     match part {
         "BOUND" => bound(alloc, words),
         "REPEATED" => repeated(alloc, words),
+        "LISTED" => listed(alloc, words),
         _ => Ok(reserved(alloc, words)?),
     }
 }

@@ -1,6 +1,6 @@
 -- What is left of the line at hand.
-use Rattle.std.specs.Prelude.{ℕ, ◌+◌, Bool, true, false, if◌then◌else◌, List, [], ◌∷◌, length, map, Result, Ok}
-use Rattle.std.specs.Vec.Iter.{into_iter_items, into_iter_len}
+use Rattle.std.specs.Prelude.{ℕ, ◌+◌, Bool, true, false, if◌then◌else◌, List, [], ◌∷◌, length, map, reverse, vec_len}
+use Rattle.std.specs.Prelude.{Result, Ok}
 use Rattle.pc_source.specs.declared.fault.Fault.{Fault}
 use Rattle.pc_token.specs.declared.token.TokenKind.TheVariants.{Newline, End}
 use Rattle.pc_token.specs.Lexeme.{Lexeme, LogicalLine, lexeme_of}
@@ -18,7 +18,7 @@ end_of_line e = record { kind = Newline; place = e.place; text = e.text.now; for
 
 -- the tokens that are left of the line at hand
 abbrev pub left_of : Hand → List Lexeme
-left_of h = map lexeme_of (into_iter_items h.tokens)
+left_of h = map lexeme_of (reverse h.tokens.items)
 
 -- the tokens that are left, the lines that come after the line at hand being these
 abbrev pub pending_by : Due → Hand → List (Result LogicalLine Fault) → List (Result Lexeme Fault)
@@ -51,7 +51,7 @@ has_token due.Nothing = false
 -- how many tokens are at hand
 abbrev pub count_at : Due → Hand → ℕ
 count_at due.Lines h = 0
-count_at due.Line h = h.dedents + ((if h.indent then 1 else 0) + (into_iter_len h.tokens + 1))
+count_at due.Line h = h.dedents + ((if h.indent then 1 else 0) + (vec_len h.tokens + 1))
 count_at due.End h = h.dedents + 1
 count_at due.Nothing h = 0
 

@@ -25,7 +25,8 @@ loop-member-preserved c =
       within,
       entry_more (inherited_in c.args.named.now c.args.base) _ c.loop-member.all.items c.push.new.self.items
           c.judge.result (texts_in c.loop-member.before) (texts_in c.number.new.texts) c.loop-member.methods
-          c.match-member.methods c.loop-member.member-index c.args.members.now x c.loop-member-test.true c.member-item.is
+          c.match-member.methods c.loop-member.member-index c.args.members.now x c.loop-member-test.true
+          c.member-item.is
           c.loop-member.invariant.1 c.in_ok-push.ensures.items c.judge.ensures (c.in_ok-number.ensures.texts
           ∙ ap (with_text (texts_in c.loop-member.before)) text) number,
     )

@@ -19,10 +19,14 @@ loop-i-preserved g c word =
           ∙ place_put c.args.params.now c.loop-i.i c.index-params-i.result c.loop-i-test.true c.index-params-i.is es
           c.loop-i.invariant w.in_ok-from_str.field-0
           (w.in_ok-from_str.ensures.ok ∙ c.as_str-name.ensures.value ∙ ap parameter_name (sym c.index-params-i.is))
-          (ap (λ (p : RustParameter _). held (parameter_name p)) c.index-params-i.is ∙ ap held (sym c.as_str-name.ensures.value) ∙ sym c.contains_key.ensures ∙ w.if-not-contains_key.true) word
+          (ap (λ (p : RustParameter _). held (parameter_name p)) c.index-params-i.is
+          ∙ ap held (sym c.as_str-name.ensures.value) ∙ sym c.contains_key.ensures ∙ w.if-not-contains_key.true)
+          word
       | else-not-contains_key w ↦
           ap (λ m. lookup (λ x. bytes_eq word (string_bytes x)) m.entries) w.places-is
           ∙ place_there c.args.params.now c.loop-i.i c.index-params-i.result c.loop-i-test.true c.index-params-i.is es
           c.loop-i.invariant
-          (ap (λ (p : RustParameter _). held (parameter_name p)) c.index-params-i.is ∙ ap held (sym c.as_str-name.ensures.value) ∙ sym c.contains_key.ensures ∙ w.if-not-contains_key.false) word
+          (ap (λ (p : RustParameter _). held (parameter_name p)) c.index-params-i.is
+          ∙ ap held (sym c.as_str-name.ensures.value) ∙ sym c.contains_key.ensures ∙ w.if-not-contains_key.false)
+          word
     ]

@@ -52,7 +52,8 @@ arguments-loop-arguments-preserved-in_ok-take-2 g t c = let h = c.in_ok-take-2.e
       ready = h.ready;
       later = omega (arith, h.later, n.later, c.loop-arguments.invariant.later);
       arguments = λ ts st. more_arguments c.loop-arguments.invariant.arguments n h c.in_ok-push.ensures
-          (kind_seen (kind.Operator sign.Comma) (sym c.sees-in-loop-arguments.ensures ∙ c.if-not-sees.false) h.here) ts st;
+          (kind_seen (kind.Operator sign.Comma) (sym c.sees-in-loop-arguments.ensures ∙ c.if-not-sees.false) h.here)
+          ts st;
     }
 
 pub arguments-loop-arguments-preserved : goal.arguments-loop-arguments-preserved
@@ -61,7 +62,8 @@ arguments-loop-arguments-preserved g t c = let h = c.in_ok-take-2.ensures in let
       ready = h.ready;
       later = omega (arith, h.later, n.later, c.loop-arguments.invariant.later);
       arguments = λ ts st. more_arguments c.loop-arguments.invariant.arguments n h c.in_ok-push.ensures
-          (kind_seen (kind.Operator sign.Comma) (sym c.sees-in-loop-arguments.ensures ∙ c.if-not-sees.false) h.here) ts st;
+          (kind_seen (kind.Operator sign.Comma) (sym c.sees-in-loop-arguments.ensures ∙ c.if-not-sees.false) h.here)
+          ts st;
     }
 
 pub part-returns-then-sees : goal.part-returns-then-sees

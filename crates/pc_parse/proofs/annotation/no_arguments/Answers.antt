@@ -45,7 +45,7 @@ returns g c = let t = lexeme g.X.AsStr.text c.in_ok-expect.field-0 in let u =
             (step_to (empty_closed (name_of c.args.head) (ts ++ (t ∷ [])) parts before s)
             (part_read (applied_empty (span ((ts ++ (t ∷ [])) ++ (u ∷ []))) (name_of c.args.head))
             ((ts ++ (t ∷ [])) ++ (u ∷ [])) parts before s) c.in_ok-close.ensures.taken
-            (ap (turn (empty_closed (name_of c.args.head) (ts ++ (t ∷ [])) parts before s) u) c.in_ok-close.ensures.kind) o
-            x);
+            (ap (turn (empty_closed (name_of c.args.head) (ts ++ (t ∷ [])) parts before s) u)
+            c.in_ok-close.ensures.kind) o x);
       };
     }

@@ -33,7 +33,8 @@ returns-then-not-sees g c = record {
       omega (arith, c.in_ok-expect.ensures.taken.later, c.in_ok-imports.ensures.later);
   leads =
       λ o y. (begun c.in_ok-expect.ensures.taken c.in_ok-expect.ensures.kind c.in_ok-imports.ensures) o
-      (headed g.X.AsStr.text g.I.Iterator.next_gives _ after_future no_top (sym c.sees.ensures ∙ c.if-not-sees.true) o y);
+      (headed g.X.AsStr.text g.I.Iterator.next_gives _ after_future no_top
+      (sym c.sees.ensures ∙ c.if-not-sees.true) o y);
 }
 
 pub returns-in_err-take : goal.returns-in_err-take

@@ -6,7 +6,7 @@ use Rattle.pc_tree.specs.declared.code.Code.TheVariants.{A1}
 use Rattle.pc_tree.specs.declared.code.Finding.{Finding}
 use Rattle.pc_report.specs.declared.report.Row.{Row}
 use Rattle.pc_report.specs.Flows.{IsExplained}
-use Rattle.pc_report.specs.Report.{row_findings, IsPlaced}
+use Rattle.pc_report.specs.Report.{row_findings, row_flow, IsPlaced}
 use Rattle.pc_report.proofs.Listed.{all_more}
 use Rattle.pc_report.proofs.report.rows.Goals as goal
 
@@ -36,8 +36,9 @@ loop-finding-preserved c =
           ∙ (ap (λ (l : List Finding). l ++ finding ∷ []) c.loop-finding.invariant.findings ∙ sym more));
       placed = subst (λ (l : List Row). AllByRecursion (IsPlaced c.args.source.now) l) (sym after)
           (all_more (IsPlaced c.args.source.now) before row c.loop-finding.invariant.placed (line, column));
-      explained = λ listed has. subst (λ (l : List Row). AllByRecursion (λ r. IsExplained listed r.finding r.flow) l)
-          (sym after) (all_more (λ r. IsExplained listed r.finding r.flow) before row
+      explained = λ listed has. subst
+          (λ (l : List Row). AllByRecursion (λ r. IsExplained listed r.finding (row_flow r)) l)
+          (sym after) (all_more (λ r. IsExplained listed r.finding (row_flow r)) before row
           (c.loop-finding.invariant.explained listed has) (c.in_ok-texts_of.ensures listed has));
       text = search rules;
       line = search rules;

@@ -1,5 +1,6 @@
 use Rattle.std.proofs.Common.{◌≡◌, ◌∙◌, ◌++◌, List, map, None, refl, sym, ap, subst}
-use Rattle.std.specs.Prelude.{All, string_bytes}
+use Rattle.std.specs.Prelude.{All}
+use Rattle.pc_tree.specs.Text.{text_bytes}
 use Rattle.pc_tree.specs.Tree.{expr_of}
 use Rattle.pc_class.specs.Tables.{classes_with}
 use Rattle.pc_flow.specs.WellFormed.{AreWellFormed}
@@ -43,7 +44,7 @@ returns-clause-finds g c =
     let K = standing_in S old env in
     let o = expr_of c.args.object.now in
     let v = expr_of c.args.value.now in
-    let field = string_bytes c.args.field.now.text in
+    let field = text_bytes c.args.field.now.text in
     let ty = S.tree c.in_ok-label.label.ty in
     let offers = map (store_offer_with S.tree) c.deref.result.now in
     let stored : BodyContext → Standing → List Note = λ f k. stored_finds f k offers c.args.place v in

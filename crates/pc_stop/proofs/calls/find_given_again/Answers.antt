@@ -1,9 +1,9 @@
 use Rattle.std.proofs.Common.{◌∙◌, ◌+◌, ◌++◌, ◌∷◌, ap, sym, drop, Bool, List}
-use Rattle.std.specs.Prelude.{string_bytes}
 use Rattle.pc_source.specs.declared.place.Place.{Place}
 use Rattle.pc_tree.specs.declared.code.Code.TheVariants.{E01}
 use Rattle.pc_tree.specs.declared.tree.KeywordArgument.{KeywordArgument as RustKeyword}
 use Rattle.pc_tree.specs.Lists.{keywords_of_list}
+use Rattle.pc_tree.specs.Text.{text_bytes}
 use Rattle.pc_tree.specs.Stopping.{one_if, given_again}
 use Rattle.pc_tree.proofs.Stops.{cons_at}
 use Rattle.pc_tree.specs.Code.{at_code}
@@ -17,7 +17,7 @@ loop-argument-preserved c =
     let i = c.loop-argument.argument-index in
     let k = c.argument-item.result in
     let before = texts_in c.loop-argument.before in
-    let text = string_bytes k.name.text in
+    let text = text_bytes k.name.text in
     let rest = keywords_of_list (drop (i + 1) c.args.by_name.now) in
     let later = given_again (text ∷ before) rest in
     ap (λ (ps : List Place). c.find_if.new.found.items ++ at_code E01 ps)

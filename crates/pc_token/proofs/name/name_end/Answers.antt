@@ -3,7 +3,7 @@ use Rattle.std.specs.Prelude.{slice_get}
 use Rattle.pc_token.proofs.Characters.{no_char_here, next_boundary, run_more}
 use Rattle.std.specs.List.{prefix_len}
 use Rattle.pc_token.specs.Internal.WordBytes.{is_word_byte}
-use Rattle.pc_token.proofs.WordBytes.{word_edge, word_run}
+use Rattle.pc_token.proofs.WordBytes.{word_edge, word_run, word_ascii}
 use Rattle.pc_token.proofs.AsciiHere.{ascii_ends, word_stops_at}
 use Rattle.pc_token.proofs.name.name_end.Goals as goal
 
@@ -60,4 +60,5 @@ returns-then-next-lt128 c =
       run = word_run text start n c.utf8.text c.requires is;
       all = ascii_ends text (start + n) c.utf8.text edge (omega (arith, same, c.if-next-lt128.true))
           (word_stops_at text start n is);
+      ascii = λ _. word_ascii text start n c.utf8.text c.requires is;
     }

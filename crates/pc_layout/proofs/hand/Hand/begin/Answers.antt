@@ -1,4 +1,5 @@
 use Rattle.std.proofs.Common.{ap, ◌∙◌, ◌∷◌, Ok, map, reverse}
+use Rattle.std.proofs.lemmas.List.{reverse-reverse}
 use Rattle.pc_token.specs.Lexeme.{line_of, lexeme_of}
 use Rattle.pc_layout.specs.TokenIterator.Levels.{placed_by, context_of}
 use Rattle.pc_layout.specs.TokenIterator.PendingTokens.{pending_by, end_of_line}
@@ -21,7 +22,7 @@ returns-clause-gives c = λ ls.
     (map lexeme_of c.args.line.tokens.items) _ c.first_byte-self.result (end_of_line c.line_end-self.result)
     (context_of c.step.new.levels) ls
     (rw c.as_slice-2.ensures.value at c.first_byte-self.ensures)
-    (ap (map lexeme_of) c.into_iter.ensures.rest)
+    (ap (map lexeme_of) (ap reverse c.reverse.ensures.items ∙ reverse-reverse _))
     (end_given _ (map lexeme_of c.args.line.tokens.items) c.line_end-self.result c.last_byte.result
     (rw c.as_slice-3.ensures.value at c.last_byte.ensures) c.line_end-self.ensures.place
     c.line_end-self.ensures.text)

@@ -70,7 +70,8 @@ pub suite-returns-then-sees : goal.suite-returns-then-sees
 suite-returns-then-sees g t c = let v = c.loop-stmts.invariant in let s = c.in_ok-stmt.ensures in let u =
     c.in_ok-take.ensures in record {
       statements = add_stmt v.statements s.statement;
-      keeps = let k = keep_more c.in_ok-push.ensures.items v.keeps s.keeps in record { deep = k.deep; kept = k.kept };
+      keeps = let k = keep_more c.in_ok-put_last.ensures.items v.keeps s.keeps in
+          record { deep = k.deep; kept = k.kept };
       ready = u.ready;
       later = let l = v.later in let m = s.later in let n = u.later in omega arith;
       leads = λ b o z. v.leads b o (s.leads v.statements b v.stands o
@@ -83,7 +84,7 @@ suite-returns-then-sees g t c = let v = c.loop-stmts.invariant in let s = c.in_o
 pub suite-loop-stmts-preserved : goal.suite-loop-stmts-preserved
 suite-loop-stmts-preserved g t c = let v = c.loop-stmts.invariant in let s = c.in_ok-stmt.ensures in record {
   statements = add_stmt v.statements s.statement;
-  keeps = keep_more c.in_ok-push.ensures.items v.keeps s.keeps;
+  keeps = keep_more c.in_ok-put_last.ensures.items v.keeps s.keeps;
   ready = s.ready;
   later = let l = v.later in let m = s.later in omega arith;
   stands = inr (sym c.sees.ensures ∙ c.if-sees.false);
@@ -160,8 +161,8 @@ pub while_loop-returns : goal.while_loop-returns
 while_loop-returns g t c = let u = c.in_ok-first.ensures in let p = c.in_ok-first.first.place in let h =
     c.in_ok-condition.ensures in record {
       statement = while_loop p h.head h.body;
-      keeps = keep_while p c.in_ok-boxed.boxed c.in_ok-condition.condition c.in_ok-boxed.ensures.ok c.in_ok-condition.body
-          h.deep h.kept_head h.kept_body;
+      keeps = keep_while p c.in_ok-boxed.boxed c.in_ok-condition.condition c.in_ok-boxed.ensures.ok
+          c.in_ok-condition.body h.deep h.kept_head h.kept_body;
       ready = h.ready;
       later = let l = u.later in let m = h.later in omega arith;
       leads = λ d b f o x. step_to (stmts d b) (operand (whole (in_statement looping (site_at p d b)))) u
@@ -230,7 +231,8 @@ for_loop-returns g t c = let u = c.in_ok-first.ensures in let p = c.in_ok-first.
           (meets kind.Name _ _ n.is
           ∙ ap (λ z. go (fixed (a_kind (kind.Keyword word.In)) []
           (operand (whole (in_statement (iterating z) (site_at p d b)))))) (sym n.name)) o
-          (step_to (fixed (a_kind (kind.Keyword word.In)) [] (operand (whole (in_statement (iterating m) (site_at p d b)))))
+          (step_to (fixed (a_kind (kind.Keyword word.In)) []
+          (operand (whole (in_statement (iterating m) (site_at p d b)))))
           (operand (whole (in_statement (iterating m) (site_at p d b)))) i.taken
           (meets (kind.Keyword word.In) _ _ i.kind) o
           (h.leads (iterating m) (for_body m) (site_at p d b) (λ x s e. refl) o x)));
@@ -272,13 +274,14 @@ conditional-returns-then-not-sees g t c = let v = c.loop-branches.invariant in l
     let h = c.in_ok-condition.ensures in let y = c.in_ok-otherwise.ensures in record {
       statement = conditional p (add_branch v.branches h.head h.body) y.statements;
       keeps = keep_if _ p (if_is p _ _) (keep_branch _ c.in_ok-condition.condition c.in_ok-condition.body
-          c.in_ok-push.ensures.items (branch_is c.in_ok-condition.condition c.in_ok-condition.body) v.keeps h.deep
+          c.in_ok-put_last.ensures.items (branch_is c.in_ok-condition.condition c.in_ok-condition.body) v.keeps h.deep
           h.kept_head h.kept_body) y.keeps;
       ready = y.ready;
       later = let l = v.later in let m = h.later in let n = y.later in omega arith;
       leads = λ d b f o x. v.leads d b f o (h.leads (branching v.branches) (branch_body v.branches) (site_at p d b)
           (λ x s e. refl) o
-          (y.leads (add_branch v.branches h.head h.body) (site_at p d b) (sym c.sees.ensures ∙ c.if-not-sees.true) o x));
+          (y.leads (add_branch v.branches h.head h.body) (site_at p d b)
+          (sym c.sees.ensures ∙ c.if-not-sees.true) o x));
     }
 
 pub conditional-returns-in_err-take : goal.conditional-returns-in_err-take
@@ -294,7 +297,7 @@ pub conditional-loop-branches-preserved-in_ok-take : goal.conditional-loop-branc
 conditional-loop-branches-preserved-in_ok-take g t c = let v = c.loop-branches.invariant in let p =
     c.in_ok-first.first.place in let h = c.in_ok-condition.ensures in let u = c.in_ok-take.ensures in record {
       branches = add_branch v.branches h.head h.body;
-      keeps = keep_branch _ c.in_ok-condition.condition c.in_ok-condition.body c.in_ok-push.ensures.items
+      keeps = keep_branch _ c.in_ok-condition.condition c.in_ok-condition.body c.in_ok-put_last.ensures.items
           (branch_is c.in_ok-condition.condition c.in_ok-condition.body) v.keeps h.deep h.kept_head h.kept_body;
       ready = u.ready;
       later = let l = v.later in let m = h.later in let n = u.later in omega arith;
@@ -309,7 +312,7 @@ pub conditional-loop-branches-preserved : goal.conditional-loop-branches-preserv
 conditional-loop-branches-preserved g t c = let v = c.loop-branches.invariant in let p = c.in_ok-first.first.place in
     let h = c.in_ok-condition.ensures in let u = c.in_ok-take.ensures in record {
       branches = add_branch v.branches h.head h.body;
-      keeps = keep_branch _ c.in_ok-condition.condition c.in_ok-condition.body c.in_ok-push.ensures.items
+      keeps = keep_branch _ c.in_ok-condition.condition c.in_ok-condition.body c.in_ok-put_last.ensures.items
           (branch_is c.in_ok-condition.condition c.in_ok-condition.body) v.keeps h.deep h.kept_head h.kept_body;
       ready = u.ready;
       later = let l = v.later in let m = h.later in let n = u.later in omega arith;

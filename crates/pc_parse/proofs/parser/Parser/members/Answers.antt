@@ -45,9 +45,10 @@ returns-in_err-take g c = let p = err_from_is_err_and c.from_residual-in_err-tak
     rw (p.1, p.2) (dedent_fails c.loop-members.invariant.members c.in_ok-member.ensures c.in_err-take.ensures)
 
 pub returns-then-sees-2 : goal.returns-then-sees-2
-returns-then-sees-2 g c = last_member c.loop-members.invariant.members c.in_ok-member.ensures c.in_ok-push.ensures.items
-    c.in_ok-take.ensures (kind_seen kind.Dedent (sym c.sees-in-loop-members.ensures ∙ c.if-sees-2.true)
-    c.in_ok-take.ensures.here) refl c.loop-members.invariant.later
+returns-then-sees-2 g c = last_member c.loop-members.invariant.members c.in_ok-member.ensures
+    c.in_ok-put_last.ensures.items c.in_ok-take.ensures (kind_seen kind.Dedent
+    (sym c.sees-in-loop-members.ensures ∙ c.if-sees-2.true) c.in_ok-take.ensures.here) refl
+    c.loop-members.invariant.later
 
 pub loop-members-preserved : goal.loop-members-preserved
 loop-members-preserved g c = record {
@@ -55,6 +56,6 @@ loop-members-preserved g c = record {
   later =
       omega (arith, c.in_ok-member.ensures.later, c.loop-members.invariant.later);
   members =
-      more_members c.loop-members.invariant.members c.in_ok-member.ensures c.in_ok-push.ensures.items
+      more_members c.loop-members.invariant.members c.in_ok-member.ensures c.in_ok-put_last.ensures.items
       (sym c.sees-in-loop-members.ensures ∙ c.if-sees-2.false);
 }

@@ -33,9 +33,9 @@ returns-in_err-expect g c = let p = err_from_is_err_and c.from_residual-in_err-e
     ∙ c.if-not-sees.true) c.in_err-expect.ensures.taken)
 
 pub returns-then-not-sees : goal.returns-then-not-sees
-returns-then-not-sees g c = last_param c.loop-alloc.invariant.params c.in_ok-param.ensures c.in_ok-push.ensures.items
-    c.in_ok-expect.ensures.taken c.in_ok-expect.ensures.kind (sym c.sees-in-loop-alloc.ensures ∙ c.if-not-sees.true)
-    refl c.loop-alloc.invariant.later
+returns-then-not-sees g c = last_param c.loop-alloc.invariant.params c.in_ok-param.ensures
+    c.in_ok-put_last.ensures.items c.in_ok-expect.ensures.taken c.in_ok-expect.ensures.kind
+    (sym c.sees-in-loop-alloc.ensures ∙ c.if-not-sees.true) refl c.loop-alloc.invariant.later
 
 pub returns-in_err-take-2 : goal.returns-in_err-take-2
 returns-in_err-take-2 g c = let p = err_from_is_err_and c.from_residual-in_err-take-2.result
@@ -47,7 +47,7 @@ loop-alloc-preserved-in_ok-take-2 g c = let s = c.loop-alloc.invariant.params in
     let h = c.in_ok-take-2.ensures in record {
       ready = h.ready;
       later = omega (arith, h.later, x.later, c.loop-alloc.invariant.later);
-      params = more_params s x c.in_ok-push.ensures.items h (kind_seen (kind.Operator sign.Comma)
+      params = more_params s x c.in_ok-put_last.ensures.items h (kind_seen (kind.Operator sign.Comma)
           (sym c.sees-in-loop-alloc.ensures ∙ c.if-not-sees.false) c.in_ok-take-2.ensures.here) refl;
     }
 
@@ -56,6 +56,6 @@ loop-alloc-preserved g c = let s = c.loop-alloc.invariant.params in let x = c.in
     c.in_ok-take-2.ensures in record {
       ready = h.ready;
       later = omega (arith, h.later, x.later, c.loop-alloc.invariant.later);
-      params = more_params s x c.in_ok-push.ensures.items h (kind_seen (kind.Operator sign.Comma)
+      params = more_params s x c.in_ok-put_last.ensures.items h (kind_seen (kind.Operator sign.Comma)
           (sym c.sees-in-loop-alloc.ensures ∙ c.if-not-sees.false) c.in_ok-take-2.ensures.here) refl;
     }

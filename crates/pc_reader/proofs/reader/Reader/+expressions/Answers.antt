@@ -105,8 +105,8 @@ call-returns-in_default g t c = blame (λ o w. λ k p s kp. let v = c.loop-self.
       unfinished = refl;
       stuck_at = λ u e. keyword_stuck c.in_ok-item.item.level p.tree v.items
           ((p.tokens ++ (k ∷ [])) ++ v.more) s q.part (lexeme g.X.AsStr.text u) u.kind
-          (named_alike q.keeps ∙ c.in_default.ensures) (kind_seen (kind.Operator sign.Equal) (sym c.sees-in-loop-self.ensures
-          ∙ c.if-sees-2.true) e);
+          (named_alike q.keeps ∙ c.in_default.ensures)
+          (kind_seen (kind.Operator sign.Equal) (sym c.sees-in-loop-self.ensures ∙ c.if-sees-2.true) e);
     }))) c.misfit.ensures
 
 pub call-returns-in_err-take : goal.call-returns-in_err-take
@@ -149,24 +149,25 @@ call-returns-then-sees-2 g t c = let m = c.in_ok-keywords.ensures in on_result c
       );
       goes = λ k p kp. let v = c.loop-self.invariant.arguments p.tree (p.tokens ++ (k ∷ [])) in let q =
           c.in_ok-item.ensures.reads in let n = m.names p.tree v.items
-          (((p.tokens ++ (k ∷ [])) ++ v.more) ++ (q.part.tokens ++ ((lexeme g.X.AsStr.text c.in_ok-take.field-0) ∷ []))) in
-          record {
+          (((p.tokens ++ (k ∷ [])) ++ v.more)
+          ++ (q.part.tokens ++ ((lexeme g.X.AsStr.text c.in_ok-take.field-0) ∷ []))) in record {
             part = call_part p.tree v.items n.arguments
-                ((((p.tokens ++ (k ∷ [])) ++ v.more) ++ (q.part.tokens ++ ((lexeme g.X.AsStr.text c.in_ok-take.field-0) ∷ [])))
-                ++ n.more);
+                ((((p.tokens ++ (k ∷ [])) ++ v.more)
+                ++ (q.part.tokens ++ ((lexeme g.X.AsStr.text c.in_ok-take.field-0) ∷ []))) ++ n.more);
             keeps = j.1 p v.items n.arguments kp (v.keeps tt) n.keeps _
                 (starts_more _ (starts_more _ (starts_more _ (starts_more _ kp.starts))))
                 (ends_more (((p.tokens ++ (k ∷ [])) ++ v.more) ++ (q.part.tokens
                 ++ ((lexeme g.X.AsStr.text c.in_ok-take.field-0) ∷ []))) n.ends);
             begins = first_more _ (starts_more _ (starts_more _ (starts_more (k ∷ []) kp.starts)))
-                ∙ first_more _ (starts_more _ (starts_more (k ∷ []) kp.starts)) ∙ first_more _ (starts_more (k ∷ []) kp.starts)
-                ∙ first_more _ kp.starts;
-            leads = λ s o x. item_read g.X.AsStr.text g.I.Iterator.next_gives g.I.Iterator.can_next g.I.Iterator.remaining v s
-                (sym c.sees.ensures ∙ c.if-sees.false) q o
+                ∙ first_more _ (starts_more _ (starts_more (k ∷ []) kp.starts))
+                ∙ first_more _ (starts_more (k ∷ []) kp.starts) ∙ first_more _ kp.starts;
+            leads = λ s o x. item_read g.X.AsStr.text g.I.Iterator.next_gives g.I.Iterator.can_next
+                g.I.Iterator.remaining v s (sym c.sees.ensures ∙ c.if-sees.false) q o
                 (step_to (have c.in_ok-item.item.level q.part (listing (in_call p.tree) v.items
-                ((p.tokens ++ (k ∷ [])) ++ v.more) s)) (operand (naming p.tree v.items no_keywords (name_of c.in-Some.name)
-                (((p.tokens ++ (k ∷ [])) ++ v.more) ++ (q.part.tokens ++ ((lexeme g.X.AsStr.text c.in_ok-take.field-0) ∷ [])))
-                s)) c.in_ok-take.ensures
+                ((p.tokens ++ (k ∷ [])) ++ v.more) s))
+                (operand (naming p.tree v.items no_keywords (name_of c.in-Some.name)
+                (((p.tokens ++ (k ∷ [])) ++ v.more)
+                ++ (q.part.tokens ++ ((lexeme g.X.AsStr.text c.in_ok-take.field-0) ∷ []))) s)) c.in_ok-take.ensures
                 (keyword_begins c.in_ok-item.item.level p.tree v.items ((p.tokens ++ (k ∷ [])) ++ v.more) s q.part
                 (name_of c.in-Some.name) (lexeme g.X.AsStr.text c.in_ok-take.field-0) _
                 (named_alike q.keeps ∙ c.in-Some.ensures) (kind_seen (kind.Operator sign.Equal)
@@ -195,8 +196,8 @@ call-returns-then-not-sees g t c = let n = c.in_ok-close-2.ensures in let q = c.
       level_is = j.0;
       ready = n.taken.ready;
       later = omega (arith, c.loop-self.invariant.later, q.later, n.taken.later);
-      goes = λ k p kp. called_with g.X.AsStr.text g.I.Iterator.next_gives g.I.Iterator.can_next g.I.Iterator.remaining k p
-          kp (item_last g.X.AsStr.text g.I.Iterator.next_gives g.I.Iterator.can_next g.I.Iterator.remaining
+      goes = λ k p kp. called_with g.X.AsStr.text g.I.Iterator.next_gives g.I.Iterator.can_next g.I.Iterator.remaining
+          k p kp (item_last g.X.AsStr.text g.I.Iterator.next_gives g.I.Iterator.can_next g.I.Iterator.remaining
           (c.loop-self.invariant.arguments p.tree (p.tokens ++ (k ∷ []))) (sym c.sees.ensures ∙ c.if-sees.false) q
           c.in_ok-push.ensures n.taken n.kind tt) (λ es ke. j.1 p es no_keywords kp ke c.new-then-not-sees.ensures);
     }) c.called-then-not-sees.ensures
@@ -431,7 +432,8 @@ group-returns-in_err-close-2-clause-reads g t c = let p = err_from_is_err_and c.
 pub group-returns-then-sees-2-clause-reads : goal.group-returns-then-sees-2-clause-reads
 group-returns-then-sees-2-clause-reads g t c = let q = c.in_ok-first.ensures.reads in let k = c.in_ok-close-2.ensures in
     rw c.grouped.ensures (record {
-      part = grouped ((lexeme g.X.AsStr.text c.in_ok-open.open) ∷ []) q.part (lexeme g.X.AsStr.text c.in_ok-close-2.close);
+      part = grouped ((lexeme g.X.AsStr.text c.in_ok-open.open) ∷ []) q.part
+          (lexeme g.X.AsStr.text c.in_ok-close-2.close);
       keeps = keeps_grouped c.in_ok-first.first q.part (lexeme g.X.AsStr.text c.in_ok-open.open)
           (lexeme g.X.AsStr.text c.in_ok-close-2.close) q.keeps;
       low = omega arith;
@@ -447,7 +449,8 @@ group-returns-then-sees-2-clause-reads g t c = let q = c.in_ok-first.ensures.rea
           (step_to (have c.in_ok-first.first.level q.part (grouping ((lexeme g.X.AsStr.text c.in_ok-open.open) ∷ []) s))
           (have 7 (grouped ((lexeme g.X.AsStr.text c.in_ok-open.open) ∷ []) q.part
           (lexeme g.X.AsStr.text c.in_ok-close-2.close)) s) k
-          (ap (turn (have c.in_ok-first.first.level q.part (grouping ((lexeme g.X.AsStr.text c.in_ok-open.open) ∷ []) s))
+          (ap (turn (have c.in_ok-first.first.level q.part
+          (grouping ((lexeme g.X.AsStr.text c.in_ok-open.open) ∷ []) s))
           (lexeme g.X.AsStr.text c.in_ok-close-2.close)) (kind_seen (kind.Operator sign.RightParenthesis)
           (sym c.sees-2.ensures ∙ c.if-sees-2.true) c.in_ok-close-2.ensures.here)) o x)));
     })
@@ -589,9 +592,10 @@ items-loop-alloc-preserved-in_ok-take g t c = let k = c.in_ok-take.ensures in le
     record {
       ready = k.ready;
       later = omega (arith, c.loop-alloc.invariant.later, q.later, k.later);
-      lists = λ h xs ts cl. item_more g.X.AsStr.text g.I.Iterator.next_gives g.I.Iterator.can_next g.I.Iterator.remaining
-          (c.loop-alloc.invariant.lists h xs ts cl) (not_closer c.loop-alloc.self.ahead h c.args.close cl
-          (sym c.sees.ensures ∙ c.if-sees.false)) q c.in_ok-push.ensures k
+      lists = λ h xs ts cl. item_more g.X.AsStr.text g.I.Iterator.next_gives g.I.Iterator.can_next
+          g.I.Iterator.remaining (c.loop-alloc.invariant.lists h xs ts cl)
+          (not_closer c.loop-alloc.self.ahead h c.args.close cl (sym c.sees.ensures ∙ c.if-sees.false)) q
+          c.in_ok-push.ensures k
           (kind_seen (kind.Operator sign.Comma) (sym c.sees-in-loop-alloc.ensures ∙ c.if-not-sees.false) k.here);
     }
 
@@ -769,8 +773,8 @@ operators-loop-link-preserved-in-Some-2 g t c = let i = rw c.in-Some-2.is at c.i
         leads = λ s r o x. v.leads s r o (i.leads (λ u e. has_link c.in-Some.ensures e) c.loop-link.left.level v.part s
             h.goes (omega (arith, h.binds, r)) o (q.leads (joining (infix_of c.in-Some-2.infix) v.part i.tokens s)
             (sym c.right.ensures) o
-            (joins g.X.AsStr.text g.I.Iterator.next_gives c.operators.new.self (infix_of c.in-Some-2.infix) v.part i.tokens
-            q.part s c.in_ok-right.right.level (omega (arith, q.low, c.right.ensures))
+            (joins g.X.AsStr.text g.I.Iterator.next_gives c.operators.new.self (infix_of c.in-Some-2.infix) v.part
+            i.tokens q.part s c.in_ok-right.right.level (omega (arith, q.low, c.right.ensures))
             (subst (λ n. NextIs (Over n c.in_ok-right.right.level) c.operators.new.self.ahead) c.right.ensures
             c.in_ok-right.ensures.over) c.in_ok-right.ensures.undotted o
             (subst (λ n. Came g.X.AsStr.text g.I.Iterator.next_gives c.operators.new.self
@@ -874,7 +878,8 @@ pub postfix-loop-self-preserved-in_ok-operand-3 : goal.postfix-loop-self-preserv
 postfix-loop-self-preserved-in_ok-operand-3 g t c = let v = c.loop-self.invariant.gives in
     record {
       gives = index_on g.X.AsStr.text g.I.Iterator.next_gives g.I.Iterator.can_next g.I.Iterator.remaining v
-          c.in_ok-take-2.ensures (kind_seen (kind.Operator sign.LeftBracket) (sym c.sees-else-sees.ensures ∙ c.if-sees-2.true)
+          c.in_ok-take-2.ensures (kind_seen (kind.Operator sign.LeftBracket)
+          (sym c.sees-else-sees.ensures ∙ c.if-sees-2.true)
           c.in_ok-take-2.ensures.here) c.in_ok-key.ensures.reads c.in_ok-close.ensures.taken c.in_ok-close.ensures.kind
           c.in_ok-operand-3.ensures.0 c.in_ok-operand-3.ensures.1;
       level_is = c.in_ok-operand-3.ensures.0;
@@ -884,7 +889,8 @@ pub postfix-loop-self-preserved-in_ok-operand-3-2 : goal.postfix-loop-self-prese
 postfix-loop-self-preserved-in_ok-operand-3-2 g t c = let v = c.loop-self.invariant.gives in
     record {
       gives = index_on g.X.AsStr.text g.I.Iterator.next_gives g.I.Iterator.can_next g.I.Iterator.remaining v
-          c.in_ok-take-2.ensures (kind_seen (kind.Operator sign.LeftBracket) (sym c.sees-else-sees.ensures ∙ c.if-sees-2.true)
+          c.in_ok-take-2.ensures (kind_seen (kind.Operator sign.LeftBracket)
+          (sym c.sees-else-sees.ensures ∙ c.if-sees-2.true)
           c.in_ok-take-2.ensures.here) c.in_ok-key.ensures.reads c.in_ok-close.ensures.taken c.in_ok-close.ensures.kind
           c.in_ok-operand-3.ensures.0 c.in_ok-operand-3.ensures.1;
       level_is = c.in_ok-operand-3.ensures.0;
@@ -973,8 +979,9 @@ signed-returns-then-sees-clause-reads g t c = let q = c.in_ok-operand.ensures.re
       ready = q.ready;
       later = omega (arith, c.in_ok-first.ensures.later, c.in_ok-signs.ensures.reads.later, q.later);
       begins = λ u e. same_place c.in_ok-first.ensures.here e;
-      leads = λ s r o x. step_to (operand s) (operand (applying denial ((lexeme g.X.AsStr.text c.in_ok-first.first) ∷ [])
-          s)) c.in_ok-first.ensures (sign_turn denial s (lexeme g.X.AsStr.text c.in_ok-first.first) _
+      leads = λ s r o x. step_to (operand s)
+          (operand (applying denial ((lexeme g.X.AsStr.text c.in_ok-first.first) ∷ []) s)) c.in_ok-first.ensures
+          (sign_turn denial s (lexeme g.X.AsStr.text c.in_ok-first.first) _
           (kind_seen (kind.Keyword word.Not) (sym c.sees.ensures ∙ c.if-sees.true) c.in_ok-first.ensures.here)
           (omega (arith, r))) o (c.in_ok-signs.ensures.reads.leads (applying denial
           ((lexeme g.X.AsStr.text c.in_ok-first.first) ∷ []) s) (omega arith) o
@@ -985,8 +992,8 @@ signed-returns-then-sees-clause-reads g t c = let q = c.in_ok-operand.ensures.re
           (signs_join g.X.AsStr.text g.I.Iterator.next_gives c.operators.new.self denial
           ((lexeme g.X.AsStr.text c.in_ok-first.first) ∷ c.in_ok-signs.ensures.reads.tokens) q.part s
           c.in_ok-operand.operand.level q.low
-          (over_sign _ _ c.in_ok-operand.ensures.over) c.in_ok-operand.ensures.undotted (low_undotted _ 2 (omega arith)) o
-          (subst (λ z. Came g.X.AsStr.text g.I.Iterator.next_gives c.operators.new.self
+          (over_sign _ _ c.in_ok-operand.ensures.over) c.in_ok-operand.ensures.undotted (low_undotted _ 2 (omega arith))
+          o (subst (λ z. Came g.X.AsStr.text g.I.Iterator.next_gives c.operators.new.self
           (at
           (have z (applied_all denial ((lexeme g.X.AsStr.text c.in_ok-first.first) ∷ c.in_ok-signs.ensures.reads.tokens)
           c.in_ok-operand.ensures.reads.part) s)) o) j.0 x))));

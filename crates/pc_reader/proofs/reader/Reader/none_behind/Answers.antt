@@ -3,7 +3,7 @@ use Rattle.std.proofs.lemmas.Result.{err_from_is_err_and}
 use Rattle.pc_token.specs.declared.token.TokenKind.TheVariants as kind
 use Rattle.pc_token.specs.declared.token.Keyword.TheVariants as word
 use Rattle.pc_tree.specs.Tree.{is_none, is_not_none}
-use Rattle.pc_tree.specs.Machine.{turn}
+use Rattle.pc_tree.specs.Machine.{turn, at}
 use Rattle.pc_tree.specs.Machine.Kinds.{same_kind}
 use Rattle.pc_tree.specs.Machine.States.{have, identified, unidentified, stuck, on}
 use Rattle.pc_tree.specs.Machine.Expressions.{part}
@@ -12,6 +12,10 @@ use Rattle.pc_reader.proofs.Building.{first_more, starts_more, ends_more, ends_o
 use Rattle.pc_reader.proofs.Streams.{blame}
 use Rattle.pc_reader.proofs.Steps.{step_to, needs, meets, kind_seen, not_seen, on_result}
 use Rattle.pc_reader.proofs.reader.Reader.none_behind.Goals as goal
+
+pub returns-in_err-take : goal.returns-in_err-take
+returns-in_err-take g c = let p = err_from_is_err_and c.from_residual.result c.from_residual.ensures.1 in
+    rw (p.1, p.2) (blame (λ o w. λ d q s kp. w (at (identified q (d ∷ []) s)) (λ _. refl)) c.in_err-take.ensures)
 
 pub returns-in_err-none : goal.returns-in_err-none
 returns-in_err-none g c = let p = err_from_is_err_and c.from_residual-in_err-none.result
@@ -43,8 +47,9 @@ returns-then-sees g c = on_result c.none_test.result _ _ _ (λ o h.
                 (ends_one (lexeme g.X.AsStr.text c.in_ok-none.none))));
             begins = first_more _ kp.starts;
             leads =
-                λ s o x. step_to (identified p (d ∷ []) s) (unidentified p (d ∷ (lexeme g.X.AsStr.text c.in_ok-take.field-0) ∷ [])
-                s) c.in_ok-take.ensures (ap (turn (identified p (d ∷ []) s) (lexeme g.X.AsStr.text c.in_ok-take.field-0))
+                λ s o x. step_to (identified p (d ∷ []) s)
+                (unidentified p (d ∷ (lexeme g.X.AsStr.text c.in_ok-take.field-0) ∷ []) s) c.in_ok-take.ensures
+                (ap (turn (identified p (d ∷ []) s) (lexeme g.X.AsStr.text c.in_ok-take.field-0))
                 (kind_seen (kind.Keyword word.Not) (sym c.sees.ensures ∙ c.if-sees.true) c.in_ok-take.ensures.here)) o
                 (step_to (unidentified p (d ∷ (lexeme g.X.AsStr.text c.in_ok-take.field-0) ∷ []) s)
                 (have 3 (part (λ q. is_not_none q p.tree) (p.tokens ++ (d ∷ (lexeme g.X.AsStr.text c.in_ok-take.field-0)
@@ -61,8 +66,8 @@ returns-in_err-none-2 g c = let p = err_from_is_err_and c.from_residual-in_err-n
       unfinished = refl;
       stuck_at = λ t h e. ap (λ z.
           on z (have 3 (part (λ q. is_none q p.tree) (p.tokens ++ (d ∷ (lexeme g.X.AsStr.text t) ∷ []))) s)
-          (on (same_kind t.kind (kind.Keyword word.Not)) (unidentified p (d ∷ (lexeme g.X.AsStr.text t) ∷ []) s) stuck)) e
-          ∙ ap (λ z. on z (unidentified p (d ∷ (lexeme g.X.AsStr.text t) ∷ []) s) stuck)
+          (on (same_kind t.kind (kind.Keyword word.Not)) (unidentified p (d ∷ (lexeme g.X.AsStr.text t) ∷ []) s) stuck))
+          e ∙ ap (λ z. on z (unidentified p (d ∷ (lexeme g.X.AsStr.text t) ∷ []) s) stuck)
           (not_seen (kind.Keyword word.Not) (sym c.sees.ensures ∙ c.if-sees.false) h);
     })) c.in_err-none-2.ensures.taken)
 
@@ -82,8 +87,9 @@ returns g c = on_result c.none_test-2.result _ _ _
         begins =
             first_more _ kp.starts;
         leads = λ s. step_to (identified p (d ∷ []) s)
-            (have 3 (part (λ q. is_none q p.tree) (p.tokens ++ (d ∷ (lexeme g.X.AsStr.text c.in_ok-none-2.none) ∷ []))) s)
-            c.in_ok-none-2.ensures.taken (ap (turn (identified p (d ∷ []) s) (lexeme g.X.AsStr.text c.in_ok-none-2.none))
+            (have 3 (part (λ q. is_none q p.tree)
+            (p.tokens ++ (d ∷ (lexeme g.X.AsStr.text c.in_ok-none-2.none) ∷ []))) s) c.in_ok-none-2.ensures.taken
+            (ap (turn (identified p (d ∷ []) s) (lexeme g.X.AsStr.text c.in_ok-none-2.none))
             c.in_ok-none-2.ensures.kind);
       };
     }) c.none_test-2.ensures

@@ -27,7 +27,8 @@ returns-clause-reads g c = on_result c.value.result _ _ _ (λ o h. let t = c.in_
       ready = t.ready;
       later = t.later;
       begins = λ u e. v.begins ∙ same_place t.here e;
-      leads = λ s f. step_to (operand s) (have o.level v.part s) t (v.leads s ∙ ap (λ n. go (have n v.part s)) (sym h.0));
+      leads = λ s f. step_to (operand s) (have o.level v.part s) t
+          (v.leads s ∙ ap (λ n. go (have n v.part s)) (sym h.0));
     }) c.value.ensures
 
 pub returns-clause-level : goal.returns-clause-level
