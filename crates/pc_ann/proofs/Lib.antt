@@ -2,6 +2,8 @@ pub mod Listing
 pub mod Ordering
 pub mod Tuples
 pub mod Uniting
+pub mod Walking
+pub mod Unrelated
 pub mod Each
 pub mod Forms
 pub mod Parts

@@ -3,6 +3,7 @@
 
 mod built;
 mod laws;
+mod marks;
 mod ordered;
 mod outline;
 mod parents;

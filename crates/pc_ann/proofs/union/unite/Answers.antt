@@ -10,12 +10,12 @@ use Rattle.pc_ann.specs.Internal.TypesRead.{united_head}
 use Rattle.pc_ann.proofs.Uniting.{no_union, one_union, is_one, union_large, union_of_many, union_is_normal}
 use Rattle.pc_ann.proofs.union.unite.Goals as goal
 
-pub returns-then-not-make_union-clause-value : goal.returns-then-not-make_union-clause-value
-returns-then-not-make_union-clause-value g c =
+pub returns-then-not-is_union-clause-value : goal.returns-then-not-is_union-clause-value
+returns-then-not-is_union-clause-value g c =
     let ts = readings (module_of c.args.outline.now.tree.now) c.args.outline.now.parents.now
     (anns_of_list c.args.parts.now) in
     no_union g.S.TypeStore.has g.S.TypeStore.tree c.args.store.now c.args.outline.now.parents.now ts c.deref.result.now
-    (c.deref.ensures.value ∙ c.requires.heads_are) (sym c.if-not-make_union.true ∙ c.make_union.ensures)
+    (c.deref.ensures.value ∙ c.requires.heads_are) (sym c.if-not-is_union.true ∙ c.in_ok-is_union.ensures)
 
 pub returns-in_default-clause-value : goal.returns-in_default-clause-value
 returns-in_default-clause-value g c =
@@ -24,8 +24,8 @@ returns-in_default-clause-value g c =
     let many = c.requires.types_are in
     let large : node_limit < nodes_of (trees ts) = rw c.in_default.is at many in
     one_union g.S.TypeStore.has g.S.TypeStore.tree c.args.store.now bases ts c.deref.result.now
-    c.united_head-head.result _ (c.deref.ensures.value ∙ c.requires.heads_are) (sym c.if-not-make_union.false
-    ∙ c.make_union.ensures) (c.united_head-head.ensures ∙ ap united_head (c.deref-2.ensures.value
+    c.united_head-head.result _ (c.deref.ensures.value ∙ c.requires.heads_are) (sym c.if-not-is_union.false
+    ∙ c.in_ok-is_union.ensures) (c.united_head-head.ensures ∙ ap united_head (c.deref-2.ensures.value
     ∙ sym c.deref.ensures.value))
     (λ u. union_large bases ts u large)
 
@@ -46,7 +46,7 @@ returns-then-len-gt-MOST_MEMBERS-clause-value g c =
       c.if-len-gt-MOST_MEMBERS.true,
     ) in
     one_union g.S.TypeStore.has tree c.args.store.now bases ts c.deref.result.now c.united_head-head.result _
-    (c.deref.ensures.value ∙ c.requires.heads_are) (sym c.if-not-make_union.false ∙ c.make_union.ensures)
+    (c.deref.ensures.value ∙ c.requires.heads_are) (sym c.if-not-is_union.false ∙ c.in_ok-is_union.ensures)
     (c.united_head-head.ensures ∙ ap united_head (c.deref-2.ensures.value ∙ sym c.deref.ensures.value))
     (λ u. union_of_many bases ts u n)
 
@@ -62,7 +62,7 @@ union-requires-clause-order g c =
     let e : map tree c.deref-3.result.now ≡ in_union_order ts = ap (map tree) c.deref-3.ensures.value
     ∙ c.in_ok-members.ensures.value ∙ ap in_union_order q.1 in
     let u = is_one bases ts c.deref.result.now (c.deref.ensures.value ∙ c.requires.heads_are)
-    (sym c.if-not-make_union.false ∙ c.make_union.ensures) in
+    (sym c.if-not-is_union.false ∙ c.in_ok-is_union.ensures) in
     subst (λ l. IsNormal (union l)) (sym e) (union_is_normal m bases (anns_of_list c.args.parts.now) c.ordered.ensures
     u)
 
@@ -78,8 +78,8 @@ returns-clause-value g c =
     let e : map tree c.deref-3.result.now ≡ in_union_order ts = ap (map tree) c.deref-3.ensures.value
     ∙ c.in_ok-members.ensures.value ∙ ap in_union_order q.1 in
     one_union g.S.TypeStore.has tree c.union.new.self bases ts c.deref.result.now c.united_head-head.result
-    c.in_ok-ty.ty (c.deref.ensures.value ∙ c.requires.heads_are) (sym c.if-not-make_union.false
-    ∙ c.make_union.ensures) (c.united_head-head.ensures ∙ ap united_head (c.deref-2.ensures.value
+    c.in_ok-ty.ty (c.deref.ensures.value ∙ c.requires.heads_are) (sym c.if-not-is_union.false
+    ∙ c.in_ok-is_union.ensures) (c.united_head-head.ensures ∙ ap united_head (c.deref-2.ensures.value
     ∙ sym c.deref.ensures.value))
     (λ u. subst (λ l. MeansWithin g.S.TypeStore.has tree c.union.new.self c.in_ok-ty.ty (union l)) e
     c.in_ok-ty.ensures.value)
