@@ -143,14 +143,8 @@ fn check_stmt<S: TypeStore>(
             type_in(walk, &env, &None, value)?;
             Ok(Some(env))
         }
-        StmtKind::While(condition, body) => {
-            let out = check_while(walk, &env, body, condition)?;
-            Ok(out)
-        }
-        StmtKind::For(name, iterable, body) => {
-            let out = check_for(walk, &env, body, name, iterable)?;
-            Ok(out)
-        }
+        StmtKind::While(condition, body) => check_while(walk, &env, body, condition),
+        StmtKind::For(name, iterable, body) => check_for(walk, &env, body, name, iterable),
         StmtKind::If(branches, suite) => {
             let fork = check_branches(walk, env, breaking, broken, branches)?;
             let out = check_otherwise(walk, fork, breaking, broken, suite)?;

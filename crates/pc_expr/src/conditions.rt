@@ -5,16 +5,17 @@
 
 ghost use Rattle.std.specs.Prelude.{◌≡◌, ◌++◌, IfOk, OnOk, None, length};
 ghost use Rattle.pc_tree.specs.Tree.{expr_of};
+ghost use Rattle.pc_types.specs.Store.{KeepsTypes};
 ghost use Rattle.pc_flow.specs.Agreement.{AgreeBelow};
 ghost use Rattle.pc_flow.specs.Environment.{join_env, join_or_object};
 ghost use Rattle.pc_flow.specs.Naming.{meanings};
-ghost use Rattle.pc_flow.specs.Narrowing.{tested_locals};
+ghost use Rattle.pc_flow.specs.Narrowing.{IsSimple, tested_locals};
 ghost use Rattle.pc_flow.specs.Stored.{env_of, declared_of, HasEach, GivesEnv};
 ghost use Rattle.pc_flow.specs.Ways.{way_on, way_out};
 ghost use Rattle.pc_flow.specs.WellFormed.{IsWellFormedEnv};
 ghost use Rattle.pc_rules.specs.Computed.Checkers.{Finds, GoesOn, IsLabel, Stands};
 ghost use Rattle.pc_rules.specs.Operations.{clean};
-ghost use Rattle.pc_rules.specs.Computed.Standing.{standing_of, label_in, finds_in};
+ghost use Rattle.pc_rules.specs.Computed.Standing.{HasGivenAll, standing_of, label_in, finds_in};
 ghost use Rattle.pc_expr.specs.Ways.{GivesWays};
 
 use crate::typing::type_expr;
@@ -26,6 +27,7 @@ use pc_rules::{Checker, Label, Setting};
 use pc_source::OutOfMemory;
 use pc_tree::Expr;
 use pc_types::TypeStore;
+use std::alloc::Global;
 
 /// The label of a condition, and the environments where it is true and where it is false.
 #[derive(Drop)]
@@ -34,52 +36,65 @@ pub struct Condition<Ty: Drop> {
     pub ways: BothWays<Ty>,
 }
 
-/// What a junction of two conditions comes to, from the label of its first part and the environment where that settles
-/// it, and from its second part where it is asked. Language Reference 6.11 "Boolean operations".
+/// What a condition tells where it settles a junction that it is the first part of.
+fn settling<Ty: Drop>(connective: &Connective, first: BothWays<Ty>) -> Env<Ty>
+    ensures { result ≡ way_out connective.now first }
+{
+    match connective {
+        Connective::And => first.where_false,
+        Connective::Or => first.where_true,
+    }
+}
+
+/// What a junction of two conditions comes to, from its first part, and from its second part where that is asked.
+/// Language Reference 6.11 "Boolean operations".
 fn junction_condition<S: TypeStore>(
     checker: &mut Checker<'_, S>,
     setting: &Setting<'_, S::Ty>,
     junction: &Junction,
-    first: &Label<S::Ty>,
-    settled: Env<S::Ty>,
+    first: Condition<S::Ty>,
     second: Condition<S::Ty>,
 ) -> Result<Condition<S::Ty>, OutOfMemory>
     requires declared { HasEach (S.has checker.old.store.now) setting.now.declared.now }
-    requires first { S.has checker.old.store.now first.now.ty }
+    requires first { S.has checker.old.store.now first.label.ty }
     requires second { S.has checker.old.store.now second.label.ty }
-    requires settled { HasEach (S.has checker.old.store.now) settled }
+    requires settled { HasEach (S.has checker.old.store.now) (way_out junction.now.connective first.ways) }
     requires late { HasEach (S.has checker.old.store.now) (way_out junction.now.connective second.ways) }
-    requires well_formed { IsWellFormedEnv setting.now.globals.now.outline.now.parents.now (env_of S.tree settled) }
+    requires well_formed { IsWellFormedEnv setting.now.globals.now.outline.now.parents.now
+        (env_of S.tree (way_out junction.now.connective first.ways)) }
     requires agree { AgreeBelow (length setting.now.declared.now)
         (tested_locals (meanings setting.now.names.now) (expr_of junction.now.left.now)
         ++ tested_locals (meanings setting.now.names.now) (expr_of junction.now.right.now))
-        (env_of S.tree settled) (env_of S.tree (way_out junction.now.connective second.ways)) }
+        (env_of S.tree (way_out junction.now.connective first.ways))
+        (env_of S.tree (way_out junction.now.connective second.ways)) }
     ensures labelled { IfOk result
         (λ n. IsLabel S.TypeStore checker.new n.label
-        (clean (join_or_object setting.now.globals.now.outline.now.parents.now (S.tree first.now.ty)
+        (clean (join_or_object setting.now.globals.now.outline.now.parents.now (S.tree first.label.ty)
         (S.tree second.label.ty)))) }
     ensures asked { IfOk result
         (λ n. way_on junction.now.connective n.ways ≡ way_on junction.now.connective second.ways) }
     ensures met { IfOk result
         (λ n. GivesEnv S.has S.tree checker.new.store.now (way_out junction.now.connective n.ways)
         (join_env setting.now.globals.now.outline.now.parents.now (declared_of S.tree setting.now.declared.now)
-        (env_of S.tree settled)
+        (env_of S.tree (way_out junction.now.connective first.ways))
         (env_of S.tree (way_out junction.now.connective second.ways)))) }
     ensures found { checker.new.found.now ≡ checker.old.found.now }
     ensures goes_on { GoesOn S.TypeStore checker.old checker.new }
 {
+    let parents = setting.globals.outline.parents;
     let label = label_junction(
         checker.store,
         checker.alloc,
-        setting.globals.outline.parents,
-        &first.ty,
+        parents,
+        &first.label.ty,
         &second.label.ty,
     )?;
     let declarations = Declarations {
-        parents: setting.globals.outline.parents,
+        parents,
         declared: setting.declared,
         names: setting.names,
     };
+    let settled = settling(&junction.connective, first.ways);
     let ways = narrow_junction(
         checker.store,
         checker.alloc,
@@ -89,6 +104,33 @@ fn junction_condition<S: TypeStore>(
         second.ways,
     )?;
     Ok(Condition { label, ways })
+}
+
+/// What a condition that is no `not`, `and` or `or` tells of the environment it stands in.
+fn simple_ways<S: TypeStore>(
+    store: &mut S,
+    alloc: Global,
+    setting: &Setting<'_, S::Ty>,
+    env: &Env<S::Ty>,
+    e: &Expr,
+) -> Result<BothWays<S::Ty>, OutOfMemory>
+    requires given { HasGivenAll (S.has store.old) S.tree setting.now env.now }
+    requires simple { IsSimple (expr_of e.now) }
+    ensures ways { IfOk result
+        (λ n. GivesWays S.has S.tree store.new setting.now (standing_of S.tree setting.now env.now) n
+        (expr_of e.now)) }
+    ensures kept { KeepsTypes S.has store.old store.new }
+{
+    let parents = setting.globals.outline.parents;
+    parents.ordered();
+    let copy = copy_env(store, alloc, env)?;
+    let declarations = Declarations {
+        parents,
+        declared: setting.declared,
+        names: setting.names,
+    };
+    let ways = narrow_simple(store, alloc, &declarations, e, copy)?;
+    Ok(ways)
 }
 
 /// The label of a condition, of which nothing is expected, with what is found in it and what it tells of the
@@ -120,60 +162,30 @@ pub fn type_condition<S: TypeStore>(
             Ok(Condition { label, ways })
         }
         Expr::And(_, left, right) => {
-            let connective = Connective::And;
             let junction = Junction {
-                connective,
+                connective: Connective::And,
                 left,
                 right,
             };
             let first = type_condition(checker, setting, env, left)?;
-            let BothWays {
-                where_true,
-                where_false,
-            } = first.ways;
-            let second = type_condition(checker, setting, &where_true, right)?;
-            let whole = junction_condition(
-                checker,
-                setting,
-                &junction,
-                &first.label,
-                where_false,
-                second,
-            )?;
+            let second = type_condition(checker, setting, &first.ways.where_true, right)?;
+            let whole = junction_condition(checker, setting, &junction, first, second)?;
             Ok(whole)
         }
         Expr::Or(_, left, right) => {
-            let connective = Connective::Or;
             let junction = Junction {
-                connective,
+                connective: Connective::Or,
                 left,
                 right,
             };
             let first = type_condition(checker, setting, env, left)?;
-            let BothWays {
-                where_true,
-                where_false,
-            } = first.ways;
-            let second = type_condition(checker, setting, &where_false, right)?;
-            let whole = junction_condition(
-                checker,
-                setting,
-                &junction,
-                &first.label,
-                where_true,
-                second,
-            )?;
+            let second = type_condition(checker, setting, &first.ways.where_false, right)?;
+            let whole = junction_condition(checker, setting, &junction, first, second)?;
             Ok(whole)
         }
         _ => {
             let label = type_expr(checker, setting, env, &None, e)?;
-            let copy = copy_env(checker.store, checker.alloc, env)?;
-            let declarations = Declarations {
-                parents: setting.globals.outline.parents,
-                declared: setting.declared,
-                names: setting.names,
-            };
-            let ways = narrow_simple(checker.store, checker.alloc, &declarations, e, copy)?;
+            let ways = simple_ways(checker.store, checker.alloc, setting, env, e)?;
             Ok(Condition { label, ways })
         }
     }

@@ -116,3 +116,14 @@ module _ {K X : Type 0} (test : K → Bool) where
           → (lookup_key test es ≡ Some k → test k ≡ true) → test k ≡ true
       by true e g rest = let q : x.0 ≡ k = cc in subst (λ y. test y ≡ true) q e
       by false e g rest = rest g
+
+-- the pair at a place, by its parts
+pub pair_at : {K V : Type 0} (es : List (K × V)) (n : ℕ) (k : K) (v : V) → slice_get (map (λ e. e.0) es) n ≡ Some k
+    → slice_get (map (λ e. e.1) es) n ≡ Some v → slice_get es n ≡ Some (k, v)
+pair_at [] zero k v p q = cc
+pair_at [] (suc n) k v p q = cc
+pair_at (e ∷ es) zero k v p q =
+    let first : e.0 ≡ k = cc in
+    let second : e.1 ≡ v = cc in
+    λ i. Some (first i, second i)
+pair_at (e ∷ es) (suc n) k v p q = pair_at es n k v p q

@@ -86,10 +86,7 @@ impl Table {
         ensures value { slice_get self.now number ≡ Some result.now }
         ensures given { IsGiven result.now }
     {
-        let Some((_, ty)) = self.entries.get_index(number) else {
-            unreachable!()
-        };
-        ty
+        &self.entries[number]
     }
 
     /// The numbers of a type's parts in order.
@@ -98,10 +95,7 @@ impl Table {
         ensures { (b : _) → slice_get self.now number ≡ Some b
             → map (tree_at self.now) result.now ≡ map Some (parts (tree_of b)) }
     {
-        let Some((node, _)) = self.entries.get_index(number) else {
-            unreachable!()
-        };
-        node.parts.as_slice()
+        self.entries.keys().as_slice()[number].parts.as_slice()
     }
 
     /// Whether a type has no parts.

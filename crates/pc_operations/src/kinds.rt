@@ -1,10 +1,11 @@
 //! The kinds of operands: what operators take, and what they give.
 #![tactic(auto, using(crate::proofs::Operators::by_operator))]
 
-ghost use Rattle.std.specs.Prelude.{◌≡◌, ◌||◌, false, All, IfOk, map};
+ghost use Rattle.std.specs.Prelude.{◌≡◌, ◌||◌, ◌∷◌, [], false, All, IfOk, IsTrue, map};
 ghost use Rattle.std.specs.List.{list_all};
 ghost use Rattle.std.specs.Option.{option_map};
 ghost use Rattle.pc_types.specs.Tree.{Bool};
+ghost use Rattle.pc_types.specs.Shape.{members};
 ghost use Rattle.pc_types.specs.Store.{Means, KeepsTypes};
 ghost use Rattle.pc_rules.specs.Operations.{kind_of, has_side, is_never, is_any};
 ghost use Rattle.pc_operations.specs.Internal.OperandPairs.{kind_with, meet, common, takes_of, gives_of, dynamic_of};
@@ -52,7 +53,7 @@ pub(crate) fn meet(first: Option<Kind>, second: Option<Kind>) -> Option<Kind>
 }
 
 /// The kind that all of several types have in common, if there are any.
-pub(crate) fn common_kind<S: TypeStore>(store: &S, types: &[S::Ty]) -> Option<Kind>
+fn common_kind<S: TypeStore>(store: &S, types: &[S::Ty]) -> Option<Kind>
     requires { All (S.has store.now) types.now }
     ensures { option_map kind_with result ≡ common (map S.tree types.now) }
 {
@@ -64,6 +65,30 @@ pub(crate) fn common_kind<S: TypeStore>(store: &S, types: &[S::Ty]) -> Option<Ki
         common = meet(common, kind_of(store, ty));
     }
     common
+}
+
+/// Whether a type is its only member: it is no union and not `Never`.
+pub(crate) fn is_single<S: TypeStore>(store: &S, ty: &S::Ty) -> bool
+    requires { S.has store.now ty.now }
+    ensures { IsTrue result → members (S.tree ty.now) ≡ S.tree ty.now ∷ [] }
+{
+    !matches!(store.head(ty), Head::Never | Head::Union(_))
+}
+
+/// The kind that all members of a type have in common, if there are any; a type that is its only member is not copied.
+pub(crate) fn kind_of_members<S: TypeStore>(
+    store: &S,
+    alloc: Global,
+    ty: &S::Ty,
+) -> Result<Option<Kind>, OutOfMemory>
+    requires { S.has store.now ty.now }
+    ensures { IfOk result (λ k. option_map kind_with k ≡ common (members (S.tree ty.now))) }
+{
+    if is_single(store, ty) {
+        return Ok(kind_of(store, ty));
+    }
+    let members = store.members(alloc, ty)?;
+    Ok(common_kind(store, &members))
 }
 
 /// Whether an operator takes a kind.

@@ -1,6 +1,6 @@
 //! Operations on values whose types may be unions.
 
-ghost use Rattle.std.specs.Prelude.{◌≡◌, ◌≤◌, ◌++◌, All, IfOk, OnOk, map, option_to_list, MatchOption};
+ghost use Rattle.std.specs.Prelude.{◌≡◌, ◌≤◌, ◌++◌, ◌∷◌, [], All, IfOk, OnOk, map, option_to_list, MatchOption};
 ghost use Rattle.std.specs.Option.{option_map};
 ghost use Rattle.pc_tree.specs.Tree.{expr_of};
 ghost use Rattle.pc_types.specs.Tree.{Tree};
@@ -13,6 +13,7 @@ ghost use Rattle.pc_rules.specs.Lawful.{number_behind, int_literal};
 ghost use Rattle.pc_rules.specs.Computed.Standing.{HasIfAny, HasOffer, offer_with, MeansLabel};
 ghost use Rattle.pc_operations.specs.JudgedOperations.{IsOffer, offer_on};
 
+use crate::kinds::is_single;
 use crate::members::{
     attribute_offer, contain_offer, index_offer, iterate_offer, join_types, length_offer,
     negative_offer,
@@ -67,6 +68,29 @@ fn offer_on<S: TypeStore>(
     }
 }
 
+/// What an operation comes to on a type that is its only member.
+fn only_offer<S: TypeStore>(
+    store: &mut S,
+    alloc: Global,
+    parents: &Parents,
+    classes: &ClassTable<S::Ty>,
+    operation: Operation<'_>,
+    member: &S::Ty,
+) -> Result<Vec<Offer<S::Ty>>, OutOfMemory>
+    requires member { S.has store.old member.now }
+    requires classes { HasEntries (S.has store.old) classes.now }
+    ensures held { IfOk result (λ os. All (HasOffer (S.has store.new)) os.items) }
+    ensures value { IfOk result
+        (λ os. map (offer_with S.tree) os.items
+        ≡ offer_on parents.now (classes_with S.tree classes.now) operation.entry (S.tree member.now) ∷ []) }
+    ensures kept { KeepsTypes S.has store.old store.new }
+{
+    let mut offers = Vec::new(alloc);
+    let offer = offer_on(store, alloc, parents, classes, operation, member)?;
+    offers.push(offer)?;
+    Ok(offers)
+}
+
 /// What an operation comes to on each member of a type, in order.
 pub fn member_offers<S: TypeStore>(
     store: &mut S,
@@ -84,6 +108,9 @@ pub fn member_offers<S: TypeStore>(
         ≡ map (offer_on parents.now (classes_with S.tree classes.now) operation.entry) (members (S.tree ty.now))) }
     ensures kept { KeepsTypes S.has store.old store.new }
 {
+    if is_single(store, ty) {
+        return only_offer(store, alloc, parents, classes, operation, ty);
+    }
     let members = store.members(alloc, ty)?;
     let mut offers = Vec::new(alloc);
     for i in 0..members.len() {

@@ -16,8 +16,8 @@ ghost use Rattle.pc_operations.specs.Internal.OperandPairs.{operator_label, dyna
 ghost use Rattle.pc_rules.specs.Computed.Standing.{HasOffer, offer_with, MeansLabel};
 
 use crate::kinds::{
-    Kind, Operator, common_kind, dynamic_type, given_type, is_any, is_never, may_suit_all, meet,
-    takes,
+    Kind, Operator, dynamic_type, given_type, is_any, is_never, kind_of_members, may_suit_all,
+    meet, takes,
 };
 use crate::members::contain_offer;
 use crate::offers::{offers_label, operand_types};
@@ -120,10 +120,9 @@ fn pairs_label<S: TypeStore>(
         (members (S.tree t.now))))) }
     ensures kept { KeepsTypes S.has store.old store.new }
 {
-    let lefts = store.members(alloc, s)?;
-    let rights = store.members(alloc, t)?;
-    let common = meet(common_kind(store, &lefts), common_kind(store, &rights));
-    kind_label(store, alloc, operator, common)
+    let left = kind_of_members(store, alloc, s)?;
+    let right = kind_of_members(store, alloc, t)?;
+    kind_label(store, alloc, operator, meet(left, right))
 }
 
 /// The label of an operator on two operands: on `Never` it is `Never`, on `Any` a dynamic place.

@@ -28,11 +28,7 @@ use Rattle.pc_expr.specs.Internal.Seats.{seats_of, seat_with}
 use Rattle.pc_expr.proofs.EntrySteps.{keys_step, values_step, entries_step, keys_end, values_end, entries_end}
 use Rattle.pc_expr.proofs.EntrySteps.{keywords_step, keywords_end}
 use Rattle.pc_rules.proofs.Kept.{keeps_both, entries_kept, stands_kept, types_kept}
-use Rattle.pc_flow.specs.Naming.{meanings}
-use Rattle.pc_flow.specs.Stored.{env_of, declared_of}
-use Rattle.pc_flow.specs.WellFormed.{IsWellFormedEnv}
-use Rattle.pc_flow.proofs.Both.{well_formed}
-use Rattle.pc_expr.proofs.WaysGiven.{ways_of, negation_ways, and_ways, and_ways_agree, or_ways, or_ways_agree}
+use Rattle.pc_expr.proofs.WaysGiven.{negation_ways, and_ways, and_ways_agree, or_ways, or_ways_agree}
 use Rattle.pc_expr.proofs.SeatsKept.{seats_kept, entry_seats_kept}
 use Rattle.pc_expr.proofs.Steps.{seated_types, seated_finds, types_end, finds_end, early_step, early_end}
 use Rattle.pc_tree.specs.declared.tree.Expr.{Expr as RustExpr}
@@ -826,23 +822,12 @@ conditions::type_condition-returns-in_ok-label-in-Not-clause-found g t c =
     c.in-Not.field-0 (expr_of c.in-Not.operand.value) _ _ (rw c.deref.ensures at
     c.in_ok-condition-in-Not.ensures.found))
 
-pub conditions::type_condition-returns-in_ok-ways-in_default-clause-ways :
-    goal.conditions::type_condition-returns-in_ok-ways-in_default-clause-ways
-conditions::type_condition-returns-in_ok-ways-in_default-clause-ways g t c =
-    let has = g.S.TypeStore.has in
-    let tree = g.S.TypeStore.tree in
-    let s = c.args.setting.now in
-    let k = standing_of tree s c.args.env.now in
-    let e = expr_of c.args.e.now in
-    let copy = c.in_ok-copy-in_default in
-    let held = stands_kept (has _) (has _) c.type_expr.ensures.goes_on.kept tree s c.args.env.now c.requires in
-    let well = subst (IsWellFormedEnv s.globals.now.outline.now.parents.now) (sym copy.ensures.is)
-    c.requires.env_well_formed in
-    ways_of has tree s k e _ _ _ c.narrow_simple.ensures.kept c.args.env.now held (env_of tree copy.copy)
-    copy.ensures.is
-    (well_formed has tree s.globals.now.outline.now.parents.now (declared_of tree s.declared.now) (meanings s.names.now)
-    c.ordered.ensures c.requires.declared_well_formed _ e (env_of tree copy.copy) well _
-    c.in_ok-ways-in_default.ensures.value)
+pub conditions::type_condition-simple_ways-requires : goal.conditions::type_condition-simple_ways-requires
+conditions::type_condition-simple_ways-requires g t c = record {
+  given = stands_kept (g.S.TypeStore.has _) (g.S.TypeStore.has _) c.type_expr.ensures.goes_on.kept g.S.TypeStore.tree
+      c.args.setting.now c.args.env.now c.requires;
+  simple = first_of (search (rules, the_lemmas), grind (the_lemmas, arith));
+}
 
 pub conditions::type_condition-returns-in_ok-whole-in-And-clause-labelled :
     goal.conditions::type_condition-returns-in_ok-whole-in-And-clause-labelled

@@ -2,7 +2,7 @@ use Rattle.pc_flow.specs.Naming.{meanings}
 use Rattle.std.proofs.Common.{◌≡◌, ◌∙◌, ◌+◌, ◌++◌, ◌∷◌, ℕ, List, Option, Some, None, length, refl, sym, ap}
 use Rattle.std.proofs.Common.{subst, arith}
 use Rattle.std.proofs.Common.{rules, drop}
-use Rattle.std.specs.Prelude.{Bool as Test, true, false}
+use Rattle.std.specs.Prelude.{Bool as Test, true, false, IfOk}
 use Rattle.std.specs.Option.{option_map}
 use Rattle.pc_tree.specs.Tree.{Stmt, stmt_of, expr_of, option_expr_of, stmt_of_kind, stmts_of_list, no_branches}
 use Rattle.pc_tree.specs.Tree.{conditional, for_loop, while_loop, name_of}
@@ -20,6 +20,7 @@ use Rattle.pc_flow.specs.Stored.{env_of}
 use Rattle.pc_notes.specs.Notes.{notes_of}
 use Rattle.pc_rules.specs.Computed.Findings.{codes_at}
 use Rattle.pc_rules.specs.Computed.Standing.{finds_in, narrowed_standing}
+use Rattle.pc_rules.proofs.Along.{on_ok}
 use Rattle.pc_module_rules.specs.Computed.Statements.{Walk as Reached, BranchesResult, BindingResult, at, narrowed_at}
 use Rattle.pc_module_rules.specs.Computed.Statements.{head_at}
 use Rattle.pc_module_rules.specs.Computed.Statements.{option_finds, bind_item, item_label_of, iterable_finds, step}
@@ -381,11 +382,11 @@ check_stmt-returns-in_ok-type_in-in-Expr-clause-walked g t c =
       stands = found_stands S old new env _ on a (Some env) way a.stands.current c.requires.stands.out;
     })
 
-pub check_stmt-returns-in_ok-out-in-While-clause-breaks : goal.check_stmt-returns-in_ok-out-in-While-clause-breaks
-check_stmt-returns-in_ok-out-in-While-clause-breaks g t c = λ locals base h. h.taken_in
+pub check_stmt-returns-in-While-clause-breaks : goal.check_stmt-returns-in-While-clause-breaks
+check_stmt-returns-in-While-clause-breaks g t c = on_ok c.check_while.result (λ locals base h. h.taken_in)
 
-pub check_stmt-returns-in_ok-out-in-While-clause-walked : goal.check_stmt-returns-in_ok-out-in-While-clause-walked
-check_stmt-returns-in_ok-out-in-While-clause-walked g t c =
+pub check_stmt-returns-in-While-clause-walked : goal.check_stmt-returns-in-While-clause-walked
+check_stmt-returns-in-While-clause-walked g t c =
     let S = g.S.TypeStore in
     let way = c.args.broken.now in
     let kind = c.in-While in
@@ -394,15 +395,15 @@ check_stmt-returns-in_ok-out-in-While-clause-walked g t c =
     c.deref-in-While.ensures.value
     ∙ ap (λ e. while_loop c.args.first (expr_of e) (stmts_of_list kind.body.items)) c.deref-in-While-2.ensures
     ∙ sym (while_tree c.args.first kind.condition kind.body) ∙ sym (ap (stmt_of_kind c.args.first) kind.is) in
-    subst (λ (s : Stmt). Walked S c.args.walk.now (Some c.args.env) way new c.in_ok-out-in-While.out way
-    (λ f w. step f w.table w.env w.broken w.found s)) is
-    (c.in_ok-out-in-While.ensures.walked c.args.first way c.requires.stands.out)
+    subst (λ (s : Stmt). IfOk c.check_while.result (λ out. Walked S c.args.walk.now (Some c.args.env) way new out way
+    (λ f w. step f w.table w.env w.broken w.found s))) is
+    (c.check_while.ensures.walked c.args.first way c.requires.stands.out)
 
-pub check_stmt-returns-in_ok-out-in-For-clause-breaks : goal.check_stmt-returns-in_ok-out-in-For-clause-breaks
-check_stmt-returns-in_ok-out-in-For-clause-breaks g t c = λ locals base h. h.taken_in
+pub check_stmt-returns-in-For-clause-breaks : goal.check_stmt-returns-in-For-clause-breaks
+check_stmt-returns-in-For-clause-breaks g t c = on_ok c.check_for.result (λ locals base h. h.taken_in)
 
-pub check_stmt-returns-in_ok-out-in-For-clause-walked : goal.check_stmt-returns-in_ok-out-in-For-clause-walked
-check_stmt-returns-in_ok-out-in-For-clause-walked g t c =
+pub check_stmt-returns-in-For-clause-walked : goal.check_stmt-returns-in-For-clause-walked
+check_stmt-returns-in-For-clause-walked g t c =
     let S = g.S.TypeStore in
     let way = c.args.broken.now in
     let kind = c.in-For in
@@ -412,9 +413,9 @@ check_stmt-returns-in_ok-out-in-For-clause-walked g t c =
     c.deref-in-For.ensures.value
     ∙ ap (λ e. for_loop c.args.first name (expr_of e) (stmts_of_list kind.body.items)) c.deref-in-For-2.ensures
     ∙ sym (for_tree c.args.first kind.name kind.iterable kind.body) ∙ sym (ap (stmt_of_kind c.args.first) kind.is) in
-    subst (λ (s : Stmt). Walked S c.args.walk.now (Some c.args.env) way new c.in_ok-out-in-For.out way
-    (λ f w. step f w.table w.env w.broken w.found s)) is
-    (c.in_ok-out-in-For.ensures.walked c.args.first way c.requires.stands.out)
+    subst (λ (s : Stmt). IfOk c.check_for.result (λ out. Walked S c.args.walk.now (Some c.args.env) way new out way
+    (λ f w. step f w.table w.env w.broken w.found s))) is
+    (c.check_for.ensures.walked c.args.first way c.requires.stands.out)
 
 pub check_stmt-check_branches-requires : goal.check_stmt-check_branches-requires
 check_stmt-check_branches-requires g t c κs within = (

@@ -1,5 +1,5 @@
-use Rattle.std.proofs.Common.{◌≡◌, ap, subst, ◌∙◌}
-use Rattle.std.specs.Prelude.{Option, map, IfOk}
+use Rattle.std.proofs.Common.{◌≡◌, subst, ◌∙◌}
+use Rattle.std.specs.Prelude.{Option, IfOk}
 use Rattle.std.specs.Option.{option_map}
 use Rattle.pc_types.specs.Shape.{members}
 use Rattle.pc_rules.specs.Operations.{Kind}
@@ -15,12 +15,10 @@ returns-clause-value g c = λ bases.
     let operator = c.args.operator in
     let s = tree c.args.s.now in
     let t = tree c.args.t.now in
-    let lefts : option_map kind_with c.common_kind.result ≡ common (members s) = c.common_kind.ensures
-    ∙ ap (λ ts. common (map tree ts)) c.deref.ensures.value ∙ ap common c.in_ok-lefts.ensures.value in
-    let rights : option_map kind_with c.common_kind-2.result ≡ common (members t) = c.common_kind-2.ensures
-    ∙ ap (λ ts. common (map tree ts)) c.deref-2.ensures.value ∙ ap common c.in_ok-rights.ensures.value in
-    let both : option_map kind_with c.meet-common.result ≡ meet (common (members s)) (common (members t)) =
-    c.meet-common.ensures ∙ (λ j. meet (lefts j) (rights j)) in
+    let lefts : option_map kind_with c.in_ok-left.left ≡ common (members s) = c.in_ok-left.ensures in
+    let rights : option_map kind_with c.in_ok-right.right ≡ common (members t) = c.in_ok-right.ensures in
+    let both : option_map kind_with c.meet.result ≡ meet (common (members s)) (common (members t)) =
+    c.meet.ensures ∙ (λ j. meet (lefts j) (rights j)) in
     brief_as has tree _ _ _ _ (pairs_are bases operator s t c.requires.members)
     (subst (λ (x : Option Kind). IfOk c.kind_label.result (λ l. MeansLabel has tree c.kind_label.new.store l
     (kind_label (takes_of operator) (gives_of operator) x))) both c.kind_label.ensures.value)
