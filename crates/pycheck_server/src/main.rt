@@ -1,33 +1,13 @@
 //! The language server: reads framed messages from standard input, and writes its replies to standard output.
 #![tactic(auto)]
 
-mod laws;
-mod proved;
-
-ghost use Rattle.std.specs.Prelude.{◌≡◌};
-ghost use Rattle.pycheck_server.specs.Status.{status};
-
-pub use laws::{changed_texts_are_published, diagnostics_are_rows, opened_texts_are_published};
 use pc_serve::End;
+use pc_server::{answer, status_of};
 use pc_source::Counted;
-pub use proved::answer;
 use std::io::{BufReader, BufWriter};
 use std::process::ExitCode;
 use std::rt::Env;
 use std::{env, io};
-
-/// The exit status: that of `exit`; 0 at the end of the input; 1 where it breaks off inside a message or is not framed;
-/// 3 where a device failed. Own rule of the server.
-pub fn status_of(end: &End) -> u8
-    ensures { result ≡ status end.now }
-{
-    match end {
-        End::Exited(status) => *status,
-        End::Ended => 0,
-        End::Broken(_) => 1,
-        End::Failed => 3,
-    }
-}
 
 /// What is printed for help.
 const HELP: &str =

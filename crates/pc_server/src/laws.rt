@@ -1,7 +1,7 @@
 //! The laws that say what is published of the texts of documents.
 
-ghost use Rattle.pycheck_server.specs.Published.{DiagnosticsAreRows};
-ghost use Rattle.pycheck_server.specs.Published.{OpenedTextsArePublished, ChangedTextsArePublished};
+ghost use Rattle.pc_server.specs.Published.{DiagnosticsAreRows};
+ghost use Rattle.pc_server.specs.Published.{OpenedTextsArePublished, ChangedTextsArePublished};
 
 /// The law that the diagnostics of a text are the rows of its report, of which the headline holds, in their order; or
 /// exactly one, at the byte of its refusal.

@@ -19,7 +19,7 @@ use Rattle.pc_session.specs.Messages.{version_in, opened_text, changed_text}
 use Rattle.pc_session.specs.Replies.{publish_data, log_data}
 use Rattle.pc_session.specs.Sessions.{Step}
 use Rattle.pc_session.specs.States.{Agreed, State}
-use Rattle.pycheck_server.specs.Found.{IsFoundIn}
+use Rattle.pc_server.specs.Found.{IsFoundIn}
 use Rattle.pc_session.specs.Notices.{IsNoticeOf}
 
 -- the message of a row: what its code means, after the two types of its flow

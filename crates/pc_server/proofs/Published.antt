@@ -22,8 +22,8 @@ use Rattle.pc_help.specs.Findings.{meaning_of}
 use Rattle.pc_tree.specs.declared.code.Code.{Code}
 use Rattle.pc_tree.specs.declared.code.Finding.{Finding}
 use Rattle.pc_tree.specs.Code.{text_of}
-use Rattle.pycheck_server.specs.Found.{Said, said_by_item, said_by_row, IsFoundIn}
-use Rattle.pycheck_server.specs.Published.{row_message, row_data, AreOfText, IsPublishedOf}
+use Rattle.pc_server.specs.Found.{Said, said_by_item, said_by_row, IsFoundIn}
+use Rattle.pc_server.specs.Published.{row_message, row_data, AreOfText, IsPublishedOf}
 use Rattle.pc_session.specs.Notices.{IsNoticeOf}
 use Rattle.pc_session.proofs.Notices.{opened_is_kept, changed_is_kept}
 

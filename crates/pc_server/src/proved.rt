@@ -2,7 +2,7 @@
 
 ghost use Rattle.std.specs.Prelude.{◌≡◌, IfOk, map};
 ghost use Rattle.pc_serve.specs.Runs.{OnEnd};
-ghost use Rattle.pycheck_server.specs.Found.{said_by_item, said_by_row, IsFoundIn};
+ghost use Rattle.pc_server.specs.Found.{said_by_item, said_by_row, IsFoundIn};
 
 use pc_serve::{End, serve};
 use pc_session::{Checker, Flow, Found, Item};
@@ -43,7 +43,7 @@ fn items_of(alloc: Global, rows: &[Row]) -> Result<Vec<Item>, AllocError>
 }
 
 impl Checker for Proved {
-    ghost use Rattle.pycheck_server.specs.Found.{IsFoundIn};
+    ghost use Rattle.pc_server.specs.Found.{IsFoundIn};
 
     ghost finds = { λ _ text found. IsFoundIn text found };
 

@@ -1,0 +1,10 @@
+//! The language server over any devices: the proved check as the checker of a session, and what is published of texts.
+#![tactic(auto)]
+
+mod laws;
+mod proved;
+mod status;
+
+pub use laws::{changed_texts_are_published, diagnostics_are_rows, opened_texts_are_published};
+pub use proved::answer;
+pub use status::status_of;
