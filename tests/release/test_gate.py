@@ -18,7 +18,7 @@ exit {status}
 """
 SLOW_STEPS = ("tools/check_definitions", "tools/check_edits", "tools/check_tested", "tools/check_pages",
               "tools/architecture", "tools/check_help", "tests/tools/run", "tools/check_codes", "tools/compare_rows",
-              "tools/generated", "tests/memory/run", "tests/depth/run", "tests/mypy/run")
+              "tools/generated", "tests/memory/run", "tests/depth/run", "tests/speed/run", "tests/mypy/run")
 
 
 class Gate(RoomCase):
@@ -37,6 +37,7 @@ class Gate(RoomCase):
         self.put_step("tests/reports/run", "echo '8 passed, 0 failed'")
         self.put_step("tests/server/run", "echo '7 passed, 0 failed'")
         self.put_step("tools/editors/neovim", "echo '1 passed, 0 failed'")
+        self.put_step("tools/wrong_bodies", "echo '5 passed, 0 failed, 0 skipped'")
 
     def prove(self, status: int, last: str) -> None:
         """Has the toolchain end with this status and this last line."""
@@ -69,8 +70,8 @@ class Gate(RoomCase):
         done = self.gate()
         self.assertEqual((done.returncode, done.stdout), (0, "75 passed, 0 failed\n"), done.stderr)
         said, seconds = self.last_lines(done, 2)
-        self.assertEqual(said, "1 passed, 0 failed")
-        self.assertRegex(seconds, r"^seconds: proofs \d+ definitions \d+ edits \d+ .* server \d+ editors \d+$")
+        self.assertEqual(said, "5 passed, 0 failed, 0 skipped")
+        self.assertRegex(seconds, r"^seconds: proofs \d+ definitions \d+ edits \d+ .* editors \d+ wrong_bodies \d+$")
         self.assertEqual((self.room / "log").read_text(encoding="utf-8"), "75 passed, 0 failed\n")
 
     def test_a_shipped_byte_that_was_not_built_fails(self) -> None:
@@ -88,8 +89,9 @@ class Gate(RoomCase):
                     "tools/architecture": "architecture", "tools/check_help": "help",
                     "tests/tools/run": "tools", "tools/check_codes": "pages", "tools/compare_rows": "examples left_out",
                     "tools/generated": "generated", "tests/memory/run": "memory", "tests/depth/run": "depth",
-                    "tests/mypy/run": "mypy", "tests/release/run": "release", "tests/reports/run": "reports",
-                    "tests/server/run": "server", "tools/editors/neovim": "editors"}
+                    "tests/speed/run": "speed", "tests/mypy/run": "mypy", "tests/release/run": "release",
+                    "tests/reports/run": "reports", "tests/server/run": "server", "tools/editors/neovim": "editors",
+                    "tools/wrong_bodies": "wrong_bodies"}
         for step, names in commands.items():
             with self.subTest(step):
                 kept = (self.clone / step).read_text(encoding="utf-8").splitlines()[1]
@@ -138,7 +140,7 @@ class Gate(RoomCase):
         for words in ([], ["../log"]):
             done = self.gate("--steps", *words)
             self.assertEqual((done.returncode, done.stdout), (0, ""), done.stderr)
-            self.assertRegex(self.last_lines(done, 1)[0], r"^seconds: programs \d+ definitions \d+ .* editors \d+$")
+            self.assertRegex(self.last_lines(done, 1)[0], r"^seconds: programs \d+ definitions \d+ .* wrong_bodies \d+$")
         asked = (self.room / "asked").read_text(encoding="utf-8").splitlines()
         self.assertEqual(asked, ["0", f"1{(self.room / 'log').resolve()}"])
         self.assertFalse((self.room / "proved").exists())
