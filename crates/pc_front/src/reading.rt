@@ -1,9 +1,10 @@
 //! The module of a source text.
 
-ghost use Rattle.std.specs.Prelude.{length, IfOk, IfErr};
+ghost use Rattle.std.specs.Prelude.{◌≡◌, length, IfOk, IfErr};
 ghost use Rattle.pc_source.specs.Answers.{OnRefusal};
 ghost use Rattle.pc_source.specs.Text.{IsText};
 ghost use Rattle.pc_source.specs.Within.{IsWithin};
+ghost use Rattle.pc_tree.specs.Keys.{keys_of};
 ghost use Rattle.pc_tree.specs.Tree.{module_of};
 ghost use Rattle.pc_front.specs.Bytes.{IsModuleOf, IsRefusalOf};
 
@@ -11,8 +12,18 @@ use pc_layout::layout_of;
 use pc_parse::parse_from;
 use pc_source::{Fault, Source, read_source};
 use pc_token::lines;
-use pc_tree::Module;
+use pc_tree::{Keys, Module};
 use std::alloc::Global;
+
+/// The module of a source text, without the keys of that text.
+fn parsed(alloc: Global, source: &Source) -> Result<Module, Fault>
+    requires { IsText source.now }
+    ensures read { IfOk result (λ m. IsModuleOf source.now (module_of m)) }
+    ensures refused { IfErr result (OnRefusal (IsRefusalOf source.now)) }
+    ensures within { IfErr result (IsWithin (length source.now)) }
+{
+    parse_from(alloc, layout_of(alloc, source, lines(alloc, source)))
+}
 
 /// The module of a source text. Language Reference 10 "Full Grammar specification".
 ///
@@ -23,10 +34,13 @@ use std::alloc::Global;
 pub fn module_in(alloc: Global, source: &Source) -> Result<Module, Fault>
     requires { IsText source.now }
     ensures read { IfOk result (λ m. IsModuleOf source.now (module_of m)) }
+    ensures keyed { IfOk result (λ m. m.keys ≡ keys_of source.now) }
     ensures refused { IfErr result (OnRefusal (IsRefusalOf source.now)) }
     ensures within { IfErr result (IsWithin (length source.now)) }
 {
-    parse_from(alloc, layout_of(alloc, source, lines(alloc, source)))
+    let mut module = parsed(alloc, source)?;
+    module.keys = Keys::of(source.text().as_bytes());
+    Ok(module)
 }
 
 /// The module that the bytes spell. Language Reference 10 "Full Grammar specification".
@@ -37,6 +51,7 @@ pub fn module_in(alloc: Global, source: &Source) -> Result<Module, Fault>
 /// least byte; `OutOfMemory` where an allocation failed.
 pub fn read_module(alloc: Global, bytes: &[u8]) -> Result<Module, Fault>
     ensures read { IfOk result (λ m. IsModuleOf bytes.now (module_of m)) }
+    ensures keyed { IfOk result (λ m. m.keys ≡ keys_of bytes.now) }
     ensures refused { IfErr result (OnRefusal (IsRefusalOf bytes.now)) }
     ensures within { IfErr result (IsWithin (length bytes.now)) }
 {

@@ -1,6 +1,6 @@
 //! The line at hand.
 ghost use Rattle.std.specs.Prelude.{◌≡◌, ℕ, ◌+◌, ◌-◌, ◌^◌, ◌<◌, ◌≤◌, ◌*◌, true, false, List, [], ◌∷◌, length, map, Ok};
-ghost use Rattle.std.specs.Prelude.{◌++◌, Err, MatchOption, MatchResult, OnOk};
+ghost use Rattle.std.specs.Prelude.{◌++◌, Err, IsTrue, MatchOption, MatchResult, OnOk};
 ghost use Rattle.pc_token.specs.Lexeme.{lexeme_of, line_of};
 ghost use Rattle.pc_layout.specs.Stepping.{settle, start, layout_lexemes};
 ghost use Rattle.pc_layout.specs.TokenIterator.Levels.{context_of, line_at, StepsTo};
@@ -48,11 +48,10 @@ fn pop<'a>(tokens: &mut Vec<Tok<'a>>) -> Option<Tok<'a>>
     ensures { MatchOption result ((tokens.old.items ≡ []) × (tokens.new.items ≡ []))
         (λ t. tokens.old.items ≡ tokens.new.items ++ t ∷ []) }
 {
-    let token = tokens.pop();
     if tokens.len() % ROOM == 0 {
         tokens.shrink_to_fit();
     }
-    token
+    tokens.pop()
 }
 
 /// Where a line stands among the suites, or what is wrong with it.
@@ -164,8 +163,32 @@ impl<'a> Hand<'a> {
         }
     }
 
-    /// The next token at hand.
+    /// Whether a token of the line comes next, and no room is to be given back before it.
+    fn goes_on(&self) -> bool
+        ensures { IsTrue result → (self.now.due ≡ Due.Line) × (self.now.dedents ≡ 0) × (self.now.indent ≡ false) }
+    {
+        let in_line = matches!(self.due, Due::Line) && self.dedents == 0 && !self.indent;
+        in_line && self.tokens.len() % ROOM != 0
+    }
+
+    /// The next token at hand. One of the line, as most are, is taken at once.
     pub fn take(&mut self) -> Tok<'a>
+        requires { has_token self.old.due ≡ true }
+        ensures gives { (ls : List _) → pending self.old ls ≡ Ok (lexeme_of result) ∷ pending self.new ls }
+        ensures fewer { at_hand self.new < at_hand self.old }
+        ensures asks { asks self.new.due ≡ asks self.old.due }
+    {
+        if self.goes_on() {
+            if let Some(token) = self.tokens.pop() {
+                return token;
+            }
+        }
+        self.take_any()
+    }
+
+    /// The next token at hand, whatever it is. It stands apart so that a token of the line costs no more than itself.
+    #[inline(never)]
+    fn take_any(&mut self) -> Tok<'a>
         requires { has_token self.old.due ≡ true }
         ensures gives { (ls : List _) → pending self.old ls ≡ Ok (lexeme_of result) ∷ pending self.new ls }
         ensures fewer { at_hand self.new < at_hand self.old }

@@ -12,6 +12,7 @@ use Rattle.pc_token.specs.declared.token.TokenKind.TheVariants as kind
 use Rattle.pc_token.specs.declared.token.Keyword.TheVariants as word
 use Rattle.pc_token.specs.declared.token.Operator.TheVariants as sign
 use Rattle.pc_token.specs.Lexeme.{Lexeme}
+use Rattle.pc_tree.specs.declared.keys.Keys.{Keys}
 use Rattle.pc_tree.specs.declared.tree.Item.{Item as RustItem}
 use Rattle.pc_tree.specs.Tree.{Item, Module}
 use Rattle.pc_tree.specs.Machine.{Reading, at, turn, arrive, stop_at, short}
@@ -81,8 +82,8 @@ module _ {X I : Type 0} {text : X → List ℕ} {steps : I → Option (Result (T
         (at (ended (module_over (top_of h s.all) main))) o) → Blames e (λ o. Came text steps a.reader (at start) o)
     end_fails w = blame (λ o u. s.leads o (x.leads (top_of h s.all) o u)) w
 
-    pub module_read : b.reader.ahead ≡ None → GivesModule text steps can left a b
-        (record { imports_dataclass = h.dataclass; imports_any = h.any; items = v; main = main })
+    pub module_read : {k : Keys} → b.reader.ahead ≡ None → GivesModule text steps can left a b
+        (record { imports_dataclass = h.dataclass; imports_any = h.any; items = v; main = main; keys = k })
     module_read none = let tree = module_over (top_of h s.all) main in
         let make : List Item → Module = λ is. record {
           imports_dataclass = h.dataclass;

@@ -11,7 +11,7 @@ use crate::parser::Parser;
 use pc_reader::Reader;
 use pc_source::{Fault, Place};
 use pc_token::{Keyword, Operator, Token, TokenKind};
-use pc_tree::{Constant, Item, ItemKind, Module, Name};
+use pc_tree::{Constant, Item, ItemKind, Keys, Module, Name};
 use std::alloc::Global;
 use std::convert::AsStr;
 
@@ -108,6 +108,7 @@ impl<X: AsStr + Drop, I: Iterator<Item = Result<Token<X>, Fault>> + Drop> Parser
                         imports_any: headers.any,
                         items,
                         main,
+                        keys: Keys::of(&[]),
                     });
                 }
             }

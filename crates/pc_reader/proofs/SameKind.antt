@@ -1,7 +1,13 @@
--- Two kinds are the same where their numbers are.
-use Rattle.std.proofs.Common.{◌≡◌, ℕ, ◌-◌, Bool, true, false, List, [], ◌∷◌, get_or, if◌then◌else◌, refl, sym, ap, ◌∙◌}
+-- Two kinds are the same where their numbers are, and that is where `==` holds of them.
+use Rattle.std.proofs.Common.{◌≡◌, ℕ, ◌-◌, Bool, true, false, List, [], ◌∷◌, get_or, if◌then◌else◌}
+use Rattle.std.proofs.Common.{refl, sym, ap, ◌∙◌, rules}
 use Rattle.std.specs.Prelude.{nat_lt}
 use Rattle.std.proofs.lemmas.Bool.{eqb-true, eq-eqb}
+use Rattle.pc_token.specs.contracts.token.TokenKindPartialEq.TheImpl as kinds
+use Rattle.pc_token.specs.contracts.token.KeywordPartialEq.TheImpl as keywords
+use Rattle.pc_token.specs.contracts.token.OperatorPartialEq.TheImpl as operators
+use Rattle.pc_token.specs.declared.token.Keyword.{Keyword}
+use Rattle.pc_token.specs.declared.token.Operator.{Operator}
 use Rattle.pc_token.specs.declared.token.TokenKind.{TokenKind}
 use Rattle.pc_token.specs.declared.token.TokenKind.TheVariants as kind
 use Rattle.pc_token.specs.declared.token.Keyword.TheVariants as word
@@ -65,3 +71,29 @@ not_same a b n = by_test (same_kind a b) refl
 pub told : (v : Bool) (a b : TokenKind) → (v ≡ true → a ≡ b) → (a ≡ b → v ≡ true) → v ≡ same_kind a b
 told true a b f g = sym (is_same a b (f refl))
 told false a b f g = sym (not_same a b (λ e. cc (g e)))
+
+equal_words : (a b : Keyword) → (keywords.ghosts).eq a b ≡ true → a ≡ b
+equal_words a b h = search rules
+
+equal_signs : (a b : Operator) → (operators.ghosts).eq a b ≡ true → a ≡ b
+equal_signs a b h = search rules
+
+equal_kinds : (a b : TokenKind) → (kinds.ghosts).eq a b ≡ true → a ≡ b
+equal_kinds (kind.Keyword v) (kind.Keyword w) h = ap (λ z. kind.Keyword z) (equal_words v w h)
+equal_kinds (kind.Operator v) (kind.Operator w) h = ap (λ z. kind.Operator z) (equal_signs v w h)
+equal_kinds kind.Name kind.Name h = refl
+equal_kinds kind.Int kind.Int h = refl
+equal_kinds kind.Str kind.Str h = refl
+equal_kinds kind.Newline kind.Newline h = refl
+equal_kinds kind.Indent kind.Indent h = refl
+equal_kinds kind.Dedent kind.Dedent h = refl
+equal_kinds kind.End kind.End h = refl
+equal_kinds _ _ h = cc
+
+own_kind : (a : TokenKind) → (kinds.ghosts).eq a a ≡ true
+own_kind a = search rules
+
+-- `==` of two kinds says whether they are the same
+pub equal_is_same : (a b : TokenKind) → (kinds.ghosts).eq a b ≡ same_kind a b
+equal_is_same a b = told ((kinds.ghosts).eq a b) a b (λ h. equal_kinds a b h)
+    (λ e. ap ((kinds.ghosts).eq a) (sym e) ∙ own_kind a)

@@ -17,7 +17,7 @@ use Rattle.pc_tree.specs.Machine.Expressions.{own_of, right_of, own_of_link, lef
 use Rattle.pc_tree.specs.Machine.Expressions.{linked, have_turn}
 use Rattle.pc_reader.specs.declared.reader.Reader.{Reader}
 use Rattle.pc_reader.specs.Internal.Expressions.{HasLink}
-use Rattle.pc_reader.specs.Reading.{kind_ahead, IsAhead, Blames, answer_for, lexeme, came, Came, Onward, Takes}
+use Rattle.pc_reader.specs.Reading.{kind_ahead, IsAhead, Blames, answer_for, lexeme, came, Came, Onward, Takes, Skips}
 use Rattle.pc_reader.specs.Reading.{NeedsKind}
 use Rattle.pc_reader.proofs.Frames.{is_le, not_le, tight, right_is, link_low, own_left}
 use Rattle.pc_reader.proofs.SameKind.{same_is}
@@ -31,6 +31,16 @@ pub step_to : {X I : Type 0} {text : X → List ℕ} {steps : I → Option (Resu
     → Onward text steps a b (at st) (at st')
 step_to {text = text} {steps = steps} {a = a} {b = b} {t = t} st st' h e o x =
     h.leads (at st) o (subst (λ z. Came text steps b z o) (sym (ap (λ z. arrive z (lexeme text t)) e)) x)
+
+-- the token that was passed over is the one that was ahead
+pub skipped : {X I : Type 0} {text : X → List ℕ} {steps : I → Option (Result (Token X) Fault) → I → Type 0}
+    {can : I → Type 0} {left : I → Count} {a b : Reader X I} {t : Token X}
+    → a.ahead ≡ Some t → Skips text steps can left a b → Takes text steps can left a b t
+skipped {X = X} {text = text} {steps = steps} {can = can} {left = left} {a = a} {b = b} h k =
+    subst (λ z. Takes text steps can left a b z) (same (sym k.takes.here ∙ h)) k.takes
+  where
+    same : {v w : Token X} → Some v ≡ Some w → v ≡ w
+    same q = cc
 
 -- two states that go the same way at the token ahead
 pub alike : {X I : Type 0} (text : X → List ℕ) (steps : I → Option (Result (Token X) Fault) → I → Type 0)
@@ -99,6 +109,10 @@ same_place {X = X} {t = t} {u = u} e f = ap (λ (z : Token X). z.place) (same (s
   where
     same : {v w : Token X} → Some v ≡ Some w → v ≡ w
     same q = cc
+
+-- no token is ahead where there is none
+pub nothing_ahead : {X : Type 0} {a : Option (Token X)} {t : Token X} → a ≡ None → a ≡ Some t → ⊥
+nothing_ahead h e = cc
 
 -- what is known of the token that was taken from what was seen ahead
 pub kind_seen : {X : Type 0} {a : Option (Token X)} {t : Token X} (kind : TokenKind) → IsAhead kind a ≡ true

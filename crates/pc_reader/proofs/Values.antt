@@ -55,10 +55,6 @@ module _ {X : Type 0} where
       → is_value_start (start_of t.kind) ≡ false
   no_value e h = sym (ap value_ahead h) ∙ e
 
-  pub a_value : {a : Option (Token X)} {t : Token X} → value_ahead a ≡ true → a ≡ Some t
-      → is_value_start (start_of t.kind) ≡ true
-  a_value e h = sym (ap value_ahead h) ∙ e
-
 pub undenied : {X : Type 0} (s : Stack) {a : Option (Token X)} {t : Token X} → (2 < rank s)
     ⊎ (IsAhead (kind.Keyword word.Not) a ≡ false) → a ≡ Some t → (2 < rank s)
     ⊎ (same_kind t.kind (kind.Keyword word.Not) ≡ false)

@@ -115,3 +115,8 @@ module _ {X I : Type 0} (text : X → List ℕ) (steps : I → Option (Result (T
     pub ready : IsReady can left b
     pub later : left_in left b < left_in left a
     pub leads : (r : Reading) → Onward text steps a b r (step r (lexeme text t))
+
+  -- the token ahead was passed over
+  pub record Skips (a b : Reader X I) : Type 0 where
+    pub token : Token X
+    pub takes : Takes a b token

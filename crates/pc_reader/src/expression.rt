@@ -9,7 +9,7 @@ ghost use Rattle.pc_tree.specs.Machine.Expressions.{rank};
 ghost use Rattle.pc_tree.specs.Machine.States.{item_due, in_call};
 ghost use Rattle.pc_reader.specs.Reading.{IsReady, IsAhead, lexeme};
 ghost use Rattle.pc_reader.specs.Internal.Expressions.{NextIs, Over, Undotted, IsPrimary, IsSingle, IsValue};
-ghost use Rattle.pc_reader.specs.Internal.Expressions.{is_value_start, value_ahead, ReadsOperand, ReadsItems};
+ghost use Rattle.pc_reader.specs.Internal.Expressions.{is_value_start, ReadsOperand, ReadsItems};
 ghost use Rattle.pc_reader.specs.Internal.Expressions.{ReadsKeywords, ReadsOn};
 
 use crate::items::{Arguments, Entries, Items, Keywords, Listed, called, dict, list, tuple};
@@ -31,21 +31,15 @@ impl<X: AsStr + Drop, I: Iterator<Item = Result<Token<X>, Fault>> + Drop> Reader
             (λ s. IsSingle self.old s) 7 self.old self.new result }
         ensures level { IfOk result (λ o. o.level ≡ 7) }
     {
-        if !self.sees_value() {
+        let Some(token) = &self.ahead else {
+            return Err(self.misfit());
+        };
+        if !is_value(token.kind) {
             return Err(self.misfit());
         }
-        let token = self.take()?;
-        value(alloc, token)
-    }
-
-    /// Whether a token is ahead that is a value by itself.
-    fn sees_value(&self) -> bool
-        ensures { result ≡ value_ahead self.now.ahead }
-    {
-        match self.kind() {
-            Some(kind) => is_value(kind),
-            None => false,
-        }
+        let operand = value(alloc, token)?;
+        self.skip()?;
+        Ok(operand)
     }
 }
 
@@ -61,9 +55,9 @@ fn is_value(kind: TokenKind) -> bool
 }
 
 /// The value that a token is.
-fn value<X: AsStr + Drop>(alloc: Global, token: Token<X>) -> Result<Operand, Fault>
+fn value<X: AsStr + Drop>(alloc: Global, token: &Token<X>) -> Result<Operand, Fault>
     ensures { MatchResult result
-        (λ o. (o.level ≡ 7) × (is_value_start (start_of token.kind) ≡ true → IsValue (lexeme X.text token) o))
+        (λ o. (o.level ≡ 7) × (is_value_start (start_of token.now.kind) ≡ true → IsValue (lexeme X.text token.now) o))
         (λ e. e ≡ fault.OutOfMemory) }
 {
     let place = token.place;

@@ -6,7 +6,7 @@ ghost use Rattle.pc_tree.specs.Tree.{name_of};
 ghost use Rattle.pc_reader.specs.Reading.{IsReady, lexeme};
 ghost use Rattle.pc_reader.specs.Internal.Expressions.{ReadsName};
 
-use crate::reader::Reader;
+use crate::reader::{Reader, form, is_same};
 use pc_source::Fault;
 use pc_token::{Token, TokenKind};
 use pc_tree::{Name, Text};
@@ -14,25 +14,14 @@ use std::alloc::Global;
 use std::convert::AsStr;
 
 /// The name that a token spells.
-pub(crate) fn named<X: AsStr + Drop>(alloc: Global, token: Token<X>) -> Result<Name, Fault>
-    ensures { MatchResult result (λ n. name_of n ≡ name_at (lexeme X.text token)) (λ e. e ≡ fault.OutOfMemory) }
+#[inline(always)]
+pub(crate) fn named<X: AsStr + Drop>(alloc: Global, token: &Token<X>) -> Result<Name, Fault>
+    ensures { MatchResult result (λ n. name_of n ≡ name_at (lexeme X.text token.now)) (λ e. e ≡ fault.OutOfMemory) }
 {
-    let Token {
-        kind: _,
-        place,
-        text,
-        form,
-    } = token;
-    match form {
-        Some(form) => Ok(Name {
-            place,
-            text: Text::of(alloc, form.as_str())?,
-        }),
-        None => Ok(Name {
-            place,
-            text: Text::of(alloc, text.as_str())?,
-        }),
-    }
+    Ok(Name {
+        place: token.place,
+        text: Text::of(alloc, form(token))?,
+    })
 }
 
 /// The digits of a number: its text without underscores.
@@ -112,7 +101,14 @@ impl<X: AsStr + Drop, I: Iterator<Item = Result<Token<X>, Fault>> + Drop> Reader
         requires { IsReady I.can_next I.remaining self.old }
         ensures { ReadsName X.text I.next_gives I.can_next I.remaining self.old self.new result }
     {
-        let token = self.expect(TokenKind::Name)?;
-        named(alloc, token)
+        let Some(token) = &self.ahead else {
+            return Err(self.misfit());
+        };
+        if !is_same(token.kind, TokenKind::Name) {
+            return Err(self.misfit());
+        }
+        let name = named(alloc, token)?;
+        self.skip()?;
+        Ok(name)
     }
 }

@@ -92,6 +92,7 @@ pub fn above(depth: u8) -> u8
 }
 
 /// A part of a node of this depth: `None` where that is too deep.
+#[inline(always)]
 pub(crate) fn kept(depth: u8, part: Expr, place: Place) -> Expr
     ensures { depth ≤ 64 → result ≡ part }
 {
@@ -117,6 +118,7 @@ pub(crate) fn node(expr: Expr, place: Place, level: u8, depth: u8) -> Operand
 }
 
 /// Two operands as one.
+#[inline(always)]
 pub(crate) fn join(
     alloc: Global,
     operator: Infix,

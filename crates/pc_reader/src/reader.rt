@@ -1,41 +1,24 @@
 //! Tokens with the next one taken off already.
 ghost use Rattle.std.specs.Prelude.{◌≡◌, ◌<◌, List, ℕ, MatchResult, IfOk, None};
 ghost use Rattle.std.specs.Iterator.{IsFinite};
-ghost use Rattle.pc_tree.specs.Machine.Kinds.{kind_number, same_kind};
+ghost use Rattle.pc_tree.specs.Machine.Kinds.{same_kind};
 ghost use Rattle.pc_tree.specs.Machine.States.{State};
 ghost use Rattle.pc_tree.specs.Machine.{Reading, at, lost, stop, short};
 ghost use Rattle.pc_token.specs.Lexeme.{form_of};
 ghost use Rattle.pc_reader.specs.Internal.FixedWords.{IsFormAhead};
 ghost use Rattle.pc_reader.specs.Reading.{Blames, Came, IsAhead, kind_ahead, place_ahead, IsReady, Rejects};
-ghost use Rattle.pc_reader.specs.Reading.{ComesToAnswer, Takes, NeedsKind, misfit_at};
+ghost use Rattle.pc_reader.specs.Reading.{ComesToAnswer, Takes, Skips, NeedsKind, misfit_at};
 
 use pc_source::{Fault, Place, Refusal, RefusalCode};
 use pc_token::{Token, TokenKind};
 use std::convert::AsStr;
 use std::mem;
 
-/// The kinds in an order, so that two of them can be compared.
-fn index(kind: TokenKind) -> u8
-    ensures { result ≡ kind_number kind }
-{
-    match kind {
-        TokenKind::Keyword(keyword) => keyword as u8,
-        TokenKind::Operator(operator) => 100 + operator as u8,
-        TokenKind::Name => 200,
-        TokenKind::Int => 201,
-        TokenKind::Str => 202,
-        TokenKind::Newline => 203,
-        TokenKind::Indent => 204,
-        TokenKind::Dedent => 205,
-        TokenKind::End => 206,
-    }
-}
-
 /// Whether two kinds are the same.
-fn is_same(kind: TokenKind, other: TokenKind) -> bool
+pub(crate) fn is_same(kind: TokenKind, other: TokenKind) -> bool
     ensures { result ≡ same_kind kind other }
 {
-    index(kind) == index(other)
+    kind == other
 }
 
 /// Tokens, the one that comes next, and the byte where the last one that came ends.
@@ -121,6 +104,37 @@ impl<X: AsStr + Drop, I: Iterator<Item = Result<Token<X>, Fault>> + Drop> Reader
         }
     }
 
+    /// Passes over the token ahead. Where there is none, the text ends too early.
+    #[inline(always)]
+    pub(crate) fn skip(&mut self) -> Result<(), Fault>
+        requires { IsReady I.can_next I.remaining self.old }
+        ensures { MatchResult result (λ _. Skips X.text I.next_gives I.can_next I.remaining self.old self.new)
+            (λ e. Blames e (λ o. (r : Reading) → (self.old.ahead ≡ None → stop r ≡ short)
+            → Came X.text I.next_gives self.old r o)) }
+    {
+        let Some(passed) = &self.ahead else {
+            return Err(Fault::Refused(Refusal {
+                code: RefusalCode::G1,
+                byte: self.end,
+            }));
+        };
+        self.end = passed.place.end;
+        match self.tokens.next() {
+            Some(Ok(next)) => {
+                self.ahead = Some(next);
+                Ok(())
+            }
+            Some(Err(fault)) => {
+                self.ahead = None;
+                Err(fault)
+            }
+            None => {
+                self.ahead = None;
+                Ok(())
+            }
+        }
+    }
+
     /// Reads what is left, for a fault in it.
     fn drain(&mut self) -> Result<(), Fault>
         requires { IsReady I.can_next I.remaining self.old }
@@ -171,7 +185,7 @@ impl<X: AsStr + Drop, I: Iterator<Item = Result<Token<X>, Fault>> + Drop> Reader
 }
 
 /// What a token is compared by: the normal form of a name, the text of any other token.
-fn form<'t, X: AsStr + Drop>(token: &'t Token<X>) -> &'t str
+pub(crate) fn form<'t, X: AsStr + Drop>(token: &'t Token<X>) -> &'t str
     ensures { result.now ≡ form_of (X.text token.now.text) token.now.form }
 {
     match &token.form {

@@ -1,15 +1,16 @@
 -- The byte that a text begins with tells among which keywords and operators it is to be sought.
 use Rattle.std.proofs.Common.{◌≡◌, ℕ, ◌<◌, List, [], ◌∷◌, ◌++◌, Bool, true, ◌==◌, length, drop, get_or, refl, sym, ap}
-use Rattle.std.proofs.Common.{◌∙◌, inl, inr, eq-eqb, lit<}
+use Rattle.std.proofs.Common.{◌∙◌, inl, inr, None, arith, eq-eqb, lit<}
 use Rattle.std.specs.Prelude.{find, nat_eq, bytes_eq, is_some}
 use Rattle.std.specs.List.{filter, list_any, starts_with}
 use Rattle.std.proofs.lemmas.Bool.{cases_Bool}
-use Rattle.std.proofs.lemmas.Bool.Decides.{Decides-eqb}
+use Rattle.std.proofs.lemmas.Bool.Decides.{Decides-eqb, nat_tests}
 use Rattle.std.proofs.lemmas.Slice.Eq.{bytes_eq-Decides, starts_is}
 use Rattle.std.proofs.Math.ListN.{get_or-append}
 use Rattle.pc_token.specs.declared.token.Keyword.{Keyword}
 use Rattle.pc_token.specs.declared.token.Operator.{Operator}
 use Rattle.pc_token.specs.Keywords.{keyword_text, keywords}
+use Rattle.pc_token.specs.Internal.Candidates.{may_be}
 use Rattle.pc_token.specs.Operators.{operator_text, operators}
 use Rattle.pc_token.specs.declared.token.Operator.TheVariants as o
 
@@ -35,16 +36,24 @@ any_found p [] = refl
 any_found p (x ∷ xs) = elim (cases_Bool (p x)) [ inl here ↦ rw here | inr other ↦ rw other (any_found p xs) ]
 
 module _ (name : List ℕ) (b : ℕ) (first : b ≡ get_or name 0 0) where
-  keyword_begins : (k : Keyword) → bytes_eq (keyword_text k) name ≡ true → (get_or (keyword_text k) 0 0 == b) ≡ true
-  keyword_begins k h = eq-eqb (get_or (keyword_text k) 0 0) b (ap (λ x. get_or x 0 0)
-      ((bytes_eq-Decides (keyword_text k) name).0 h) ∙ sym first)
+  may_be_spelled : (k : Keyword) → bytes_eq (keyword_text k) name ≡ true → may_be (length name) b k ≡ true
+  may_be_spelled k h =
+      let same = (bytes_eq-Decides (keyword_text k) name).0 h in
+      rw (
+        eq-eqb (length (keyword_text k)) (length name) (ap length same),
+        eq-eqb (get_or (keyword_text k) 0 0) b (ap (λ x. get_or x 0 0) same ∙ sym first),
+      )
 
-  -- a keyword is sought among those that begin as it does
-  pub keyword_sought : find (λ k. bytes_eq (keyword_text k) name)
-      (filter (λ k. get_or (keyword_text k) 0 0 == b) keywords)
+  -- a keyword is sought among those that are as long and begin as it does
+  pub keyword_sought : find (λ k. bytes_eq (keyword_text k) name) (filter (may_be (length name) b) keywords)
       ≡ find (λ k. bytes_eq (keyword_text k) name) keywords
-  keyword_sought = find_filtered (λ k. bytes_eq (keyword_text k) name) (λ k. get_or (keyword_text k) 0 0 == b)
-      keyword_begins keywords
+  keyword_sought = find_filtered (λ k. bytes_eq (keyword_text k) name) (may_be (length name) b) may_be_spelled keywords
+
+  -- none is found where there are none of these
+  pub none_sought : (ks : List Keyword) → ks ≡ filter (may_be (length name) b) keywords → (length ks == 0) ≡ true
+      → None ≡ find (λ k. bytes_eq (keyword_text k) name) keywords
+  none_sought [] is none = ap (find (λ k. bytes_eq (keyword_text k) name)) is ∙ keyword_sought
+  none_sought (k ∷ ks) is none = absurd (grind (arith, nat_tests))
 
 module _ (bytes : List ℕ) (b : ℕ) (first : b ≡ get_or bytes 0 0) where
   operator_begins : (o : Operator) → starts_with nat_eq bytes (operator_text o) ≡ true

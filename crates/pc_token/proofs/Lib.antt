@@ -27,3 +27,4 @@ pub mod PiecesAtBytes
 pub mod FirstBytes
 pub mod WordBytes
 pub mod AsciiHere
+pub mod OneByte

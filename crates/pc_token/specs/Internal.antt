@@ -1,3 +1,4 @@
 -- What only the contracts of private functions say: the public contracts speak of the files beside this folder.
+pub mod Candidates
 pub mod LineReading
 pub mod WordBytes

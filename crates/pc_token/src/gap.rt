@@ -6,7 +6,7 @@ ghost use Rattle.pc_token.specs.Gaps.{is_blank, is_line_byte, starts_line_end, e
 use crate::bytes::{byte_at, bytes_from};
 
 /// How many spaces and tabs stand at the front.
-fn run_len(bytes: &[u8]) -> usize
+pub(crate) fn run_len(bytes: &[u8]) -> usize
     ensures len { result ≡ prefix_len is_blank bytes.now }
     ensures within { result ≤ length bytes.now }
 {

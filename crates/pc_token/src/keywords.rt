@@ -1,6 +1,7 @@
 //! Keywords and reserved names.
-ghost use Rattle.std.specs.Prelude.{◌≡◌, ◌==◌, find, bytes_eq, slice_index};
+ghost use Rattle.std.specs.Prelude.{◌≡◌, find, bytes_eq};
 ghost use Rattle.std.specs.List.{filter};
+ghost use Rattle.pc_token.specs.Internal.Candidates.{may_be};
 ghost use Rattle.pc_token.specs.Keywords.{keyword_text, keywords, is_keyword, is_reserved};
 
 use crate::bytes::byte_at;
@@ -51,61 +52,140 @@ impl Keyword {
     }
 }
 
-/// The keywords that begin with a byte.
-fn beginning_with(byte: u8) -> &'static [Keyword]
-    ensures { result.now ≡ filter (λ k. slice_index (keyword_text k) 0 == byte) keywords }
+/// The keywords of two bytes that begin with a byte.
+fn of_two(first: u8) -> &'static [Keyword]
+    ensures { result.now ≡ filter (may_be 2 first) keywords }
 {
-    match byte {
-        b'F' => &[Keyword::False],
+    match first {
+        b'a' => &[Keyword::As],
+        b'i' => &[Keyword::If, Keyword::In, Keyword::Is],
+        b'o' => &[Keyword::Or],
+        _ => &[],
+    }
+}
+
+/// The keywords of three bytes that begin with a byte.
+fn of_three(first: u8) -> &'static [Keyword]
+    ensures { result.now ≡ filter (may_be 3 first) keywords }
+{
+    match first {
+        b'a' => &[Keyword::And],
+        b'd' => &[Keyword::Def, Keyword::Del],
+        b'f' => &[Keyword::For],
+        b'n' => &[Keyword::Not],
+        b't' => &[Keyword::Try],
+        _ => &[],
+    }
+}
+
+/// The keywords of four bytes that begin with a byte.
+fn of_four(first: u8) -> &'static [Keyword]
+    ensures { result.now ≡ filter (may_be 4 first) keywords }
+{
+    match first {
         b'N' => &[Keyword::None],
         b'T' => &[Keyword::True],
-        b'a' => &[
-            Keyword::And,
-            Keyword::As,
-            Keyword::Assert,
-            Keyword::Async,
-            Keyword::Await,
-        ],
-        b'b' => &[Keyword::Break],
-        b'c' => &[Keyword::Class, Keyword::Continue],
-        b'd' => &[Keyword::Def, Keyword::Del],
-        b'e' => &[Keyword::Elif, Keyword::Else, Keyword::Except],
-        b'f' => &[Keyword::Finally, Keyword::For, Keyword::From],
-        b'g' => &[Keyword::Global],
-        b'i' => &[Keyword::If, Keyword::Import, Keyword::In, Keyword::Is],
-        b'l' => &[Keyword::Lambda],
-        b'n' => &[Keyword::Nonlocal, Keyword::Not],
-        b'o' => &[Keyword::Or],
+        b'e' => &[Keyword::Elif, Keyword::Else],
+        b'f' => &[Keyword::From],
         b'p' => &[Keyword::Pass],
-        b'r' => &[Keyword::Raise, Keyword::Return],
-        b't' => &[Keyword::Try],
-        b'w' => &[Keyword::While, Keyword::With],
+        b'w' => &[Keyword::With],
+        _ => &[],
+    }
+}
+
+/// The keywords of five bytes that begin with a byte.
+fn of_five(first: u8) -> &'static [Keyword]
+    ensures { result.now ≡ filter (may_be 5 first) keywords }
+{
+    match first {
+        b'F' => &[Keyword::False],
+        b'a' => &[Keyword::Async, Keyword::Await],
+        b'b' => &[Keyword::Break],
+        b'c' => &[Keyword::Class],
+        b'r' => &[Keyword::Raise],
+        b'w' => &[Keyword::While],
         b'y' => &[Keyword::Yield],
         _ => &[],
     }
 }
 
-/// Whether a keyword is spelled so. Most are told by their length.
+/// The keywords of six bytes that begin with a byte.
+fn of_six(first: u8) -> &'static [Keyword]
+    ensures { result.now ≡ filter (may_be 6 first) keywords }
+{
+    match first {
+        b'a' => &[Keyword::Assert],
+        b'e' => &[Keyword::Except],
+        b'g' => &[Keyword::Global],
+        b'i' => &[Keyword::Import],
+        b'l' => &[Keyword::Lambda],
+        b'r' => &[Keyword::Return],
+        _ => &[],
+    }
+}
+
+/// The keywords of seven bytes that begin with a byte.
+fn of_seven(first: u8) -> &'static [Keyword]
+    ensures { result.now ≡ filter (may_be 7 first) keywords }
+{
+    match first {
+        b'f' => &[Keyword::Finally],
+        _ => &[],
+    }
+}
+
+/// The keywords of eight bytes that begin with a byte.
+fn of_eight(first: u8) -> &'static [Keyword]
+    ensures { result.now ≡ filter (may_be 8 first) keywords }
+{
+    match first {
+        b'c' => &[Keyword::Continue],
+        b'n' => &[Keyword::Nonlocal],
+        _ => &[],
+    }
+}
+
+/// The keywords of a length that begin with a byte. There are three at most.
+fn beginning_with(len: usize, first: u8) -> &'static [Keyword]
+    ensures { result.now ≡ filter (may_be len first) keywords }
+{
+    match len {
+        2 => of_two(first),
+        3 => of_three(first),
+        4 => of_four(first),
+        5 => of_five(first),
+        6 => of_six(first),
+        7 => of_seven(first),
+        8 => of_eight(first),
+        _ => &[],
+    }
+}
+
+/// Whether a keyword is spelled so.
 fn is_spelled(keyword: Keyword, name: &str) -> bool
     ensures { result ≡ bytes_eq (keyword_text keyword) name.now }
 {
-    let text = keyword.text();
-    text.len() == name.len() && text == name
+    keyword.text() == name
 }
 
-/// The first of some keywords that is spelled so.
+/// The first of some keywords that is spelled so. It stands apart, since most names have none to look at.
+#[inline(never)]
 fn first_spelled(candidates: &[Keyword], name: &str) -> Option<Keyword>
     ensures { result ≡ find (λ k. bytes_eq (keyword_text k) name.now) candidates.now }
 {
     candidates.iter().copied().find(|k| is_spelled(*k, name))
 }
 
-/// The keyword that is spelled so, sought among those that begin as the name does.
+/// The keyword that is spelled so, sought among those that begin as the name does and are as long.
 pub(crate) fn keyword_of(name: &str) -> Option<Keyword>
     ensures { result ≡ find (λ k. bytes_eq (keyword_text k) name.now) keywords }
 {
     let first = byte_at(name.as_bytes(), 0);
-    first_spelled(beginning_with(first), name)
+    let candidates = beginning_with(name.len(), first);
+    if candidates.is_empty() {
+        return None;
+    }
+    first_spelled(candidates, name)
 }
 
 /// Whether a name is a keyword's.

@@ -1,6 +1,7 @@
 //! Names and their forms.
 ghost use Rattle.std.specs.Prelude.{◌≡◌, ℕ, ◌+◌, ◌-◌, ◌≤◌, ◌<◌, ◌==◌, ◌||◌, not, List, [], ◌++◌, true, false, length};
-ghost use Rattle.std.specs.Prelude.{drop, take, slice_get, slice_range, chars, encode_utf8_all, IfOk, MatchOption, IsUtf8};
+ghost use Rattle.std.specs.Prelude.{drop, take, slice_get, slice_range, chars, encode_utf8_all, IfOk, MatchOption};
+ghost use Rattle.std.specs.Prelude.{IsUtf8};
 ghost use Rattle.std.specs.Prelude.{is_some, IsTrue};
 ghost use Rattle.std.specs.Char.{is_ascii_alphabetic};
 ghost use Rattle.std.specs.List.{list_all, prefix_len};
@@ -17,6 +18,29 @@ use crate::token::{Keyword, TokenKind};
 use std::alloc::{AllocError, Global};
 use unicode_ident::{is_xid_continue, is_xid_start};
 use unicode_normalization::to_nfkc;
+
+/// Whether a byte is an ASCII letter, a digit or an underscore: a table, since each byte of each name is looked at.
+static WORD_BYTES: [bool; 256] = [
+    false, false, false, false, false, false, false, false, false, false, false, false, false,
+    false, false, false, false, false, false, false, false, false, false, false, false, false,
+    false, false, false, false, false, false, false, false, false, false, false, false, false,
+    false, false, false, false, false, false, false, false, false, true, true, true, true, true,
+    true, true, true, true, true, false, false, false, false, false, false, false, true, true,
+    true, true, true, true, true, true, true, true, true, true, true, true, true, true, true, true,
+    true, true, true, true, true, true, true, true, false, false, false, false, true, false, true,
+    true, true, true, true, true, true, true, true, true, true, true, true, true, true, true, true,
+    true, true, true, true, true, true, true, true, true, false, false, false, false, false, false,
+    false, false, false, false, false, false, false, false, false, false, false, false, false,
+    false, false, false, false, false, false, false, false, false, false, false, false, false,
+    false, false, false, false, false, false, false, false, false, false, false, false, false,
+    false, false, false, false, false, false, false, false, false, false, false, false, false,
+    false, false, false, false, false, false, false, false, false, false, false, false, false,
+    false, false, false, false, false, false, false, false, false, false, false, false, false,
+    false, false, false, false, false, false, false, false, false, false, false, false, false,
+    false, false, false, false, false, false, false, false, false, false, false, false, false,
+    false, false, false, false, false, false, false, false, false, false, false, false, false,
+    false, false, false, false, false, false, false, false, false, false,
+];
 
 /// Whether a name may begin with a character.
 fn begins_name(c: char) -> bool
@@ -58,15 +82,19 @@ pub fn continues_word(text: &str, at: usize) -> bool
     }
 }
 
+/// Whether a byte is an ASCII letter, a digit or an underscore, by the table.
+fn is_word_byte(byte: u8) -> bool
+    ensures { result ≡ is_word_byte byte }
+{
+    WORD_BYTES[usize::from(byte)]
+}
+
 /// How many ASCII letters, digits and underscores stand at the front.
 fn ascii_len(bytes: &[u8]) -> usize
     ensures len { result ≡ prefix_len is_word_byte bytes.now }
     ensures within { result ≤ length bytes.now }
 {
-    bytes
-        .iter()
-        .take_while(|b| b.is_ascii_alphanumeric() || **b == b'_')
-        .count()
+    bytes.iter().take_while(|b| is_word_byte(**b)).count()
 }
 
 /// Where the characters that may continue a name end, and whether they are known to be ASCII.

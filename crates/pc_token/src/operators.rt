@@ -1,7 +1,8 @@
 //! Operators and delimiters.
-ghost use Rattle.std.specs.Prelude.{◌≡◌, ◌==◌, find, nat_eq, slice_index};
+ghost use Rattle.std.specs.Prelude.{◌≡◌, ◌<◌, ◌==◌, [], ◌∷◌, find, length, nat_eq, slice_index};
 ghost use Rattle.std.specs.List.{filter, starts_with};
 ghost use Rattle.pc_token.specs.Operators.{operator_text, operators, role_of};
+ghost use Rattle.pc_token.specs.Internal.Candidates.{stands_second};
 
 use crate::bytes::byte_at;
 use crate::token::Operator;
@@ -145,11 +146,56 @@ fn first_standing(bytes: &[u8], candidates: &[Operator]) -> Option<Operator>
         .find(|operator| stands_at(bytes, *operator))
 }
 
-/// The longest operator at the front, sought among those that begin as the bytes do.
+/// Whether a byte stands second in some operator.
+fn stands_second(byte: u8) -> bool
+    ensures { result ≡ stands_second byte }
+{
+    matches!(byte, b'*' | b'.' | b'/' | b'<' | b'=' | b'>')
+}
+
+/// The operator that is one byte.
+fn of_one_byte(byte: u8) -> Option<Operator>
+    ensures { result ≡ find (λ o. starts_with nat_eq (byte ∷ []) (operator_text o)) operators }
+{
+    match byte {
+        b'%' => Some(Operator::Percent),
+        b'&' => Some(Operator::Ampersand),
+        b'(' => Some(Operator::LeftParenthesis),
+        b')' => Some(Operator::RightParenthesis),
+        b'*' => Some(Operator::Star),
+        b'+' => Some(Operator::Plus),
+        b',' => Some(Operator::Comma),
+        b'-' => Some(Operator::Minus),
+        b'.' => Some(Operator::Dot),
+        b'/' => Some(Operator::Slash),
+        b':' => Some(Operator::Colon),
+        b';' => Some(Operator::Semicolon),
+        b'<' => Some(Operator::Less),
+        b'=' => Some(Operator::Equal),
+        b'>' => Some(Operator::Greater),
+        b'@' => Some(Operator::At),
+        b'[' => Some(Operator::LeftBracket),
+        b']' => Some(Operator::RightBracket),
+        b'^' => Some(Operator::Circumflex),
+        b'{' => Some(Operator::LeftBrace),
+        b'|' => Some(Operator::Bar),
+        b'}' => Some(Operator::RightBrace),
+        b'~' => Some(Operator::Tilde),
+        _ => None,
+    }
+}
+
+/// The longest operator at the front, sought among those that begin as the bytes do. Most stand before a byte that is
+/// second in none, and are told by their one byte.
 pub(crate) fn operator_at(bytes: &[u8]) -> Option<Operator>
+    requires { 0 < length bytes.now }
     ensures { result ≡ find (λ o. starts_with nat_eq bytes.now (operator_text o)) operators }
 {
     let first = byte_at(bytes, 0);
+    let second = byte_at(bytes, 1);
+    if !stands_second(second) {
+        return of_one_byte(first);
+    }
     first_standing(bytes, beginning_with(first))
 }
 

@@ -15,7 +15,7 @@ use std::alloc::{AllocError, Global};
 
 /// For how many tokens a line has room from its first one on. Few lines have more, and the room is less than
 /// a kilobyte: an allocator keeps pieces of that size at hand.
-const FIRST_ROOM: usize = 14;
+const FIRST_ROOM: usize = 18;
 
 /// Puts an item after others. The first one makes room for as many as most lines have.
 fn put<T: Drop>(items: &mut Vec<T>, item: T) -> Result<(), AllocError>
@@ -49,8 +49,14 @@ impl<'a> Reading<'a> {
     ghost use Rattle.pc_token.specs.Context.{line_start};
     ghost use Rattle.pc_token.specs.Internal.LineReading.{context_of, IsFound, TakesToken, ReadsLine, IsRefusedLater};
 
-    /// Where a logical line begins.
-    pub(crate) fn new(alloc: Global, text: &'a str, at: usize) -> Reading<'a>
+    /// Where a logical line begins, with room for its brackets.
+    pub(crate) fn new(
+        alloc: Global,
+        text: &'a str,
+        at: usize,
+        brackets: Vec<Operator>,
+    ) -> Reading<'a>
+        requires { brackets.items ≡ [] }
         ensures context { context_of result ≡ line_start at }
         ensures text { result.text.now ≡ text.now }
     {
@@ -59,7 +65,7 @@ impl<'a> Reading<'a> {
             text,
             at,
             start: at,
-            brackets: Vec::new(alloc),
+            brackets,
             tokens: Vec::new(alloc),
             last: None,
             ended: at,

@@ -12,7 +12,7 @@ ghost use Rattle.pc_token.specs.Strings.{is_quote};
 ghost use Rattle.pc_token.specs.Context.{touches_word};
 
 use crate::bytes::byte_at;
-use crate::gap::{blank_len, comment_len, ends_line, space_len, starts_line_end};
+use crate::gap::{blank_len, comment_len, ends_line, run_len, space_len, starts_line_end};
 use crate::keywords::keyword_of;
 use crate::name::{begins_word, form_of, is_bad_name, name_end};
 use crate::number::{digit_count, is_bad_number, is_bad_point, number_len};
@@ -99,7 +99,7 @@ impl<'a> Reading<'a> {
         }
     }
 
-    /// Where the spaces and tabs end.
+    /// Where the spaces and tabs end. After a token of the line any may stand.
     fn blanks(&self) -> Result<usize, Fault>
         requires within { self.now.at < length self.now.text.now }
         requires boundary { IsCharBoundary self.now.text.now self.now.at }
@@ -108,9 +108,12 @@ impl<'a> Reading<'a> {
         ensures refused { IfErr result (OnRefusal (IsRefusedHere (context_of self.now) self.now.text.now)) }
     {
         let bytes = self.rest();
+        if self.last.is_some() {
+            return Ok(self.at + run_len(bytes));
+        }
         let spaces = space_len(bytes);
         let len = blank_len(bytes, spaces);
-        if self.last.is_none() && is_bad_tab(bytes, spaces, len) {
+        if is_bad_tab(bytes, spaces, len) {
             return Err(Fault::refused_at(RefusalCode::L7, self.at + spaces));
         }
         Ok(self.at + len)

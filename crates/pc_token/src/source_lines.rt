@@ -33,6 +33,7 @@ pub fn lines(alloc: Global, source: &Source) -> Lines<'_>
         text: source.text(),
         at: 0,
         done: false,
+        brackets: Vec::new(alloc),
     }
 }
 

@@ -1,10 +1,12 @@
 //! The logical lines of a source.
+ghost use Rattle.std.specs.Prelude.{◌≡◌, []};
 ghost use Rattle.std.specs.Str.{IsCharBoundary};
 
 use crate::reading::Reading;
-use crate::token::Line;
+use crate::token::{Line, Operator};
 use pc_source::Fault;
 use std::alloc::Global;
+use std::mem;
 
 /// The logical lines of a source that are left. After an `Err`, and at the end, it gives `None`.
 #[derive(Drop)]
@@ -13,7 +15,10 @@ pub struct Lines<'a> {
     pub(crate) text: &'a str,
     pub(crate) at: usize,
     pub(crate) done: bool,
+    /// Room for the brackets that are open in a line, kept from line to line. Between lines none is open.
+    pub(crate) brackets: Vec<Operator>,
     ghost on_boundary: { IsCharBoundary text.now at },
+    ghost none_open: { brackets.items ≡ [] },
 }
 
 impl<'a> Iterator for Lines<'a> {
@@ -29,11 +34,13 @@ impl<'a> Iterator for Lines<'a> {
         if self.done {
             return None;
         }
-        let mut reading = Reading::new(self.alloc, self.text, self.at);
+        let brackets = mem::replace(&mut self.brackets, Vec::new(self.alloc));
+        let mut reading = Reading::new(self.alloc, self.text, self.at, brackets);
         match reading.read() {
             Ok(more) => {
                 self.done = !more;
                 self.at = reading.at;
+                mem::swap(&mut self.brackets, &mut reading.brackets);
             }
             Err(fault) => {
                 self.done = true;

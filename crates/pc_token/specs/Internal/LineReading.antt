@@ -70,6 +70,7 @@ LeavesFrom r items = GoesOn (context_of r) (drop r.at r.text.now) items
 pub record ReadsLine (old new : Reading) (more : Bool) : Type 0 where
   pub text : new.text.now ≡ old.text.now
   pub boundary : IsCharBoundary new.text.now new.at
+  pub none_open : new.brackets.items ≡ []
   pub later : MatchBool more ((old.at < new.at) × (0 < vec_len new.tokens)) (Unit {0})
   pub line : MatchBool more
       ((items : List (Result LogicalLine Refusal)) → GoesOn (line_start new.at) (drop new.at new.text.now) items

@@ -14,15 +14,16 @@ pub returns-in_ok-text-in-Int : goal.returns-in_ok-text-in-Int
 returns-in_ok-text-in-Int g c = rw c.node.ensures (
   refl,
   λ v. record {
-    part = (part (λ q. number q (digits_of (lexeme g.X.AsStr.text c.args.token).text))
-        ((lexeme g.X.AsStr.text c.args.token) ∷ []));
-    keeps = built _ 7 0 0 c.args.token.place.start c.args.token.place.end
-        (λ q. number q (digits_of (lexeme g.X.AsStr.text c.args.token).text)) (λ q. refl) (λ q. refl) refl
-        (λ h. ap (λ z. number c.args.token.place z) (c.in_ok-text-in-Int.ensures ∙ ap digits_of c.as_str.ensures))
-        (λ q. refl) ((lexeme g.X.AsStr.text c.args.token) ∷ []) (starts_one (lexeme g.X.AsStr.text c.args.token) [])
-        (ends_one (lexeme g.X.AsStr.text c.args.token));
+    part = (part (λ q. number q (digits_of (lexeme g.X.AsStr.text c.args.token.now).text))
+        ((lexeme g.X.AsStr.text c.args.token.now) ∷ []));
+    keeps = built _ 7 0 0 c.args.token.now.place.start c.args.token.now.place.end
+        (λ q. number q (digits_of (lexeme g.X.AsStr.text c.args.token.now).text)) (λ q. refl) (λ q. refl) refl
+        (λ h. ap (λ z. number c.args.token.now.place z) (c.in_ok-text-in-Int.ensures ∙ ap digits_of c.as_str.ensures))
+        (λ q. refl) ((lexeme g.X.AsStr.text c.args.token.now) ∷ [])
+        (starts_one (lexeme g.X.AsStr.text c.args.token.now) [])
+        (ends_one (lexeme g.X.AsStr.text c.args.token.now));
     begins = refl;
-    leads = λ s. ap (λ k. operand_turn s (lexeme g.X.AsStr.text c.args.token) (start_of k)) c.in-Int.is;
+    leads = λ s. ap (λ k. operand_turn s (lexeme g.X.AsStr.text c.args.token.now) (start_of k)) c.in-Int.is;
   },
 )
 
@@ -30,15 +31,15 @@ pub returns-in_ok-text-in-Str : goal.returns-in_ok-text-in-Str
 returns-in_ok-text-in-Str g c = rw c.node-in-Str.ensures (
   refl,
   λ v. record {
-    part = (part (λ q. text q (characters_of (lexeme g.X.AsStr.text c.args.token).text))
-        ((lexeme g.X.AsStr.text c.args.token) ∷ []));
-    keeps = built _ 7 0 0 c.args.token.place.start c.args.token.place.end
-        (λ q. text q (characters_of (lexeme g.X.AsStr.text c.args.token).text)) (λ q. refl) (λ q. refl) refl
-        (λ h. ap (λ z. text c.args.token.place z) (c.in_ok-text-in-Str.ensures
-        ∙ ap characters_of c.as_str-in-Str.ensures)) (λ q. refl) ((lexeme g.X.AsStr.text c.args.token) ∷ [])
-        (starts_one (lexeme g.X.AsStr.text c.args.token) []) (ends_one (lexeme g.X.AsStr.text c.args.token));
+    part = (part (λ q. text q (characters_of (lexeme g.X.AsStr.text c.args.token.now).text))
+        ((lexeme g.X.AsStr.text c.args.token.now) ∷ []));
+    keeps = built _ 7 0 0 c.args.token.now.place.start c.args.token.now.place.end
+        (λ q. text q (characters_of (lexeme g.X.AsStr.text c.args.token.now).text)) (λ q. refl) (λ q. refl) refl
+        (λ h. ap (λ z. text c.args.token.now.place z) (c.in_ok-text-in-Str.ensures
+        ∙ ap characters_of c.as_str-in-Str.ensures)) (λ q. refl) ((lexeme g.X.AsStr.text c.args.token.now) ∷ [])
+        (starts_one (lexeme g.X.AsStr.text c.args.token.now) []) (ends_one (lexeme g.X.AsStr.text c.args.token.now));
     begins = refl;
-    leads = λ s. ap (λ k. operand_turn s (lexeme g.X.AsStr.text c.args.token) (start_of k)) c.in-Str.is;
+    leads = λ s. ap (λ k. operand_turn s (lexeme g.X.AsStr.text c.args.token.now) (start_of k)) c.in-Str.is;
   },
 )
 
@@ -46,12 +47,13 @@ pub returns-in-Keyword-True : goal.returns-in-Keyword-True
 returns-in-Keyword-True g c = rw c.node-in-Keyword-True.ensures (
   refl,
   λ v. record {
-    part = (part (λ q. truth q true) ((lexeme g.X.AsStr.text c.args.token) ∷ []));
-    keeps = built _ 7 0 0 c.args.token.place.start c.args.token.place.end (λ q. truth q true) (λ q. refl) (λ q. refl)
-        refl (λ h. refl) (λ q. refl) ((lexeme g.X.AsStr.text c.args.token) ∷ [])
-        (starts_one (lexeme g.X.AsStr.text c.args.token) []) (ends_one (lexeme g.X.AsStr.text c.args.token));
+    part = (part (λ q. truth q true) ((lexeme g.X.AsStr.text c.args.token.now) ∷ []));
+    keeps = built _ 7 0 0 c.args.token.now.place.start c.args.token.now.place.end (λ q. truth q true)
+        (λ q. refl) (λ q. refl)
+        refl (λ h. refl) (λ q. refl) ((lexeme g.X.AsStr.text c.args.token.now) ∷ [])
+        (starts_one (lexeme g.X.AsStr.text c.args.token.now) []) (ends_one (lexeme g.X.AsStr.text c.args.token.now));
     begins = refl;
-    leads = λ s. ap (λ k. operand_turn s (lexeme g.X.AsStr.text c.args.token) (start_of k))
+    leads = λ s. ap (λ k. operand_turn s (lexeme g.X.AsStr.text c.args.token.now) (start_of k))
         (c.in-Keyword-True.is ∙ ap (λ z. kind.Keyword z) (rw c.in-Keyword-True.is at c.in-Keyword-True.field-0-is));
   },
 )
@@ -60,12 +62,13 @@ pub returns-in-Keyword-False : goal.returns-in-Keyword-False
 returns-in-Keyword-False g c = rw c.node-in-Keyword-False.ensures (
   refl,
   λ v. record {
-    part = (part (λ q. truth q false) ((lexeme g.X.AsStr.text c.args.token) ∷ []));
-    keeps = built _ 7 0 0 c.args.token.place.start c.args.token.place.end (λ q. truth q false) (λ q. refl) (λ q. refl)
-        refl (λ h. refl) (λ q. refl) ((lexeme g.X.AsStr.text c.args.token) ∷ [])
-        (starts_one (lexeme g.X.AsStr.text c.args.token) []) (ends_one (lexeme g.X.AsStr.text c.args.token));
+    part = (part (λ q. truth q false) ((lexeme g.X.AsStr.text c.args.token.now) ∷ []));
+    keeps = built _ 7 0 0 c.args.token.now.place.start c.args.token.now.place.end (λ q. truth q false)
+        (λ q. refl) (λ q. refl)
+        refl (λ h. refl) (λ q. refl) ((lexeme g.X.AsStr.text c.args.token.now) ∷ [])
+        (starts_one (lexeme g.X.AsStr.text c.args.token.now) []) (ends_one (lexeme g.X.AsStr.text c.args.token.now));
     begins = refl;
-    leads = λ s. ap (λ k. operand_turn s (lexeme g.X.AsStr.text c.args.token) (start_of k))
+    leads = λ s. ap (λ k. operand_turn s (lexeme g.X.AsStr.text c.args.token.now) (start_of k))
         (c.in-Keyword-False.is ∙ ap (λ z. kind.Keyword z) (rw c.in-Keyword-False.is at c.in-Keyword-False.field-0-is));
   },
 )
@@ -74,12 +77,13 @@ pub returns-in-Keyword-None : goal.returns-in-Keyword-None
 returns-in-Keyword-None g c = rw c.node-in-Keyword-None.ensures (
   refl,
   λ v. record {
-    part = (part (λ q. nothing q) ((lexeme g.X.AsStr.text c.args.token) ∷ []));
-    keeps = built _ 7 0 0 c.args.token.place.start c.args.token.place.end (λ q. nothing q) (λ q. refl) (λ q. refl) refl
-        (λ h. refl) (λ q. refl) ((lexeme g.X.AsStr.text c.args.token) ∷ [])
-        (starts_one (lexeme g.X.AsStr.text c.args.token) []) (ends_one (lexeme g.X.AsStr.text c.args.token));
+    part = (part (λ q. nothing q) ((lexeme g.X.AsStr.text c.args.token.now) ∷ []));
+    keeps = built _ 7 0 0 c.args.token.now.place.start c.args.token.now.place.end (λ q. nothing q)
+        (λ q. refl) (λ q. refl) refl
+        (λ h. refl) (λ q. refl) ((lexeme g.X.AsStr.text c.args.token.now) ∷ [])
+        (starts_one (lexeme g.X.AsStr.text c.args.token.now) []) (ends_one (lexeme g.X.AsStr.text c.args.token.now));
     begins = refl;
-    leads = λ s. ap (λ k. operand_turn s (lexeme g.X.AsStr.text c.args.token) (start_of k))
+    leads = λ s. ap (λ k. operand_turn s (lexeme g.X.AsStr.text c.args.token.now) (start_of k))
         (c.in-Keyword-None.is ∙ ap (λ z. kind.Keyword z) (rw c.in-Keyword-None.is at c.in-Keyword-None.field-0-is));
   },
 )
@@ -88,11 +92,11 @@ pub returns-in_ok-name-in_default : goal.returns-in_ok-name-in_default
 returns-in_ok-name-in_default g c = rw c.node-in_default.ensures (
   refl,
   λ v. record {
-    part = name_part (lexeme g.X.AsStr.text c.args.token);
+    part = name_part (lexeme g.X.AsStr.text c.args.token.now);
     keeps = record {
-      starts = starts_one (lexeme g.X.AsStr.text c.args.token) [];
+      starts = starts_one (lexeme g.X.AsStr.text c.args.token.now) [];
       ends =
-          ends_one (lexeme g.X.AsStr.text c.args.token);
+          ends_one (lexeme g.X.AsStr.text c.args.token.now);
       first = refl;
       plain = refl;
       depth = refl;

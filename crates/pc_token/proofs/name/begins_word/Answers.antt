@@ -1,4 +1,4 @@
-use Rattle.std.proofs.Common.{◌≡◌, ◌<◌, ◌∙◌, sym, ap, arith, get_or, ◌||◌, ◌==◌}
+use Rattle.std.proofs.Common.{◌≡◌, ◌∙◌, ap, arith, get_or, ◌||◌, ◌==◌}
 use Rattle.std.specs.Char.{is_ascii_alphabetic}
 use Rattle.pc_token.proofs.AsciiHere.{ascii_begins}
 use Rattle.pc_token.proofs.name.begins_word.Goals as goal

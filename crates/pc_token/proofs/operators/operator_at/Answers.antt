@@ -1,9 +1,18 @@
-use Rattle.std.proofs.Common.{ap, ◌∙◌}
+use Rattle.std.proofs.Common.{ap, sym, [], ◌∷◌, ◌∙◌}
 use Rattle.std.specs.Prelude.{find, nat_eq}
 use Rattle.std.specs.List.{starts_with}
-use Rattle.pc_token.specs.Operators.{operator_text}
+use Rattle.pc_token.specs.Operators.{operator_text, operators}
+use Rattle.pc_token.specs.Internal.Candidates.{stands_second}
 use Rattle.pc_token.proofs.FirstBytes.{operator_sought}
+use Rattle.pc_token.proofs.OneByte.{one_byte_here}
 use Rattle.pc_token.proofs.operators.operator_at.Goals as goal
+
+pub returns-then-not-stands_second : goal.returns-then-not-stands_second
+returns-then-not-stands_second c =
+    c.of_one_byte.ensures
+    ∙ ap (λ b. find (λ o. starts_with nat_eq (b ∷ []) (operator_text o)) operators) c.byte_at-first.ensures
+    ∙ one_byte_here c.args.bytes.now c.requires (sym (c.stands_second.ensures ∙ ap stands_second
+    c.byte_at-second.ensures) ∙ c.if-not-stands_second.true)
 
 pub returns : goal.returns
 returns c =

@@ -6,7 +6,10 @@ use Rattle.pc_token.proofs.WithinText.{lines_within}
 use Rattle.pc_token.proofs.source_lines.lines.Goals as goal
 
 pub invariant_of-result : goal.invariant_of-result
-invariant_of-result c = record { on_boundary = IsCharBoundary-start c.text.result.now c.text.utf8 }
+invariant_of-result c = record {
+  on_boundary = IsCharBoundary-start c.text.result.now c.text.utf8;
+  none_open = c.new.ensures.items;
+}
 
 pub returns-clause-one : goal.returns-clause-one
 returns-clause-one c = one_list c.args.source.now

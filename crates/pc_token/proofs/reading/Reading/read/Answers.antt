@@ -67,6 +67,7 @@ returns-else-is_empty c =
     record {
       text = inv.text;
       boundary = next.boundary;
+      none_open = nil_is c.loop-self.self.brackets.items none;
       later = (omega (arith, next.later, inv.later), omega (arith, c.loop-self.self.tokens.ok.0, some));
       line = λ items h. inv.leads (close_line c.loop-self.self.start (map lexeme_of c.loop-self.self.tokens.items)
           items)
@@ -101,6 +102,7 @@ returns c =
     record {
       text = inv.text;
       boundary = inv.boundary;
+      none_open = nil_is c.loop-self.self.brackets.items none;
       later = tt;
       line = inv.leads (close_line c.loop-self.self.start (map lexeme_of c.loop-self.self.tokens.items) [])
           (whole_on (context_of c.loop-self.self) c.loop-self.self.text.now (omega arith)
