@@ -90,7 +90,8 @@ fn write_applied<S: TypeStore>(
     out: &mut String,
 ) -> Result<(), OutOfMemory>
     requires { S.has store.now ty.now }
-    ensures { OnOk result (string_bytes out.new ≡ string_bytes out.old ++ (name.now ++ (texts_with (codes ", ") (part_texts (module_of tree.now) (S.tree ty.now)) ++ codes "]"))) }
+    ensures { OnOk result (string_bytes out.new ≡ string_bytes out.old
+        ++ (name.now ++ (texts_with (codes ", ") (part_texts (module_of tree.now) (S.tree ty.now)) ++ codes "]"))) }
 {
     out.push_str(name)?;
     write_parts(store, alloc, tree, ", ", ty, out)?;

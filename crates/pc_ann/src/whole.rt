@@ -59,9 +59,11 @@ pub fn read_ann<S: TypeStore>(
 ) -> Result<S::Ty, OutOfMemory>
     requires { AreScopes (module_in outline.now) outline.now.scopes.now }
     ensures typed { IfOk result
-        (λ t. Means S.has S.tree store.new t (read_ann (module_in outline.now) outline.now.parents.now (ann_of ann.now))) }
+        (λ t. Means S.has S.tree store.new t (read_ann (module_in outline.now) outline.now.parents.now
+        (ann_of ann.now))) }
     ensures pushed { OnOk result
-        (found.new.items ≡ found.old.items ++ ann_findings (module_in outline.now) outline.now.parents.now (ann_of ann.now)) }
+        (found.new.items ≡ found.old.items ++ ann_findings (module_in outline.now) outline.now.parents.now
+        (ann_of ann.now)) }
     ensures found { OnOk result
         ((f : FindingOf) → Contains found.new.items f
         ↔ (Contains found.old.items f ⊎ AnnFinds (module_in outline.now) outline.now.parents.now (ann_of ann.now) f)) }
@@ -81,13 +83,15 @@ pub fn read_option<S: TypeStore>(
 ) -> Result<S::Ty, OutOfMemory>
     requires { AreScopes (module_in outline.now) outline.now.scopes.now }
     ensures typed { IfOk result
-        (λ t. Means S.has S.tree store.new t (read_option (module_in outline.now) outline.now.parents.now (option_ann_of ann.now))) }
+        (λ t. Means S.has S.tree store.new t (read_option (module_in outline.now) outline.now.parents.now
+        (option_ann_of ann.now))) }
     ensures pushed { OnOk result
         (found.new.items ≡ found.old.items
         ++ option_findings (module_in outline.now) outline.now.parents.now (option_ann_of ann.now)) }
     ensures found { OnOk result
         ((f : FindingOf) → Contains found.new.items f
-        ↔ (Contains found.old.items f ⊎ OptionAnnFinds (module_in outline.now) outline.now.parents.now (option_ann_of ann.now) f)) }
+        ↔ (Contains found.old.items f ⊎ OptionAnnFinds (module_in outline.now) outline.now.parents.now
+        (option_ann_of ann.now) f)) }
     ensures kept { KeepsTypes S.has store.old store.new }
 {
     match ann {

@@ -30,7 +30,7 @@ use pc_maps::NamedMaps;
 use pc_source::OutOfMemory;
 use pc_tree::{ClassDef, Findings, Member};
 use pc_types::TypeStore;
-use std::alloc::Global as Allocator;
+use std::alloc::Global;
 
 /// A class of a module: the outline of the module, and the number of the class.
 #[derive(Drop)]
@@ -42,7 +42,7 @@ struct NumberedClass<'m> {
 /// Adds a field of a class after those that it has, and to the map by name.
 fn add_field<Ty: Drop>(
     named: &mut NamedMaps,
-    alloc: Allocator,
+    alloc: Global,
     fields: &mut Vec<Parameter<Ty>>,
     at: usize,
     field: Parameter<Ty>,
@@ -65,7 +65,7 @@ fn add_field<Ty: Drop>(
 /// Adds a method of a class ahead of those that it inherits, and to the map by name.
 fn add_method<Ty: Drop>(
     named: &mut NamedMaps,
-    alloc: Allocator,
+    alloc: Global,
     methods: &mut Vec<Method<Ty>>,
     at: usize,
     method: Method<Ty>,
@@ -305,6 +305,7 @@ pub(crate) fn add_class<S: TypeStore>(
     let inherited = inherited(&parts.classes, base);
     let members = entries(
         reader.alloc,
+        outline.tree.keys,
         &parts.named,
         inherited.held,
         &definition.members,

@@ -24,18 +24,18 @@ use pc_ann::{ModuleOutline, parents_of};
 use pc_maps::NamedMaps;
 use pc_scope::Scopes;
 use pc_source::OutOfMemory;
-use pc_tree::{Findings, Item, ItemKind, Module};
+use pc_tree::{Findings, Item, ItemKind, Keys, Module};
 use pc_types::TypeStore;
-use std::alloc::Global as Allocator;
+use std::alloc::Global;
 
 /// What a table without classes is made of.
-fn no_classes<Ty: Drop>(alloc: Allocator) -> Result<TableParts<Ty>, OutOfMemory>
+fn no_classes<Ty: Drop>(alloc: Global, keys: Keys) -> Result<TableParts<Ty>, OutOfMemory>
     ensures table { IfOk result IsClassTable }
     ensures classes { IfOk result (λ p. p.classes.items ≡ []) }
     ensures fields { IfOk result (λ p. p.fields.items ≡ []) }
     ensures methods { IfOk result (λ p. p.methods.items ≡ []) }
 {
-    let named = NamedMaps::new(alloc)?;
+    let named = NamedMaps::new(alloc, keys)?;
     Ok(TableParts {
         named,
         classes: Vec::new(alloc),
@@ -104,7 +104,7 @@ fn all_classes<S: TypeStore>(
         ++ annotated_behind (module_in outline.now) [] 0 (classes_in (module_in outline.now).items)) }
 {
     let items = outline.tree.items.as_slice();
-    let mut parts = no_classes(reader.alloc)?;
+    let mut parts = no_classes(reader.alloc, outline.tree.keys)?;
     for item in items {
         add_item(reader, outline, &mut parts, found, item)?;
     }
@@ -115,7 +115,7 @@ fn all_classes<S: TypeStore>(
 /// appended to a list of its own.
 fn read_classes<S: TypeStore>(
     store: &mut S,
-    alloc: Allocator,
+    alloc: Global,
     outline: &ModuleOutline,
     found: &mut Findings,
     in_annotations: &mut Findings,
@@ -147,7 +147,7 @@ fn read_classes<S: TypeStore>(
 /// profile.
 pub fn class_table<S: TypeStore>(
     store: &mut S,
-    alloc: Allocator,
+    alloc: Global,
     tree: &Module,
     scopes: &Scopes,
     found: &mut Findings,
@@ -169,6 +169,6 @@ pub fn class_table<S: TypeStore>(
     let mut in_annotations = Vec::new(alloc);
     let parts = read_classes(store, alloc, &outline, found, &mut in_annotations)?;
     found.extend_from_slice(&in_annotations)?;
-    let lists = ClassLists::new(alloc, &parts)?;
+    let lists = ClassLists::new(alloc, tree.keys, &parts)?;
     Ok(ClassTable::of(parts, parents, lists))
 }

@@ -14,8 +14,8 @@ ghost use Rattle.pc_class.specs.Entries.{entry_seen, entry_default, clash_places
 use indexmap::IndexSet;
 use pc_maps::{NamedMaps, Texts, number};
 use pc_source::OutOfMemory;
-use pc_tree::{Code, Findings, Member, find_if};
-use std::alloc::Global as Allocator;
+use pc_tree::{Code, Findings, Keys, Member, find_if};
+use std::alloc::Global;
 
 /// The maps of the fields and of the methods that a class has, by their names.
 #[derive(Clone, Copy)]
@@ -107,7 +107,8 @@ fn judge<'m>(
 
 /// The members of a class one after another, where these are the fields and methods of its base.
 pub fn entries<'m>(
-    alloc: Allocator,
+    alloc: Global,
+    keys: Keys,
     named: &NamedMaps,
     base: Held,
     members: &'m [Member],
@@ -117,7 +118,7 @@ pub fn entries<'m>(
         ≡ entries_of (inherited_in named.now base) [] 0 (map member_of members.now)) }
 {
     let mut all = Vec::new(alloc);
-    let mut before = IndexSet::new(alloc);
+    let mut before = IndexSet::with_hasher(alloc, keys);
     let mut methods = 0;
     for member in members {
         all.push(judge(named, base, &before, methods, member))?;

@@ -10,6 +10,7 @@ use crate::parts::{Span, TableParts};
 use crate::table::Parameter;
 use pc_maps::{SharedList, SharedLists};
 use pc_source::OutOfMemory;
+use pc_tree::Keys;
 use std::alloc::Global;
 
 /// The list of the fields of each class.
@@ -55,11 +56,15 @@ fn list_at(classes: &[SharedList], class: Option<usize>) -> SharedList
 
 impl ClassLists {
     /// The list of the fields of each class of a table.
-    pub fn new<Ty: Drop>(alloc: Global, parts: &TableParts<Ty>) -> Result<ClassLists, OutOfMemory>
+    pub fn new<Ty: Drop>(
+        alloc: Global,
+        keys: Keys,
+        parts: &TableParts<Ty>,
+    ) -> Result<ClassLists, OutOfMemory>
         requires { IsClassTable parts.now }
         ensures { IfOk result (λ s. AreClassLists parts.now.fields.items s (entries_in parts.now)) }
     {
-        let mut lists = SharedLists::new(alloc)?;
+        let mut lists = SharedLists::new(alloc, keys)?;
         let mut classes = Vec::new(alloc);
         for class in 0..parts.classes.len() {
             let node = parts.classes[class];

@@ -8,11 +8,12 @@ ghost use Rattle.pc_class.specs.Listed.{needed_in, names_listed, ArePlaces, AreN
 use crate::table::Parameter;
 use indexmap::IndexMap;
 use pc_source::OutOfMemory;
+use pc_tree::Keys;
 use std::alloc::Global;
 use std::marker::Model;
 
 /// The place of the first parameter of each name.
-type Places = IndexMap<String, usize>;
+type Places = IndexMap<String, usize, Keys>;
 
 /// What a long list is asked for: the place of the first of each name, and for each number up to where there is one
 /// without default among so many.
@@ -68,10 +69,14 @@ fn needed_among<Ty: Drop>(params: &[Parameter<Ty>], count: usize) -> usize
 }
 
 /// The place of the first parameter of each name.
-fn places_of<Ty: Drop>(alloc: Global, params: &[Parameter<Ty>]) -> Result<Places, OutOfMemory>
+fn places_of<Ty: Drop>(
+    alloc: Global,
+    keys: Keys,
+    params: &[Parameter<Ty>],
+) -> Result<Places, OutOfMemory>
     ensures { IfOk result (λ m. ArePlaces m (names_listed params.now)) }
 {
-    let mut places = IndexMap::new(alloc);
+    let mut places = IndexMap::with_hasher(alloc, keys);
     for i in 0..params.len() {
         let name = params[i].name.as_str();
         if !places.contains_key(name) {
@@ -99,13 +104,17 @@ fn needed_of<Ty: Drop>(alloc: Global, params: &[Parameter<Ty>]) -> Result<Vec<us
 
 impl<Ty: Drop> ParameterList<Ty> {
     /// These parameters as a list.
-    pub fn new(alloc: Global, all: Vec<Parameter<Ty>>) -> Result<ParameterList<Ty>, OutOfMemory>
+    pub fn new(
+        alloc: Global,
+        keys: Keys,
+        all: Vec<Parameter<Ty>>,
+    ) -> Result<ParameterList<Ty>, OutOfMemory>
         ensures { IfOk result (λ ps. ps ≡ all.items) }
     {
         if all.len() <= SHORT {
             return Ok(ParameterList { all, index: None });
         }
-        let places = places_of(alloc, &all)?;
+        let places = places_of(alloc, keys, &all)?;
         let needed = needed_of(alloc, &all)?;
         let index = Some(Index { places, needed });
         Ok(ParameterList { all, index })

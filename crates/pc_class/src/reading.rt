@@ -131,7 +131,7 @@ pub(crate) fn read_method<S: TypeStore>(
     ensures same { IsLentSame reader.old reader.new }
 {
     let params = read_params(reader, outline, &def.params)?;
-    let params = ParameterList::new(reader.alloc, params)?;
+    let params = ParameterList::new(reader.alloc, outline.tree.keys, params)?;
     let ret = read_option(
         reader.store,
         reader.alloc,

@@ -1,6 +1,7 @@
 //! Chunks of environments, which environments share.
 
-ghost use Rattle.std.specs.Prelude.{◌≡◌, ◌≤◌, ◌+◌, ◌/◌, Option, None, All, IfOk, OnOk, OnErr, length, replicate, slice_set, slice_index_or};
+ghost use Rattle.std.specs.Prelude.{◌≡◌, ◌≤◌, ◌+◌, ◌/◌, Option, None, All, IfOk, OnOk, OnErr, length, replicate};
+ghost use Rattle.std.specs.Prelude.{slice_set, slice_index_or};
 ghost use Rattle.std.specs.Option.{option_copied, option_map};
 ghost use Rattle.std.specs.Rc.{rc_value};
 

@@ -1,6 +1,7 @@
 //! Environments: the current types of a function's locals.
 
-ghost use Rattle.std.specs.Prelude.{◌≡◌, List, Option, Some, None, IfOk, OnOk, OnErr, length, replicate, take, slice_set, slice_index_or};
+ghost use Rattle.std.specs.Prelude.{◌≡◌, List, Option, Some, None, IfOk, OnOk, OnErr, length, replicate, take};
+ghost use Rattle.std.specs.Prelude.{slice_set, slice_index_or};
 ghost use Rattle.std.specs.Option.{option_copied};
 
 use crate::chunk::{Chunk, chunk_width, empty_chunks, set_in};

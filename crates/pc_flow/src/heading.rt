@@ -22,9 +22,7 @@ fn set_declared<S: TypeStore>(
 ) -> Result<(), OutOfMemory>
     requires declared { HasEach (S.has store.old) declared.now }
     requires env { HasEach (S.has store.old) env.old }
-    ensures value { OnOk result
-        (GivesEnv S.has S.tree store.new env.new
-        (slice_set (env_of S.tree env.old) local
+    ensures value { OnOk result (GivesEnv S.has S.tree store.new env.new (slice_set (env_of S.tree env.old) local
         (head_local true (declared_type (declared_of S.tree declared.now) local)
         (current (env_of S.tree env.old) local)))) }
     ensures kept { KeepsTypes S.has store.old store.new }

@@ -41,7 +41,8 @@ pub(crate) fn declared_type<S: TypeStore>(
     declared: Option<&S::Ty>,
 ) -> Result<S::Ty, OutOfMemory>
     requires { HasOne (S.has store.old) (option_copied declared) }
-    ensures value { IfOk result (λ t. Means S.has S.tree store.new t (declared_one S.tree (option_copied declared.entry))) }
+    ensures value { IfOk result (λ t. Means S.has S.tree store.new t
+        (declared_one S.tree (option_copied declared.entry))) }
     ensures kept { KeepsTypes S.has store.old store.new }
 {
     match declared {
@@ -115,11 +116,9 @@ fn set_joined<S: TypeStore>(
     requires left { HasEach (S.has store.old) a.now }
     requires right { HasEach (S.has store.old) b.now }
     requires met { HasEach (S.has store.old) met.old }
-    ensures value { OnOk result
-        (GivesEnv S.has S.tree store.new met.new
-        (slice_set (env_of S.tree met.old) local
-        (join_local declarations.now.parents.now (declared_type (declared_of S.tree declarations.now.declared.now) local)
-        (current (env_of S.tree a.now) local) (current (env_of S.tree b.now) local)))) }
+    ensures value { OnOk result (GivesEnv S.has S.tree store.new met.new (slice_set (env_of S.tree met.old) local
+        (join_local declarations.now.parents.now (declared_type (declared_of S.tree declarations.now.declared.now)
+        local) (current (env_of S.tree a.now) local) (current (env_of S.tree b.now) local)))) }
     ensures kept { KeepsTypes S.has store.old store.new }
 {
     let parents = declarations.parents;
@@ -175,7 +174,8 @@ pub(crate) fn join_some<S: TypeStore>(
     requires left { HasEach (S.has store.old) a }
     requires right { HasEach (S.has store.old) b.now }
     requires well_formed { IsWellFormedEnv declarations.now.parents.now (env_of S.tree a) }
-    requires agree { AgreeBelow (length declarations.now.declared.now) locals.now (env_of S.tree a) (env_of S.tree b.now) }
+    requires agree { AgreeBelow (length declarations.now.declared.now) locals.now (env_of S.tree a)
+        (env_of S.tree b.now) }
     ensures value { IfOk result
         (λ e. GivesEnv S.has S.tree store.new e
         (join_with S.tree declarations.now (env_of S.tree a) (env_of S.tree b.now))) }

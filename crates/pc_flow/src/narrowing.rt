@@ -149,7 +149,8 @@ fn narrow_instance<S: TypeStore>(
         → IfOk result (λ n. GivesBoth S.has S.tree store.new n
         (λ holds. narrow_instance declarations.now.parents.now declared (meanings declarations.now.names.now) holds
         is_test (local_of_argument (meanings declarations.now.names.now) (first_argument (exprs_of_list arguments.now)))
-        (test_of_argument (meanings declarations.now.names.now) (second_argument (exprs_of_list arguments.now))) (env_of S.tree env))) }
+        (test_of_argument (meanings declarations.now.names.now) (second_argument (exprs_of_list arguments.now)))
+        (env_of S.tree env))) }
     ensures kept { KeepsTypes S.has store.old store.new }
 {
     if !is_test {
@@ -178,17 +179,16 @@ fn narrow_none<S: TypeStore>(
     requires env { HasEach (S.has store.old) env }
     requires well_formed { IsWellFormedEnv declarations.now.parents.now (env_of S.tree env) }
     ensures value { IfOk result
-        (λ n. GivesBoth S.has S.tree store.new n
-        (λ holds. narrow_local declarations.now.parents.now holds for_none (local_named (meanings declarations.now.names.now) (expr_of tested.now))
-        (env_of S.tree env))) }
+        (λ n. GivesBoth S.has S.tree store.new n (λ holds. narrow_local declarations.now.parents.now holds for_none
+        (local_named (meanings declarations.now.names.now) (expr_of tested.now)) (env_of S.tree env))) }
     ensures kept { KeepsTypes S.has store.old store.new }
 {
     let local = local_named(declarations.names, tested);
     narrow_local(store, alloc, declarations.parents, Test::None, local, env)
 }
 
-/// An environment where a condition that is no `not`, `and` or `or` is true, and where it is false: what is left of it by
-/// the test of one local, against `None` or by `isinstance`.
+/// An environment where a condition that is no `not`, `and` or `or` is true, and where it is false: what is left of it
+/// by the test of one local, against `None` or by `isinstance`.
 ///
 /// Typing specification, "Type narrowing"; own rules of the profile.
 pub fn narrow_simple<S: TypeStore>(

@@ -110,14 +110,12 @@ fn set_settled<S: TypeStore>(
     requires left { HasEach (S.has store.old) a.now }
     requires right { HasEach (S.has store.old) b.now }
     requires met { HasEach (S.has store.old) met.old }
-    ensures value { OnOk result
-        (GivesEnv S.has S.tree store.new met.new
-        (slice_set (env_of S.tree met.old) local
-        (join_local declarations.now.parents.now (declared_type (declared_of S.tree declarations.now.declared.now) local)
-        (current (env_of S.tree a.now) local) (current (env_of S.tree b.now) local)))) }
+    ensures value { OnOk result (GivesEnv S.has S.tree store.new met.new (slice_set (env_of S.tree met.old) local
+        (join_local declarations.now.parents.now (declared_type (declared_of S.tree declarations.now.declared.now)
+        local) (current (env_of S.tree a.now) local) (current (env_of S.tree b.now) local)))) }
     ensures settled { IfOk result (λ settled. settled ≡ true → TakesIn declarations.now.parents.now
-        (join_local declarations.now.parents.now (declared_type (declared_of S.tree declarations.now.declared.now) local)
-        (current (env_of S.tree a.now) local) (current (env_of S.tree b.now) local))
+        (join_local declarations.now.parents.now (declared_type (declared_of S.tree declarations.now.declared.now)
+        local) (current (env_of S.tree a.now) local) (current (env_of S.tree b.now) local))
         (current (env_of S.tree b.now) local)) }
     ensures kept { KeepsTypes S.has store.old store.new }
 {

@@ -40,7 +40,8 @@ fn add_tested_by_call(
 ) -> Result<(), OutOfMemory>
     ensures { OnOk result
         (tested.new.items ≡ tested.old.items
-        ++ tested_by_call (is_instance_test (expr_of callee.now) (exprs_of_list arguments.now) (keywords_of_list by_name.now))
+        ++ tested_by_call (is_instance_test (expr_of callee.now) (exprs_of_list arguments.now)
+        (keywords_of_list by_name.now))
         (local_of_argument (meanings names.now) (first_argument (exprs_of_list arguments.now)))) }
 {
     if !is_instance_test(callee, arguments, by_name) {

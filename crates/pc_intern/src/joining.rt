@@ -16,8 +16,8 @@ use pc_source::OutOfMemory;
 use pc_types::{BoxStore, BoxType, Parents, TypeStore};
 use std::alloc::Global;
 
-/// From how many types on what they join to is kept, also where none of them has parts: fewer are joined sooner than two
-/// lists of parents are compared.
+/// From how many types on what they join to is kept, also where none of them has parts: fewer are joined sooner than
+/// two lists of parents are compared.
 const MANY_TYPES: usize = 8;
 
 /// A tuple whose parts have so many nodes has more than a type may have.

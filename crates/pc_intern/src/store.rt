@@ -14,6 +14,7 @@ ghost use Rattle.pc_intern.specs.Store.{IsHeld, IsRight, meaning};
 use crate::memo::{Answers, Joins, Memo};
 use crate::table::{Node, Numbers, Table};
 use pc_source::OutOfMemory;
+use pc_tree::Keys;
 use pc_types::{BoxStore, BoxType, Head, Parents, TypeStore};
 use std::alloc::Global;
 use std::marker::Model;
@@ -76,11 +77,11 @@ fn compare(table: &Table, parents: &Parents, s: usize, t: usize) -> Answers
 
 impl InternStore {
     /// A store without types, which remembers how types compare under these parents.
-    pub fn new(alloc: Global, parents: Parents) -> Result<InternStore, OutOfMemory>
+    pub fn new(alloc: Global, keys: Keys, parents: Parents) -> Result<InternStore, OutOfMemory>
         ensures { IfOk result (λ s. s ≡ []) }
     {
         Ok(InternStore {
-            table: Table::new(alloc),
+            table: Table::new(alloc, keys),
             parents,
             memo: Memo::new(alloc)?,
             joins: Joins::new(alloc)?,

@@ -9,6 +9,7 @@ ghost use Rattle.pc_intern.specs.Table.{tree_at, basic_types, IsNode, IsNodeAt, 
 
 use indexmap::IndexMap;
 use pc_source::OutOfMemory;
+use pc_tree::Keys;
 use pc_types::{BoxStore, BoxType, Head, TypeStore};
 use smallvec::SmallVec;
 use std::alloc::Global;
@@ -30,7 +31,7 @@ pub(crate) struct Node {
 /// The types of a store, by number. Contracts see them as the list of what the numbers mean.
 #[derive(Drop)]
 pub(crate) struct Table {
-    entries: IndexMap<Node, BoxType>,
+    entries: IndexMap<Node, BoxType, Keys>,
     /// The number of each basic type that is in the table, at its place, so that it is found without hashing.
     basic: [Option<usize>; BASIC_TYPES],
 }
@@ -71,11 +72,11 @@ fn basic_place(ty: &BoxType) -> Option<usize>
 
 impl Table {
     /// An empty table.
-    pub(crate) fn new(alloc: Global) -> Table
+    pub(crate) fn new(alloc: Global, keys: Keys) -> Table
         ensures { result ≡ [] }
     {
         Table {
-            entries: IndexMap::new(alloc),
+            entries: IndexMap::with_hasher(alloc, keys),
             basic: [None; BASIC_TYPES],
         }
     }

@@ -10,7 +10,8 @@ ghost use Rattle.pc_maps.specs.SharedLists.{empty_list, place_at, seat_at, neede
 use crate::named::NamedMaps;
 use crate::shared::SharedMaps;
 use pc_source::OutOfMemory;
-use std::alloc::Global as Allocator;
+use pc_tree::Keys;
+use std::alloc::Global;
 
 /// What stands at a place of a list: its number, and up to where something is needed before it.
 #[derive(Clone, Copy)]
@@ -40,7 +41,7 @@ pub struct SharedLists {
 /// The map with the place of one name more, unless it has an earlier place of it.
 fn add_name(
     named: &mut NamedMaps,
-    alloc: Allocator,
+    alloc: Global,
     map: usize,
     name: &str,
     place: usize,
@@ -75,12 +76,12 @@ impl SharedList {
 
 impl SharedLists {
     /// The list of nothing alone.
-    pub fn new(alloc: Allocator) -> Result<SharedLists, OutOfMemory>
+    pub fn new(alloc: Global, keys: Keys) -> Result<SharedLists, OutOfMemory>
         ensures room { IfOk result (λ s. HasRoom s empty_list) }
         ensures names { IfOk result (λ s. AreNamed s empty_list []) }
         ensures seats { IfOk result (λ s. (place : ℕ) → seat_at s empty_list place ≡ None) }
     {
-        let named = NamedMaps::new(alloc)?;
+        let named = NamedMaps::new(alloc, keys)?;
         let placed = SharedMaps::new(alloc)?;
         Ok(SharedLists {
             named,
@@ -92,7 +93,7 @@ impl SharedLists {
     /// The list with one thing more at its end: its number and its name, and whether it is needed.
     pub fn push(
         &mut self,
-        alloc: Allocator,
+        alloc: Global,
         list: SharedList,
         number: usize,
         name: &str,

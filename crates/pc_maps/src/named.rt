@@ -9,14 +9,15 @@ ghost use Rattle.pc_maps.specs.NameMaps.{NameMaps, IsMap, named_at, with_text, I
 use crate::shared::SharedMaps;
 use indexmap::IndexSet;
 use pc_source::OutOfMemory;
-use std::alloc::Global as Allocator;
+use pc_tree::Keys;
+use std::alloc::Global;
 use std::marker::Model;
 
 /// Names, each once; a name's number is its place.
-pub type Texts = IndexSet<String>;
+pub type Texts = IndexSet<String, Keys>;
 
 /// The number of a name, which becomes the last where it is new.
-pub fn number(texts: &mut Texts, alloc: Allocator, name: &str) -> Result<usize, OutOfMemory>
+pub fn number(texts: &mut Texts, alloc: Global, name: &str) -> Result<usize, OutOfMemory>
     ensures texts { OnOk result (texts_in texts.new ≡ with_text (texts_in texts.old) name.now) }
     ensures longer { length (texts_in texts.old) ≤ length (texts_in texts.new) }
     ensures number { IfOk result (λ n. index_of name.now (texts_in texts.new) ≡ Some n) }
@@ -49,11 +50,11 @@ impl Model for NamedMaps {
 
 impl NamedMaps {
     /// The empty map alone.
-    pub fn new(alloc: Allocator) -> Result<NamedMaps, OutOfMemory>
+    pub fn new(alloc: Global, keys: Keys) -> Result<NamedMaps, OutOfMemory>
         ensures room { IfOk result (λ s. IsMap s 0) }
         ensures empty { IfOk result (λ s. (name : List ℕ) → named_at s 0 name ≡ None) }
     {
-        let texts = IndexSet::new(alloc);
+        let texts = IndexSet::with_hasher(alloc, keys);
         let maps = SharedMaps::new(alloc)?;
         Ok(NamedMaps { texts, maps })
     }
@@ -80,7 +81,7 @@ impl NamedMaps {
     /// The map that has a value at a name, and else what this map has.
     pub fn put(
         &mut self,
-        alloc: Allocator,
+        alloc: Global,
         map: usize,
         name: &str,
         value: usize,

@@ -6,7 +6,7 @@ ghost use Rattle.pc_maps.specs.declared.shared.Node.{Node as NodeOf};
 ghost use Rattle.pc_maps.specs.SharedMaps.{held_at, node_at, IsWithin, IsClosed, KeepsMaps, HasBelow};
 
 use pc_source::OutOfMemory;
-use std::alloc::Global as Allocator;
+use std::alloc::Global;
 use std::marker::Model;
 
 /// A part of a map: what stands at the number 0, and where the parts with the odd and with the even numbers from 1 on
@@ -35,7 +35,7 @@ impl Model for SharedMaps {
 
 impl SharedMaps {
     /// The empty map alone.
-    pub fn new(alloc: Allocator) -> Result<SharedMaps, OutOfMemory>
+    pub fn new(alloc: Global) -> Result<SharedMaps, OutOfMemory>
         ensures room { IfOk result (λ s. 0 < length s) }
         ensures empty { IfOk result (λ s. (key : ℕ) → held_at s 0 key ≡ None) }
         ensures below { IfOk result (HasBelow 0) }

@@ -3,7 +3,7 @@ use Rattle.std.proofs.Common.{◌≡◌, ◌+◌, ℕ, suc, List, [], ◌∷◌,
 use Rattle.std.proofs.Common.{append-nil}
 use Rattle.std.proofs.lemmas.List.Sums.{fold-append}
 use Rattle.std.specs.Prelude.{Bool, true, false, ◌||◌, if◌then◌else◌, bytes_eq, position, cond, not, nat_lt, length}
-use Rattle.std.specs.Prelude.{fold, Some, None, is_some}
+use Rattle.std.specs.Prelude.{fold, Option, Some, None, is_some}
 use Rattle.std.specs.List.{list_any, position_or_len}
 use Rattle.std.specs.Option.{option_map}
 use lib.Dec.{leb-suc-suc}
@@ -130,3 +130,17 @@ placed f t (k ∷ ks) = go (bytes_eq t (f k)) (placed f t ks)
     go false e = ap (λ j. cond (nat_lt j (suc (length ks))) (Some j) None)
         (next (position_or_len (λ x. bytes_eq t (f x)) ks)) ∙ later (position_or_len (λ x. bytes_eq t (f x)) ks)
         (length ks) ∙ ap (option_map suc) e
+
+some_mapped : (o : Option ℕ) → is_some (option_map suc o) ≡ is_some o
+some_mapped None = refl
+some_mapped (Some n) = refl
+
+-- a text has a place among others where it is one of them
+pub placed_among : (t : List ℕ) (ts : List (List ℕ)) → is_some (index_of t ts) ≡ is_one_of t ts
+placed_among t [] = refl
+placed_among t (u ∷ us) = go (bytes_eq t u) (placed_among t us)
+  where
+    go : (b : Bool) → is_some (index_of t us) ≡ is_one_of t us
+        → is_some (if b then Some 0 else option_map suc (index_of t us)) ≡ (b || is_one_of t us)
+    go true e = refl
+    go false e = some_mapped (index_of t us) ∙ e

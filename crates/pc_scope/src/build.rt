@@ -8,10 +8,10 @@ use crate::module_names::names_of;
 use crate::module_scopes::Scopes;
 use pc_source::OutOfMemory;
 use pc_tree::Module;
-use std::alloc::Global as Allocator;
+use std::alloc::Global;
 
 /// The scopes of a module. Language Reference 4.2 "Naming and binding".
-pub fn scopes(alloc: Allocator, module: &Module) -> Result<Scopes, OutOfMemory>
+pub fn scopes(alloc: Global, module: &Module) -> Result<Scopes, OutOfMemory>
     ensures scopes { IfOk result (λ s. AreScopes (module_of module.now) s) }
 {
     let names = names_of(alloc, module)?;

@@ -9,16 +9,16 @@ ghost use Rattle.pc_scope.specs.Internal.WalkViews.{at_text};
 use crate::resolution::Res;
 use indexmap::IndexMap;
 use pc_source::OutOfMemory;
-use pc_tree::{Item, ItemKind};
-use std::alloc::Global as Allocator;
+use pc_tree::{Item, ItemKind, Keys};
+use std::alloc::Global;
 
 /// What the module binds first by each name.
-pub type Globals = IndexMap<String, Res>;
+pub type Globals = IndexMap<String, Res, Keys>;
 
 /// A name means this, unless something is bound to it already.
 fn bind_first(
     globals: &mut Globals,
-    alloc: Allocator,
+    alloc: Global,
     name: &str,
     meaning: Res,
 ) -> Result<(), OutOfMemory>
@@ -33,10 +33,10 @@ fn bind_first(
 }
 
 /// What the items of a module bind first by each name. Constants, functions and classes are numbered in text order.
-pub fn globals(alloc: Allocator, items: &[Item]) -> Result<Globals, OutOfMemory>
+pub fn globals(alloc: Global, keys: Keys, items: &[Item]) -> Result<Globals, OutOfMemory>
     ensures { IfOk result (λ g. (text : List ℕ) → at_text g text ≡ bound_first 0 0 0 (map item_of items.now) text) }
 {
-    let mut globals = IndexMap::new(alloc);
+    let mut globals = IndexMap::with_hasher(alloc, keys);
     let mut constants = 0;
     let mut functions = 0;
     let mut classes = 0;

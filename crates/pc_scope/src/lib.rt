@@ -5,6 +5,7 @@ mod build;
 mod globals;
 mod instance_test;
 mod laws;
+mod local_names;
 mod locals;
 mod module_names;
 mod module_scopes;

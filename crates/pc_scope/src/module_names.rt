@@ -9,15 +9,15 @@ use crate::locals::{locals_of_classes, locals_of_functions};
 use crate::tables::Names;
 use pc_source::OutOfMemory;
 use pc_tree::Module;
-use std::alloc::Global as Allocator;
+use std::alloc::Global;
 
 /// What the names of a module mean. Language Reference 4.2 "Naming and binding".
-pub fn names_of(alloc: Allocator, module: &Module) -> Result<Names, OutOfMemory>
+pub fn names_of(alloc: Global, module: &Module) -> Result<Names, OutOfMemory>
     ensures tables { IfOk result (λ s. AreTables (module_of module.now) s) }
 {
-    let globals = globals(alloc, &module.items)?;
-    let functions = locals_of_functions(alloc, &module.items)?;
-    let methods = locals_of_classes(alloc, &module.items)?;
+    let globals = globals(alloc, module.keys, &module.items)?;
+    let functions = locals_of_functions(alloc, module.keys, &module.items)?;
+    let methods = locals_of_classes(alloc, module.keys, &module.items)?;
     Ok(Names {
         globals,
         functions,

@@ -1,13 +1,13 @@
 //! The tables of a module's names.
 
-ghost use Rattle.std.specs.Prelude.{◌≡◌, length, map, position, bytes_eq, string_bytes};
+ghost use Rattle.std.specs.Prelude.{◌≡◌, length, map};
 ghost use Rattle.pc_scope.specs.Resolution.{index_of};
 ghost use Rattle.pc_scope.specs.Reserved.{beside};
 ghost use Rattle.pc_scope.specs.Tables.{Tables, meaning_by_tables, locals_for};
-ghost use Rattle.pc_scope.specs.Internal.WalkViews.{text_entry, texts_in, methods_texts, locals_seen};
+ghost use Rattle.pc_scope.specs.Internal.WalkViews.{text_entry, locals_in, methods_texts, locals_seen};
 
 use crate::globals::Globals;
-use crate::locals::Locals;
+use crate::local_names::Locals;
 use crate::reserved::builtin;
 use crate::resolution::{Owner, Res};
 use std::marker::Model;
@@ -26,29 +26,9 @@ impl Model for Names {
 
     ghost view = { λ s. record {
       globals = map text_entry s.globals.entries;
-      functions = map texts_in s.functions.items;
+      functions = map locals_in s.functions.items;
       methods = map methods_texts s.methods.items;
     } };
-}
-
-/// Up to how many locals a name is compared with each of them: hashing it costs more.
-const FEW: usize = 8;
-
-/// The place of a text among these.
-fn place_of(texts: &[String], name: &str) -> Option<usize>
-    ensures { result ≡ position (λ t. bytes_eq name.now (string_bytes t)) texts.now }
-{
-    texts.iter().position(|text| name == text.as_str())
-}
-
-/// The number of a name among locals, if it is one of them.
-fn number_of(locals: &Locals, name: &str) -> Option<usize>
-    ensures { result ≡ index_of name.now (texts_in locals.now) }
-{
-    if locals.len() > FEW {
-        return locals.get_index_of(name);
-    }
-    place_of(locals.as_slice(), name)
 }
 
 impl Names {
@@ -71,7 +51,7 @@ impl Names {
         ensures { result ≡ index_of name.now (locals_for self.now owner) }
     {
         match self.locals(owner) {
-            Some(locals) => number_of(locals, name),
+            Some(locals) => locals.number_of(name),
             None => None,
         }
     }

@@ -14,8 +14,8 @@ use crate::unreached::find_unreached_in_defs;
 use pc_scope::Scopes;
 use pc_source::OutOfMemory;
 use pc_stop::find_in_scopes;
-use pc_tree::{Findings, Module, fixed_keys};
-use std::alloc::Global as Allocator;
+use pc_tree::{Findings, Module};
+use std::alloc::Global;
 
 /// Finds names that mean nothing or stand too early: E02, E03.
 fn find_names(found: &mut Findings, scopes: &Scopes, program: &Module) -> Result<(), OutOfMemory>
@@ -29,11 +29,11 @@ fn find_names(found: &mut Findings, scopes: &Scopes, program: &Module) -> Result
 }
 
 /// What is found of a module's names and places.
-fn find_all(alloc: Allocator, scopes: &Scopes, program: &Module) -> Result<Findings, OutOfMemory>
+fn find_all(alloc: Global, scopes: &Scopes, program: &Module) -> Result<Findings, OutOfMemory>
     ensures { IfOk result (λ fs. fs.items
         ≡ scope_findings (meaning_by_tables scopes.now.tables) (module_of program.now)) }
 {
-    let keys = fixed_keys()?;
+    let keys = program.keys.state()?;
     let mut found = Vec::new(alloc);
     find_in_scopes(&mut found, alloc, keys, program)?;
     find_unreached_in_defs(&mut found, &program.items)?;
@@ -48,7 +48,7 @@ fn find_all(alloc: Allocator, scopes: &Scopes, program: &Module) -> Result<Findi
 ///
 /// `OutOfMemory` only when an allocation failed.
 pub fn scope_findings(
-    alloc: Allocator,
+    alloc: Global,
     module: &Module,
     scopes: &Scopes,
 ) -> Result<Findings, OutOfMemory>

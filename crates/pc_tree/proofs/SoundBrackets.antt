@@ -424,7 +424,8 @@ closed_spells in_tuple no_exprs us q e w = absurd w.left.0
 closed_spells in_tuple (more_exprs y ys) us q e w = (
   e,
   map_right
-      (λ xs1 a. map_right (λ bs b. map_right (λ cs c. map_left (λ ds d. each_others Nothing ⊤ ys ds (end_nothing ds d)) c)
+      (λ xs1 a. map_right (λ bs b. map_right (λ cs c. map_left (λ ds d. each_others Nothing ⊤ ys ds (end_nothing ds d))
+      c)
       (to_right b)) (to_right a)) (to_right (map_left (λ vs v. v.1) w)),
 )
 closed_spells (in_call f) xs us q e w = (

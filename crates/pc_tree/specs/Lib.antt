@@ -3,6 +3,7 @@ pub mod Depth
 pub mod Faults
 pub mod Fronts
 pub mod Grammar
+pub mod Keys
 pub mod Lists
 pub mod Machine
 pub mod Names

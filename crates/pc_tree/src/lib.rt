@@ -19,7 +19,7 @@ mod tree;
 pub use bound::{add_bound, add_bound_by, add_bound_in};
 pub use code::{Code, Finding, Findings};
 pub use found::{find, find_if};
-pub use keys::fixed_keys;
+pub use keys::{KeyedHasher, Keys};
 pub use laws::{fronts, one_module};
 pub use lists::put_last;
 pub use maps::{NameMap, bind_first};

@@ -1,5 +1,6 @@
 //! The tree of a module.
 
+use crate::keys::Keys;
 use crate::text::Text;
 use pc_source::Place;
 
@@ -12,13 +13,14 @@ pub struct Name {
 }
 
 /// A module: whether it has the headers that import `dataclass` and `Any`, its items in the order of
-/// the text, and the place of `main` in its last line.
+/// the text, the place of `main` in its last line, and the keys of the hashes of its names.
 #[derive(Debug, Drop)]
 pub struct Module {
     pub imports_dataclass: bool,
     pub imports_any: bool,
     pub items: Vec<Item>,
     pub main: Place,
+    pub keys: Keys,
 }
 
 /// A constant, a class or a function of the module, with the place of its first token.

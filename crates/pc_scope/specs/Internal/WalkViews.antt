@@ -6,6 +6,9 @@ use Rattle.std.specs.Global.{Global}
 use Rattle.indexmap.specs.IndexMap.{IndexMap, get_by}
 use Rattle.indexmap.specs.IndexSet.{IndexSet}
 use Rattle.std.specs.Borrow.{Bor}
+use Rattle.pc_tree.specs.Text.{text_bytes}
+use Rattle.pc_scope.specs.declared.local_names.Locals.{Locals}
+use Rattle.pc_scope.specs.declared.local_names.Locals.TheVariants as held
 use Rattle.pc_scope.specs.declared.resolution.Res.{Res}
 use Rattle.pc_scope.specs.declared.resolution.Builtin.{Builtin}
 use Rattle.pc_scope.specs.Reserved.{is_builtin_name}
@@ -19,9 +22,14 @@ reserved_entry_seen e = (e.0.now, e.1)
 abbrev pub with_new_local : List (List ℕ) → List ℕ → List (List ℕ)
 with_new_local names text = if is_builtin_name text || is_one_of text names then names else names ++ (text ∷ [])
 
--- the locals that a set holds
+-- the texts that a set holds
 abbrev pub texts_in : {S : Type 0} → IndexSet (String Global) S → List (List ℕ)
 texts_in s = map string_bytes s.keys
+
+-- the locals that a list or a set holds
+abbrev pub locals_in : Locals → List (List ℕ)
+locals_in (held.Few texts) = map text_bytes texts.items
+locals_in (held.Many texts) = texts_in texts
 
 -- what a map has at a text
 abbrev pub at_text : {V S : Type 0} → IndexMap (String Global) V S → List ℕ → Option V
@@ -31,11 +39,11 @@ at_text m text = get_by (λ k. bytes_eq text (string_bytes k)) m
 abbrev pub text_entry : String Global × Res → List ℕ × Res
 text_entry e = (string_bytes e.0, e.1)
 
--- the locals of the methods of a class, as sets hold them
-abbrev pub methods_texts : {S A : Type 0} → Vec (IndexSet (String Global) S) A → List (List (List ℕ))
-methods_texts ls = map texts_in ls.items
+-- the locals of the methods of a class
+abbrev pub methods_texts : {A : Type 0} → Vec Locals A → List (List (List ℕ))
+methods_texts ls = map locals_in ls.items
 
 -- the locals that were found, none where nothing was
-abbrev pub locals_seen : {S : Type 0} → Option (Bor (IndexSet (String Global) S)) → List (List ℕ)
+abbrev pub locals_seen : Option (Bor Locals) → List (List ℕ)
 locals_seen None = []
-locals_seen (Some l) = texts_in l.now
+locals_seen (Some l) = locals_in l.now

@@ -8,7 +8,8 @@ loop-local-init g c =
     let copy : c.in_ok-copied.field-0 ≡ c.args.env.now = c.in_ok-copied.ensures in (
       (λ ty h. h),
       head_begins g.S.TypeStore.has g.S.TypeStore.tree c.args.bound.now c.args.declared.now c.args.env.now
-          c.args.store.now c.first-head.result (c.first-head.ensures ∙ (λ i. take (length (c.types.ensures i)) (copy i)))
+          c.args.store.now c.first-head.result (c.first-head.ensures
+          ∙ (λ i. take (length (c.types.ensures i)) (copy i)))
           c.requires.env,
     )
 
@@ -22,5 +23,6 @@ loop-local-preserved g c =
       keeps_both g.S.TypeStore.has _ _ _ c.loop-local.invariant.0 c.set_declared.ensures.kept,
       head_goes_on g.S.TypeStore.has g.S.TypeStore.tree c.args.bound.now c.args.declared.now c.args.env.now
           c.loop-local.store c.set_declared.new.store i 0 (get_or c.args.bound.now i 0) c.loop-local.head
-          c.set_declared.new.env c.loop-local-test.true refl c.loop-local.invariant.1 c.in_ok-set_declared.ensures.value,
+          c.set_declared.new.env c.loop-local-test.true refl c.loop-local.invariant.1
+          c.in_ok-set_declared.ensures.value,
     )

@@ -48,7 +48,8 @@ loop-local-preserved g c =
     (current (env_of tree a) x) (current (env_of tree b) x)))) copy c.in_ok-set_joined.ensures.value in (
       keeps_both has _ _ _ c.loop-local.invariant.0 c.set_joined.ensures.kept,
       join_goes_on has tree c.args.declarations.now.parents.now ds c.args.a b c.loop-local.store
-          c.set_joined.new.store (is_among (take i l)) (is_among (take (i + 1) l)) x c.loop-local.met c.set_joined.new.met
+          c.set_joined.new.store (is_among (take i l)) (is_among (take (i + 1) l)) x c.loop-local.met
+          c.set_joined.new.met
           (one_more_among l i 0 x c.loop-local-test.true refl) c.loop-local.invariant.1 next,
     )
 

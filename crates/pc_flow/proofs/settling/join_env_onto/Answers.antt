@@ -74,6 +74,7 @@ returns-clause-settled g c =
     let ds = c.args.declarations.now.declared.now in
     let bases = c.args.declarations.now.parents.now in
     let ends = onto_ends tree bases ds c.args.a c.args.b.now g.S.TypeStore.has c.loop-local.store c.loop-local.env
-    c.args.locals.now c.loop-local.local-index c.loop-local-test.false c.requires.taken_in c.loop-local.invariant.value in
+    c.args.locals.now c.loop-local.local-index c.loop-local-test.false c.requires.taken_in
+    c.loop-local.invariant.value in
     onto_takes_in tree bases ds c.args.a c.args.b.now c.loop-local.env c.args.locals.now c.loop-local.unsettled.items
     c.loop-local.local-index c.loop-local-test.false c.requires.taken_in c.loop-local.invariant.settled ends.is

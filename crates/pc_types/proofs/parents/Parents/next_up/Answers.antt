@@ -25,7 +25,8 @@ returns-else-ancestor-leap c =
       above = (
         c.in_ok-base.ensures.ordered c.args.class c.in_ok-base.base e,
         reaches_base c.args.self.now
-            c.in_ok-base.ensures.ordered c.args.ancestor c.args.class c.in_ok-base.base e (λ q. omega (arith, q, c.requires)),
+            c.in_ok-base.ensures.ordered c.args.ancestor c.args.class c.in_ok-base.base e
+            (λ q. omega (arith, q, c.requires)),
       );
     }
 
@@ -36,6 +37,7 @@ returns-else-class-len c =
       above = (
         c.in_ok-base.ensures.ordered c.args.class c.in_ok-base.base e,
         reaches_base c.args.self.now
-            c.in_ok-base.ensures.ordered c.args.ancestor c.args.class c.in_ok-base.base e (λ q. omega (arith, q, c.requires)),
+            c.in_ok-base.ensures.ordered c.args.ancestor c.args.class c.in_ok-base.base e
+            (λ q. omega (arith, q, c.requires)),
       );
     }
