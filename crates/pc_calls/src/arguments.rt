@@ -6,9 +6,10 @@ ghost use Rattle.pc_rules.specs.Calls.{is_one, is_two};
 ghost use Rattle.pc_calls.specs.JudgedCalls.{names_in, given_with};
 
 use indexmap::IndexSet;
+use pc_tree::Keys;
 
 /// Names, each once.
-pub type Names<'e> = IndexSet<&'e str>;
+pub type Names<'e> = IndexSet<&'e str, Keys>;
 
 /// What the arguments of a call give: how many there are by position, and the names of those by name, each once.
 #[derive(Drop)]

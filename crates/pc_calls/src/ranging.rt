@@ -14,7 +14,7 @@ use crate::params::is_suited_by;
 use pc_rules::Label;
 use pc_scope::{Builtin, Res};
 use pc_source::OutOfMemory;
-use pc_tree::{Code, Expr, KeywordArgument};
+use pc_tree::{Code, Expr, Keys, KeywordArgument};
 use pc_types::TypeStore;
 use std::alloc::Global;
 
@@ -50,6 +50,7 @@ pub fn range_offers<'t, S: TypeStore>(
 pub fn range_item<S: TypeStore>(
     store: &mut S,
     alloc: Global,
+    keys: Keys,
     arguments: &[Expr],
     by_name: &[KeywordArgument],
 ) -> Result<Label<S::Ty>, OutOfMemory>
@@ -58,7 +59,7 @@ pub fn range_item<S: TypeStore>(
         (range_item (arguments_given (exprs_of_list arguments.now) (keywords_of_list by_name.now)))) }
     ensures kept { KeepsTypes S.has store.old store.new }
 {
-    let given = given(alloc, arguments, by_name)?;
+    let given = given(alloc, keys, arguments, by_name)?;
     let mut codes = Vec::new(alloc);
     if is_suited_by(&given, 1) {
         let ty = store.int(alloc)?;

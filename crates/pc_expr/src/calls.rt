@@ -47,7 +47,8 @@ pub(crate) fn label_called<S: TypeStore>(
 {
     match e {
         Expr::Call(place, callee, arguments, by_name) => {
-            let given = given(checker.alloc, arguments, by_name)?;
+            let keys = setting.globals.outline.tree.keys;
+            let given = given(checker.alloc, keys, arguments, by_name)?;
             let called = label_callee(checker, setting, env, &given, callee)?;
             find_codes(callee.place(), &called.label.codes, checker.found)?;
             let is_test = is_test(callee, arguments, by_name);
@@ -208,7 +209,7 @@ pub(crate) fn type_keywords<S: TypeStore>(
         (named_seat (map (offer_called S.tree) offers.now)) [] (keywords_of_list by_name.now))) }
     ensures goes_on { GoesOn S.TypeStore checker.old checker.new }
 {
-    let mut before = IndexSet::new(checker.alloc);
+    let mut before = IndexSet::with_hasher(checker.alloc, setting.globals.outline.tree.keys);
     for argument in by_name {
         let seat = keyword_seat(
             checker.store,

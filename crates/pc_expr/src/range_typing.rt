@@ -43,7 +43,8 @@ fn find_range<S: TypeStore>(
         (keywords_of_list range.now.by_name.now))) }
     ensures goes_on { GoesOn S.TypeStore checker.old checker.new }
 {
-    let given = given(checker.alloc, range.arguments, range.by_name)?;
+    let keys = setting.globals.outline.tree.keys;
+    let given = given(checker.alloc, keys, range.arguments, range.by_name)?;
     let offers = range_offers(checker.store, checker.alloc, &given)?;
     let is_test = is_instance_test(range.callee, range.arguments, range.by_name);
     type_arguments(checker, setting, env, is_test, &offers, range.arguments)?;
@@ -72,5 +73,12 @@ pub fn type_range<S: TypeStore>(
     ensures goes_on { GoesOn S.TypeStore checker.old checker.new }
 {
     find_range(checker, setting, env, range)?;
-    range_item(checker.store, checker.alloc, range.arguments, range.by_name)
+    let keys = setting.globals.outline.tree.keys;
+    range_item(
+        checker.store,
+        checker.alloc,
+        keys,
+        range.arguments,
+        range.by_name,
+    )
 }

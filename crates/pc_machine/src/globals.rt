@@ -3,16 +3,16 @@ ghost use Rattle.std.specs.Prelude.{◌≡◌, ◌++◌, ◌∷◌, [], map, OnO
 ghost use Rattle.pc_machine.specs.Names.{global_by_name};
 ghost use Rattle.pc_machine.specs.Machine.{global_of as global_seen, bound_of, found_global};
 
-use crate::state::{Bound, Global, Globals};
+use crate::state::{self, Bound, Globals};
 use indexmap::IndexMap;
 use pc_source::OutOfMemory;
 use pc_tree::bind_first;
-use std::alloc::Global as Allocator;
+use std::alloc::Global;
 use std::hash::RandomState;
 
 impl<'m> Globals<'m> {
     /// Nothing is bound.
-    pub fn new(alloc: Allocator, keys: RandomState) -> Globals<'m>
+    pub fn new(alloc: Global, keys: RandomState) -> Globals<'m>
         ensures { result.bindings.items ≡ [] }
     {
         Globals {
@@ -44,7 +44,7 @@ impl<'m> Globals<'m> {
             ≡ map global_seen self.old.bindings.items ++ record { name = name.now; is = bound_of bound.entry } ∷ []) }
     {
         let place = self.bindings.len();
-        self.bindings.push(Global { name, bound })?;
+        self.bindings.push(state::Global { name, bound })?;
         match bind_first(&mut self.places, name, place) {
             Ok(()) => Ok(()),
             Err(_) => {

@@ -17,7 +17,7 @@ use crate::names::is_same;
 use crate::state::{BuiltinMethod, Callee, Class, Meaning, Test};
 use pc_tree::{Expr, FuncDef, Name};
 use pc_value::{Exception, Seen, Value, see};
-use std::alloc::Global as Allocator;
+use std::alloc::Global;
 
 /// The method of a name.
 fn method_named<'m>(methods: &[&'m FuncDef], name: &str) -> Option<&'m FuncDef>
@@ -130,7 +130,7 @@ impl<'m> Machine<'m> {
     }
 
     /// What a name is as a callee. Language Reference 6.3.4 "Calls".
-    pub fn look_up_callee(&self, alloc: Allocator, name: &'m str) -> Result<Callee<'m>, Halt>
+    pub fn look_up_callee(&self, alloc: Global, name: &'m str) -> Result<Callee<'m>, Halt>
         ensures { TellsProgress callee_seen result self.now
             (comes (callee_of_meaning name.now (meaning_in_run name.now (state_of self.now))) (progress_of self.now)) }
     {

@@ -20,7 +20,7 @@ use crate::state::{Bound, Class, Globals, Local, Meaning};
 use pc_source::{OutOfMemory, Place};
 use pc_tree::is_reserved;
 use pc_value::{Action, Exception, Heap, Iteration, Outcome, Value};
-use std::alloc::Global as Allocator;
+use std::alloc::Global;
 use std::hash::RandomState;
 
 /// A plain run so far. Own rule of the profile.
@@ -55,7 +55,7 @@ pub fn raised(exception: Exception) -> Halt
 
 impl<'m> Machine<'m> {
     /// The machine before the first item, with nothing bound. Own rule of the profile.
-    pub fn begin(alloc: Allocator, keys: RandomState, fuel: u64, choices: &'m [u8]) -> Machine<'m>
+    pub fn begin(alloc: Global, keys: RandomState, fuel: u64, choices: &'m [u8]) -> Machine<'m>
         ensures { progress_of result ≡ begin fuel choices.now }
     {
         Machine {
@@ -92,7 +92,7 @@ impl<'m> Machine<'m> {
     }
 
     /// The value of a name.
-    fn value_of_name(&self, alloc: Allocator, name: &str) -> Result<Value, Halt>
+    fn value_of_name(&self, alloc: Global, name: &str) -> Result<Value, Halt>
         ensures { TellsProgress value_of result self.now
             (comes (value_of_meaning (meaning_in_run name.now (state_of self.now))) (progress_of self.now)) }
     {
@@ -108,7 +108,7 @@ impl<'m> Machine<'m> {
 
     /// A name as an expression: its place, then its value. Language Reference 6.2.1 "Identifiers (Names)".
     #[inline(never)]
-    pub fn read_name(&mut self, alloc: Allocator, place: Place, name: &str) -> Result<Value, Halt>
+    pub fn read_name(&mut self, alloc: Global, place: Place, name: &str) -> Result<Value, Halt>
         ensures plain { TellsProgress value_of result self.new
             (comes (value_of_meaning (meaning_in_run name.now (state_of self.old)))
             (after_event place (progress_of self.old))) }
@@ -184,7 +184,7 @@ impl<'m> Machine<'m> {
     }
 
     /// An action on values; a free answer takes the next choice.
-    fn act(&mut self, alloc: Allocator, action: &Action) -> Result<Outcome, OutOfMemory>
+    fn act(&mut self, alloc: Global, action: &Action) -> Result<Outcome, OutOfMemory>
         ensures acts { IfOk result (λ o. Performs o self.new (action_of action.now) (progress_of self.old)) }
         ensures fuel { self.new.fuel ≡ self.old.fuel }
     {
@@ -198,7 +198,7 @@ impl<'m> Machine<'m> {
     }
 
     /// An action that comes to a value.
-    pub(crate) fn act_value(&mut self, alloc: Allocator, action: Action) -> Result<Value, Halt>
+    pub(crate) fn act_value(&mut self, alloc: Global, action: Action) -> Result<Value, Halt>
         ensures plain { TellsProgress value_of result self.new
             (act value_out (action_of action) (progress_of self.old)) }
         ensures fuel { self.new.fuel ≤ self.old.fuel }
@@ -216,7 +216,7 @@ impl<'m> Machine<'m> {
 
     /// An action that comes to what a `for` goes over. Language Reference 8.3 "The for statement".
     #[inline(never)]
-    pub fn act_iteration(&mut self, alloc: Allocator, action: Action) -> Result<Iteration, Halt>
+    pub fn act_iteration(&mut self, alloc: Global, action: Action) -> Result<Iteration, Halt>
         ensures plain { TellsProgress iteration_of result self.new
             (act iteration_out (action_of action) (progress_of self.old)) }
         ensures fuel { self.new.fuel ≤ self.old.fuel }
@@ -234,7 +234,7 @@ impl<'m> Machine<'m> {
 
     /// A turn of a `for`: the item, or none at the end. Language Reference 8.3 "The for statement".
     #[inline(never)]
-    pub fn act_item(&mut self, alloc: Allocator, action: &Action) -> Result<Option<Value>, Halt>
+    pub fn act_item(&mut self, alloc: Global, action: &Action) -> Result<Option<Value>, Halt>
         ensures plain { TellsProgress value_if_any result self.new
             (act item_out (action_of action.now) (progress_of self.old)) }
         ensures fuel { self.new.fuel ≤ self.old.fuel }
@@ -252,7 +252,7 @@ impl<'m> Machine<'m> {
 
     /// An action that comes to a value, at its place. Own rule of the profile.
     #[inline(never)]
-    pub fn perform(&mut self, alloc: Allocator, place: Place, action: Action) -> Result<Value, Halt>
+    pub fn perform(&mut self, alloc: Global, place: Place, action: Action) -> Result<Value, Halt>
         ensures plain { TellsProgress value_of result self.new
             (act value_out (action_of action) (after_event place (progress_of self.old))) }
         ensures fuel { self.new.fuel ≤ self.old.fuel }

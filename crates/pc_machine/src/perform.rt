@@ -30,13 +30,13 @@ use crate::state::{BuiltinMethod, Callee, Flow, Local, NamedValue};
 use pc_source::Place;
 use pc_tree::{Expr, FuncDef, Name, Stmt};
 use pc_value::{Action, Exception, Iteration, Value};
-use std::alloc::Global as Allocator;
+use std::alloc::Global;
 use std::mem;
 
 impl<'m> Machine<'m> {
     /// A whole number as it is written. Language Reference 2.4.5 "Integer literals".
     #[inline(never)]
-    pub fn number(&mut self, alloc: Allocator, place: Place, digits: &str) -> Result<Value, Halt>
+    pub fn number(&mut self, alloc: Global, place: Place, digits: &str) -> Result<Value, Halt>
         ensures plain { TellsProgress value_of result self.new
             (act value_out (action.number (number_of_digits digits.now)) (after_event place (progress_of self.old))) }
         ensures fuel { self.new.fuel ≤ self.old.fuel }
@@ -47,7 +47,7 @@ impl<'m> Machine<'m> {
 
     /// A text. Language Reference 2.4.1 "String and Bytes literals".
     #[inline(never)]
-    pub fn text(&mut self, alloc: Allocator, place: Place, text: &str) -> Result<Value, Halt>
+    pub fn text(&mut self, alloc: Global, place: Place, text: &str) -> Result<Value, Halt>
         ensures plain { TellsProgress value_of result self.new
             (Came (string (chars text.now)) (after_event place (progress_of self.old))) }
         ensures fuel { self.new.fuel ≤ self.old.fuel }
@@ -60,7 +60,7 @@ impl<'m> Machine<'m> {
     #[inline(never)]
     pub fn read_attribute(
         &mut self,
-        alloc: Allocator,
+        alloc: Global,
         place: Place,
         object: Value,
         name: &str,
@@ -78,7 +78,7 @@ impl<'m> Machine<'m> {
 
     /// A name as a callee: it is charged, then its place, then what it is. Language Reference 6.3.4 "Calls".
     #[inline(never)]
-    pub fn callee_of_name(&mut self, alloc: Allocator, name: &'m Name) -> Result<Callee<'m>, Halt>
+    pub fn callee_of_name(&mut self, alloc: Global, name: &'m Name) -> Result<Callee<'m>, Halt>
         ensures plain { (n : ℕ) → TellsProgress callee_seen result self.new
             (callee_in n (name_node (name_of name.now)) (progress_of self.old)) }
         ensures fuel { self.new.fuel ≤ self.old.fuel }
@@ -93,7 +93,7 @@ impl<'m> Machine<'m> {
     #[inline(never)]
     pub fn callee_of_attribute(
         &mut self,
-        alloc: Allocator,
+        alloc: Global,
         place: Place,
         object: Value,
         name: &str,
@@ -135,7 +135,7 @@ impl<'m> Machine<'m> {
     #[inline(never)]
     pub fn make_instance(
         &mut self,
-        alloc: Allocator,
+        alloc: Global,
         class: usize,
         values: &[Value],
         named: &[NamedValue<'m>],
@@ -163,7 +163,7 @@ impl<'m> Machine<'m> {
     #[inline(never)]
     pub fn call_reserved(
         &mut self,
-        alloc: Allocator,
+        alloc: Global,
         name: &str,
         values: &[Value],
         named: &[NamedValue<'m>],
@@ -202,7 +202,7 @@ impl<'m> Machine<'m> {
     #[inline(never)]
     pub fn call_builtin_method(
         &mut self,
-        alloc: Allocator,
+        alloc: Global,
         object: Value,
         method: BuiltinMethod,
         values: &[Value],
@@ -222,7 +222,7 @@ impl<'m> Machine<'m> {
     #[inline(never)]
     pub fn open(
         &mut self,
-        alloc: Allocator,
+        alloc: Global,
         def: &'m FuncDef,
         object: Option<Value>,
         values: &[Value],
@@ -273,7 +273,7 @@ impl<'m> Machine<'m> {
     #[inline(never)]
     pub fn store_attribute(
         &mut self,
-        alloc: Allocator,
+        alloc: Global,
         place: Place,
         object: Value,
         name: &str,
@@ -292,7 +292,7 @@ impl<'m> Machine<'m> {
     #[inline(never)]
     pub fn store_item(
         &mut self,
-        alloc: Allocator,
+        alloc: Global,
         place: Place,
         object: Value,
         key: Value,
@@ -310,7 +310,7 @@ impl<'m> Machine<'m> {
     #[inline(never)]
     pub fn iterate_range(
         &mut self,
-        alloc: Allocator,
+        alloc: Global,
         place: Place,
         values: Vec<Value>,
         named: &[NamedValue<'m>],

@@ -18,14 +18,14 @@ use pc_machine::{Callee, Halt, Machine, NamedValue, raised};
 use pc_source::Place;
 use pc_tree::{Expr, FuncDef, KeywordArgument, Name};
 use pc_value::{Exception, Value};
-use std::alloc::Global as Allocator;
+use std::alloc::Global;
 
 /// A callee: a name or an attribute is looked up, and its place evaluated, before the arguments.
 #[cycle(evaluate)]
 #[inline(never)]
 fn eval_callee<'m>(
     machine: &mut Machine<'m>,
-    alloc: Allocator,
+    alloc: Global,
     callee: &'m Expr,
 ) -> Result<Callee<'m>, Halt>
     ensures plain { (n : ℕ) → machine.old.fuel < n
@@ -49,7 +49,7 @@ fn eval_callee<'m>(
 #[inline(never)]
 fn eval_instance_test<'m>(
     machine: &mut Machine<'m>,
-    alloc: Allocator,
+    alloc: Global,
     place: Place,
     name: &'m Name,
     object: &'m Expr,
@@ -71,7 +71,7 @@ fn eval_instance_test<'m>(
 #[inline(never)]
 pub(crate) fn eval_call<'m>(
     machine: &mut Machine<'m>,
-    alloc: Allocator,
+    alloc: Global,
     place: Place,
     callee: &'m Expr,
     arguments: &'m [Expr],
@@ -98,7 +98,7 @@ pub(crate) fn eval_call<'m>(
 #[inline(never)]
 pub fn call<'m>(
     machine: &mut Machine<'m>,
-    alloc: Allocator,
+    alloc: Global,
     callee: Callee<'m>,
     values: &[Value],
     named: &[NamedValue<'m>],
@@ -126,7 +126,7 @@ pub fn call<'m>(
 #[inline(never)]
 fn enter<'m>(
     machine: &mut Machine<'m>,
-    alloc: Allocator,
+    alloc: Global,
     def: &'m FuncDef,
     object: Option<Value>,
     values: &[Value],

@@ -19,11 +19,11 @@ use pc_machine::{Halt, Machine, NamedValue};
 use pc_source::Place;
 use pc_tree::{BinaryOperator, ComparisonOperator, Entry, Expr, KeywordArgument, Name};
 use pc_value::{Action, Value};
-use std::alloc::Global as Allocator;
+use std::alloc::Global;
 
 /// An expression: it is charged, then its parts, its event, its action.
 #[cycle(evaluate)]
-pub fn eval<'m>(machine: &mut Machine<'m>, alloc: Allocator, e: &'m Expr) -> Result<Value, Halt>
+pub fn eval<'m>(machine: &mut Machine<'m>, alloc: Global, e: &'m Expr) -> Result<Value, Halt>
     ensures plain { (n : ℕ) → machine.old.fuel < n
         → TellsProgress value_of result machine.new ((plain_parts n).eval (expr_of e.now) (progress_of machine.old)) }
     ensures fuel { machine.new.fuel ≤ machine.old.fuel }
@@ -35,7 +35,7 @@ pub fn eval<'m>(machine: &mut Machine<'m>, alloc: Allocator, e: &'m Expr) -> Res
 
 /// An expression that was charged.
 #[cycle(evaluate)]
-fn eval_node<'m>(machine: &mut Machine<'m>, alloc: Allocator, e: &'m Expr) -> Result<Value, Halt>
+fn eval_node<'m>(machine: &mut Machine<'m>, alloc: Global, e: &'m Expr) -> Result<Value, Halt>
     ensures plain { (n : ℕ) → machine.old.fuel < n
         → TellsProgress value_of result machine.new (node n (expr_of e.now) (progress_of machine.old)) }
     ensures fuel { machine.new.fuel ≤ machine.old.fuel }
@@ -77,7 +77,7 @@ fn eval_node<'m>(machine: &mut Machine<'m>, alloc: Allocator, e: &'m Expr) -> Re
 #[inline(never)]
 fn eval_negative<'m>(
     machine: &mut Machine<'m>,
-    alloc: Allocator,
+    alloc: Global,
     place: Place,
     operand: &'m Expr,
 ) -> Result<Value, Halt>
@@ -95,7 +95,7 @@ fn eval_negative<'m>(
 #[inline(never)]
 fn eval_not<'m>(
     machine: &mut Machine<'m>,
-    alloc: Allocator,
+    alloc: Global,
     place: Place,
     operand: &'m Expr,
 ) -> Result<Value, Halt>
@@ -114,7 +114,7 @@ fn eval_not<'m>(
 #[inline(never)]
 fn eval_attribute<'m>(
     machine: &mut Machine<'m>,
-    alloc: Allocator,
+    alloc: Global,
     place: Place,
     object: &'m Expr,
     field: &'m Name,
@@ -133,7 +133,7 @@ fn eval_attribute<'m>(
 #[inline(never)]
 fn eval_tuple<'m>(
     machine: &mut Machine<'m>,
-    alloc: Allocator,
+    alloc: Global,
     place: Place,
     items: &'m [Expr],
 ) -> Result<Value, Halt>
@@ -151,7 +151,7 @@ fn eval_tuple<'m>(
 #[inline(never)]
 fn eval_list<'m>(
     machine: &mut Machine<'m>,
-    alloc: Allocator,
+    alloc: Global,
     place: Place,
     items: &'m [Expr],
 ) -> Result<Value, Halt>
@@ -169,7 +169,7 @@ fn eval_list<'m>(
 #[inline(never)]
 fn eval_dict<'m>(
     machine: &mut Machine<'m>,
-    alloc: Allocator,
+    alloc: Global,
     place: Place,
     items: &'m [Entry],
 ) -> Result<Value, Halt>
@@ -187,7 +187,7 @@ fn eval_dict<'m>(
 #[inline(never)]
 fn eval_binary<'m>(
     machine: &mut Machine<'m>,
-    alloc: Allocator,
+    alloc: Global,
     place: Place,
     operator: BinaryOperator,
     left: &'m Expr,
@@ -208,7 +208,7 @@ fn eval_binary<'m>(
 #[inline(never)]
 fn eval_compare<'m>(
     machine: &mut Machine<'m>,
-    alloc: Allocator,
+    alloc: Global,
     place: Place,
     operator: ComparisonOperator,
     left: &'m Expr,
@@ -229,7 +229,7 @@ fn eval_compare<'m>(
 #[inline(never)]
 fn eval_none_test<'m>(
     machine: &mut Machine<'m>,
-    alloc: Allocator,
+    alloc: Global,
     place: Place,
     operand: &'m Expr,
     negated: bool,
@@ -252,7 +252,7 @@ fn eval_none_test<'m>(
 #[inline(never)]
 fn eval_and<'m>(
     machine: &mut Machine<'m>,
-    alloc: Allocator,
+    alloc: Global,
     place: Place,
     left: &'m Expr,
     right: &'m Expr,
@@ -275,7 +275,7 @@ fn eval_and<'m>(
 #[inline(never)]
 fn eval_or<'m>(
     machine: &mut Machine<'m>,
-    alloc: Allocator,
+    alloc: Global,
     place: Place,
     left: &'m Expr,
     right: &'m Expr,
@@ -298,7 +298,7 @@ fn eval_or<'m>(
 #[inline(never)]
 fn eval_index<'m>(
     machine: &mut Machine<'m>,
-    alloc: Allocator,
+    alloc: Global,
     place: Place,
     object: &'m Expr,
     key: &'m Expr,
@@ -318,7 +318,7 @@ fn eval_index<'m>(
 #[inline(never)]
 pub(crate) fn eval_all<'m>(
     machine: &mut Machine<'m>,
-    alloc: Allocator,
+    alloc: Global,
     items: &'m [Expr],
 ) -> Result<Vec<Value>, Halt>
     ensures plain { (n : ℕ) → machine.old.fuel < n
@@ -339,7 +339,7 @@ pub(crate) fn eval_all<'m>(
 #[inline(never)]
 fn eval_entries<'m>(
     machine: &mut Machine<'m>,
-    alloc: Allocator,
+    alloc: Global,
     items: &'m [Entry],
 ) -> Result<Vec<pc_value::Entry>, Halt>
     ensures plain { (n : ℕ) → machine.old.fuel < n
@@ -361,7 +361,7 @@ fn eval_entries<'m>(
 #[inline(never)]
 pub(crate) fn eval_keywords<'m>(
     machine: &mut Machine<'m>,
-    alloc: Allocator,
+    alloc: Global,
     by_name: &'m [KeywordArgument],
 ) -> Result<Vec<NamedValue<'m>>, Halt>
     ensures plain { (n : ℕ) → machine.old.fuel < n

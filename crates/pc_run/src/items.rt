@@ -22,7 +22,7 @@ use pc_tree::{
     ClassDef, FuncDef, Item, ItemKind, Literal, LiteralKind, Member, Module, Name, Param,
 };
 use pc_value::{Exception, Value, read_number};
-use std::alloc::Global as Allocator;
+use std::alloc::Global;
 
 /// Whether a literal has a value: a whole number fits 128 signed bits.
 fn literal_has_value(literal: &Literal) -> bool
@@ -109,7 +109,7 @@ fn defaults_last(fields: &[Parameter<'_>]) -> bool
 
 /// The numbers of a class and its ancestors.
 fn ancestors(
-    alloc: Allocator,
+    alloc: Global,
     number: usize,
     base: Option<&Class<'_>>,
 ) -> Result<Vec<usize>, OutOfMemory>
@@ -128,7 +128,7 @@ fn ancestors(
 
 /// The fields that a class has from its base.
 fn inherited_fields<'m>(
-    alloc: Allocator,
+    alloc: Global,
     base: Option<&Class<'m>>,
 ) -> Result<Vec<Parameter<'m>>, OutOfMemory>
     ensures { IfOk result (λ fs. map parameter_of fs.items ≡ fields_of (found_class base.entry)) }
@@ -145,7 +145,7 @@ fn inherited_fields<'m>(
 
 /// The fields of a class, with those of its base first.
 fn fields<'m>(
-    alloc: Allocator,
+    alloc: Global,
     base: Option<&Class<'m>>,
     members: &'m [Member],
 ) -> Result<Vec<Parameter<'m>>, OutOfMemory>
@@ -165,7 +165,7 @@ fn fields<'m>(
 }
 
 /// The methods of a class that are its own.
-fn own_methods<'m>(alloc: Allocator, members: &'m [Member]) -> Result<Vec<&'m FuncDef>, OutOfMemory>
+fn own_methods<'m>(alloc: Global, members: &'m [Member]) -> Result<Vec<&'m FuncDef>, OutOfMemory>
     ensures { IfOk result (λ fs. map method_of_def fs.items ≡ (members_made (map member_of members.now)).methods) }
 {
     let mut methods = Vec::new(alloc);
@@ -179,7 +179,7 @@ fn own_methods<'m>(alloc: Allocator, members: &'m [Member]) -> Result<Vec<&'m Fu
 
 /// The methods of a class, and then those of its base.
 fn methods<'m>(
-    alloc: Allocator,
+    alloc: Global,
     base: Option<&Class<'m>>,
     members: &'m [Member],
 ) -> Result<Vec<&'m FuncDef>, OutOfMemory>
@@ -216,7 +216,7 @@ fn find_base<'m>(machine: &Machine<'m>, base: &Option<Name>) -> Result<Option<us
 /// The class that comes next, after its base. Language Reference 8.8 "Class definitions".
 fn class_behind<'m>(
     machine: &Machine<'m>,
-    alloc: Allocator,
+    alloc: Global,
     base: Option<usize>,
     members: &'m [Member],
 ) -> Result<Class<'m>, OutOfMemory>
@@ -270,7 +270,7 @@ fn bind_class<'m>(
 /// A class is made: `@dataclass`, the base, the defaults, the order of its fields.
 fn make_class<'m>(
     machine: &mut Machine<'m>,
-    alloc: Allocator,
+    alloc: Global,
     imports_dataclass: bool,
     class: &'m ClassDef,
 ) -> Result<(), Halt>
@@ -296,7 +296,7 @@ fn make_class<'m>(
 /// A constant, a class or a def runs.
 fn run_item<'m>(
     machine: &mut Machine<'m>,
-    alloc: Allocator,
+    alloc: Global,
     imports_dataclass: bool,
     item: &'m Item,
 ) -> Result<(), Halt>
@@ -326,7 +326,7 @@ fn run_item<'m>(
 /// The items, in the order of the text.
 fn run_items<'m>(
     machine: &mut Machine<'m>,
-    alloc: Allocator,
+    alloc: Global,
     imports_dataclass: bool,
     items: &'m [Item],
 ) -> Result<(), Halt>
@@ -344,7 +344,7 @@ fn run_items<'m>(
 /// The items, and then `main` is entered.
 pub fn run_module<'m>(
     machine: &mut Machine<'m>,
-    alloc: Allocator,
+    alloc: Global,
     program: &'m Module,
 ) -> Result<Value, Halt>
     ensures plain { (n : ℕ) → machine.old.fuel < n

@@ -13,14 +13,14 @@ use crate::statements::exec;
 use pc_machine::{Flow, Halt, Machine};
 use pc_tree::{Expr, Stmt};
 use pc_value::{Action, Iteration};
-use std::alloc::Global as Allocator;
+use std::alloc::Global;
 
 /// The turns of a `while`. Language Reference 8.2 "The while statement".
 #[cycle(evaluate)]
 #[inline(never)]
 pub(crate) fn run_while<'m>(
     machine: &mut Machine<'m>,
-    alloc: Allocator,
+    alloc: Global,
     condition: &'m Expr,
     body: &'m [Stmt],
 ) -> Result<Flow, Halt>
@@ -49,7 +49,7 @@ pub(crate) fn run_while<'m>(
 #[inline(never)]
 pub(crate) fn eval_iterable<'m>(
     machine: &mut Machine<'m>,
-    alloc: Allocator,
+    alloc: Global,
     e: &'m Expr,
 ) -> Result<Iteration, Halt>
     ensures plain { (n : ℕ) → machine.old.fuel < n
@@ -73,7 +73,7 @@ pub(crate) fn eval_iterable<'m>(
 #[inline(never)]
 pub(crate) fn run_for<'m>(
     machine: &mut Machine<'m>,
-    alloc: Allocator,
+    alloc: Global,
     over: Iteration,
     name: &'m str,
     body: &'m [Stmt],

@@ -18,7 +18,7 @@ use pc_source::OutOfMemory;
 use pc_stop::stops;
 use pc_tree::Module;
 use pc_value::{Exception, Value};
-use std::alloc::Global as Allocator;
+use std::alloc::Global;
 use std::hash::RandomState;
 
 /// How a run that was stopped ends.
@@ -37,7 +37,7 @@ fn end_of_stop(stop: Stop) -> End
 }
 
 /// `main` is entered, without an event.
-pub fn enter_main<'m>(machine: &mut Machine<'m>, alloc: Allocator) -> Result<Value, Halt>
+pub fn enter_main<'m>(machine: &mut Machine<'m>, alloc: Global) -> Result<Value, Halt>
     ensures plain { (n : ℕ) → machine.old.fuel < n
         → TellsProgress value_of result machine.new (main_entered n (progress_of machine.old)) }
     ensures fuel { machine.new.fuel ≤ machine.old.fuel }
@@ -72,7 +72,7 @@ fn trace_of(machine: Machine<'_>, ended: Result<Value, Halt>) -> Result<Trace, O
 ///
 /// `OutOfMemory` where the run or its trace has no room.
 pub fn run(
-    alloc: Allocator,
+    alloc: Global,
     keys: RandomState,
     program: &Module,
     fuel: u64,

@@ -16,13 +16,13 @@ use crate::loops::{eval_iterable, run_for, run_while};
 use pc_machine::{Flow, Halt, Machine, Stop};
 use pc_tree::{Branch, Expr, Name, Stmt, StmtKind, Target};
 use pc_value::Value;
-use std::alloc::Global as Allocator;
+use std::alloc::Global;
 
 /// Statements, one after another.
 #[cycle(evaluate)]
 pub(crate) fn exec<'m>(
     machine: &mut Machine<'m>,
-    alloc: Allocator,
+    alloc: Global,
     body: &'m [Stmt],
 ) -> Result<Flow, Halt>
     ensures plain { (n : ℕ) → machine.old.fuel < n
@@ -44,11 +44,7 @@ pub(crate) fn exec<'m>(
 /// A statement that was charged.
 #[cycle(evaluate)]
 #[inline(never)]
-fn exec_node<'m>(
-    machine: &mut Machine<'m>,
-    alloc: Allocator,
-    kind: &'m StmtKind,
-) -> Result<Flow, Halt>
+fn exec_node<'m>(machine: &mut Machine<'m>, alloc: Global, kind: &'m StmtKind) -> Result<Flow, Halt>
     ensures plain { (n : ℕ) (p : PlaceOf) → machine.old.fuel < n
         → TellsProgress flow_of result machine.new (exec_one n (stmt_of_kind p kind.now) (progress_of machine.old)) }
     ensures fuel { machine.new.fuel ≤ machine.old.fuel }
@@ -85,7 +81,7 @@ fn exec_node<'m>(
 #[inline(never)]
 fn exec_assignment<'m>(
     machine: &mut Machine<'m>,
-    alloc: Allocator,
+    alloc: Global,
     target: &'m Target,
     e: &'m Expr,
 ) -> Result<Flow, Halt>
@@ -101,11 +97,7 @@ fn exec_assignment<'m>(
 /// An expression whose value is not kept. Language Reference 7.1 "Expression statements".
 #[cycle(evaluate)]
 #[inline(never)]
-fn exec_expression<'m>(
-    machine: &mut Machine<'m>,
-    alloc: Allocator,
-    e: &'m Expr,
-) -> Result<Flow, Halt>
+fn exec_expression<'m>(machine: &mut Machine<'m>, alloc: Global, e: &'m Expr) -> Result<Flow, Halt>
     ensures plain { (n : ℕ) (p : PlaceOf) → machine.old.fuel < n
         → TellsProgress flow_of result machine.new
         (exec_one n (evaluates p (expr_of e.now)) (progress_of machine.old)) }
@@ -120,7 +112,7 @@ fn exec_expression<'m>(
 #[inline(never)]
 fn exec_assert<'m>(
     machine: &mut Machine<'m>,
-    alloc: Allocator,
+    alloc: Global,
     condition: &'m Expr,
     message: &'m Option<Box<Expr>>,
 ) -> Result<Flow, Halt>
@@ -144,7 +136,7 @@ fn exec_assert<'m>(
 #[inline(never)]
 fn assign<'m>(
     machine: &mut Machine<'m>,
-    alloc: Allocator,
+    alloc: Global,
     target: &'m Target,
     value: Value,
 ) -> Result<Flow, Halt>
@@ -175,7 +167,7 @@ fn assign<'m>(
 #[inline(never)]
 fn exec_branches<'m>(
     machine: &mut Machine<'m>,
-    alloc: Allocator,
+    alloc: Global,
     branches: &'m [Branch],
     otherwise: &'m [Stmt],
 ) -> Result<Flow, Halt>

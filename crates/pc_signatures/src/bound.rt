@@ -5,10 +5,11 @@ ghost use Rattle.pc_rules.specs.Computed.Signatures.{bound_in, with_name};
 
 use indexmap::IndexSet;
 use pc_source::OutOfMemory;
+use pc_tree::Keys;
 use std::alloc::Global;
 
 /// The names that are bound already.
-pub(crate) type Texts = IndexSet<String>;
+pub(crate) type Texts = IndexSet<String, Keys>;
 
 /// Whether a name is bound already.
 pub(crate) fn is_bound(bound: &Texts, name: &str) -> bool

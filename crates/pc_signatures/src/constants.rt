@@ -34,9 +34,9 @@ use pc_source::OutOfMemory;
 use pc_tree::{ClassDef, Constant, Expr, Item, ItemKind};
 use pc_types::TypeStore;
 
-/// What a walk over items has reached: the types of the constants, the methods of each class, the names that are bound.
+/// What the items read so far give: the types of the constants, the methods of each class, the names that are bound.
 #[derive(Drop)]
-pub(crate) struct Walk<Ty: Drop> {
+pub(crate) struct ItemsRead<Ty: Drop> {
     pub constants: Vec<Ty>,
     pub methods: Vec<Vec<Signature<Ty>>>,
     pub bound: Texts,
@@ -46,20 +46,20 @@ pub(crate) struct Walk<Ty: Drop> {
 fn type_initializer<S: TypeStore>(
     checker: &mut Checker<'_, S>,
     globals: &ModuleContext<'_, S::Ty>,
-    walk: &Walk<S::Ty>,
+    read: &ItemsRead<S::Ty>,
     want: &Option<S::Ty>,
     value: &Expr,
 ) -> Result<Label<S::Ty>, OutOfMemory>
     requires globals { AreGlobals S.has S.tree checker.old.store.now globals.now }
-    requires constants { All (S.has checker.old.store.now) walk.now.constants.items }
+    requires constants { All (S.has checker.old.store.now) read.now.constants.items }
     requires want { HasIfAny (S.has checker.old.store.now) want.now }
     ensures labelled { IfOk result
         (λ l. IsLabel S.TypeStore checker.new l
-        (label_in (initial (module_in globals.now.outline.now) (map S.tree walk.now.constants.items)
-        (length walk.now.methods.items)) (option_map S.tree want.now) (expr_of value.now))) }
+        (label_in (initial (module_in globals.now.outline.now) (map S.tree read.now.constants.items)
+        (length read.now.methods.items)) (option_map S.tree want.now) (expr_of value.now))) }
     ensures found { OnOk result (Finds checker.old checker.new
-        (finds_in (initial (module_in globals.now.outline.now) (map S.tree walk.now.constants.items)
-        (length walk.now.methods.items)) (option_map S.tree want.now) (expr_of value.now))) }
+        (finds_in (initial (module_in globals.now.outline.now) (map S.tree read.now.constants.items)
+        (length read.now.methods.items)) (option_map S.tree want.now) (expr_of value.now))) }
     ensures goes_on { GoesOn S.TypeStore checker.old checker.new }
 {
     let names = OwnerNames {
@@ -72,8 +72,8 @@ fn type_initializer<S: TypeStore>(
         outline: globals.outline,
         classes: globals.classes,
         functions: globals.functions,
-        constants: &walk.constants,
-        known: walk.methods.len(),
+        constants: &read.constants,
+        known: read.methods.len(),
     };
     let setting = Setting {
         globals: &so_far,
@@ -88,25 +88,25 @@ fn type_initializer<S: TypeStore>(
 fn check_annotated<S: TypeStore>(
     checker: &mut Checker<'_, S>,
     globals: &ModuleContext<'_, S::Ty>,
-    walk: &Walk<S::Ty>,
+    read: &ItemsRead<S::Ty>,
     binds: bool,
     ty: &S::Ty,
     value: &Expr,
 ) -> Result<(), OutOfMemory>
     requires globals { AreGlobals S.has S.tree checker.old.store.now globals.now }
-    requires constants { All (S.has checker.old.store.now) walk.now.constants.items }
+    requires constants { All (S.has checker.old.store.now) read.now.constants.items }
     requires ty { S.has checker.old.store.now ty.now }
     ensures found { OnOk result (Finds checker.old checker.new
-        (value_findings (module_in globals.now.outline.now) (reached_with S.tree walk.now)
+        (value_findings (module_in globals.now.outline.now) (reached_with S.tree read.now)
         (if binds then S.tree ty.now ∷ [] else []) (expr_of value.now))) }
     ensures goes_on { GoesOn S.TypeStore checker.old checker.new }
 {
     if !binds {
-        type_initializer(checker, globals, walk, &None, value)?;
+        type_initializer(checker, globals, read, &None, value)?;
         return Ok(());
     }
     let want = Some(checker.store.copy(checker.alloc, ty)?);
-    let label = type_initializer(checker, globals, walk, &want, value)?;
+    let label = type_initializer(checker, globals, read, &want, value)?;
     find_into(checker, globals.outline.parents, value.place(), &label, ty)
 }
 
@@ -115,30 +115,30 @@ fn check_annotated<S: TypeStore>(
 fn read_constant<S: TypeStore>(
     checker: &mut Checker<'_, S>,
     globals: &ModuleContext<'_, S::Ty>,
-    walk: &Walk<S::Ty>,
+    read: &ItemsRead<S::Ty>,
     constant: &Constant,
 ) -> Result<S::Ty, OutOfMemory>
     requires globals { AreGlobals S.has S.tree checker.old.store.now globals.now }
-    requires constants { All (S.has checker.old.store.now) walk.now.constants.items }
+    requires constants { All (S.has checker.old.store.now) read.now.constants.items }
     ensures typed { IfOk result
         (λ t. Means S.has S.tree checker.new.store.now t
-        (type_of_constant (module_in globals.now.outline.now) (reached_with S.tree walk.now)
+        (type_of_constant (module_in globals.now.outline.now) (reached_with S.tree read.now)
         (constant_of constant.now))) }
     ensures found { OnOk result (Finds checker.old checker.new
-        (constant_findings (module_in globals.now.outline.now) (reached_with S.tree walk.now)
+        (constant_findings (module_in globals.now.outline.now) (reached_with S.tree read.now)
         (constant_of constant.now))) }
     ensures goes_on { GoesOn S.TypeStore checker.old checker.new }
 {
     let value = &constant.value;
     match &constant.annotation {
         None => {
-            let label = type_initializer(checker, globals, walk, &None, value)?;
+            let label = type_initializer(checker, globals, read, &None, value)?;
             Ok(label.ty)
         }
         Some(ann) => {
             let ty = read_annotation(checker, globals.outline, ann)?;
-            let binds = binds(&walk.bound, constant.name.text.as_str());
-            check_annotated(checker, globals, walk, binds, &ty, value)?;
+            let binds = binds(&read.bound, constant.name.text.as_str());
+            check_annotated(checker, globals, read, binds, &ty, value)?;
             Ok(ty)
         }
     }
@@ -148,86 +148,86 @@ fn read_constant<S: TypeStore>(
 fn add_constant<S: TypeStore>(
     checker: &mut Checker<'_, S>,
     globals: &ModuleContext<'_, S::Ty>,
-    walk: &mut Walk<S::Ty>,
+    read: &mut ItemsRead<S::Ty>,
     constant: &Constant,
 ) -> Result<(), OutOfMemory>
     requires globals { AreGlobals S.has S.tree checker.old.store.now globals.now }
-    requires held { HasReached (S.has checker.old.store.now) walk.old }
-    ensures held { OnOk result (HasReached (S.has checker.new.store.now) walk.new) }
-    ensures methods { OnOk result (walk.new.methods ≡ walk.old.methods) }
+    requires held { HasReached (S.has checker.old.store.now) read.old }
+    ensures held { OnOk result (HasReached (S.has checker.new.store.now) read.new) }
+    ensures methods { OnOk result (read.new.methods ≡ read.old.methods) }
     ensures reached { (p : Place)
-        → OnOk result (reached_with S.tree walk.new
-        ≡ behind (module_in globals.now.outline.now) (reached_with S.tree walk.old)
+        → OnOk result (reached_with S.tree read.new
+        ≡ behind (module_in globals.now.outline.now) (reached_with S.tree read.old)
         (constant_item p (constant_of constant.now))) }
     ensures found { OnOk result (Finds checker.old checker.new
-        (constant_findings (module_in globals.now.outline.now) (reached_with S.tree walk.old)
+        (constant_findings (module_in globals.now.outline.now) (reached_with S.tree read.old)
         (constant_of constant.now))) }
     ensures goes_on { GoesOn S.TypeStore checker.old checker.new }
 {
-    let ty = read_constant(checker, globals, walk, constant)?;
-    walk.constants.push(ty)?;
-    bind(&mut walk.bound, checker.alloc, constant.name.text.as_str())
+    let ty = read_constant(checker, globals, read, constant)?;
+    read.constants.push(ty)?;
+    bind(&mut read.bound, checker.alloc, constant.name.text.as_str())
 }
 
 /// Goes over a class: reads its members, and adds it to those that are reached.
 fn add_class<S: TypeStore>(
     checker: &mut Checker<'_, S>,
     globals: &ModuleContext<'_, S::Ty>,
-    walk: &mut Walk<S::Ty>,
+    read: &mut ItemsRead<S::Ty>,
     class: &ClassDef,
 ) -> Result<(), OutOfMemory>
     requires globals { AreGlobals S.has S.tree checker.old.store.now globals.now }
-    requires held { HasReached (S.has checker.old.store.now) walk.old }
-    requires class { IsClassAt (module_in globals.now.outline.now) (length walk.old.methods.items)
+    requires held { HasReached (S.has checker.old.store.now) read.old }
+    requires class { IsClassAt (module_in globals.now.outline.now) (length read.old.methods.items)
         (class_of class.now) }
-    ensures held { OnOk result (HasReached (S.has checker.new.store.now) walk.new) }
+    ensures held { OnOk result (HasReached (S.has checker.new.store.now) read.new) }
     ensures methods { OnOk result
-        (map (methods_with S.tree) walk.new.methods.items
-        ≡ map (methods_with S.tree) walk.old.methods.items
+        (map (methods_with S.tree) read.new.methods.items
+        ≡ map (methods_with S.tree) read.old.methods.items
         ++ class_methods (module_in globals.now.outline.now) (class_of class.now) ∷ []) }
     ensures reached { (p : Place)
-        → OnOk result (reached_with S.tree walk.new
-        ≡ behind (module_in globals.now.outline.now) (reached_with S.tree walk.old)
+        → OnOk result (reached_with S.tree read.new
+        ≡ behind (module_in globals.now.outline.now) (reached_with S.tree read.old)
         (class_item p (class_of class.now))) }
     ensures found { OnOk result (Finds checker.old checker.new
-        (class_notes (module_in globals.now.outline.now) (length walk.old.methods.items) (class_of class.now))) }
+        (class_notes (module_in globals.now.outline.now) (length read.old.methods.items) (class_of class.now))) }
     ensures goes_on { GoesOn S.TypeStore checker.old checker.new }
 {
-    let number = walk.methods.len();
+    let number = read.methods.len();
     let base = globals.outline.parents.base(number);
     let numbers = ClassNumbers { number, base };
     let methods = read_members(checker, globals, numbers, &class.members)?;
-    walk.methods.push(methods)?;
-    bind(&mut walk.bound, checker.alloc, class.name.text.as_str())
+    read.methods.push(methods)?;
+    bind(&mut read.bound, checker.alloc, class.name.text.as_str())
 }
 
 /// Goes over an item, and adds it to those that are reached.
 fn add_item<S: TypeStore>(
     checker: &mut Checker<'_, S>,
     globals: &ModuleContext<'_, S::Ty>,
-    walk: &mut Walk<S::Ty>,
+    read: &mut ItemsRead<S::Ty>,
     item: &Item,
 ) -> Result<(), OutOfMemory>
     requires globals { AreGlobals S.has S.tree checker.old.store.now globals.now }
-    requires held { HasReached (S.has checker.old.store.now) walk.old }
-    requires class { IsClassNumbered (module_in globals.now.outline.now) (length walk.old.methods.items)
+    requires held { HasReached (S.has checker.old.store.now) read.old }
+    requires class { IsClassNumbered (module_in globals.now.outline.now) (length read.old.methods.items)
         (item_of item.now) }
-    ensures held { OnOk result (HasReached (S.has checker.new.store.now) walk.new) }
+    ensures held { OnOk result (HasReached (S.has checker.new.store.now) read.new) }
     ensures methods { OnOk result
-        (map (methods_with S.tree) walk.new.methods.items
-        ≡ map (methods_with S.tree) walk.old.methods.items
+        (map (methods_with S.tree) read.new.methods.items
+        ≡ map (methods_with S.tree) read.old.methods.items
         ++ signatures_of_methods (module_in globals.now.outline.now) (classes_in (item_of item.now ∷ []))) }
     ensures reached { OnOk result
-        (reached_with S.tree walk.new
-        ≡ behind (module_in globals.now.outline.now) (reached_with S.tree walk.old) (item_of item.now)) }
+        (reached_with S.tree read.new
+        ≡ behind (module_in globals.now.outline.now) (reached_with S.tree read.old) (item_of item.now)) }
     ensures found { OnOk result (Finds checker.old checker.new
-        (item_findings (module_in globals.now.outline.now) (reached_with S.tree walk.old) (item_of item.now))) }
+        (item_findings (module_in globals.now.outline.now) (reached_with S.tree read.old) (item_of item.now))) }
     ensures goes_on { GoesOn S.TypeStore checker.old checker.new }
 {
     match &item.kind {
-        ItemKind::Constant(constant) => add_constant(checker, globals, walk, constant),
-        ItemKind::Class(class) => add_class(checker, globals, walk, class),
-        ItemKind::Def(def) => bind(&mut walk.bound, checker.alloc, def.name.text.as_str()),
+        ItemKind::Constant(constant) => add_constant(checker, globals, read, constant),
+        ItemKind::Class(class) => add_class(checker, globals, read, class),
+        ItemKind::Def(def) => bind(&mut read.bound, checker.alloc, def.name.text.as_str()),
     }
 }
 
@@ -237,7 +237,7 @@ fn add_item<S: TypeStore>(
 pub(crate) fn read_items<S: TypeStore>(
     checker: &mut Checker<'_, S>,
     globals: &ModuleContext<'_, S::Ty>,
-) -> Result<Walk<S::Ty>, OutOfMemory>
+) -> Result<ItemsRead<S::Ty>, OutOfMemory>
     requires { AreGlobals S.has S.tree checker.old.store.now globals.now }
     ensures held { IfOk result (HasReached (S.has checker.new.store.now)) }
     ensures constants { IfOk result
@@ -249,14 +249,14 @@ pub(crate) fn read_items<S: TypeStore>(
         (module_in globals.now.outline.now).items)) }
     ensures goes_on { GoesOn S.TypeStore checker.old checker.new }
 {
-    let mut walk = Walk {
+    let mut read = ItemsRead {
         constants: Vec::new(checker.alloc),
         methods: Vec::new(checker.alloc),
-        bound: IndexSet::new(checker.alloc),
+        bound: IndexSet::with_hasher(checker.alloc, globals.outline.tree.keys),
     };
     let items = globals.outline.tree.items.as_slice();
     for item in items {
-        add_item(checker, globals, &mut walk, item)?;
+        add_item(checker, globals, &mut read, item)?;
     }
-    Ok(walk)
+    Ok(read)
 }

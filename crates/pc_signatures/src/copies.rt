@@ -9,6 +9,7 @@ ghost use Rattle.pc_signatures.specs.Internal.SignaturesRead.{IsParameter, ArePa
 use pc_class::{Method, Parameter, ParameterList};
 use pc_rules::Signature;
 use pc_source::OutOfMemory;
+use pc_tree::Keys;
 use pc_types::TypeStore;
 use std::alloc::Global;
 
@@ -51,6 +52,7 @@ fn copy_parameters<S: TypeStore>(
 pub(crate) fn copy_signature<S: TypeStore>(
     store: &S,
     alloc: Global,
+    keys: Keys,
     method: &Method<S::Ty>,
 ) -> Result<Signature<S::Ty>, OutOfMemory>
     requires { HasMethod (S.has store.now) method.now }
@@ -58,7 +60,7 @@ pub(crate) fn copy_signature<S: TypeStore>(
         (λ s. IsSignature S.has S.tree store.now s (method_signature (method_with S.tree method.now))) }
 {
     let params = copy_parameters(store, alloc, method.params.as_slice())?;
-    let params = ParameterList::new(alloc, params)?;
+    let params = ParameterList::new(alloc, keys, params)?;
     let ret = store.copy(alloc, &method.ret)?;
     Ok(Signature { params, ret })
 }

@@ -182,12 +182,12 @@ fn read_method<S: TypeStore>(
     ensures goes_on { GoesOn S.TypeStore checker.old checker.new }
 {
     let outline = globals.outline;
-    let mut names = IndexSet::new(checker.alloc);
+    let mut names = IndexSet::with_hasher(checker.alloc, outline.tree.keys);
     bind(&mut names, checker.alloc, "self")?;
     match held_method(globals.classes, class, bound, def.name.text.as_str()) {
         None => read_signature(checker, outline, &mut names, def),
         Some(held) => {
-            let signature = copy_signature(checker.store, checker.alloc, held)?;
+            let signature = copy_signature(checker.store, checker.alloc, outline.tree.keys, held)?;
             let typed = signature.params.as_slice();
             find_defaults(checker, outline, &mut names, &def.params, typed)?;
             Ok(signature)
@@ -260,7 +260,7 @@ pub(crate) fn read_members<S: TypeStore>(
     ensures goes_on { GoesOn S.TypeStore checker.old checker.new }
 {
     let mut methods = Vec::new(checker.alloc);
-    let mut bound = IndexSet::new(checker.alloc);
+    let mut bound = IndexSet::with_hasher(checker.alloc, globals.outline.tree.keys);
     for member in members {
         add_member(checker, globals, class, &bound, member, &mut methods)?;
         bind(&mut bound, checker.alloc, name_of(member).text.as_str())?;

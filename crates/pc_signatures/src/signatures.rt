@@ -140,7 +140,7 @@ pub(crate) fn read_signature<S: TypeStore>(
     ensures goes_on { GoesOn S.TypeStore checker.old checker.new }
 {
     let params = read_params(checker, outline, bound, &def.params)?;
-    let params = ParameterList::new(checker.alloc, params)?;
+    let params = ParameterList::new(checker.alloc, outline.tree.keys, params)?;
     let ret = read_optional(checker, outline, &def.returns)?;
     Ok(Signature { params, ret })
 }
@@ -167,7 +167,7 @@ fn add_function<S: TypeStore>(
         ItemKind::Constant(_) => Ok(()),
         ItemKind::Class(_) => Ok(()),
         ItemKind::Def(def) => {
-            let mut bound = IndexSet::new(checker.alloc);
+            let mut bound = IndexSet::with_hasher(checker.alloc, outline.tree.keys);
             let signature = read_signature(checker, outline, &mut bound, def)?;
             functions.push(signature)?;
             Ok(())

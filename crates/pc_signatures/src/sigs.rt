@@ -110,10 +110,10 @@ pub fn read_signatures<S: TypeStore>(
         constants: &[],
         known: 0,
     };
-    let walk = read_items(checker, &globals)?;
+    let read = read_items(checker, &globals)?;
     Ok(Sigs {
-        constants: walk.constants,
+        constants: read.constants,
         functions,
-        methods: walk.methods,
+        methods: read.methods,
     })
 }

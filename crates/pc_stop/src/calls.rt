@@ -17,13 +17,13 @@ use pc_tree::{
     Branch, Code, Entry, Expr, Findings, Item, ItemKind, KeywordArgument, Stmt, StmtKind, Target,
     find_if, put,
 };
-use std::alloc::Global as Allocator;
+use std::alloc::Global;
 use std::hash::RandomState;
 
 /// Finds the names that one call is given again.
 fn find_given_again(
     found: &mut Findings,
-    alloc: Allocator,
+    alloc: Global,
     keys: RandomState,
     by_name: &[KeywordArgument],
 ) -> Result<(), OutOfMemory>
@@ -42,7 +42,7 @@ fn find_given_again(
 #[cycle(given)]
 fn find_given(
     found: &mut Findings,
-    alloc: Allocator,
+    alloc: Global,
     keys: RandomState,
     e: &Expr,
 ) -> Result<(), OutOfMemory>
@@ -91,7 +91,7 @@ fn find_given(
 #[cycle(given)]
 fn find_given_in_all(
     found: &mut Findings,
-    alloc: Allocator,
+    alloc: Global,
     keys: RandomState,
     items: &[Expr],
 ) -> Result<(), OutOfMemory>
@@ -107,7 +107,7 @@ fn find_given_in_all(
 #[cycle(given)]
 fn find_given_in_entries(
     found: &mut Findings,
-    alloc: Allocator,
+    alloc: Global,
     keys: RandomState,
     entries: &[Entry],
 ) -> Result<(), OutOfMemory>
@@ -125,7 +125,7 @@ fn find_given_in_entries(
 #[cycle(given)]
 fn find_given_in_values(
     found: &mut Findings,
-    alloc: Allocator,
+    alloc: Global,
     keys: RandomState,
     by_name: &[KeywordArgument],
 ) -> Result<(), OutOfMemory>
@@ -141,7 +141,7 @@ fn find_given_in_values(
 /// Finds the names given again in the calls of an expression, if there is one.
 fn find_given_in_optional(
     found: &mut Findings,
-    alloc: Allocator,
+    alloc: Global,
     keys: RandomState,
     e: &Option<Box<Expr>>,
 ) -> Result<(), OutOfMemory>
@@ -156,7 +156,7 @@ fn find_given_in_optional(
 /// Finds the names given again in the calls of what is assigned to.
 fn find_given_in_target(
     found: &mut Findings,
-    alloc: Allocator,
+    alloc: Global,
     keys: RandomState,
     target: &Target,
 ) -> Result<(), OutOfMemory>
@@ -176,7 +176,7 @@ fn find_given_in_target(
 #[cycle(given_in_body)]
 pub fn find_given_in_body(
     found: &mut Findings,
-    alloc: Allocator,
+    alloc: Global,
     keys: RandomState,
     body: &[Stmt],
 ) -> Result<(), OutOfMemory>
@@ -192,7 +192,7 @@ pub fn find_given_in_body(
 #[cycle(given_in_body)]
 fn find_given_in_statement(
     found: &mut Findings,
-    alloc: Allocator,
+    alloc: Global,
     keys: RandomState,
     kind: &StmtKind,
 ) -> Result<(), OutOfMemory>
@@ -231,7 +231,7 @@ fn find_given_in_statement(
 #[cycle(given_in_body)]
 fn find_given_in_branches(
     found: &mut Findings,
-    alloc: Allocator,
+    alloc: Global,
     keys: RandomState,
     branches: &[Branch],
 ) -> Result<(), OutOfMemory>
@@ -248,7 +248,7 @@ fn find_given_in_branches(
 /// Finds the names given again in the calls of the initializers of constants.
 pub fn find_given_in_constants(
     found: &mut Findings,
-    alloc: Allocator,
+    alloc: Global,
     keys: RandomState,
     items: &[Item],
 ) -> Result<(), OutOfMemory>

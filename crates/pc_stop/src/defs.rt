@@ -14,7 +14,7 @@ use crate::reserved::find_reserved_names;
 use crate::twice::find_parameters_again;
 use pc_source::OutOfMemory;
 use pc_tree::{Findings, FuncDef, Item, ItemKind, Member};
-use std::alloc::Global as Allocator;
+use std::alloc::Global;
 use std::hash::RandomState;
 
 /// A rule on one function or method, by which a code is found in it.
@@ -35,7 +35,7 @@ pub enum FunctionRule {
 /// Finds what a rule finds in a function or method.
 fn find_by(
     found: &mut Findings,
-    alloc: Allocator,
+    alloc: Global,
     keys: RandomState,
     rule: FunctionRule,
     is_method: bool,
@@ -62,7 +62,7 @@ fn find_by(
 /// Finds what a rule finds in the methods of a class.
 fn find_in_methods(
     found: &mut Findings,
-    alloc: Allocator,
+    alloc: Global,
     keys: RandomState,
     rule: FunctionRule,
     members: &[Member],
@@ -82,7 +82,7 @@ fn find_in_methods(
 /// Finds what a rule finds in the functions and methods of a module.
 pub fn find_in_defs(
     found: &mut Findings,
-    alloc: Allocator,
+    alloc: Global,
     keys: RandomState,
     rule: FunctionRule,
     items: &[Item],

@@ -10,7 +10,7 @@ use crate::tables::{Node, table_with, value_in};
 use indexmap::IndexSet;
 use pc_source::OutOfMemory;
 use pc_tree::{Member, NameSet};
-use std::alloc::Global as Allocator;
+use std::alloc::Global;
 use std::hash::RandomState;
 
 /// How many binary digits the number of a name has at most: a text of the profile has fewer names than they tell.
@@ -78,7 +78,7 @@ fn with_member(had: Holding, member: &Member) -> Holding
 
 impl<'m> Holdings<'m> {
     /// No names, and the empty table.
-    pub fn new(alloc: Allocator, keys: RandomState) -> Result<Holdings<'m>, OutOfMemory>
+    pub fn new(alloc: Global, keys: RandomState) -> Result<Holdings<'m>, OutOfMemory>
         ensures { IfOk result (λ h. HasIn h EMPTY []) }
     {
         let empty = Node { even: 0, odd: 0 };

@@ -18,7 +18,7 @@ use pc_tree::{
     Code, Findings, Item, ItemKind, Member, Module, Name, NameMap, NameSet, bind_first, find_if,
     is_reserved, put,
 };
-use std::alloc::Global as Allocator;
+use std::alloc::Global;
 use std::hash::RandomState;
 
 /// Whether a field clashes with whatever the base has by its name, a method with a field.
@@ -105,7 +105,7 @@ fn find_member<'m>(
 /// Finds the members of a class that clash, and gives its table: what it inherits, and its own members.
 fn find_in_class<'m>(
     found: &mut Findings,
-    alloc: Allocator,
+    alloc: Global,
     keys: RandomState,
     holdings: &mut Holdings<'m>,
     inherited: usize,
@@ -145,7 +145,7 @@ fn base_table(bound: &NameMap<'_, usize>, base: &Option<Name>) -> usize
 /// binds it.
 fn find_in_item<'m>(
     found: &mut Findings,
-    alloc: Allocator,
+    alloc: Global,
     keys: RandomState,
     holdings: &mut Holdings<'m>,
     bound: &NameMap<'m, usize>,
@@ -180,7 +180,7 @@ fn find_in_item<'m>(
 /// `OutOfMemory` where the findings or the tables have no room, or where more names are members' than a text has bytes.
 pub fn find_in_classes(
     found: &mut Findings,
-    alloc: Allocator,
+    alloc: Global,
     keys: RandomState,
     program: &Module,
 ) -> Result<(), OutOfMemory>

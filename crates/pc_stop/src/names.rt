@@ -6,10 +6,10 @@ ghost use Rattle.pc_tree.specs.Stopping.{name_of_item, name_of_param};
 
 use pc_source::OutOfMemory;
 use pc_tree::{Item, Name, Param};
-use std::alloc::Global as Allocator;
+use std::alloc::Global;
 
 /// The names of items, in text order.
-pub fn names_of<'m>(alloc: Allocator, items: &'m [Item]) -> Result<Vec<&'m Name>, OutOfMemory>
+pub fn names_of<'m>(alloc: Global, items: &'m [Item]) -> Result<Vec<&'m Name>, OutOfMemory>
     ensures { IfOk result (λ ns. map name_seen ns.items ≡ map name_of_item (map item_of items.now)) }
 {
     let mut names = Vec::new(alloc);

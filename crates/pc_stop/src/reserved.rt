@@ -14,7 +14,7 @@ use pc_source::OutOfMemory;
 use pc_tree::{
     Code, Findings, FuncDef, Item, ItemKind, Member, Name, add_bound, find_if, is_reserved,
 };
-use std::alloc::Global as Allocator;
+use std::alloc::Global;
 
 /// Finds the reserved ones among names that are bound.
 fn find_reserved(found: &mut Findings, names: &[&Name]) -> Result<(), OutOfMemory>
@@ -34,7 +34,7 @@ fn find_reserved(found: &mut Findings, names: &[&Name]) -> Result<(), OutOfMemor
 /// Finds the reserved names that the module binds.
 pub fn find_reserved_items(
     found: &mut Findings,
-    alloc: Allocator,
+    alloc: Global,
     items: &[Item],
 ) -> Result<(), OutOfMemory>
     ensures { OnOk result (found.new.items
@@ -91,7 +91,7 @@ pub fn find_reserved_in_classes(found: &mut Findings, items: &[Item]) -> Result<
 /// Finds the reserved names that a function binds, as parameters and in its body.
 pub fn find_reserved_names(
     found: &mut Findings,
-    alloc: Allocator,
+    alloc: Global,
     def: &FuncDef,
 ) -> Result<(), OutOfMemory>
     ensures { OnOk result (found.new.items ≡ found.old.items ++ at_code E29 (reserved_in_def (func_of def.now))) }

@@ -15,14 +15,14 @@ use crate::reserved::{find_reserved_in_classes, find_reserved_items};
 use crate::twice::find_items_again;
 use pc_source::OutOfMemory;
 use pc_tree::{Findings, Module};
-use std::alloc::Global as Allocator;
+use std::alloc::Global;
 use std::hash::RandomState;
 
 /// Finds what is bound or given twice: E01.
 #[tactic(auto, using(pc_tree::proofs::Finds::at_both, pc_tree::proofs::Joints::joined))]
 fn find_twice(
     found: &mut Findings,
-    alloc: Allocator,
+    alloc: Global,
     keys: RandomState,
     program: &Module,
 ) -> Result<(), OutOfMemory>
@@ -39,7 +39,7 @@ fn find_twice(
 #[tactic(auto, using(pc_tree::proofs::Finds::at_both, pc_tree::proofs::Joints::joined))]
 fn find_reserved(
     found: &mut Findings,
-    alloc: Allocator,
+    alloc: Global,
     keys: RandomState,
     program: &Module,
 ) -> Result<(), OutOfMemory>
@@ -59,7 +59,7 @@ fn find_reserved(
 /// `OutOfMemory` where the findings, or the names that were passed, have no room.
 pub fn find_in_scopes(
     found: &mut Findings,
-    alloc: Allocator,
+    alloc: Global,
     keys: RandomState,
     program: &Module,
 ) -> Result<(), OutOfMemory>
@@ -86,7 +86,7 @@ pub fn find_in_scopes(
 /// # Errors
 ///
 /// `OutOfMemory` where the findings, or the names that were passed, have no room.
-pub fn stops(alloc: Allocator, keys: RandomState, program: &Module) -> Result<Findings, OutOfMemory>
+pub fn stops(alloc: Global, keys: RandomState, program: &Module) -> Result<Findings, OutOfMemory>
     ensures found { IfOk result
         (λ fs. (f : FindingOf) → Contains fs.items f ↔ IsStopping (module_of program.now) f.place f.code) }
     ensures none { IfOk result (λ fs. has_none fs.items ≡ is_runnable (module_of program.now)) }

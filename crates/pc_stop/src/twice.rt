@@ -12,7 +12,7 @@ use crate::names::{add_params, names_of};
 use indexmap::IndexSet;
 use pc_source::OutOfMemory;
 use pc_tree::{Code, Findings, Item, Name, NameSet, Param, find_if, is_reserved, put};
-use std::alloc::Global as Allocator;
+use std::alloc::Global;
 use std::hash::RandomState;
 
 /// Finds a name that stands among those before it, unless it is reserved.
@@ -46,7 +46,7 @@ fn find_bound_again<'m>(
 /// Finds the names that the module binds again.
 pub fn find_items_again(
     found: &mut Findings,
-    alloc: Allocator,
+    alloc: Global,
     keys: RandomState,
     items: &[Item],
 ) -> Result<(), OutOfMemory>
@@ -114,7 +114,7 @@ fn find_few_again(
 /// Finds the parameters that have the name of an earlier one, or of the object of a method.
 pub fn find_parameters_again(
     found: &mut Findings,
-    alloc: Allocator,
+    alloc: Global,
     keys: RandomState,
     is_method: bool,
     params: &[Param],

@@ -68,7 +68,7 @@ pub(crate) fn findings(alloc: Global, module: &Module) -> Result<Found, OutOfMem
 {
     let scopes = scopes(alloc, module)?;
     let parents = parents_of(alloc, module, &scopes)?;
-    let mut store = InternStore::new(alloc, parents)?;
+    let mut store = InternStore::new(alloc, module.keys, parents)?;
     let notes = findings_by(&mut store, alloc, module, &scopes)?;
     Ok(Found {
         notes,

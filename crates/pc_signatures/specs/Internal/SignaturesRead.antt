@@ -9,7 +9,7 @@ use Rattle.pc_class.specs.Tables.{HasParameter, HasEntries, parameter_with, para
 use Rattle.pc_class.specs.declared.table.Parameter.{Parameter as RustParameter}
 use Rattle.pc_rules.specs.declared.setting.Signature.{Signature as RustSignature}
 use Rattle.pc_rules.specs.declared.setting.ModuleContext.{ModuleContext}
-use Rattle.pc_signatures.specs.declared.constants.Walk.{Walk}
+use Rattle.pc_signatures.specs.declared.constants.ItemsRead.{ItemsRead}
 use Rattle.pc_rules.specs.Context.{Signature}
 use Rattle.pc_rules.specs.Signatures.{signatures_of}
 use Rattle.pc_rules.specs.Computed.Signatures.{ItemsReached, bound_in}
@@ -24,8 +24,8 @@ module _ {Ty : Type 0} (tree : Ty → Tree) where
   abbrev pub methods_with : Vec (RustSignature Ty) Global → List Signature
   methods_with v = signatures_with v.items
 
-  -- what a walk has reached
-  abbrev pub reached_with : Walk Ty → ItemsReached
+  -- what the items read so far give
+  abbrev pub reached_with : ItemsRead Ty → ItemsReached
   reached_with w = record {
     constants = map tree w.constants.items;
     classes = length w.methods.items;
@@ -41,8 +41,8 @@ module _ {Ty : Type 0} (has : Ty → Type 0) where
   abbrev pub HasMethods : Vec (RustSignature Ty) Global → Type 0
   HasMethods v = HasSignatures v.items
 
-  -- the store gave the types of the constants and of the methods that a walk has reached
-  pub record HasReached (w : Walk Ty) : Type 0 where
+  -- the store gave the types of the constants and of the methods of the items read so far
+  pub record HasReached (w : ItemsRead Ty) : Type 0 where
     pub constants : All has w.constants.items
     pub methods : All HasMethods w.methods.items
 

@@ -14,7 +14,7 @@ pub read_members-requires-clause-table : goal.read_members-requires-clause-table
 read_members-requires-clause-table g c =
     let m = module_in c.args.globals.now.outline.now in
     let class = class_of c.args.class.now in
-    let n = length c.args.walk.now.methods.items in
+    let n = length c.args.read.now.methods.items in
     let number : c.len-number.result ≡ n = search rules in
     let base = c.base-base.result in
     let based : base ≡ base_of (bases_of m) n = c.base-base.ensures.value

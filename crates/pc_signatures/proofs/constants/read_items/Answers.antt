@@ -24,11 +24,11 @@ loop-item-preserved g c =
     let v = c.loop-item.invariant in
     let less = c.loop-item-test.true in
     let is = c.item-item.is in
-    let old = reached_with tree c.loop-item.walk in
-    let new = reached_with tree c.add_item.new.walk in
+    let old = reached_with tree c.loop-item.read in
+    let new = reached_with tree c.add_item.new.read in
     let all = classes_in (map item_of items) in
-    let n = length c.loop-item.walk.methods.items in
-    let k = length c.add_item.new.walk.methods.items in
+    let n = length c.loop-item.read.methods.items in
+    let k = length c.add_item.new.read.methods.items in
     let more : k ≡ n + length (classes_in (item_of x ∷ [])) = ap (λ (r : ItemsReached). r.classes)
     c.in_ok-add_item.ensures.reached ∙ classes_more m old (item_of x) in
     record {
@@ -37,8 +37,8 @@ loop-item-preserved g c =
           c.add_item.ensures.goes_on.kept v.globals;
       held = c.in_ok-add_item.ensures.held;
       reached = reached_next m old new items i x less is c.in_ok-add_item.ensures.reached ∙ v.reached;
-      methods = stepped (map (methods_with tree) c.loop-item.walk.methods.items)
-          (map (methods_with tree) c.add_item.new.walk.methods.items) _ _ _ _ v.methods
+      methods = stepped (map (methods_with tree) c.loop-item.read.methods.items)
+          (map (methods_with tree) c.add_item.new.read.methods.items) _ _ _ _ v.methods
           (classes_apart m items i x less is) c.in_ok-add_item.ensures.methods;
       found = stepped (notes_of c.loop-item.checker.found.now) (notes_of c.add_item.new.checker.found.now) _ _ _ _
           v.found (items_found m old new items i x less is c.in_ok-add_item.ensures.reached)
@@ -51,7 +51,7 @@ add_item-requires-clause-class g c class e =
     let items = c.as_slice-items.result.now in
     let x = c.item-item.result in
     let i = c.loop-item.item-index in
-    let n = length c.loop-item.walk.methods.items in
+    let n = length c.loop-item.read.methods.items in
     ap (λ (xs : List RustItem). slice_get (classes_in (map item_of xs)) n) (sym c.as_slice-items.ensures.value)
     ∙ item_ahead (classes_in (map item_of items)) n items i x c.loop-item-test.true c.item-item.is
     c.loop-item.invariant.ahead class e

@@ -12,17 +12,17 @@ use Rattle.pc_signatures.proofs.constants.read_items.Given as goal
 abbrev pub invariant-loop-item : goal.invariant-loop-item
 invariant-loop-item g l = record {
   globals : AreGlobals g.S.TypeStore.has g.S.TypeStore.tree l.checker.store.now l.globals;
-  ahead : AreAhead (classes_in (map item_of l.items)) (length l.walk.methods.items)
+  ahead : AreAhead (classes_in (map item_of l.items)) (length l.read.methods.items)
       (classes_in (map item_of (drop l.item-index l.items)));
-  held : HasReached (g.S.TypeStore.has l.checker.store.now) l.walk;
-  reached : behind_all (module_in l.globals.outline.now) (reached_with g.S.TypeStore.tree l.walk)
+  held : HasReached (g.S.TypeStore.has l.checker.store.now) l.read;
+  reached : behind_all (module_in l.globals.outline.now) (reached_with g.S.TypeStore.tree l.read)
       (map item_of (drop l.item-index l.items)) ≡ behind_all (module_in l.globals.outline.now) nothing_reached
       (map item_of l.items);
-  methods : map (methods_with g.S.TypeStore.tree) l.walk.methods.items ++ signatures_of_methods
+  methods : map (methods_with g.S.TypeStore.tree) l.read.methods.items ++ signatures_of_methods
       (module_in l.globals.outline.now) (classes_in (map item_of (drop l.item-index l.items))) ≡ signatures_of_methods
       (module_in l.globals.outline.now) (classes_in (map item_of l.items));
   found : (notes_of l.checker.found.now) ++ items_findings (module_in l.globals.outline.now)
-      (reached_with g.S.TypeStore.tree l.walk) (map item_of (drop l.item-index l.items))
+      (reached_with g.S.TypeStore.tree l.read) (map item_of (drop l.item-index l.items))
       ≡ (notes_of l.fn.checker.found.now) ++ items_findings (module_in l.globals.outline.now) nothing_reached
       (map item_of l.items);
   goes_on : GoesOn g.S.TypeStore l.fn.checker l.checker;

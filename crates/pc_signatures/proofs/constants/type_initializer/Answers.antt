@@ -16,10 +16,10 @@ returns-clause-labelled g c =
     let tree = g.S.TypeStore.tree in
     let globals = c.requires.globals in
     let m = module_in c.args.globals.now.outline.now in
-    let is = standing_is m _ _ _ _ (map tree c.args.walk.now.constants.items) _ (length c.args.walk.now.methods.items) _
+    let is = standing_is m _ _ _ _ (map tree c.args.read.now.constants.items) _ (length c.args.read.now.methods.items) _
     _ _
     globals.outline.parents globals.classes globals.functions.are (ap (map tree) c.deref.ensures.value)
-    (c.len.ensures ∙ c.args.walk.now.methods.ok.0) (module_names m _ globals.outline.scopes.tables)
+    (c.len.ensures ∙ c.args.read.now.methods.ok.0) (module_names m _ globals.outline.scopes.tables)
     (ap (declared_of tree) c.in_ok-declared.ensures) (ap (env_of tree) c.in_ok-env.ensures) in
     subst (λ (k : Standing). IfOk c.type_expr.result (λ l. MeansLabel g.S.TypeStore.has tree
     c.type_expr.new.checker.store.now l (label_in k (option_map tree c.args.want.now) (expr_of c.args.value.now))))
@@ -31,10 +31,10 @@ returns-clause-found g c =
     let tree = g.S.TypeStore.tree in
     let globals = c.requires.globals in
     let m = module_in c.args.globals.now.outline.now in
-    let is = standing_is m _ _ _ _ (map tree c.args.walk.now.constants.items) _ (length c.args.walk.now.methods.items) _
+    let is = standing_is m _ _ _ _ (map tree c.args.read.now.constants.items) _ (length c.args.read.now.methods.items) _
     _ _
     globals.outline.parents globals.classes globals.functions.are (ap (map tree) c.deref.ensures.value)
-    (c.len.ensures ∙ c.args.walk.now.methods.ok.0) (module_names m _ globals.outline.scopes.tables)
+    (c.len.ensures ∙ c.args.read.now.methods.ok.0) (module_names m _ globals.outline.scopes.tables)
     (ap (declared_of tree) c.in_ok-declared.ensures) (ap (env_of tree) c.in_ok-env.ensures) in
     subst (λ (k : Standing). OnOk c.type_expr.result ((notes_of c.type_expr.new.checker.found.now)
     ≡ (notes_of c.args.checker.now.found.now) ++ finds_in k (option_map tree c.args.want.now)

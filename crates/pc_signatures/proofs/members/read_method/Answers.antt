@@ -38,7 +38,7 @@ returns-in-None-clause-found g c =
     (method_by_name (class_facts_at (classes_of m) c.args.class.number).methods d.name.text) (signature_of m d) found
     c.requires.held in
     let named : bound_in c.bind.new.bound ≡ with_name no_name (codes "self") = c.in_ok-bind.ensures
-    ∙ ap (λ ks. with_name (λ t. is_one_of t (map string_bytes ks)) (codes "self")) c.new-names.ensures.empty in
+    ∙ ap (λ ks. with_name (λ t. is_one_of t (map string_bytes ks)) (codes "self")) c.with_hasher-names.ensures.empty in
     let same = ap (λ b. def_findings m b d) named ∙ ap (λ b. method_findings m b d) (sym free) in
     subst (λ (l : List Note). OnOk c.read_signature.result (Finds c.args.checker.now c.read_signature.new.checker l))
     same c.read_signature.ensures.found
@@ -87,7 +87,7 @@ returns-clause-found g c =
     (method_by_name (class_facts_at (classes_of m) c.args.class.number).methods d.name.text) (method_lent tree held)
     (signature_of m d) found c.requires.held in
     let named : bound_in c.bind.new.bound ≡ with_name no_name (codes "self") = c.in_ok-bind.ensures
-    ∙ ap (λ ks. with_name (λ t. is_one_of t (map string_bytes ks)) (codes "self")) c.new-names.ensures.empty in
+    ∙ ap (λ ks. with_name (λ t. is_one_of t (map string_bytes ks)) (codes "self")) c.with_hasher-names.ensures.empty in
     let same = ap (λ b. params_defaults m b (map param_of c.deref.result.now)) named
     ∙ ap (λ (ps : List RustParam). params_defaults m (with_name no_name (codes "self")) (map param_of ps))
     c.deref.ensures.value

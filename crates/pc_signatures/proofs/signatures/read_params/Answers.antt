@@ -25,7 +25,8 @@ loop-param-preserved g c =
     record {
       given = held_push (HasParameter (has c.check_param.new.checker.store.now)) c.loop-param.all.items
           c.push.new.self.items c.in_ok-one.one (params_kept has c.loop-param.checker.store.now
-          c.check_param.new.checker.store.now c.check_param.ensures.goes_on.kept c.loop-param.all.items v.given) one.given
+          c.check_param.new.checker.store.now c.check_param.ensures.goes_on.kept c.loop-param.all.items v.given)
+          one.given
           c.in_ok-push.ensures.items;
       are = stepped (parameters_with tree c.loop-param.all.items) (parameters_with tree c.push.new.self.items) _ _ _ _
           v.are (params_apart m ps i x less is)

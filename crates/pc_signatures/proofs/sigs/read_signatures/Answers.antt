@@ -25,13 +25,13 @@ pub returns-clause-held : goal.returns-clause-held
 returns-clause-held g c =
     let has = g.S.TypeStore.has in
     let store = c.read_items.new.checker.store.now in
-    let walk = c.in_ok-walk.ensures.held in
+    let read = c.in_ok-read.ensures.held in
     record {
-      constants = walk.constants;
+      constants = read.constants;
       functions = signatures_kept has c.read_functions.new.checker.store.now store c.read_items.ensures.goes_on.kept
           c.in_ok-functions.functions.items c.in_ok-functions.ensures.typed.given;
-      methods = All-map (HasSignatures (has store)) (λ v. v.items) c.in_ok-walk.walk.methods.items walk.methods;
+      methods = All-map (HasSignatures (has store)) (λ v. v.items) c.in_ok-read.read.methods.items read.methods;
     }
 
 pub returns-clause-methods : goal.returns-clause-methods
-returns-clause-methods g c = all_seen g.S.TypeStore.tree c.in_ok-walk.walk.methods.items ∙ c.in_ok-walk.ensures.methods
+returns-clause-methods g c = all_seen g.S.TypeStore.tree c.in_ok-read.read.methods.items ∙ c.in_ok-read.ensures.methods
