@@ -5,7 +5,7 @@ use pc_scope::scopes;
 use pc_scope_findings::scope_findings;
 use pc_source::{Fault, OutOfMemory};
 use pc_stop::{find_in_classes, find_in_scopes, stops};
-use pc_tree::{Findings, FuncDef, ItemKind, Module, Name, add_bound, fixed_keys};
+use pc_tree::{Findings, FuncDef, ItemKind, Module, Name, add_bound};
 use std::alloc::{AllocError, Global};
 
 /// What a layer finds in a module, which the part of the table names: faults of names and of the places of statements
@@ -14,9 +14,9 @@ fn found_in(alloc: Global, part: &str, module: &Module) -> Result<Findings, OutO
     let mut found = Vec::new(alloc);
     match part {
         "FINDINGS" => return scope_findings(alloc, module, &scopes(alloc, module)?),
-        "STOPS" => return stops(alloc, fixed_keys()?, module),
-        "IN_SCOPES" => find_in_scopes(&mut found, alloc, fixed_keys()?, module)?,
-        _ => find_in_classes(&mut found, alloc, fixed_keys()?, module)?,
+        "STOPS" => return stops(alloc, module.keys.state()?, module),
+        "IN_SCOPES" => find_in_scopes(&mut found, alloc, module.keys.state()?, module)?,
+        _ => find_in_classes(&mut found, alloc, module.keys.state()?, module)?,
     }
     Ok(found)
 }

@@ -3,8 +3,9 @@ use indexmap::{IndexMap, IndexSet};
 use pc_front::read_module;
 use pc_scope::{Owner, scopes};
 use pc_source::Fault;
-use pc_tree::{Text, bind_first, fixed_keys, is_reserved, put, put_last};
+use pc_tree::{Keys, Text, bind_first, is_reserved, put, put_last};
 use std::alloc::{AllocError, Global};
+use std::hash::BuildHasher;
 
 /// Whose names are looked up, as a row says it: `Module`, `Func 0` or `Method 0 1`.
 fn owner_of(words: &[&str]) -> Option<Owner> {
@@ -35,7 +36,7 @@ pub fn meaning_text(alloc: Global, module: &str, row: &str) -> Result<String, Fa
 
 /// What each word has in a map in which each was bound to its number, where it was not bound before.
 fn bound(alloc: Global, words: &str) -> Result<String, Fault> {
-    let mut map = IndexMap::with_hasher(alloc, fixed_keys()?);
+    let mut map = IndexMap::with_hasher(alloc, Keys::of(words.as_bytes()).state()?);
     for (number, word) in words.split(' ').enumerate() {
         bind_first(&mut map, word, number)?;
     }
@@ -48,7 +49,7 @@ fn bound(alloc: Global, words: &str) -> Result<String, Fault> {
 
 /// Whether each word was in a set of the words before it.
 fn repeated(alloc: Global, words: &str) -> Result<String, Fault> {
-    let mut set = IndexSet::with_hasher(alloc, fixed_keys()?);
+    let mut set = IndexSet::with_hasher(alloc, Keys::of(words.as_bytes()).state()?);
     let mut text = String::new(alloc);
     for word in words.split(' ') {
         let stands_before = put(&mut set, word)?;
@@ -81,12 +82,28 @@ fn reserved(alloc: Global, words: &str) -> Result<String, AllocError> {
     Ok(text)
 }
 
+/// Whether a name has the same hash by the keys of each word as by those of the word before it.
+fn keyed(alloc: Global, words: &str) -> Result<String, AllocError> {
+    let mut before = None;
+    let mut text = String::new(alloc);
+    for word in words.split(' ') {
+        let hash = Keys::of(word.as_bytes()).hash_one("name");
+        if let Some(other) = before {
+            let is_same = hash == other;
+            write!(text, "{is_same} ")?;
+        }
+        before = Some(hash);
+    }
+    Ok(text)
+}
+
 /// What comes of words in a part of this name.
 pub fn words_text(alloc: Global, part: &str, words: &str) -> Result<String, Fault> {
     match part {
         "BOUND" => bound(alloc, words),
         "REPEATED" => repeated(alloc, words),
         "LISTED" => listed(alloc, words),
+        "KEYED" => Ok(keyed(alloc, words)?),
         _ => Ok(reserved(alloc, words)?),
     }
 }

@@ -1,7 +1,7 @@
 //! Notes as they are gathered, by `pc_notes`.
 use pc_notes::Notes;
 use pc_source::{Fault, OutOfMemory, Place};
-use pc_tree::{Code, Finding, Module};
+use pc_tree::{Code, Finding, Keys, Module};
 use pc_types::{BoxStore, BoxType, TypeStore};
 use std::alloc::Global;
 
@@ -56,6 +56,7 @@ fn texts(alloc: Global) -> Result<String, OutOfMemory> {
         imports_any: false,
         items: Vec::new(alloc),
         main: place(0, 1),
+        keys: Keys::of(&[]),
     };
     let notes = some_notes(alloc)?;
     let mut texts = String::new(alloc);

@@ -146,7 +146,7 @@ fn store_for(alloc: Global, head: &str) -> Result<InternStore, Fault> {
     let module = read_module(alloc, text.as_bytes())?;
     let scopes = scopes(alloc, &module)?;
     let parents = parents_of(alloc, &module, &scopes)?;
-    Ok(InternStore::new(alloc, parents)?)
+    Ok(InternStore::new(alloc, module.keys, parents)?)
 }
 
 /// Counts the rows of a table, twice over, so that each is asked again when the others were asked. One store of each

@@ -2,7 +2,7 @@
 use crate::options::fault_text;
 use pc_commands::{Explained, OptionFault, reason_of, status_of, traced};
 use pc_source::Fault;
-use pc_tree::fixed_keys;
+use pc_tree::Keys;
 use std::alloc::{AllocError, Global};
 use std::io;
 use std::io::Write;
@@ -11,7 +11,7 @@ use std::io::Write;
 /// is the fuel; a row of no such line is a run for which memory did not suffice.
 pub fn status_text(alloc: Global, row: &str) -> Result<String, AllocError> {
     let (fuel, text) = row.split_once('\n').unwrap_or(("", ""));
-    let Ok(keys) = fixed_keys() else {
+    let Ok(keys) = Keys::of(text.as_bytes()).state() else {
         return Err(AllocError);
     };
     let outcome = match fuel.parse() {

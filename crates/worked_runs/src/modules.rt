@@ -4,7 +4,6 @@ use crate::cases::Case;
 use pc_front::read_module;
 use pc_run::{Trace, run, trace_text};
 use pc_source::Fault;
-use pc_tree::fixed_keys;
 use std::alloc::{AllocError, Global};
 
 /// The first line of each module.
@@ -34,7 +33,7 @@ pub fn module_of_lines(alloc: Global, lines: &str) -> Result<String, AllocError>
 /// The trace of a module that is run with the fuel and the choices of a case.
 fn traced(alloc: Global, text: &str, case: &Case) -> Result<Trace, Fault> {
     let program = read_module(alloc, text.as_bytes())?;
-    let keys = fixed_keys()?;
+    let keys = program.keys.state()?;
     Ok(run(alloc, keys, &program, case.fuel, case.choices.as_slice())?)
 }
 

@@ -3,7 +3,6 @@
 #![tactic(auto)]
 
 mod files;
-mod flows;
 mod forms;
 mod modules;
 mod reports;

@@ -1,5 +1,4 @@
 //! The folders of tables, and the kinds of tables of reports.
-use crate::flows::checked;
 use crate::forms::count_forms;
 use crate::modules::count_modules;
 use crate::reports::forms_text;
@@ -10,6 +9,7 @@ use pc_source::Fault;
 use pc_top::Format;
 use std::alloc::{AllocError, Global};
 use worked_rows::{Row, TableFault, Tally, rows};
+use worked_typing::checked;
 
 /// What is told by layers alone, or the fault.
 fn told(alloc: Global, answer: Result<String, Fault>) -> Result<String, AllocError> {

@@ -118,7 +118,7 @@ fn answer<S: TypeStore>(
 fn answers(alloc: Global, tree: &Module, part: &str, place: Place) -> Result<String, OutOfMemory> {
     let parents = parents_of(alloc, tree, &scopes(alloc, tree)?)?;
     let by_numbers = answer(
-        &mut InternStore::new(alloc, parents)?,
+        &mut InternStore::new(alloc, tree.keys, parents)?,
         alloc,
         tree,
         part,

@@ -2,7 +2,7 @@ use Rattle.std.proofs.Common.{◌∙◌, map, sym, ap}
 use Rattle.pc_tree.specs.Tree.{module_of}
 use Rattle.pc_class.specs.Facts.{ClassFacts}
 use Rattle.pc_class.proofs.ItemsBuilt.{bases_are, bases_there}
-use Rattle.worked_tables.proofs.flows.signed_text.Goals as goal
+use Rattle.worked_typing.proofs.checks.signed_text.Goals as goal
 
 pub read_signatures-requires-clause-outline : goal.read_signatures-requires-clause-outline
 read_signatures-requires-clause-outline g c = record {

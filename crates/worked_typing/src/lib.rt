@@ -1,0 +1,6 @@
+//! What the typing of a worked module explains and finds, by both stores of types.
+#![tactic(auto)]
+
+mod checks;
+
+pub use checks::checked;
