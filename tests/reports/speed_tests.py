@@ -10,7 +10,7 @@ import shutil
 import subprocess
 import sys
 import time
-from typing import Any, List
+from typing import Any, List, Tuple
 
 from support import COMMAND, ROOT, Test, variables
 
@@ -18,6 +18,10 @@ FILES = 1000
 # Seconds on four processors, and so of processor time
 SECONDS = 3.0
 PROCESSORS = 4
+# A machine that stands still for a moment makes one run long: the least of so many counts
+RUNS = 5
+# Work for one processor that takes a part of a second
+FILLED = "sum(range(5_000_000))"
 
 
 def maker() -> Any:
@@ -38,6 +42,22 @@ def before_others() -> List[str]:
     return words if tried else []
 
 
+def used() -> float:
+    """The seconds of processor time of the processes that have ended."""
+    now = os.times()
+    return now.children_user + now.children_system
+
+
+def stretch(first: List[str]) -> float:
+    """How many times as long as its processors work the machine takes now for work that fills them: 1.0 where it has them to
+    itself, and more where another machine on the same hardware takes them away."""
+    before, began = used(), time.monotonic()
+    started = [subprocess.Popen([*first, sys.executable, "-c", FILLED]) for _ in range(PROCESSORS)]
+    for it in started:
+        it.wait()
+    return max(1.0, (time.monotonic() - began) * PROCESSORS / (used() - before))
+
+
 class Speed(Test):
     """A thousand modules that are made at random, a third of them changed and a third broken."""
 
@@ -52,16 +72,19 @@ class Speed(Test):
     def test_a_thousand_files(self) -> None:
         first = before_others()
         words = [*first, sys.executable, str(COMMAND), "."]
-        before, began = os.times(), time.monotonic()
-        done = subprocess.run(words, cwd=self.folder, capture_output=True, env=variables({}), timeout=300)
-        passed, after = time.monotonic() - began, os.times()
-        used = after.children_user + after.children_system - before.children_user - before.children_system
-        self.assertEqual(done.returncode, 2)
-        self.assertTrue(done.stdout.decode().splitlines()[-1].startswith("1000 files: "))
+        is_timed = (first or os.getloadavg()[0] < 1) and (os.cpu_count() or 1) >= PROCESSORS
+        runs: List[Tuple[float, float]] = []
+        while len(runs) < RUNS and not any(passed < SECONDS for _, passed in runs):
+            before, began = used(), time.monotonic()
+            done = subprocess.run(words, cwd=self.folder, capture_output=True, env=variables({}), timeout=300)
+            passed, worked = time.monotonic() - began, used() - before
+            self.assertEqual(done.returncode, 2)
+            self.assertTrue(done.stdout.decode().splitlines()[-1].startswith("1000 files: "))
+            runs.append((worked, passed / stretch(first)))
         # A machine with other work, or with fewer processors, takes longer; the time of the processors tells as much
-        self.assertLess(used, SECONDS * PROCESSORS / 2, f"{passed:.1f} seconds")
-        if (first or os.getloadavg()[0] < 1) and (os.cpu_count() or 1) >= PROCESSORS:
-            self.assertLess(passed, SECONDS)
+        self.assertLess(min(worked for worked, _ in runs), SECONDS * PROCESSORS / 2, str(runs))
+        if is_timed:
+            self.assertLess(min(passed for _, passed in runs), SECONDS, str(runs))
 
     def test_every_option_of_a_thousand_files(self) -> None:
         words = ["--all-refusals", "--statistics", "--strict", "--page", "page.html"]
