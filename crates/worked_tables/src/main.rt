@@ -2,14 +2,9 @@
 //! FOLDER/FILE..`.
 #![tactic(auto)]
 
+mod checking;
 mod files;
-mod forms;
-mod modules;
-mod reports;
-mod stores;
-mod streams;
 mod tables;
-mod texts;
 
 use crate::files::judge_files;
 use std::process::ExitCode;

@@ -11,10 +11,15 @@ use pc_notes::Notes;
 use pc_rules::Checker;
 use pc_scope::{Scopes, scopes};
 use pc_signatures::read_signatures;
-use pc_source::{Fault, OutOfMemory, Place};
+use pc_source::{OutOfMemory, Place};
 use pc_tree::Module;
 use pc_types::{BoxStore, TypeStore};
-use std::alloc::Global;
+use std::alloc::{AllocError, Global};
+
+/// A flow as a table writes it: `list[int] -> list[Any]`.
+fn flow(alloc: Global, from: &str, into: &str) -> Result<String, OutOfMemory> {
+    Ok(format!(in alloc; "{from} -> {into}")?)
+}
 
 /// The two types of the dynamic flow at a place of a module, or `none`.
 fn flow_text<S: TypeStore>(
@@ -33,7 +38,7 @@ fn flow_text<S: TypeStore>(
         Some((from, into)) => {
             let from = type_text(store, alloc, tree, &from)?;
             let into = type_text(store, alloc, tree, &into)?;
-            Ok(format!(in alloc; "{from} -> {into}")?)
+            flow(alloc, from.as_str(), into.as_str())
         }
     }
 }
@@ -69,6 +74,17 @@ fn checked_text<S: TypeStore>(
     listed(alloc, &notes)
 }
 
+/// How many constants and functions there are, and what is found in them, as a table writes it.
+fn counted(
+    alloc: Global,
+    constants: usize,
+    functions: usize,
+    notes: &Notes,
+) -> Result<String, OutOfMemory> {
+    let found = listed(alloc, notes)?;
+    Ok(format!(in alloc; "{constants} {functions}; {found}")?)
+}
+
 /// How many constants and functions the signatures of a module are of, and what is found in them.
 fn signed_text<S: TypeStore>(
     store: &mut S,
@@ -92,9 +108,12 @@ fn signed_text<S: TypeStore>(
         parents: classes.parents(),
     };
     let signed = read_signatures(&mut checker, &outline, &classes)?;
-    let (constants, functions) = (signed.constants().len(), signed.functions().len());
-    let found = listed(alloc, &notes)?;
-    Ok(format!(in alloc; "{constants} {functions}; {found}")?)
+    counted(
+        alloc,
+        signed.constants().len(),
+        signed.functions().len(),
+        &notes,
+    )
 }
 
 /// What a store answers to a module in a part of this name: the flow at a place, what is found in the module, or what
@@ -140,12 +159,15 @@ fn place_of(line: &str) -> Option<Place> {
     })
 }
 
-/// What both stores answer to the module of a row, in a part of this name. In the first line stands a place.
-pub fn checked(alloc: Global, part: &str, row: &str) -> Result<String, Fault> {
+/// What both stores answer to the module of a row, in a part of this name, or the fault. In the first line stands a
+/// place.
+pub fn checked(alloc: Global, part: &str, row: &str) -> Result<String, AllocError> {
     let (line, text) = row.split_once('\n').unwrap_or(("", ""));
     let Some(place) = place_of(line) else {
-        return Ok(String::from_str(alloc, "no place")?);
+        return String::from_str(alloc, "no place");
     };
-    let module = read_module(alloc, text.as_bytes())?;
-    Ok(answers(alloc, &module, part, place)?)
+    match read_module(alloc, text.as_bytes()) {
+        Ok(module) => answers(alloc, &module, part, place).map_err(|_| AllocError),
+        Err(fault) => format!(in alloc; "{fault}"),
+    }
 }

@@ -2,5 +2,6 @@
 #![tactic(auto)]
 
 mod checks;
+mod tables;
 
-pub use checks::checked;
+pub use tables::judge;

@@ -1,7 +1,8 @@
 //! Modules that are checked as streams, with their reports as text and as JSON.
+use crate::checker::Checker;
 use crate::modules::HEADER;
+use pc_report::Format;
 use pc_source::Counted;
-use pc_top::{CheckFault, Format, check_stream};
 use std::alloc::{AllocError, Global};
 use worked_rows::{BETWEEN, ROW, TableFault, Tally};
 
@@ -55,37 +56,39 @@ fn case_of(alloc: Global, lines: &str) -> Result<Case, TableFault> {
     Ok(case)
 }
 
-/// Whether a check of the module as a stream writes this report, and gives the counts of the last line of its text.
-fn is_written(alloc: Global, case: &Case, json: bool, report: &str) -> Result<bool, CheckFault> {
+/// What comes of a report of the module as a stream: the report, where it is written as the table says, and its counts
+/// are those of the last line of its text.
+fn written<C: Checker>(
+    alloc: Global,
+    case: &Case,
+    json: bool,
+    report: &str,
+    checker: &C,
+) -> Result<String, AllocError> {
     let mut reader = Counted::new(case.module.as_bytes());
     let mut writer = Counted::new(Vec::new(alloc));
-    let (errors, dynamic) = check_stream(alloc, &mut reader, &mut writer, json, case.format())?;
-    let counts = format!(in alloc; "errors {errors}, dynamic {dynamic}\n").map_err(
-        |_| CheckFault::OutOfMemory,
-    )?;
-    Ok(
-        case.text.as_str().ends_with(counts.as_str())
-            && writer.inner().as_slice() == report.as_bytes()
-            && reader.failures() == 0
-            && writer.failures() == 0,
-    )
-}
-
-/// What comes of a report of the module as a stream: the report, where it is written as the table says.
-fn written(alloc: Global, case: &Case, json: bool, report: &str) -> Result<String, AllocError> {
-    match is_written(alloc, case, json, report) {
-        Ok(true) => String::from_str(alloc, report),
-        Ok(false) => String::from_str(alloc, "another report"),
-        Err(fault) => format!(in alloc; "{fault}"),
+    let counts = checker.of_stream(alloc, &mut reader, &mut writer, json, case.format())?;
+    if case.text.lines().last() == Some(counts.as_str())
+        && writer.inner().as_slice() == report.as_bytes()
+        && reader.failures() == 0
+        && writer.failures() == 0
+    {
+        return String::from_str(alloc, report);
     }
+    format!(in alloc; "another report, or {counts}")
 }
 
 /// Counts the modules of a table.
-pub fn count_forms(alloc: Global, table: &str, tally: &mut Tally) -> Result<(), TableFault> {
+pub fn count_forms<C: Checker>(
+    alloc: Global,
+    table: &str,
+    checker: &C,
+    tally: &mut Tally,
+) -> Result<(), TableFault> {
     for lines in table.split(BETWEEN) {
         let case = case_of(alloc, lines)?;
-        let mut got = written(alloc, &case, false, case.text.as_str())?;
-        got.push_str(written(alloc, &case, true, case.json.as_str())?.as_str())?;
+        let mut got = written(alloc, &case, false, case.text.as_str(), checker)?;
+        got.push_str(written(alloc, &case, true, case.json.as_str(), checker)?.as_str())?;
         let want = format!(in alloc; "{}{}", case.text.as_str(), case.json.as_str())?;
         tally.count(case.module.as_str(), want.as_str(), got.as_str())?;
     }

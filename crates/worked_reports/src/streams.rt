@@ -1,7 +1,7 @@
 //! Modules that are checked as streams, from readers and to writers that fail.
-use pc_report::read_at_most;
+use crate::checker::Checker;
+use pc_report::{Format, read_at_most};
 use pc_source::Counted;
-use pc_top::{Format, check_stream};
 use std::alloc::{AllocError, Global};
 use std::io;
 use std::io::{Read, Write};
@@ -86,17 +86,15 @@ fn taken_text(alloc: Global, taken: &[u8], report: &str) -> Result<String, Alloc
 /// What comes of a check of these bytes with such a reader and such a writer: the answer; the calls of the reader and
 /// of the writer that failed, among them that of a flush after the check; the bytes that were read and the calls that
 /// were left; what the writer took.
-fn told(
+fn told<C: Checker>(
     alloc: Global,
     mut reader: Counted<FailingReader>,
     mut writer: Counted<FailingWriter>,
     json: bool,
     report: &str,
+    checker: &C,
 ) -> Result<String, AllocError> {
-    let answer = match check_stream(alloc, &mut reader, &mut writer, json, Format::One) {
-        Ok((errors, dynamic)) => format!(in alloc; "errors {errors}, dynamic {dynamic}")?,
-        Err(fault) => format!(in alloc; "{fault}")?,
-    };
+    let answer = checker.of_stream(alloc, &mut reader, &mut writer, json, Format::One)?;
     let _ = writer.flush();
     let taken = taken_text(alloc, writer.inner().taken.as_slice(), report)?;
     let (failed_reads, failed_writes) = (reader.failures(), writer.failures());
@@ -108,7 +106,13 @@ fn told(
 
 /// What comes of a row: the bytes that the reader gives a call and its calls, the bytes that the writer takes a call
 /// and in all, and whether the report is written as JSON.
-fn answer(alloc: Global, text: &str, report: &str, row: &str) -> Result<String, TableFault> {
+fn answer<C: Checker>(
+    alloc: Global,
+    text: &str,
+    report: &str,
+    row: &str,
+    checker: &C,
+) -> Result<String, TableFault> {
     let words: Vec<&str> = row.split(' ').collect(alloc)?;
     let reader = FailingReader {
         bytes: bytes_of(alloc, text)?,
@@ -128,6 +132,7 @@ fn answer(alloc: Global, text: &str, report: &str, row: &str) -> Result<String, 
         Counted::new(writer),
         json,
         report,
+        checker,
     )?)
 }
 
@@ -160,7 +165,12 @@ fn reads_text(alloc: Global, text: &str, row: &str) -> Result<String, TableFault
 }
 
 /// Counts the rows of a text.
-fn count_text(alloc: Global, part: &str, tally: &mut Tally) -> Result<(), TableFault> {
+fn count_text<C: Checker>(
+    alloc: Global,
+    part: &str,
+    checker: &C,
+    tally: &mut Tally,
+) -> Result<(), TableFault> {
     let (text, rest) = part.split_once(NEXT).ok_or(TableFault::Form)?;
     let (report, rows) = rest.split_once(NEXT).ok_or(TableFault::Form)?;
     for row in rows.lines() {
@@ -168,7 +178,7 @@ fn count_text(alloc: Global, part: &str, tally: &mut Tally) -> Result<(), TableF
         let got = if report == READS {
             reads_text(alloc, text, devices)?
         } else {
-            answer(alloc, text, report, devices)?
+            answer(alloc, text, report, devices, checker)?
         };
         tally.count(devices, want, got.as_str())?;
     }
@@ -176,9 +186,14 @@ fn count_text(alloc: Global, part: &str, tally: &mut Tally) -> Result<(), TableF
 }
 
 /// Counts the rows of a table. What stands before its first text says what the table is about.
-pub fn count_streams(alloc: Global, table: &str, tally: &mut Tally) -> Result<(), TableFault> {
+pub fn count_streams<C: Checker>(
+    alloc: Global,
+    table: &str,
+    checker: &C,
+    tally: &mut Tally,
+) -> Result<(), TableFault> {
     for part in table.split(TEXT).skip(1) {
-        count_text(alloc, part, tally)?;
+        count_text(alloc, part, checker, tally)?;
     }
     Ok(())
 }

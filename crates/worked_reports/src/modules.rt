@@ -1,6 +1,7 @@
 //! Modules with their reports.
+use crate::checker::Checker;
 use crate::stores::answer_to;
-use pc_top::Format;
+use pc_report::Format;
 use std::alloc::{AllocError, Global};
 use worked_rows::{BETWEEN, ROW, TableFault, Tally, written_out};
 
@@ -66,16 +67,17 @@ fn case_of(alloc: Global, lines: &str) -> Result<Case, TableFault> {
 }
 
 /// Counts the modules of a table, whose reports are in this format.
-pub fn count_modules(
+pub fn count_modules<C: Checker>(
     alloc: Global,
     table: &str,
     format: Format,
+    checker: &C,
     tally: &mut Tally,
 ) -> Result<(), TableFault> {
     for lines in table.split(BETWEEN) {
         let lines = written_out(alloc, lines)?;
         let case = case_of(alloc, lines.as_str())?;
-        let got = answer_to(alloc, case.text.as_str(), format)?;
+        let got = answer_to(alloc, case.text.as_bytes(), format, checker)?;
         let (report, errors, dynamic) = (case.report.as_str(), case.errors, case.dynamic);
         let want = format!(in alloc; "{report}errors {errors}, dynamic {dynamic}\n")?;
         tally.count(case.text.as_str(), want.as_str(), got.as_str())?;

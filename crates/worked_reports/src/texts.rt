@@ -1,14 +1,18 @@
 //! Whole texts, byte for byte, with their reports or refusals.
-use crate::stores::answer_to_bytes;
-use pc_report::{ReadFault, WriteFault};
-use pc_top::{CheckFault, Format};
+use crate::checker::Checker;
+use crate::stores::answer_to;
+use pc_report::{Format, ReadFault, WriteFault};
 use std::alloc::{AllocError, Global};
 use worked_rows::{TableFault, bytes_of, in_one_line};
 
 /// The report or the refusal of the bytes that a text stands for, its lines one after another.
-pub fn report_text(alloc: Global, text: &str) -> Result<String, TableFault> {
+pub fn report_text<C: Checker>(
+    alloc: Global,
+    text: &str,
+    checker: &C,
+) -> Result<String, TableFault> {
     let bytes = bytes_of(alloc, text)?;
-    let answer = answer_to_bytes(alloc, bytes.as_slice(), Format::One)?;
+    let answer = answer_to(alloc, bytes.as_slice(), Format::One, checker)?;
     Ok(in_one_line(alloc, answer.as_str())?)
 }
 
@@ -21,8 +25,8 @@ fn before_last(text: &str) -> Option<usize> {
 }
 
 /// How the report or the refusal of a text ends: with its last two lines, or its only one.
-pub fn end_text(alloc: Global, text: &str) -> Result<String, TableFault> {
-    let report = report_text(alloc, text)?;
+pub fn end_text<C: Checker>(alloc: Global, text: &str, checker: &C) -> Result<String, TableFault> {
+    let report = report_text(alloc, text, checker)?;
     let whole = report.as_str();
     let last = before_last(whole).unwrap_or(0);
     let start = match before_last(whole.get(..last).unwrap_or("")) {
@@ -34,15 +38,19 @@ pub fn end_text(alloc: Global, text: &str) -> Result<String, TableFault> {
 }
 
 /// The text of a fault that bytes alone do not have, by its name.
-pub fn fault_text(alloc: Global, name: &str) -> Result<String, AllocError> {
+pub fn fault_text<C: Checker>(
+    alloc: Global,
+    name: &str,
+    checker: &C,
+) -> Result<String, AllocError> {
     match name {
-        "OutOfMemory" => format!(in alloc; "{}", CheckFault::OutOfMemory),
-        "Read" => format!(in alloc; "{}", CheckFault::Read),
-        "Write" => format!(in alloc; "{}", CheckFault::Write),
         "report: OutOfMemory" => format!(in alloc; "{}", WriteFault::OutOfMemory),
         "report: Write" => format!(in alloc; "{}", WriteFault::Write),
         "input: OutOfMemory" => format!(in alloc; "{}", ReadFault::OutOfMemory),
         "input: Read" => format!(in alloc; "{}", ReadFault::Read),
-        _ => String::from_str(alloc, "no fault has this name"),
+        _ => match checker.fault(alloc, name)? {
+            Some(text) => Ok(text),
+            None => String::from_str(alloc, "no fault has this name"),
+        },
     }
 }

@@ -1,0 +1,75 @@
+//! The checker whose reports are compared with the tables.
+use pc_front::module_in;
+use pc_scope::scopes;
+use pc_source::{Counted, read_source};
+use pc_top::{CheckFault, Format, Report, check, check_stream, findings_by};
+use pc_types::BoxStore;
+use std::alloc::{AllocError, Global};
+use std::io::{Read, Write};
+use worked_reports::Checker;
+
+/// The checker that the programs call.
+pub struct Checking;
+
+/// The report of a module, by types in boxes.
+fn report_by_boxes(alloc: Global, bytes: &[u8]) -> Result<Report, CheckFault> {
+    let source = read_source(alloc, bytes)?;
+    let module = module_in(alloc, &source)?;
+    let scopes = scopes(alloc, &module)?;
+    let mut store = BoxStore::new();
+    let notes = findings_by(&mut store, alloc, &module, &scopes)?;
+    let flows = notes.texts(alloc, &module)?;
+    let found = notes.findings(alloc)?;
+    Ok(Report::of(alloc, &source, &found, &flows)?)
+}
+
+/// The text of a report in a format, or of the refusal.
+fn told(
+    alloc: Global,
+    answer: Result<Report, CheckFault>,
+    format: Format,
+) -> Result<String, AllocError> {
+    match answer {
+        Ok(report) => report.to_text(alloc, format).map_err(|_| AllocError),
+        Err(fault) => format!(in alloc; "{fault}"),
+    }
+}
+
+impl Checker for Checking {
+    fn by_numbers(
+        &self,
+        alloc: Global,
+        bytes: &[u8],
+        format: Format,
+    ) -> Result<String, AllocError> {
+        told(alloc, check(alloc, bytes), format)
+    }
+
+    fn by_boxes(&self, alloc: Global, bytes: &[u8], format: Format) -> Result<String, AllocError> {
+        told(alloc, report_by_boxes(alloc, bytes), format)
+    }
+
+    fn of_stream<R: Read + Drop, W: Write + Drop>(
+        &self,
+        alloc: Global,
+        reader: &mut Counted<R>,
+        writer: &mut Counted<W>,
+        json: bool,
+        format: Format,
+    ) -> Result<String, AllocError> {
+        match check_stream(alloc, reader, writer, json, format) {
+            Ok((errors, dynamic)) => format!(in alloc; "errors {errors}, dynamic {dynamic}"),
+            Err(fault) => format!(in alloc; "{fault}"),
+        }
+    }
+
+    fn fault(&self, alloc: Global, name: &str) -> Result<Option<String>, AllocError> {
+        let fault = match name {
+            "OutOfMemory" => CheckFault::OutOfMemory,
+            "Read" => CheckFault::Read,
+            "Write" => CheckFault::Write,
+            _ => return Ok(None),
+        };
+        Ok(Some(format!(in alloc; "{fault}")?))
+    }
+}
