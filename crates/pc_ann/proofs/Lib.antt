@@ -1,6 +1,7 @@
 pub mod Listing
 pub mod Ordering
 pub mod Tuples
+pub mod Dicts
 pub mod Uniting
 pub mod Walking
 pub mod Unrelated

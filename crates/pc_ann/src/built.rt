@@ -1,19 +1,16 @@
 //! Types that names and `N[..]` in annotations stand for.
 
-ghost use Rattle.std.specs.Prelude.{◌≡◌, IfOk};
+ghost use Rattle.std.specs.Prelude.{◌≡◌, List, IfOk};
 ghost use Rattle.std.specs.Option.{option_map};
-ghost use Rattle.pc_tree.specs.Tree.{module_of};
 ghost use Rattle.pc_scope.specs.declared.resolution.Builtin.TheVariants as builtin;
+ghost use Rattle.pc_types.specs.Tree.{Tree};
 ghost use Rattle.pc_types.specs.Store.{KeepsTypes, MeansAny};
-ghost use Rattle.pc_ann.specs.Annotations.{atom, named_type, built_type, applied_type, empty_type, readings};
-ghost use Rattle.pc_ann.specs.Listed.{anns_of_list};
+ghost use Rattle.pc_ann.specs.Annotations.{atom, named_type, built_type, applied_type, empty_type};
 ghost use Rattle.pc_ann.specs.Internal.TypesRead.{AreRead, IsReadAny};
 
-use crate::outline::ModuleOutline;
 use crate::reading::{Reading, Readings, read_as};
 use pc_scope::{Builtin, Res};
 use pc_source::OutOfMemory;
-use pc_tree::Ann;
 use pc_types::{Head, TypeStore};
 use std::alloc::Global;
 
@@ -84,18 +81,15 @@ pub(crate) fn empty_tuple<S: TypeStore>(
 
 /// `list[T]`, of one argument.
 fn list_of<S: TypeStore>(
-    outline: &ModuleOutline,
     store: &mut S,
     alloc: Global,
-    parts: &[Ann],
     arguments: &Readings<S::Ty>,
 ) -> Result<Option<Reading<S::Ty>>, OutOfMemory>
-    requires { AreRead S.has S.tree store.old arguments.now.heads.items arguments.now.types
-        (readings (module_of outline.now.tree.now) outline.now.parents.now (anns_of_list parts.now)) }
-    ensures value { IfOk result
-        (λ r. IsReadAny S.has S.tree store.new (option_map (λ x. (x.head, x.ty)) r)
-        (built_type builtin.List
-        (readings (module_of outline.now.tree.now) outline.now.parents.now (anns_of_list parts.now)))) }
+    requires { (ts : List Tree) × AreRead S.has S.tree store.old arguments.now.heads.items arguments.now.types ts }
+    ensures value { (ts : List Tree)
+        → AreRead S.has S.tree store.old arguments.now.heads.items arguments.now.types ts
+        → IfOk result
+        (λ r. IsReadAny S.has S.tree store.new (option_map (λ x. (x.head, x.ty)) r) (built_type builtin.List ts)) }
     ensures kept { KeepsTypes S.has store.old store.new }
 {
     if arguments.heads.len() != 1 {
@@ -113,18 +107,15 @@ fn list_of<S: TypeStore>(
 
 /// `dict[K, V]`, of two arguments, the first of which is just `int` or `str`.
 fn dict_of<S: TypeStore>(
-    outline: &ModuleOutline,
     store: &mut S,
     alloc: Global,
-    parts: &[Ann],
     arguments: &Readings<S::Ty>,
 ) -> Result<Option<Reading<S::Ty>>, OutOfMemory>
-    requires { AreRead S.has S.tree store.old arguments.now.heads.items arguments.now.types
-        (readings (module_of outline.now.tree.now) outline.now.parents.now (anns_of_list parts.now)) }
-    ensures value { IfOk result
-        (λ r. IsReadAny S.has S.tree store.new (option_map (λ x. (x.head, x.ty)) r)
-        (built_type builtin.Dict
-        (readings (module_of outline.now.tree.now) outline.now.parents.now (anns_of_list parts.now)))) }
+    requires { (ts : List Tree) × AreRead S.has S.tree store.old arguments.now.heads.items arguments.now.types ts }
+    ensures value { (ts : List Tree)
+        → AreRead S.has S.tree store.old arguments.now.heads.items arguments.now.types ts
+        → IfOk result
+        (λ r. IsReadAny S.has S.tree store.new (option_map (λ x. (x.head, x.ty)) r) (built_type builtin.Dict ts)) }
     ensures kept { KeepsTypes S.has store.old store.new }
 {
     if arguments.heads.len() != 2 {
@@ -145,18 +136,15 @@ fn dict_of<S: TypeStore>(
 
 /// `tuple[T1, ..]`, of one argument or more.
 fn tuple_of<S: TypeStore>(
-    outline: &ModuleOutline,
     store: &mut S,
     alloc: Global,
-    parts: &[Ann],
     arguments: &Readings<S::Ty>,
 ) -> Result<Option<Reading<S::Ty>>, OutOfMemory>
-    requires { AreRead S.has S.tree store.old arguments.now.heads.items arguments.now.types
-        (readings (module_of outline.now.tree.now) outline.now.parents.now (anns_of_list parts.now)) }
-    ensures value { IfOk result
-        (λ r. IsReadAny S.has S.tree store.new (option_map (λ x. (x.head, x.ty)) r)
-        (built_type builtin.Tuple
-        (readings (module_of outline.now.tree.now) outline.now.parents.now (anns_of_list parts.now)))) }
+    requires { (ts : List Tree) × AreRead S.has S.tree store.old arguments.now.heads.items arguments.now.types ts }
+    ensures value { (ts : List Tree)
+        → AreRead S.has S.tree store.old arguments.now.heads.items arguments.now.types ts
+        → IfOk result
+        (λ r. IsReadAny S.has S.tree store.new (option_map (λ x. (x.head, x.ty)) r) (built_type builtin.Tuple ts)) }
     ensures kept { KeepsTypes S.has store.old store.new }
 {
     let count = arguments.heads.len();
@@ -176,25 +164,22 @@ fn tuple_of<S: TypeStore>(
 /// What a name makes of its arguments: a type where it means a built-in that takes them.
 /// Typing specification, "Type annotations".
 pub(crate) fn apply<S: TypeStore>(
-    outline: &ModuleOutline,
     store: &mut S,
     alloc: Global,
     meaning: Res,
-    parts: &[Ann],
     arguments: &Readings<S::Ty>,
 ) -> Result<Option<Reading<S::Ty>>, OutOfMemory>
-    requires { AreRead S.has S.tree store.old arguments.now.heads.items arguments.now.types
-        (readings (module_of outline.now.tree.now) outline.now.parents.now (anns_of_list parts.now)) }
-    ensures value { IfOk result
-        (λ r. IsReadAny S.has S.tree store.new (option_map (λ x. (x.head, x.ty)) r)
-        (applied_type meaning (readings (module_of outline.now.tree.now) outline.now.parents.now
-        (anns_of_list parts.now)))) }
+    requires { (ts : List Tree) × AreRead S.has S.tree store.old arguments.now.heads.items arguments.now.types ts }
+    ensures value { (ts : List Tree)
+        → AreRead S.has S.tree store.old arguments.now.heads.items arguments.now.types ts
+        → IfOk result
+        (λ r. IsReadAny S.has S.tree store.new (option_map (λ x. (x.head, x.ty)) r) (applied_type meaning ts)) }
     ensures kept { KeepsTypes S.has store.old store.new }
 {
     match meaning {
-        Res::Builtin(Builtin::List) => list_of(outline, store, alloc, parts, arguments),
-        Res::Builtin(Builtin::Dict) => dict_of(outline, store, alloc, parts, arguments),
-        Res::Builtin(Builtin::Tuple) => tuple_of(outline, store, alloc, parts, arguments),
+        Res::Builtin(Builtin::List) => list_of(store, alloc, arguments),
+        Res::Builtin(Builtin::Dict) => dict_of(store, alloc, arguments),
+        Res::Builtin(Builtin::Tuple) => tuple_of(store, alloc, arguments),
         _ => Ok(None),
     }
 }

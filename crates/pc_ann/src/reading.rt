@@ -108,7 +108,7 @@ pub(crate) fn read<S: TypeStore>(
             let before = found.len();
             let types = read_each(outline, store, alloc, found, arguments)?;
             let meaning = meaning(outline, head);
-            match apply(outline, store, alloc, meaning, arguments, &types)? {
+            match apply(store, alloc, meaning, &types)? {
                 Some(reading) => Ok(reading),
                 None => {
                     // An annotation of another form is one fault as a whole: what its parts had is taken back.
@@ -126,7 +126,7 @@ pub(crate) fn read<S: TypeStore>(
         }
         Ann::Union(place, parts) => {
             let types = read_each(outline, store, alloc, found, parts)?;
-            match unite(outline, store, alloc, parts, types)? {
+            match unite(outline, store, alloc, types)? {
                 Some(reading) => Ok(reading),
                 None => fault(store, alloc, found, *place, Code::E10),
             }

@@ -3,10 +3,9 @@
 ghost use Rattle.std.specs.Prelude.{◌≡◌, IfOk};
 ghost use Rattle.std.specs.List.{list_all};
 ghost use Rattle.std.specs.Option.{option_map};
-ghost use Rattle.pc_tree.specs.Tree.{module_of};
+ghost use Rattle.pc_tree.specs.Tree.{Anns, module_of};
 ghost use Rattle.pc_types.specs.Store.{KeepsTypes};
 ghost use Rattle.pc_ann.specs.Annotations.{union_type, readings};
-ghost use Rattle.pc_ann.specs.Listed.{anns_of_list};
 ghost use Rattle.pc_ann.specs.Internal.TypesRead.{AreRead, IsReadAny, is_member_head, head_absorbs, heads_apart};
 ghost use Rattle.pc_ann.specs.Internal.TypesRead.{heads_make_union, united_head};
 
@@ -15,7 +14,6 @@ use crate::ordered::{in_order, rank};
 use crate::outline::ModuleOutline;
 use crate::reading::{Reading, Readings};
 use pc_source::OutOfMemory;
-use pc_tree::Ann;
 use pc_types::{Head, Parents, TypeStore};
 use std::alloc::Global;
 
@@ -112,15 +110,16 @@ pub(crate) fn unite<S: TypeStore>(
     outline: &ModuleOutline,
     store: &mut S,
     alloc: Global,
-    parts: &[Ann],
     types: Readings<S::Ty>,
 ) -> Result<Option<Reading<S::Ty>>, OutOfMemory>
-    requires { AreRead S.has S.tree store.old types.heads.items types.types
-        (readings (module_of outline.now.tree.now) outline.now.parents.now (anns_of_list parts.now)) }
-    ensures value { IfOk result
+    requires { (parts : Anns) × AreRead S.has S.tree store.old types.heads.items types.types
+        (readings (module_of outline.now.tree.now) outline.now.parents.now parts) }
+    ensures value { (parts : Anns) → AreRead S.has S.tree store.old types.heads.items types.types
+        (readings (module_of outline.now.tree.now) outline.now.parents.now parts)
+        → IfOk result
         (λ r. IsReadAny S.has S.tree store.new (option_map (λ x. (x.head, x.ty)) r)
         (union_type outline.now.parents.now
-        (readings (module_of outline.now.tree.now) outline.now.parents.now (anns_of_list parts.now)))) }
+        (readings (module_of outline.now.tree.now) outline.now.parents.now parts))) }
     ensures kept { KeepsTypes S.has store.old store.new }
 {
     outline.parents.ordered();

@@ -166,7 +166,8 @@ fn check_while<S: TypeStore>(
     requires long { IsAsLong (env_of S.tree walk.old.declared.now) (env_of S.tree env.now) }
     ensures walked { (p : PlaceOf) (way : Option (List (Option S.Ty))) → HoldsWay S.TypeStore walk.old way → IfOk result
         (λ out. Walked S.TypeStore walk.old (Some env.now) way walk.new out way
-        (λ f w. step f w.table w.env w.broken w.found (while_loop p (expr_of condition.now) (stmts_of_list body.now)))) }
+        (λ f w. step f w.table w.env w.broken w.found
+        (while_loop p (expr_of condition.now) (stmts_of_list body.now)))) }
     ensures goes_on { GoesOn S.TypeStore walk.old walk.new }
 {
     let head = while_start(walk, env, body)?;

@@ -2,7 +2,7 @@
 use Rattle.std.proofs.Common.{◌≡◌, ℕ, List, [], ◌∷◌, map, refl, sym, ap, ◌∙◌}
 use Rattle.std.specs.Prelude.{Bool, true, false, ◌||◌, if◌then◌else◌, Some, is_some, bytes_eq}
 use Rattle.std.specs.List.{list_any}
-use Rattle.pc_token.specs.Keywords as keywords
+use Rattle.pc_source.specs.ReservedNames as keywords
 use Rattle.pc_scope.specs.Reserved.{reserved_builtins, beside, builtin_of, is_builtin_name}
 use Rattle.pc_scope.proofs.TextMaps.{turned}
 

@@ -257,12 +257,15 @@ fn inherited(classes: &[ClassNode], base: Option<usize>) -> ClassNode
     }
 }
 
-/// The places from one on and before another.
-fn places_between(start: usize, end: usize) -> Span
+/// The places of a list from one on.
+fn places_from<T>(start: usize, list: &[T]) -> Span
     ensures start { result.start ≡ start }
-    ensures end { result.end ≡ end }
+    ensures end { result.end ≡ length list.now }
 {
-    Span { start, end }
+    Span {
+        start,
+        end: list.len(),
+    }
 }
 
 /// Adds a class, over its base among those before it; finds what its members' names tell: E06, E08. Library
@@ -321,7 +324,6 @@ pub(crate) fn add_class<S: TypeStore>(
         inherited.held.fields,
         &members,
     )?;
-    let fields_end = parts.fields.len();
     let methods_start = parts.methods.len();
     let methods = add_methods(
         reader,
@@ -331,13 +333,12 @@ pub(crate) fn add_class<S: TypeStore>(
         inherited.held.methods,
         &members,
     )?;
-    let methods_end = parts.methods.len();
     parts.classes.push(ClassNode {
         base,
         held: Held { fields, methods },
         defaulted,
-        fields: places_between(fields_start, fields_end),
-        methods: places_between(methods_start, methods_end),
+        fields: places_from(fields_start, &parts.fields),
+        methods: places_from(methods_start, &parts.methods),
     })?;
     Ok(())
 }

@@ -4,16 +4,15 @@
 ghost use Rattle.std.specs.Prelude.{◌≡◌, ◌++◌, [], map, OnOk, IfOk};
 ghost use Rattle.pc_tree.specs.declared.code.Code.TheVariants.{E06, E08};
 ghost use Rattle.pc_tree.specs.Tree.{member_of};
-ghost use Rattle.pc_scope.specs.Reserved.{is_builtin_name};
-ghost use Rattle.pc_scope.specs.Resolution.{is_one_of};
 ghost use Rattle.pc_tree.specs.Code.{at_code};
+ghost use Rattle.pc_scope.specs.Resolution.{is_one_of};
 ghost use Rattle.pc_scope.specs.Internal.WalkViews.{texts_in};
 ghost use Rattle.pc_class.specs.Entries.{HasMaps, inherited_in, member_binds, member_clashes, entry_of, entries_of};
 ghost use Rattle.pc_class.specs.Entries.{entry_seen, entry_default, clash_places, late_places, defaulted_in};
 
 use indexmap::IndexSet;
 use pc_maps::{NamedMaps, Texts, number};
-use pc_source::OutOfMemory;
+use pc_source::{OutOfMemory, is_reserved};
 use pc_tree::{Code, Findings, Keys, Member, find_if};
 use std::alloc::Global;
 
@@ -33,13 +32,6 @@ pub struct Entry<'m> {
     pub clashes: bool,
 }
 
-/// Whether a name is reserved.
-fn is_reserved(name: &str) -> bool
-    ensures { result ≡ is_builtin_name name.now }
-{
-    pc_tree::is_reserved(name)
-}
-
 /// Whether a name is among those before.
 fn is_among(before: &Texts, name: &str) -> bool
     ensures { result ≡ is_one_of name.now (texts_in before.now) }
@@ -49,6 +41,7 @@ fn is_among(before: &Texts, name: &str) -> bool
 
 /// Whether a member binds its name: it is not reserved, no earlier member's and, of ancestors, no field's; and of a
 /// field no method's, and not `mro`. Own rule of the profile.
+#[tactic(auto, using(crate::proofs::ReservedNames::reserved_same))]
 fn binds(named: &NamedMaps, base: Held, before: &Texts, member: &Member) -> bool
     requires { HasMaps named.now base }
     ensures { result ≡ member_binds (inherited_in named.now base) (texts_in before.now) (member_of member.now) }

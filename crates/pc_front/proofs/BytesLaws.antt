@@ -9,9 +9,9 @@ use Rattle.pc_layout.specs.Layouts.{IsLayout}
 use Rattle.pc_layout.specs.Faults.{IsLayoutRefusal}
 use Rattle.pc_layout.proofs.OneLayout.{one_layout}
 use Rattle.pc_tree.specs.Tree.{Module}
-use Rattle.pc_tree.specs.Faults.{IsModule, IsRefusal}
 use Rattle.pc_tree.specs.Depth.{too_deep_at}
-use Rattle.pc_tree.proofs.CompleteModules.{spells_one}
+use Rattle.pc_grammar.specs.Faults.{IsModule, IsRefusal}
+use Rattle.pc_grammar.proofs.CompleteModules.{spells_one}
 use Rattle.pc_front.specs.Bytes.{IsLined, IsLaidOut, IsModuleOf, IsRefusalOf, of_source, of_tokens, of_layout}
 use Rattle.pc_front.specs.Bytes.{of_grammar}
 
@@ -42,7 +42,7 @@ one_tokens bytes ts us h g =
 
 pub one_module : (bytes : List ℕ) (m n : Module) → IsModuleOf bytes m → IsModuleOf bytes n → m ≡ n
 one_module bytes m n h g =
-    spells_one m n g.tokens (subst (λ ts. Rattle.pc_tree.specs.Grammar.Modules.SpellsModule m ts)
+    spells_one m n g.tokens (subst (λ ts. Rattle.pc_grammar.specs.Grammar.Modules.SpellsModule m ts)
     (one_tokens bytes h.tokens g.tokens h.laid_out g.laid_out) h.spelled.spelled) g.spelled.spelled
 
 -- ---- refusals
@@ -51,7 +51,7 @@ no_grammar : (ts : List Lexeme) (m : Module) (r : Refusal) → IsModule ts m →
 no_grammar ts m r h (inl (code, inl misfit)) = misfit.refused (
   misfit.after,
   m,
-  subst (λ us. Rattle.pc_tree.specs.Grammar.Modules.SpellsModule m us)
+  subst (λ us. Rattle.pc_grammar.specs.Grammar.Modules.SpellsModule m us)
       (misfit.all ∙ append_one misfit.before misfit.token misfit.after) h.spelled,
 )
   where

@@ -12,10 +12,10 @@ use Rattle.pc_token.proofs.AllLines.{only}
 use Rattle.pc_layout.specs.Faults.{IsLayoutRefusal}
 use Rattle.pc_layout.proofs.OneVerdict.{one_refusal as one_of_layout}
 use Rattle.pc_tree.specs.Tree.{Module}
-use Rattle.pc_tree.specs.Grammar.Modules.{SpellsModule, IsFront}
-use Rattle.pc_tree.specs.Faults.{IsMisfit, EndsEarly, IsTooDeep, IsRefusal}
 use Rattle.pc_tree.specs.Depth.{too_deep_at}
-use Rattle.pc_tree.proofs.CompleteModules.{spells_one}
+use Rattle.pc_grammar.specs.Grammar.Modules.{SpellsModule, IsFront}
+use Rattle.pc_grammar.specs.Faults.{IsMisfit, EndsEarly, IsTooDeep, IsRefusal}
+use Rattle.pc_grammar.proofs.CompleteModules.{spells_one}
 use Rattle.pc_front.specs.Bytes.{IsLined, IsRefusalOf, of_source, of_tokens, of_layout, of_grammar}
 use Rattle.pc_front.proofs.BytesLaws.{not_ok, one_lines, one_tokens}
 

@@ -9,7 +9,7 @@ use Rattle.pc_token.specs.Splitting.{HasLines}
 use Rattle.pc_layout.specs.Layouts.{IsLayout}
 use Rattle.pc_layout.specs.Faults.{IsLayoutRefusal}
 use Rattle.pc_tree.specs.Tree.{Module}
-use Rattle.pc_tree.specs.Faults.{IsModule, IsRefusal}
+use Rattle.pc_grammar.specs.Faults.{IsModule, IsRefusal}
 
 -- the bytes are a source text with these logical lines
 pub record IsLined (bytes : List ℕ) (lines : List LogicalLine) : Type 0 where

@@ -1,7 +1,7 @@
 -- Names at run time: what a function binds, what the module binds, the reserved names.
 -- Language Reference 4.2 "Naming and binding"; the reserved names: own rule of the profile.
 use Rattle.std.specs.Prelude.{ℕ, Bool, true, false, List, [], ◌∷◌, ◌++◌, map, if◌then◌else◌, Option, Some, None}
-use Rattle.pc_token.specs.Keywords.{is_reserved}
+use Rattle.pc_source.specs.ReservedNames.{is_reserved}
 use Rattle.pc_tree.specs.Tree.{Stmts, no_stmts, more_stmts, Stmt, pass, breaks, continues, returns, asserts, annotated}
 use Rattle.pc_tree.specs.Tree.{assigns, evaluates, while_loop, for_loop, conditional, Branches, no_branches}
 use Rattle.pc_tree.specs.Tree.{more_branches, Target, to_name, to_attribute, to_index}

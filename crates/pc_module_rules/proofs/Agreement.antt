@@ -14,7 +14,7 @@ use Rattle.pc_tree.specs.declared.code.Code.TheVariants.{E02, E03}
 use Rattle.pc_tree.specs.declared.code.Finding.{Finding}
 use Rattle.pc_tree.specs.Code.{finding}
 use Rattle.pc_tree.specs.Depth.{place_of}
-use Rattle.pc_tree.specs.Machine.Finishing.{name_of_tree}
+use Rattle.pc_tree.specs.NamesAlone.{name_of_tree}
 use Rattle.pc_tree.specs.Tree.{Name, Expr, Exprs, Keywords, name, call, Literal, Ann, Param, FuncDef, Member}
 use Rattle.pc_tree.specs.Tree.{field_member, method_member, Constant, Item, constant_item, class_item, def_item, Module}
 use Rattle.pc_scope.specs.declared.resolution.Builtin.{Builtin}

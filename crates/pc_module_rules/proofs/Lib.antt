@@ -1,5 +1,6 @@
 pub mod Agreement
 pub mod BoundNames
+pub mod DeclaredTypes
 pub mod EnteredTables
 pub mod FirstFlows
 pub mod Functions

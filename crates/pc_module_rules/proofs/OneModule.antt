@@ -1,10 +1,11 @@
 -- A module has at most one lawful labelling: constants first, in text order, then functions and classes.
 use Rattle.std.proofs.Common.{◌≡◌, ℕ, zero, suc, ◌<◌, List, [], ◌∷◌, ◌++◌, map, length, refl, sym, ap, ◌∙◌, subst, inl}
 use Rattle.std.proofs.Common.{inr, arith}
-use Rattle.std.specs.Prelude.{◌⊎◌, Bool as Test, true, false, not, ◌||◌, if◌then◌else◌, Option, Some, None, bytes_eq}
+use Rattle.std.specs.Prelude.{Bool as Test, true, false, not, ◌||◌, if◌then◌else◌, Option, Some, None, bytes_eq}
 use Rattle.std.specs.Prelude.{slice_get}
 use Rattle.std.specs.Option.{option_map}
 use Rattle.std.proofs.lemmas.Slice.Eq.{bytes_eq-Decides}
+use Rattle.std.proofs.lemmas.Bool.{or_cases, or_left, or_right}
 use Rattle.pc_tree.specs.declared.code.Code.{Code}
 use Rattle.pc_tree.specs.Tree.{Literal, Param, FuncDef, Member, field_member, method_member, Constant, Item}
 use Rattle.pc_tree.specs.Tree.{constant_item, class_item, def_item, Module}
@@ -37,25 +38,8 @@ use Rattle.pc_module_rules.specs.Modules.{assigned_at_entry, entry_env, ReturnsW
 use Rattle.pc_module_rules.specs.Modules.{FunctionLabels, LawfulFunction, MembersLabels, LawfulMembers, ItemLabels}
 use Rattle.pc_module_rules.specs.Modules.{ItemsLabels, item_constants, constant_types, BeforeItem, before_next}
 use Rattle.pc_module_rules.specs.Modules.{nothing_before, LawfulItem, LawfulModuleItems, HasOneLabelling}
-use Rattle.pc_module_rules.proofs.OneStatement.{IsAmong, among_right, assign_kept, SameSeen, suite_one}
-
-some_inj : {A : Type 0} {x y : A} → Some x ≡ Some y → x ≡ y
-some_inj e = grind arith
-
-local_inj : {x y : ℕ} → res.Local x ≡ res.Local y → x ≡ y
-local_inj e = grind arith
-
-or_cases : (a b : Test) → (a || b) ≡ true → (a ≡ true) ⊎ (b ≡ true)
-or_cases true b e = inl refl
-or_cases false b e = inr e
-
-or_right : (a b : Test) → b ≡ true → (a || b) ≡ true
-or_right true b e = refl
-or_right false b e = e
-
-or_left : (a b : Test) → a ≡ true → (a || b) ≡ true
-or_left true b e = refl
-or_left false b e = absurd (grind arith)
+use Rattle.pc_module_rules.proofs.OneStatement.{IsAmong, among_right, some_inj, local_inj, not_false, assign_kept}
+use Rattle.pc_module_rules.proofs.OneStatement.{SameSeen, suite_one}
 
 neither_left : (a b : Test) → (a || b) ≡ false → a ≡ false
 neither_left true b e = absurd (grind arith)
@@ -67,10 +51,6 @@ neither_right false b e = e
 
 same_text : (word : List ℕ) → bytes_eq word word ≡ true
 same_text word = (bytes_eq-Decides word word).1 refl
-
-not_false : (b : Test) → not b ≡ false → b ≡ true
-not_false true e = refl
-not_false false e = absurd (grind arith)
 
 -- ---- locals by their numbers
 

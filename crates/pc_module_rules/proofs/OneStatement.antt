@@ -1,7 +1,8 @@
 -- Statements have at most one lawful labelling: declared types are settled in text order, each at its first binding.
 use Rattle.std.proofs.Common.{◌≡◌, ℕ, zero, suc, List, [], ◌∷◌, ◌++◌, map, refl, sym, ap, ◌∙◌, subst, inl, inr, arith}
-use Rattle.std.specs.Prelude.{◌⊎◌, Bool as Test, true, false, not, ◌||◌, Option, Some, None, bytes_eq, option_to_list}
+use Rattle.std.specs.Prelude.{Bool as Test, true, false, not, Option, Some, None, bytes_eq, option_to_list}
 use Rattle.std.proofs.lemmas.Slice.Eq.{bytes_eq-Decides}
+use Rattle.std.proofs.lemmas.Bool.{or_cases, or_left, or_right}
 use Rattle.pc_tree.specs.Tree.{Name, Expr, Ann, name, call, Exprs, Keywords, Target, to_name, to_attribute, to_index}
 use Rattle.pc_tree.specs.Tree.{Stmt, Stmts, Branches, pass, breaks, continues, returns, asserts, annotated, assigns}
 use Rattle.pc_tree.specs.Tree.{evaluates, while_loop, for_loop, conditional, no_stmts, more_stmts, no_branches}
@@ -38,18 +39,6 @@ use Rattle.pc_module_rules.specs.Statements.{LawfulBranches}
 
 -- ---- names among names
 
-or_cases : (a b : Test) → (a || b) ≡ true → (a ≡ true) ⊎ (b ≡ true)
-or_cases true b e = inl refl
-or_cases false b e = inr e
-
-or_right : (a b : Test) → b ≡ true → (a || b) ≡ true
-or_right true b e = refl
-or_right false b e = e
-
-or_left : (a b : Test) → a ≡ true → (a || b) ≡ true
-or_left true b e = refl
-or_left false b e = absurd (grind arith)
-
 abbrev pub IsAmong : List ℕ → List (List ℕ) → Type 0
 IsAmong word xs = is_one_of word xs ≡ true
 
@@ -76,13 +65,13 @@ among_both word (n ∷ a) b seen h = elim (or_cases (bytes_eq word n.text) (is_o
       (or_right (bytes_eq word n.text) (is_one_of word (texts a ++ seen))) (among_both word a b seen r)
 ]
 
-some_inj : {A : Type 0} {x y : A} → Some x ≡ Some y → x ≡ y
+pub some_inj : {A : Type 0} {x y : A} → Some x ≡ Some y → x ≡ y
 some_inj e = grind arith
 
-local_inj : {x y : ℕ} → res.Local x ≡ res.Local y → x ≡ y
+pub local_inj : {x y : ℕ} → res.Local x ≡ res.Local y → x ≡ y
 local_inj e = grind arith
 
-not_false : (b : Test) → not b ≡ false → b ≡ true
+pub not_false : (b : Test) → not b ≡ false → b ≡ true
 not_false true e = refl
 not_false false e = absurd (grind arith)
 

@@ -1,7 +1,7 @@
 -- What a walk over statements finds tells of just the dynamic flows under lawful labels, besides those of what was
 -- found before.
 use Rattle.std.proofs.Common.{◌≡◌, ℕ, List, [], ◌∷◌, ◌++◌, refl, sym, ap, ◌∙◌, subst, append-nil}
-use Rattle.std.specs.Prelude.{Bool as Test, true, false, not, unwrap_or, Option, Some, None}
+use Rattle.std.specs.Prelude.{Bool as Test, true, false, unwrap_or, Option, Some, None}
 use Rattle.pc_source.specs.declared.place.Place.{Place}
 use Rattle.pc_tree.specs.declared.code.Code.TheVariants.{E24}
 use Rattle.pc_tree.specs.Code.{finding}
@@ -16,7 +16,6 @@ use Rattle.pc_scope.specs.Bindings.{texts}
 use Rattle.pc_scope.specs.Reach.{completes}
 use Rattle.pc_scope.specs.Resolution.{is_one_of}
 use Rattle.pc_types.specs.Tree.{Tree}
-use Rattle.pc_types.specs.Below.{Bases}
 use Rattle.pc_types.specs.WellFormed.{IsWellFormed}
 use Rattle.pc_ann.specs.Annotations.{read_ann}
 use Rattle.pc_ann.proofs.Readings.{read_ann_well_formed}
@@ -36,7 +35,7 @@ use Rattle.pc_rules.specs.Computed.Standing.{finds_in}
 use Rattle.pc_rules.proofs.WellFormed.{unwrap_well_formed}
 use Rattle.pc_module_rules.specs.StatementLabels.{OptionLabels, StmtLabels, SuiteLabels, BranchesLabels, Behind}
 use Rattle.pc_module_rules.specs.StatementLabels.{Following, BehindRule, behind_list}
-use Rattle.pc_module_rules.specs.Statements.{NamesBound, is_first, binds_number, AreUndeclared, DeclaredAt, known_type}
+use Rattle.pc_module_rules.specs.Statements.{NamesBound, is_first, binds_number, AreUndeclared, known_type}
 use Rattle.pc_module_rules.specs.Statements.{LawfulBinding, LawfulTarget, annotation_at, LawfulAnnotated, LawfulStmt}
 use Rattle.pc_module_rules.specs.Statements.{LawfulSuite, LawfulBranches}
 use Rattle.pc_module_rules.specs.Laws.Labellings.{Surroundings}
@@ -47,6 +46,7 @@ use Rattle.pc_module_rules.specs.Computed.Statements.{annotation_finds, bound_na
 use Rattle.pc_module_rules.specs.Computed.Statements.{assign_target, option_finds, return_finds, behind_loop}
 use Rattle.pc_module_rules.specs.Computed.Statements.{inside_for, step, walk_suite, walk_branches}
 use Rattle.pc_module_rules.specs.Laws.Walks.{TableFits, EnvFits, OutFits, body_context_in}
+use Rattle.pc_module_rules.proofs.DeclaredTypes.{known_well_formed, declared_is, want_is, type_is}
 use Rattle.pc_module_rules.proofs.WalkedTables.{fits_both, unreached_suite}
 use Rattle.pc_module_rules.proofs.WalkedEnvironments.{truth_same, truth_fits, head_same, head_fits}
 use Rattle.pc_module_rules.proofs.WalkedExpressions.{told, iterable_told, flows_told}
@@ -59,11 +59,6 @@ use Rattle.pc_module_rules.proofs.FirstFlows.{Tells, tell_plain, Grows, grow_non
 use Rattle.pc_module_rules.proofs.ToldFlows.{tell_codes, tell_flows}
 use Rattle.pc_module_rules.proofs.ToldExpressions.{tell_in, tell_iterable, tell_store, tell_option, tell_return}
 
-known_well_formed : (bases : Bases) (o a : Option Tree) → IsWellFormedIfAny bases o → IsWellFormedIfAny bases a
-    → IsWellFormedIfAny bases (known_declared o a)
-known_well_formed bases None a h k = k
-known_well_formed bases (Some d) a h k = h
-
 module _ (setting : Surroundings) (returned : Tree) (kr : IsWellFormed setting.context.bases returned)
     (declared : List Tree) where
   open setting use {whole as m, context as ctx, context_well_formed as ck}
@@ -75,26 +70,6 @@ module _ (setting : Surroundings) (returned : Tree) (kr : IsWellFormed setting.c
   TableHere seen table = TableFits setting declared seen table
 
   -- ---- a local bound
-
-  -- a local of a name, with the type that the table has for it, if any
-  module _ (x : ℕ) (o : Option Tree) (b : Test) (bound : b ≡ true → o ≡ Some (declared_type declared x))
-      (unbound : b ≡ false → o ≡ None) where
-    declared_is : (from : Tree) (b' : Test) → b' ≡ b → DeclaredAt m ctx declared (not b') x None from
-        → unwrap_or o from ≡ declared_type declared x
-    declared_is from true e d = ap (λ p. unwrap_or p from) (bound (sym e))
-    declared_is from false e d = ap (λ p. unwrap_or p from) (unbound (sym e)) ∙ sym d
-
-    want_is : (b' : Test) → b' ≡ b → (a a' : Option Tree) → (not b' ≡ true → a ≡ a') → (from : Tree)
-        → DeclaredAt m ctx declared (not b') x a from → known_type m ctx declared (not b') x a ≡ known_declared o a'
-    want_is true e a a' s from d = ap (λ p. known_declared p a') (sym (bound (sym e)))
-    want_is false e None a' s from d = λ i. known_declared (sym (unbound (sym e)) i) (s refl i)
-    want_is false e (Some t) a' s from d = ap Some d ∙ (λ i. known_declared (sym (unbound (sym e)) i) (s refl i))
-
-    type_is : (b' : Test) → (a : Option Tree) (from : Tree) → DeclaredAt m ctx declared (not b') x a from
-        → unwrap_or (known_type m ctx declared (not b') x a) from ≡ declared_type declared x
-    type_is true a from d = refl
-    type_is false None from d = sym d
-    type_is false (Some t) from d = refl
 
   module _ (seen : NamesBound) (n : Name) (table : Table) (h : TableFits setting declared seen table) where
     -- the flow into a local that is bound to what has a label
@@ -124,14 +99,14 @@ module _ (setting : Surroundings) (returned : Tree) (kr : IsWellFormed setting.c
         let bound : b ≡ true → o ≡ Some (declared_type declared x) = λ q. h.bound n.text x q i in
         let unbound : b ≡ false → o ≡ None = λ q. h.unbound n.text x q i in
         let want = known_declared o a' in
-        let w : known_type m ctx declared (is_first seen n) x a ≡ want = want_is x o b bound unbound b refl a a' s
-        (type_of e labels) l.at_first in
+        let w : known_type m ctx declared (is_first seen n) x a ≡ want = want_is m ctx declared x o b bound
+        unbound b refl a a' s (type_of e labels) l.at_first in
         let kw : IsWellFormedIfAny ctx.bases want = known_well_formed ctx.bases o a'
         (current_well_formed ctx.bases table x h.well_formed) ka in
         let lw = subst (λ y. Lawful ctx declared env y e labels) w l.value in
         let v = told setting declared table h.well_formed env f want kw e labels lw in
         let is : unwrap_or want (type_of e labels) ≡ declared_type declared x = ap (λ y. unwrap_or y (type_of e labels))
-        (sym w) ∙ type_is x o b bound unbound b a (type_of e labels) l.at_first in
+        (sym w) ∙ type_is m ctx declared x o b bound unbound b a (type_of e labels) l.at_first in
         let finds = finds_in (at context table env) want e in
         let ds = dynamic_in e labels in
         let es = dynamic_at (place_of e) flows in
@@ -186,8 +161,8 @@ module _ (setting : Surroundings) (returned : Tree) (kr : IsWellFormed setting.c
     target_tells (res.Local x) i head item ki p flows inside found l =
         let b = is_one_of n.text seen in
         label_tells head x (bound_type table x) p (clean item.type) flows found
-        (declared_is x (bound_type table x) b (λ q. h.bound n.text x q i) (λ q. h.unbound n.text x q i) item.type b refl
-        l.at_first) (current_well_formed ctx.bases table x h.well_formed) ki l.flow
+        (declared_is m ctx declared x (bound_type table x) b (λ q. h.bound n.text x q i) (λ q. h.unbound n.text x q i)
+        item.type b refl l.at_first) (current_well_formed ctx.bases table x h.well_formed) ki l.flow
     target_tells (res.Const c) i head item ki p flows inside found l = no_flow p flows found l.0
     target_tells (res.Func c) i head item ki p flows inside found l = no_flow p flows found l.0
     target_tells (res.Class c) i head item ki p flows inside found l = no_flow p flows found l.0

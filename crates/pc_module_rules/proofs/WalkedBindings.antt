@@ -36,6 +36,7 @@ use Rattle.pc_module_rules.specs.Computed.Statements.{BindingResult, at, bind_la
 use Rattle.pc_module_rules.specs.Computed.Statements.{annotation_finds, bound_name, bind_annotated, bind_item}
 use Rattle.pc_module_rules.specs.Laws.Walks.{TableFits, EnvFits, Adds, body_context_in, Lists}
 use Rattle.pc_module_rules.proofs.BoundNames.{here_among}
+use Rattle.pc_module_rules.proofs.DeclaredTypes.{known_well_formed, declared_is, want_is, type_is}
 use Rattle.pc_module_rules.proofs.Labelled.{type_of_bound}
 use Rattle.pc_module_rules.proofs.OneStatement.{assign_kept}
 use Rattle.pc_module_rules.proofs.SaidByStatements.{no_flows}
@@ -86,33 +87,6 @@ module _ (setting : Surroundings) (returned : Tree) (declared : List Tree) where
     env_fits = h.env_fits;
     found_is = adds_both found more b.found a h.found_is;
   }
-
-  -- ---- what is expected of what is bound
-
-  known_well_formed : (o a : Option Tree) → IsWellFormedIfAny ctx.bases o → IsWellFormedIfAny ctx.bases a
-      → IsWellFormedIfAny ctx.bases (known_declared o a)
-  known_well_formed None a h k = k
-  known_well_formed (Some d) a h k = h
-
-  -- a local of a name, with the type that the table has for it, if any
-  module _ (x : ℕ) (o : Option Tree) (b : Test) (bound : b ≡ true → o ≡ Some (declared_type declared x))
-      (unbound : b ≡ false → o ≡ None) where
-    declared_is : (from : Tree) (b' : Test) → b' ≡ b → DeclaredAt m ctx declared (not b') x None from
-        → unwrap_or o from ≡ declared_type declared x
-    declared_is from true e d = ap (λ p. unwrap_or p from) (bound (sym e))
-    declared_is from false e d = ap (λ p. unwrap_or p from) (unbound (sym e)) ∙ sym d
-
-    want_is : (b' : Test) → b' ≡ b → (a a' : Option Tree) → (not b' ≡ true → a ≡ a') → (from : Tree)
-        → DeclaredAt m ctx declared (not b') x a from → known_type m ctx declared (not b') x a ≡ known_declared o a'
-    want_is true e a a' s from d = ap (λ p. known_declared p a') (sym (bound (sym e)))
-    want_is false e None a' s from d = λ i. known_declared (sym (unbound (sym e)) i) (s refl i)
-    want_is false e (Some t) a' s from d = ap Some d ∙ (λ i. known_declared (sym (unbound (sym e)) i) (s refl i))
-
-    type_is : (b' : Test) → (a : Option Tree) (from : Tree) → DeclaredAt m ctx declared (not b') x a from
-        → unwrap_or (known_type m ctx declared (not b') x a) from ≡ declared_type declared x
-    type_is true a from d = refl
-    type_is false None from d = sym d
-    type_is false (Some t) from d = refl
 
   -- ---- a local bound
 
@@ -168,15 +142,16 @@ module _ (setting : Surroundings) (returned : Tree) (declared : List Tree) where
       value_says env f a a' s ka e labels flows after found l =
           let o = bound_type table x in
           let want = known_declared o a' in
-          let w : known_type m ctx declared (is_first seen n) x a ≡ want = want_is x o (is_one_of n.text seen)
-          bound_here unbound_here (is_one_of n.text seen) refl a a' s (type_of e labels) l.at_first in
-          let kw : IsWellFormedIfAny ctx.bases want = known_well_formed o a'
+          let w : known_type m ctx declared (is_first seen n) x a ≡ want = want_is m ctx declared x o
+          (is_one_of n.text seen) bound_here unbound_here (is_one_of n.text seen) refl a a' s (type_of e labels)
+          l.at_first in
+          let kw : IsWellFormedIfAny ctx.bases want = known_well_formed ctx.bases o a'
           (current_well_formed ctx.bases table x h.well_formed) ka in
           let v = told setting declared table h.well_formed env f want kw e labels
           (subst (λ y. Lawful ctx declared env y e labels) w l.value) in
           let is : unwrap_or want (type_of e labels) ≡ declared_type declared x =
-          ap (λ y. unwrap_or y (type_of e labels)) (sym w) ∙ type_is x o (is_one_of n.text seen) bound_here
-          unbound_here (is_one_of n.text seen) a (type_of e labels) l.at_first in
+          ap (λ y. unwrap_or y (type_of e labels)) (sym w) ∙ type_is m ctx declared x o (is_one_of n.text seen)
+          bound_here unbound_here (is_one_of n.text seen) a (type_of e labels) l.at_first in
           let finds = finds_in (at context table env) want e in
           subst (λ k. BoundSays seen n table found (bind_label context table env x want (place_of e) k (found ++ finds))
           after (λ g. Finds e labels g ⊎ IsFlowAt (place_of e) flows g)) (sym v.label)
@@ -250,9 +225,9 @@ module _ (setting : Surroundings) (returned : Tree) (declared : List Tree) where
         → BoundSays seen n table found (bind_item context table head r p item.type found) inside (IsFlowAt p flows)
     target_says (res.Local x) i head f item k p flows inside found l =
         label_says x i head f (bound_type table x) p (clean item.type) flows inside found
-        (declared_is x (bound_type table x) (is_one_of n.text seen) (bound_here x i) (unbound_here x i) item.type
-        (is_one_of n.text seen) refl l.at_first) (current_well_formed ctx.bases table x h.well_formed) k l.flow
-        l.inside_is
+        (declared_is m ctx declared x (bound_type table x) (is_one_of n.text seen) (bound_here x i) (unbound_here x i)
+        item.type (is_one_of n.text seen) refl l.at_first) (current_well_formed ctx.bases table x h.well_formed) k
+        l.flow l.inside_is
     target_says (res.Const c) i head f item k p flows inside found l = idle_says (λ x j. absurd (grind (arith, i, j)))
         head f p flows inside found l.0 l.1
     target_says (res.Func c) i head f item k p flows inside found l = idle_says (λ x j. absurd (grind (arith, i, j)))

@@ -4,13 +4,13 @@ use Rattle.std.proofs.Common.{get_or, drop-cons, add-one}
 use Rattle.std.specs.Prelude.{Option, Some, None, MatchOption, unwrap_or, slice_get}
 use Rattle.std.proofs.lemmas.List.{drop_all}
 use Rattle.std.proofs.lemmas.Option.{slice_get_past}
+use Rattle.pc_tree.specs.Digits.{number_behind}
 use Rattle.pc_types.specs.Tree.{Tree, Trees, Int, TupleOf, end, more}
 use Rattle.pc_types.specs.Below.{Bases}
 use Rattle.pc_types.specs.Shape.{nodes, nodes_of, node_limit, list_of_trees}
 use Rattle.pc_types.proofs.Nodes.{some_node}
 use Rattle.pc_flow.specs.Environment.{join_all}
 use Rattle.pc_rules.specs.Operations.{suits, index_member}
-use Rattle.pc_rules.specs.Lawful.{number_behind}
 
 parts_below : (ts : Trees) → length (list_of_trees ts) ≤ nodes_of ts
 parts_below end = omega arith

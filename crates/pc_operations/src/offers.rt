@@ -3,13 +3,14 @@
 ghost use Rattle.std.specs.Prelude.{◌≡◌, ◌≤◌, ◌++◌, ◌∷◌, [], All, IfOk, OnOk, map, option_to_list, MatchOption};
 ghost use Rattle.std.specs.Option.{option_map};
 ghost use Rattle.pc_tree.specs.Tree.{expr_of};
+ghost use Rattle.pc_tree.specs.Digits.{number_behind};
 ghost use Rattle.pc_types.specs.Tree.{Tree};
 ghost use Rattle.pc_types.specs.Below.{Bases};
 ghost use Rattle.pc_types.specs.Shape.{members, nodes, node_limit};
 ghost use Rattle.pc_types.specs.Store.{Means, KeepsTypes};
 ghost use Rattle.pc_class.specs.Tables.{HasEntries, classes_with};
 ghost use Rattle.pc_rules.specs.Operations.{has_error, found_of, offers_label, operand_types, index_member};
-ghost use Rattle.pc_rules.specs.Lawful.{number_behind, int_literal};
+ghost use Rattle.pc_rules.specs.Lawful.{int_literal};
 ghost use Rattle.pc_rules.specs.Computed.Standing.{HasIfAny, HasOffer, offer_with, MeansLabel};
 ghost use Rattle.pc_operations.specs.JudgedOperations.{IsOffer, offer_on};
 

@@ -7,7 +7,7 @@ use Rattle.std.specs.Borrow.{Bor}
 use Rattle.std.specs.List.{list_all}
 use Rattle.std.proofs.lemmas.List.Elements.{All-contains, All-weaker}
 use Rattle.std.proofs.lemmas.Slice.Eq.{bytes_eq-Decides}
-use Rattle.pc_token.proofs.ListSearch.{found_passes}
+use Rattle.pc_source.proofs.ListSearch.{found_passes}
 use Rattle.pc_tree.specs.Tree.{Module}
 use Rattle.pc_types.specs.Tree.{Tree}
 use Rattle.pc_types.specs.Below.{base_of}
@@ -17,8 +17,8 @@ use Rattle.pc_class.specs.Facts.{Method, ClassFacts, class_facts_at, base_facts,
 use Rattle.pc_class.specs.Overrides.{overridden}
 use Rattle.pc_class.specs.Tables.{ClassEntry, classes_with, method_lent, HasParameter, HasMethod, HasEntry, HasEntries}
 use Rattle.pc_class.specs.Tables.{IsMethod}
-use Rattle.pc_overrides.proofs.Overridden.{nearest, none_kept}
 use Rattle.pc_class.proofs.TableFields.{steps_left, fewer}
+use Rattle.pc_overrides.proofs.Overridden.{nearest, none_kept}
 
 module _ {Ty : Type 0} where
   -- the store gave the types of a method of the table

@@ -12,12 +12,12 @@ use Rattle.pc_tree.specs.declared.tree.Name.{Name as RustName}
 use Rattle.pc_tree.specs.Tree.{Name, name_of, Ann, named, none_type, applied, applied_empty, union, Anns, no_anns}
 use Rattle.pc_tree.specs.Tree.{more_anns, ann_of, anns_of}
 use Rattle.pc_tree.specs.Depth.{depth_of_ann, depth_over_anns, place_of_ann}
-use Rattle.pc_tree.specs.Grammar.{span, name_at}
-use Rattle.pc_tree.specs.Machine.Finishing.{add_ann}
+use Rattle.pc_grammar.specs.Grammar.{span, name_at}
+use Rattle.pc_grammar.specs.Machine.Finishing.{add_ann}
+use Rattle.pc_reader.proofs.Building.{span_is, starts_one, ends_one, name_ends}
 use Rattle.pc_parse.specs.declared.annotation.Annotation.{Annotation}
 use Rattle.pc_parse.specs.declared.annotation.Annotations.{Annotations}
 use Rattle.pc_parse.specs.Internal.Annotations.{KeepsAnn, KeepsAnns, MakesAnn, anns_in}
-use Rattle.pc_reader.proofs.Building.{span_is, starts_one, ends_one, name_ends}
 
 rows : {n : _} (k : Row_of-Ann n) → anns_of k ≡ anns_in (items-the_row-Ann n k)
 rows end_of-Ann = refl

@@ -11,26 +11,26 @@ use Rattle.pc_token.specs.Lexeme.{Lexeme}
 use Rattle.pc_tree.specs.declared.tree.Ann.TheVariants as rust
 use Rattle.pc_tree.specs.declared.tree.Name.{Name as RustName}
 use Rattle.pc_tree.specs.Tree.{Name, name_of, Ann, named, none_type, applied, union, Anns, no_anns, more_anns}
-use Rattle.pc_tree.specs.Grammar.{span, name_at}
-use Rattle.pc_tree.specs.Machine.{Reading, at, short, stop}
-use Rattle.pc_tree.specs.Machine.States.{AnnStack, ann_whole, ann_inside, AnnotationPosition, State, on, part_due}
-use Rattle.pc_tree.specs.Machine.States.{part_read, argument_due, empty_opened}
 use Rattle.pc_tree.specs.Depth.{whole_ann}
-use Rattle.pc_tree.specs.Machine.Finishing.{add_ann, finish_ann}
-use Rattle.pc_parse.specs.declared.parser.Parser.{Parser}
-use Rattle.pc_parse.specs.Internal.WholeTrees.{deep_after, GivesAnn}
-use Rattle.pc_parse.proofs.Depths.{note_of, shallow}
+use Rattle.pc_grammar.specs.Grammar.{span, name_at}
+use Rattle.pc_grammar.specs.Machine.{Reading, at, short, stop}
+use Rattle.pc_grammar.specs.Machine.States.{AnnStack, ann_whole, ann_inside, AnnotationPosition, State, on, part_due}
+use Rattle.pc_grammar.specs.Machine.States.{part_read, argument_due, empty_opened}
+use Rattle.pc_grammar.specs.Machine.Finishing.{add_ann, finish_ann}
 use Rattle.pc_reader.proofs.Steps.{not_seen}
-use Rattle.pc_parse.specs.declared.annotation.Annotation.{Annotation}
-use Rattle.pc_parse.specs.declared.annotation.Annotations.{Annotations}
 use Rattle.pc_reader.specs.declared.reader.Reader.{Reader}
 use Rattle.pc_reader.specs.Internal.Operands.{Starts}
 use Rattle.pc_reader.specs.Reading.{Blames, IsAhead, lexeme, Came, IsReady, left_in, Takes, NeedsKind}
 use Rattle.pc_reader.specs.Internal.Expressions.{GivesName}
-use Rattle.pc_parse.specs.Internal.Annotations.{KeepsAnn, KeepsAnns, MakesAnn, GivesUnion, GivesPart, ReadsPart}
-use Rattle.pc_parse.specs.Internal.Annotations.{GivesApplied, ReadsApplied, PartsSoFar, ArgumentsSoFar}
 use Rattle.pc_reader.proofs.Building.{starts_more, ends_more, ends_one}
 use Rattle.pc_reader.proofs.Streams.{blame}
+use Rattle.pc_parse.specs.declared.parser.Parser.{Parser}
+use Rattle.pc_parse.specs.Internal.WholeTrees.{deep_after, GivesAnn}
+use Rattle.pc_parse.proofs.Depths.{note_of, shallow}
+use Rattle.pc_parse.specs.declared.annotation.Annotation.{Annotation}
+use Rattle.pc_parse.specs.declared.annotation.Annotations.{Annotations}
+use Rattle.pc_parse.specs.Internal.Annotations.{KeepsAnn, KeepsAnns, MakesAnn, GivesUnion, GivesPart, ReadsPart}
+use Rattle.pc_parse.specs.Internal.Annotations.{GivesApplied, ReadsApplied, PartsSoFar, ArgumentsSoFar}
 use Rattle.pc_parse.proofs.Annotated.{names, nothing}
 use Rattle.pc_parse.proofs.AnnotationSteps.{to_none, to_name, to_bracket, to_parenthesis, to_bar, to_comma, to_close}
 use Rattle.pc_parse.proofs.AnnotationSteps.{alone, filled, united, closes, no_part}
@@ -177,7 +177,7 @@ module _ {X I : Type 0} {text : X → List ℕ} {steps : I → Option (Result (T
         → Blames e (λ x. (parts : Anns) (before : List Lexeme) (s : AnnStack)
         → Came text steps a (at (part_due parts before s)) x)
     bracket_fails w = blame (λ x u. λ parts before s. to_name n.takes parts before s n.is x
-        (u (at (Rattle.pc_tree.specs.Machine.States.part_named (name_at (lexeme text n.token))
+        (u (at (Rattle.pc_grammar.specs.Machine.States.part_named (name_at (lexeme text n.token))
         (lexeme text n.token ∷ []) parts before s)) (λ q. refl))) w
 
     pub applied_part : {d : Reader X I} {t : Token X} (b : Reader X I) → Takes text steps can left m d t

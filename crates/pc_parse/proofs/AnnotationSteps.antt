@@ -8,13 +8,13 @@ use Rattle.pc_token.specs.declared.token.Keyword.TheVariants as word
 use Rattle.pc_token.specs.declared.token.Operator.TheVariants as sign
 use Rattle.pc_token.specs.Lexeme.{Lexeme}
 use Rattle.pc_tree.specs.Tree.{Name, Ann, named, none_type, applied, Anns, no_anns}
-use Rattle.pc_tree.specs.Grammar.{span, name_at}
-use Rattle.pc_tree.specs.Machine.{at, turn}
-use Rattle.pc_tree.specs.Machine.Kinds.{same_kind}
-use Rattle.pc_tree.specs.Machine.States.{AnnStack, ann_inside, State, part_due, part_named, part_read, argument_due}
-use Rattle.pc_tree.specs.Machine.States.{empty_opened, empty_closed, stuck, on}
-use Rattle.pc_tree.specs.Machine.Finishing.{add_ann}
-use Rattle.pc_tree.specs.Machine.Annotations.{whole_ann, ann_end, part_read_turn, part_turn}
+use Rattle.pc_grammar.specs.Grammar.{span, name_at}
+use Rattle.pc_grammar.specs.Machine.{at, turn}
+use Rattle.pc_grammar.specs.Machine.Kinds.{same_kind}
+use Rattle.pc_grammar.specs.Machine.States.{AnnStack, ann_inside, State, part_due, part_named, part_read, argument_due}
+use Rattle.pc_grammar.specs.Machine.States.{empty_opened, empty_closed, stuck, on}
+use Rattle.pc_grammar.specs.Machine.Finishing.{add_ann}
+use Rattle.pc_grammar.specs.Machine.Annotations.{whole_ann, ann_end, part_read_turn, part_turn}
 use Rattle.pc_reader.specs.declared.reader.Reader.{Reader}
 use Rattle.pc_reader.specs.Reading.{IsAhead, lexeme, Onward, Takes, NeedsKind}
 use Rattle.pc_reader.proofs.Steps.{step_to, alike, needs, not_seen}

@@ -6,24 +6,24 @@ use Rattle.pc_source.specs.declared.fault.Fault.TheVariants as fault
 use Rattle.pc_source.specs.declared.fault.Refusal.{Refusal}
 use Rattle.pc_source.specs.declared.fault.RefusalCode.TheVariants as code
 use Rattle.pc_source.specs.Stream as stream
+use Rattle.pc_source.specs.Answers.{OnRefusal}
 use Rattle.pc_token.specs.declared.token.Token.{Token}
 use Rattle.pc_token.specs.Lexeme.{Lexeme}
-use Rattle.pc_source.specs.Answers.{OnRefusal}
 use Rattle.std.specs.Iterator.{Count}
 use Rattle.pc_tree.specs.declared.tree.Module.{Module as RustModule}
 use Rattle.pc_tree.specs.Tree.{Module, module_of}
 use Rattle.pc_tree.specs.Depth.{too_deep_at}
-use Rattle.pc_tree.specs.Grammar.{last_place}
-use Rattle.pc_tree.specs.Faults.{IsModule, IsRefusal}
-use Rattle.pc_tree.specs.Machine.{Reading, at, Outcome, reads, refuses, short, step, stop, run}
-use Rattle.pc_tree.specs.Machine.Lines.{start}
-use Rattle.pc_tree.proofs.Sound.{reads_spells}
-use Rattle.pc_tree.proofs.Front.{misfit, ends_early}
-use Rattle.pc_parse.specs.declared.parser.Parser.{Parser}
+use Rattle.pc_grammar.specs.Grammar.{last_place}
+use Rattle.pc_grammar.specs.Faults.{IsModule, IsRefusal}
+use Rattle.pc_grammar.specs.Machine.{Reading, at, Outcome, reads, refuses, short, step, stop, run}
+use Rattle.pc_grammar.specs.Machine.Lines.{start}
+use Rattle.pc_grammar.proofs.Sound.{reads_spells}
+use Rattle.pc_grammar.proofs.Front.{misfit, ends_early}
 use Rattle.pc_reader.specs.Reading.{Blames, answer_for, lexeme, run_items, ComesToAnswer, Came}
+use Rattle.pc_reader.proofs.Streams.{run_token, run_fault, run_end}
+use Rattle.pc_parse.specs.declared.parser.Parser.{Parser}
 use Rattle.pc_parse.specs.Internal.Modules.{GivesModule}
 use Rattle.pc_parse.specs.Answering.{IsRead, IsRefusedByTokens, IsFaulty}
-use Rattle.pc_reader.proofs.Streams.{run_token, run_fault, run_end}
 
 run_more : (r : Reading) (t : Lexeme) (ts : List Lexeme) → run r (t ∷ ts) ≡ run (step r t) ts
 unfolding run

@@ -6,19 +6,19 @@ use Rattle.pc_source.specs.declared.fault.Fault.{Fault}
 use Rattle.pc_source.specs.declared.fault.Fault.TheVariants as fault
 use Rattle.pc_source.specs.declared.fault.Refusal.{Refusal}
 use Rattle.pc_source.specs.Stream.{Yields}
+use Rattle.pc_source.specs.Answers.{OnRefusal}
 use Rattle.pc_token.specs.declared.token.Token.{Token}
 use Rattle.pc_token.specs.Lexeme.{Lexeme, lexeme_of}
-use Rattle.pc_source.specs.Answers.{OnRefusal}
 use Rattle.pc_token.specs.Lexeme.{form_of}
 use Rattle.pc_tree.specs.declared.tree.Module.{Module as RustModule}
 use Rattle.pc_tree.specs.Tree.{Module, module_of}
+use Rattle.pc_tree.specs.Depth.{too_deep_at}
+use Rattle.pc_grammar.specs.Grammar.Modules.{SpellsModule}
+use Rattle.pc_grammar.specs.Faults.{IsModule, IsRefusal}
+use Rattle.pc_grammar.specs.Machine.{reads}
+use Rattle.pc_grammar.proofs.CompleteModules.{spelled_reads}
 use Rattle.pc_reader.specs.Reading.{lexeme}
 use Rattle.pc_parse.specs.Answering.{IsRead, IsRefusedByTokens, IsFaulty}
-use Rattle.pc_tree.specs.Depth.{too_deep_at}
-use Rattle.pc_tree.specs.Grammar.Modules.{SpellsModule}
-use Rattle.pc_tree.specs.Faults.{IsModule, IsRefusal}
-use Rattle.pc_tree.specs.Machine.{reads}
-use Rattle.pc_tree.proofs.CompleteModules.{spelled_reads}
 use Rattle.pc_parse.specs.declared.listed.Listed.{Listed}
 use Rattle.pc_parse.specs.Internal.ListedTokens.{tokens_left, gives_token}
 

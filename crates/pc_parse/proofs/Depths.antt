@@ -7,8 +7,8 @@ use Rattle.std.proofs.lemmas.Bool.Decides.{leb_tells}
 use Rattle.pc_tree.specs.Tree.{Expr, Stmt, Stmts, no_stmts, more_stmts, Branches, no_branches, more_branches, expr_of}
 use Rattle.pc_tree.specs.Depth.{Whole, depth_limit, whole_expr, wholes_of_stmt, wholes_of_stmts, wholes_of_branches}
 use Rattle.pc_tree.specs.Depth.{first_too_deep}
-use Rattle.pc_tree.specs.Machine.Finishing.{add_stmt, add_branch}
-use Rattle.pc_tree.specs.Machine.States.{Part}
+use Rattle.pc_grammar.specs.Machine.Finishing.{add_stmt, add_branch}
+use Rattle.pc_grammar.specs.Machine.States.{Part}
 use Rattle.pc_reader.specs.declared.operand.Operand.{Operand}
 use Rattle.pc_reader.specs.Internal.Operands.{KeepsPart}
 use Rattle.pc_parse.specs.Internal.WholeTrees.{sooner, deep_after}

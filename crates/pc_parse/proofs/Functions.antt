@@ -16,31 +16,31 @@ use Rattle.pc_tree.specs.declared.tree.Param.{Param as RustParam}
 use Rattle.pc_tree.specs.declared.tree.Stmt.{Stmt as RustStmt}
 use Rattle.pc_tree.specs.Tree.{Name, Ann, Param, FuncDef, Stmts, option_ann_of, param_of, stmts_of_list}
 use Rattle.pc_tree.specs.Depth.{optional_anns, wholes_of_params, wholes_of_stmts}
-use Rattle.pc_tree.specs.Grammar.{name_at}
-use Rattle.pc_tree.specs.Machine.{at, turn}
-use Rattle.pc_tree.specs.Machine.Kinds.{same_kind, a_form}
-use Rattle.pc_tree.specs.Machine.States.{Owner, of_module, of_class, DefStart, DefHead, Block, def_body}
-use Rattle.pc_tree.specs.Machine.States.{AnnotationPosition, of_return, State, fixed, def_due, self_read, param_due}
-use Rattle.pc_tree.specs.Machine.States.{params_read, Turn, stuck, on}
-use Rattle.pc_tree.specs.Machine.Finishing.{suite_of}
-use Rattle.pc_tree.specs.Machine.Lines.{params_of}
-use Rattle.pc_tree.specs.Fronts.Lines.{is_method}
+use Rattle.pc_grammar.specs.Grammar.{name_at}
+use Rattle.pc_grammar.specs.Machine.{at, turn}
+use Rattle.pc_grammar.specs.Machine.Kinds.{same_kind, a_form}
+use Rattle.pc_grammar.specs.Machine.States.{Owner, of_module, of_class, DefStart, DefHead, Block, def_body}
+use Rattle.pc_grammar.specs.Machine.States.{AnnotationPosition, of_return, State, fixed, def_due, self_read, param_due}
+use Rattle.pc_grammar.specs.Machine.States.{params_read, Turn, stuck, on}
+use Rattle.pc_grammar.specs.Machine.Finishing.{suite_of}
+use Rattle.pc_grammar.specs.Machine.Lines.{params_of}
+use Rattle.pc_grammar.specs.Fronts.Lines.{is_method}
 use Rattle.pc_reader.specs.declared.reader.Reader.{Reader}
-use Rattle.pc_parse.specs.declared.parser.Parser.{Parser}
 use Rattle.pc_reader.specs.Reading.{Blames, IsAhead, lexeme, Came, Onward, Takes, NeedsKind}
 use Rattle.pc_reader.specs.Internal.Expressions.{GivesName}
 use Rattle.pc_reader.specs.Internal.StatesAhead.{StandsBefore, LeadsTo}
-use Rattle.pc_parse.specs.Internal.WholeTrees.{deep_after, KeepsTree}
-use Rattle.pc_parse.specs.Internal.Signatures.{opens_ann, or_ann, GivesOpened, GivesParams, ReadsParamsFrom}
-use Rattle.pc_parse.specs.Internal.Signatures.{GivesSignature, ReadsSignature, GivesFunction}
-use Rattle.pc_parse.specs.Internal.Suites.{GivesSuite}
 use Rattle.pc_reader.specs.Internal.FixedWords.{TakesForm}
-use Rattle.pc_parse.proofs.Depths.{noted_more, none_before}
-use Rattle.pc_parse.proofs.Parameters.{kept_none}
 use Rattle.pc_reader.proofs.Steps.{step_to, not_seen}
 use Rattle.pc_reader.proofs.Streams.{blame}
 use Rattle.pc_reader.proofs.Stands.{stands_at, awaits, takes, reached_so, reaches_to}
 use Rattle.pc_reader.proofs.Words.{form_read, kind_due, kind_read}
+use Rattle.pc_parse.specs.declared.parser.Parser.{Parser}
+use Rattle.pc_parse.specs.Internal.WholeTrees.{deep_after, KeepsTree}
+use Rattle.pc_parse.specs.Internal.Signatures.{opens_ann, or_ann, GivesOpened, GivesParams, ReadsParamsFrom}
+use Rattle.pc_parse.specs.Internal.Signatures.{GivesSignature, ReadsSignature, GivesFunction}
+use Rattle.pc_parse.specs.Internal.Suites.{GivesSuite}
+use Rattle.pc_parse.proofs.Depths.{noted_more, none_before}
+use Rattle.pc_parse.proofs.Parameters.{kept_none}
 
 -- what comes before the first parameter, after the opening parenthesis
 abbrev begun : Bool → DefStart → State

@@ -8,19 +8,20 @@ use Rattle.pc_token.specs.declared.token.Token.{Token}
 use Rattle.pc_token.specs.declared.token.TokenKind.TheVariants as kind
 use Rattle.pc_token.specs.declared.token.Keyword.TheVariants as word
 use Rattle.pc_token.specs.declared.token.Operator.TheVariants as sign
-use Rattle.pc_tree.specs.Grammar.{name_at}
-use Rattle.pc_tree.specs.Machine.{at, turn}
-use Rattle.pc_tree.specs.Machine.Kinds.{same_kind, a_kind, a_form, is_fixed}
-use Rattle.pc_tree.specs.Machine.Lines.{due, start, no_top, takes_header}
-use Rattle.pc_tree.specs.Machine.States.{Stage, after_future, after_dataclasses, after_headers, Top, of_module, State}
-use Rattle.pc_tree.specs.Machine.States.{fixed, items, importing, item_named, decorator_due, def_due, stuck, on}
+use Rattle.pc_grammar.specs.Grammar.{name_at}
+use Rattle.pc_grammar.specs.Machine.{at, turn}
+use Rattle.pc_grammar.specs.Machine.Kinds.{same_kind, a_kind, a_form, is_fixed}
+use Rattle.pc_grammar.specs.Machine.Lines.{due, start, no_top, takes_header}
+use Rattle.pc_grammar.specs.Machine.States.{Stage, after_future, after_dataclasses, after_headers, Top, of_module}
+use Rattle.pc_grammar.specs.Machine.States.{State}
+use Rattle.pc_grammar.specs.Machine.States.{fixed, items, importing, item_named, decorator_due, def_due, stuck, on}
 use Rattle.pc_reader.specs.declared.reader.Reader.{Reader}
 use Rattle.pc_reader.specs.Reading.{Blames, IsAhead, lexeme, Came, Onward, Takes}
 use Rattle.pc_reader.specs.Internal.FixedWords.{IsFormAhead, GivesFixed, TakesForm}
-use Rattle.pc_parse.specs.Internal.Modules.{import_words}
 use Rattle.pc_reader.proofs.Steps.{step_to, alike, not_seen}
 use Rattle.pc_reader.proofs.Streams.{blame}
 use Rattle.pc_reader.proofs.Words.{form_read, kind_read, form_seen}
+use Rattle.pc_parse.specs.Internal.Modules.{import_words}
 
 -- the states after the first and after the second header
 abbrev pub dataclassed : Top

@@ -14,9 +14,9 @@ use Rattle.pc_tree.specs.Tree.{Name, Expr, Ann, Stmt, annotated, assigns, while_
 use Rattle.pc_tree.specs.Tree.{Branches, no_branches, more_branches, name_of, expr_of, ann_of, target_of, stmt_of}
 use Rattle.pc_tree.specs.Tree.{stmts_of_list}
 use Rattle.pc_tree.specs.Depth.{Whole, whole_expr, whole_ann, wholes_of_stmt, wholes_of_stmts, wholes_of_branches}
-use Rattle.pc_tree.specs.Machine.States.{Part}
-use Rattle.pc_tree.specs.Machine.Finishing.{add_stmt, add_branch, if_plain, target_of_tree}
 use Rattle.pc_tree.specs.Lists.{branches_of_list}
+use Rattle.pc_grammar.specs.Machine.States.{Part}
+use Rattle.pc_grammar.specs.Machine.Finishing.{add_stmt, add_branch, if_plain, target_of_tree}
 use Rattle.pc_reader.specs.declared.operand.Operand.{Operand}
 use Rattle.pc_reader.specs.Internal.Operands.{KeepsPart}
 use Rattle.pc_parse.specs.Internal.WholeTrees.{deep_after, KeepsTree}

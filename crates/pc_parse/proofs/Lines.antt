@@ -13,22 +13,22 @@ use Rattle.pc_token.specs.declared.token.Keyword.TheVariants as word
 use Rattle.pc_tree.specs.declared.tree.Stmt.{Stmt as RustStmt}
 use Rattle.pc_tree.specs.Tree.{Stmt, Stmts, no_stmts, Branches, stmt_of}
 use Rattle.pc_tree.specs.Depth.{whole_expr, wholes_of_stmt, wholes_of_stmts}
-use Rattle.pc_tree.specs.Machine.{at}
-use Rattle.pc_tree.specs.Machine.Kinds.{Follow, same_kind, follow_of, lead_of, leads_out}
-use Rattle.pc_tree.specs.Machine.States.{Block, Site, else_body, whole, State, stmts, after_branch, operand, have}
-use Rattle.pc_tree.specs.Machine.Expressions.{rank}
-use Rattle.pc_tree.specs.Machine.Finishing.{add_stmt, suite_of, nested_in}
+use Rattle.pc_grammar.specs.Machine.{at}
+use Rattle.pc_grammar.specs.Machine.Kinds.{Follow, same_kind, follow_of, lead_of, leads_out}
+use Rattle.pc_grammar.specs.Machine.States.{Block, Site, else_body, whole, State, stmts, after_branch, operand, have}
+use Rattle.pc_grammar.specs.Machine.Expressions.{rank}
+use Rattle.pc_grammar.specs.Machine.Finishing.{add_stmt, suite_of, nested_in}
 use Rattle.pc_reader.specs.declared.operand.Operand.{Operand}
-use Rattle.pc_parse.specs.declared.parser.Parser.{Parser}
 use Rattle.pc_reader.specs.declared.reader.Reader.{Reader}
 use Rattle.pc_reader.specs.Internal.Expressions.{Gives, NextIs, Over, Undotted}
 use Rattle.pc_reader.specs.Reading.{kind_ahead, place_ahead, IsAhead, Onward, IsReady, lexeme, left_in}
+use Rattle.pc_reader.proofs.Steps.{not_seen}
+use Rattle.pc_reader.proofs.Streams.{blame}
+use Rattle.pc_parse.specs.declared.parser.Parser.{Parser}
 use Rattle.pc_parse.specs.Internal.WholeTrees.{deep_after, KeepsTree, GivesWhole}
 use Rattle.pc_parse.specs.Internal.Suites.{LineEnds, ReadsLineEnd, ReadsFrom, ReadsSuite, ReadsElse}
 use Rattle.pc_parse.proofs.Depths.{note_of}
 use Rattle.pc_parse.proofs.Statements.{whole_turn, out_dedent}
-use Rattle.pc_reader.proofs.Steps.{not_seen}
-use Rattle.pc_reader.proofs.Streams.{blame}
 
 next : {X : Type 0} (P : Follow → Type 0) (a : Option (Token X)) (t : Token X) → NextIs P a → a ≡ Some t
     → P (follow_of t.kind)

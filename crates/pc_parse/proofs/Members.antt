@@ -22,31 +22,32 @@ use Rattle.pc_tree.specs.declared.tree.FuncDef.{FuncDef as RustFuncDef}
 use Rattle.pc_tree.specs.Tree.{Name, Ann, Literal, Field, Member, field_member, method_member, ClassDef, name_of}
 use Rattle.pc_tree.specs.Tree.{ann_of, option_name_of, option_literal_of, member_of, no_anns}
 use Rattle.pc_tree.specs.Depth.{whole_ann, wholes_of_def, wholes_of_members}
-use Rattle.pc_tree.specs.Grammar.{name_at}
-use Rattle.pc_tree.specs.Machine.{Reading, at, turn, stop, short}
-use Rattle.pc_tree.specs.Machine.Kinds.{same_kind, a_kind}
-use Rattle.pc_tree.specs.Machine.States.{after_headers, Top, ClassStart, of_class, AnnotationPosition, of_field}
-use Rattle.pc_tree.specs.Machine.States.{LiteralContext, default_of_field, ann_whole, State, fixed, items}
-use Rattle.pc_tree.specs.Machine.States.{decorator_due, class_due, class_named, base_due, members, def_due, literal_due}
-use Rattle.pc_tree.specs.Machine.States.{part_due, Turn, stuck, go, on}
-use Rattle.pc_tree.specs.Machine.Finishing.{field, finish_ann, after_class}
-use Rattle.pc_tree.specs.Machine.Lines.{due, members_end}
+use Rattle.pc_grammar.specs.Grammar.{name_at}
+use Rattle.pc_grammar.specs.Machine.{Reading, at, turn, stop, short}
+use Rattle.pc_grammar.specs.Machine.Kinds.{same_kind, a_kind}
+use Rattle.pc_grammar.specs.Machine.States.{after_headers, Top, ClassStart, of_class, AnnotationPosition, of_field}
+use Rattle.pc_grammar.specs.Machine.States.{LiteralContext, default_of_field, ann_whole, State, fixed, items}
+use Rattle.pc_grammar.specs.Machine.States.{decorator_due, class_due, class_named, base_due, members, def_due}
+use Rattle.pc_grammar.specs.Machine.States.{literal_due}
+use Rattle.pc_grammar.specs.Machine.States.{part_due, Turn, stuck, go, on}
+use Rattle.pc_grammar.specs.Machine.Finishing.{field, finish_ann, after_class}
+use Rattle.pc_grammar.specs.Machine.Lines.{due, members_end}
 use Rattle.pc_reader.specs.declared.reader.Reader.{Reader}
-use Rattle.pc_parse.specs.declared.parser.Parser.{Parser}
 use Rattle.pc_reader.specs.Reading.{Blames, IsAhead, lexeme, Came, Onward, left_in, Takes, NeedsKind}
 use Rattle.pc_reader.specs.Internal.Expressions.{GivesName}
 use Rattle.pc_reader.specs.Internal.StatesAhead.{StandsBefore, LeadsTo}
 use Rattle.pc_reader.specs.Internal.Literals.{opens_literal, or_literal, GivesDefault}
-use Rattle.pc_parse.specs.Internal.WholeTrees.{deep_after, KeepsTree, GivesAnn}
-use Rattle.pc_parse.specs.Internal.Signatures.{GivesFunction}
 use Rattle.pc_reader.specs.Internal.FixedWords.{GivesFixed, TakesForm, NeedsForm}
-use Rattle.pc_parse.specs.Internal.Classes.{with_base, GoOn, GivesBase, GivesField, GivesMember, GivesMembers}
-use Rattle.pc_parse.specs.Internal.Classes.{MembersSoFar, GivesClass}
-use Rattle.pc_parse.proofs.Parameters.{kept_more, kept_none}
 use Rattle.pc_reader.proofs.Steps.{step_to, alike, needs, not_seen, kind_seen}
 use Rattle.pc_reader.proofs.Streams.{blame}
 use Rattle.pc_reader.proofs.Stands.{awaits, passes, takes, reached_so, reached_after, reaches_to}
 use Rattle.pc_reader.proofs.Words.{kind_due, kind_read}
+use Rattle.pc_parse.specs.declared.parser.Parser.{Parser}
+use Rattle.pc_parse.specs.Internal.WholeTrees.{deep_after, KeepsTree, GivesAnn}
+use Rattle.pc_parse.specs.Internal.Signatures.{GivesFunction}
+use Rattle.pc_parse.specs.Internal.Classes.{with_base, GoOn, GivesBase, GivesField, GivesMember, GivesMembers}
+use Rattle.pc_parse.specs.Internal.Classes.{MembersSoFar, GivesClass}
+use Rattle.pc_parse.proofs.Parameters.{kept_more, kept_none}
 
 members_split : (ms : List Member) (m : Member) → wholes_of_members (ms ++ (m ∷ [])) ≡ wholes_of_members ms
     ++ wholes_of_members (m ∷ [])
@@ -237,8 +238,8 @@ module _ {X I : Type 0} {text : X → List ℕ} {steps : I → Option (Result (T
 
   pub method_fails : {a m : Reader X I} {t : Token X} {e : Fault} → Takes text steps can left a m t
       → t.kind ≡ kind.Keyword word.Def
-      → Blames e (λ o. (owner : Rattle.pc_tree.specs.Machine.States.Owner) (first : Place)
-      → Rattle.pc_tree.specs.Fronts.Lines.is_method owner ≡ true → Came text steps m (at (def_due owner first)) o)
+      → Blames e (λ o. (owner : Rattle.pc_grammar.specs.Machine.States.Owner) (first : Place)
+      → Rattle.pc_grammar.specs.Fronts.Lines.is_method owner ≡ true → Came text steps m (at (def_due owner first)) o)
       → Blames e (λ o. (c : ClassStart) (ms : List Member) → GoOn a c ms → Came text steps a (at (members c ms)) o)
   method_fails {t = t} h k w = blame (λ o u. λ c ms g. step_to (members c ms) (def_due (of_class c ms) t.place) h
       (ap (turn (members c ms) (lexeme text t)) k) o (u (of_class c ms) t.place refl)) w

@@ -17,24 +17,25 @@ use Rattle.pc_tree.specs.declared.tree.Literal.{Literal as RustLiteral}
 use Rattle.pc_tree.specs.declared.tree.Param.{Param as RustParam}
 use Rattle.pc_tree.specs.Tree.{Name, Ann, Literal, Param, no_anns, option_ann_of, option_literal_of, param_of}
 use Rattle.pc_tree.specs.Depth.{Whole, optional_anns, wholes_of_params}
-use Rattle.pc_tree.specs.Grammar.{name_at}
-use Rattle.pc_tree.specs.Machine.{Reading, at, turn, stop, short}
-use Rattle.pc_tree.specs.Machine.States.{DefStart, AnnotationPosition, of_param, LiteralContext, default_of_param}
-use Rattle.pc_tree.specs.Machine.States.{ann_whole, State, part_due, param_due, param_named, params_read, Turn, stuck}
-use Rattle.pc_tree.specs.Machine.Finishing.{param, param_end, param_more}
+use Rattle.pc_grammar.specs.Grammar.{name_at}
+use Rattle.pc_grammar.specs.Machine.{Reading, at, turn, stop, short}
+use Rattle.pc_grammar.specs.Machine.States.{DefStart, AnnotationPosition, of_param, LiteralContext, default_of_param}
+use Rattle.pc_grammar.specs.Machine.States.{ann_whole, State, part_due, param_due, param_named, params_read, Turn}
+use Rattle.pc_grammar.specs.Machine.States.{stuck}
+use Rattle.pc_grammar.specs.Machine.Finishing.{param, param_end, param_more}
 use Rattle.pc_reader.specs.declared.reader.Reader.{Reader}
-use Rattle.pc_parse.specs.declared.parser.Parser.{Parser}
 use Rattle.pc_reader.specs.Reading.{Blames, IsAhead, lexeme, Came, Onward, IsReady, left_in, Takes, NeedsKind}
 use Rattle.pc_reader.specs.Internal.Expressions.{GivesName}
 use Rattle.pc_reader.specs.Internal.StatesAhead.{StandsBefore, LeadsTo}
 use Rattle.pc_reader.specs.Internal.Literals.{or_literal, GivesDefault}
-use Rattle.pc_parse.specs.Internal.WholeTrees.{deep_after, KeepsTree, GivesAnn}
-use Rattle.pc_parse.specs.Internal.Signatures.{opens_ann, or_ann, GivesOpened, GivesParam, GivesParams, ParamsSoFar}
-use Rattle.pc_parse.proofs.Depths.{noted_more, none_before, noted_nothing}
 use Rattle.pc_reader.proofs.Steps.{step_to, not_seen}
 use Rattle.pc_reader.proofs.Streams.{blame}
 use Rattle.pc_reader.proofs.Stands.{stands_at, stands_so, awaits, passes, takes, stays, reached_so, reached_on}
 use Rattle.pc_reader.proofs.Stands.{reached_after, goes_to, reaches_to}
+use Rattle.pc_parse.specs.declared.parser.Parser.{Parser}
+use Rattle.pc_parse.specs.Internal.WholeTrees.{deep_after, KeepsTree, GivesAnn}
+use Rattle.pc_parse.specs.Internal.Signatures.{opens_ann, or_ann, GivesOpened, GivesParam, GivesParams, ParamsSoFar}
+use Rattle.pc_parse.proofs.Depths.{noted_more, none_before, noted_nothing}
 
 -- ---- lists that are kept
 

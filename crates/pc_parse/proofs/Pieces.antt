@@ -22,33 +22,33 @@ use Rattle.pc_tree.specs.declared.tree.Constant.{Constant as RustConstant}
 use Rattle.pc_tree.specs.Tree.{Name, Ann, Expr, Constant, Item, constant_item, class_item, def_item, no_anns, name_of}
 use Rattle.pc_tree.specs.Tree.{option_ann_of, expr_of, item_of}
 use Rattle.pc_tree.specs.Depth.{optional_anns, whole_expr, wholes_of_item, wholes_of_items}
-use Rattle.pc_tree.specs.Grammar.{name_at}
-use Rattle.pc_tree.specs.Machine.{Reading, at, turn, stop, short, reads}
-use Rattle.pc_tree.specs.Machine.Kinds.{same_kind, a_kind}
-use Rattle.pc_tree.specs.Machine.States.{after_headers, Top, of_module, AnnotationPosition, of_constant}
-use Rattle.pc_tree.specs.Machine.States.{ExpressionPosition, in_constant, whole, ann_whole, part_due, State, fixed}
-use Rattle.pc_tree.specs.Machine.States.{items, importing, item_named, decorator_due, def_due, operand, have, ended}
-use Rattle.pc_tree.specs.Machine.States.{Turn, stuck, go, on}
-use Rattle.pc_tree.specs.Machine.Finishing.{add_item, at_line_end}
-use Rattle.pc_tree.specs.Machine.Lines.{due, module_of as module_over}
-use Rattle.pc_tree.specs.Fronts.Lines.{is_method}
+use Rattle.pc_grammar.specs.Grammar.{name_at}
+use Rattle.pc_grammar.specs.Machine.{Reading, at, turn, stop, short, reads}
+use Rattle.pc_grammar.specs.Machine.Kinds.{same_kind, a_kind}
+use Rattle.pc_grammar.specs.Machine.States.{after_headers, Top, of_module, AnnotationPosition, of_constant}
+use Rattle.pc_grammar.specs.Machine.States.{ExpressionPosition, in_constant, whole, ann_whole, part_due, State, fixed}
+use Rattle.pc_grammar.specs.Machine.States.{items, importing, item_named, decorator_due, def_due, operand, have, ended}
+use Rattle.pc_grammar.specs.Machine.States.{Turn, stuck, go, on}
+use Rattle.pc_grammar.specs.Machine.Finishing.{add_item, at_line_end}
+use Rattle.pc_grammar.specs.Machine.Lines.{due, module_of as module_over}
+use Rattle.pc_grammar.specs.Fronts.Lines.{is_method}
 use Rattle.pc_reader.specs.declared.operand.Operand.{Operand}
 use Rattle.pc_reader.specs.declared.reader.Reader.{Reader}
-use Rattle.pc_parse.specs.declared.parser.Parser.{Parser}
-use Rattle.pc_parse.specs.declared.headers.Headers.{Headers}
 use Rattle.pc_reader.specs.Reading.{Blames, IsAhead, lexeme, Came, Onward, left_in, Takes, NeedsKind}
 use Rattle.pc_reader.specs.Internal.Expressions.{GivesName}
 use Rattle.pc_reader.specs.Internal.StatesAhead.{StandsBefore, LeadsTo}
 use Rattle.pc_reader.specs.Internal.FixedWords.{GivesFixed}
+use Rattle.pc_reader.proofs.Steps.{step_to, alike, not_seen, kind_seen}
+use Rattle.pc_reader.proofs.Streams.{blame}
+use Rattle.pc_reader.proofs.Stands.{awaits, passes, takes, reached_so, reaches_to}
+use Rattle.pc_parse.specs.declared.parser.Parser.{Parser}
+use Rattle.pc_parse.specs.declared.headers.Headers.{Headers}
 use Rattle.pc_parse.specs.Internal.WholeTrees.{deep_after, GivesWhole, ending_of}
 use Rattle.pc_parse.specs.Internal.Signatures.{opens_ann, or_ann, GivesOpened, GivesFunction}
 use Rattle.pc_parse.specs.Internal.Classes.{GivesClass}
 use Rattle.pc_parse.specs.Internal.Modules.{IsNoLastLine, top_of, GivesConstant, GivesItem, GivesLast, ItemsSoFar}
 use Rattle.pc_parse.proofs.Depths.{noted_more, none_before, kept_tree}
 use Rattle.pc_parse.proofs.Parameters.{kept_more}
-use Rattle.pc_reader.proofs.Steps.{step_to, alike, not_seen, kind_seen}
-use Rattle.pc_reader.proofs.Streams.{blame}
-use Rattle.pc_reader.proofs.Stands.{awaits, passes, takes, reached_so, reaches_to}
 
 -- where `=` begins the value of a constant
 abbrev begins_value : Name → Option Ann → Top → TokenKind → Turn
@@ -279,7 +279,7 @@ module _ {X I : Type 0} {text : X → List ℕ} {steps : I → Option (Result (T
 
   pub function_fails : {a m : Reader X I} {t : Token X} {e : Fault} → Takes text steps can left a m t
       → t.kind ≡ kind.Keyword word.Def
-      → Blames e (λ o. (owner : Rattle.pc_tree.specs.Machine.States.Owner) (first : Place) → is_method owner ≡ false
+      → Blames e (λ o. (owner : Rattle.pc_grammar.specs.Machine.States.Owner) (first : Place) → is_method owner ≡ false
       → Came text steps m (at (def_due owner first)) o) → Blames e
       (λ o. (top : Top) → Came text steps a (at (items after_headers top)) o)
   function_fails {t = t} h k w = blame (λ o u. λ top. step_to (items after_headers top)

@@ -15,8 +15,8 @@ use Rattle.pc_tree.specs.declared.tree.StmtKind.TheVariants as rust
 use Rattle.pc_tree.specs.declared.tree.StmtKind.TheBlock as Block
 use Rattle.pc_tree.specs.Tree.{more_stmts, no_branches, more_branches, while_loop, for_loop, conditional, expr_of}
 use Rattle.pc_tree.specs.Tree.{name_of, stmt_of, stmt_of_kind, stmts_of, stmts_of_list, branches_of}
-use Rattle.pc_tree.specs.Machine.Finishing.{add_stmt, add_branch}
 use Rattle.pc_tree.specs.Lists.{branches_of_list}
+use Rattle.pc_grammar.specs.Machine.Finishing.{add_stmt, add_branch}
 
 pub stmt_rows : {n : _} (k : Row_of-Stmt n) → stmts_of k ≡ stmts_of_list (items-the_row-Stmt n k)
 stmt_rows end_of-Stmt = refl

@@ -6,18 +6,19 @@ use Rattle.pc_token.specs.declared.token.Keyword.TheVariants as word
 use Rattle.pc_token.specs.declared.token.Operator.TheVariants as sign
 use Rattle.pc_token.specs.Lexeme.{Lexeme}
 use Rattle.pc_tree.specs.Tree.{Expr, Stmt, asserts, evaluates, Stmts, no_stmts, more_stmts}
-use Rattle.pc_tree.specs.Machine.Kinds.{same_kind, leads_out, lead_of, Follow, link, a_dot, calls, indexes, ends}
-use Rattle.pc_tree.specs.Machine.Kinds.{no_ending}
-use Rattle.pc_tree.specs.Machine.States.{Part, Block, Site, assigned, annotated_value, returned, asserted}
-use Rattle.pc_tree.specs.Machine.States.{asserted_with, looping, iterating, branching, ExpressionPosition, in_line}
-use Rattle.pc_tree.specs.Machine.States.{in_statement, in_constant, whole, State, Turn, stuck, go, on}
-use Rattle.pc_tree.specs.Machine.Expressions.{left_of_link, have_turn}
-use Rattle.pc_tree.specs.Machine.Finishing.{add_stmt, after_stmt, after_suite, at_line_end, at_colon, finish_condition}
-use Rattle.pc_tree.specs.Machine.Finishing.{finish_line, finish}
-use Rattle.pc_tree.specs.Machine.Lines.{end_suite}
+use Rattle.pc_grammar.specs.Machine.Kinds.{same_kind, leads_out, lead_of, Follow, link, a_dot, calls, indexes, ends}
+use Rattle.pc_grammar.specs.Machine.Kinds.{no_ending}
+use Rattle.pc_grammar.specs.Machine.States.{Part, Block, Site, assigned, annotated_value, returned, asserted}
+use Rattle.pc_grammar.specs.Machine.States.{asserted_with, looping, iterating, branching, ExpressionPosition, in_line}
+use Rattle.pc_grammar.specs.Machine.States.{in_statement, in_constant, whole, State, Turn, stuck, go, on}
+use Rattle.pc_grammar.specs.Machine.Expressions.{left_of_link, have_turn}
+use Rattle.pc_grammar.specs.Machine.Finishing.{add_stmt, after_stmt, after_suite, at_line_end, at_colon}
+use Rattle.pc_grammar.specs.Machine.Finishing.{finish_condition}
+use Rattle.pc_grammar.specs.Machine.Finishing.{finish_line, finish}
+use Rattle.pc_grammar.specs.Machine.Lines.{end_suite}
 use Rattle.pc_reader.specs.Internal.Expressions.{Over, Undotted}
-use Rattle.pc_parse.specs.Internal.WholeTrees.{ending_in, ending_of}
 use Rattle.pc_reader.proofs.Frames.{loose}
+use Rattle.pc_parse.specs.Internal.WholeTrees.{ending_in, ending_of}
 
 -- ---- after a whole expression
 

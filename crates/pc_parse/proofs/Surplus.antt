@@ -15,16 +15,16 @@ use Rattle.pc_token.specs.Lexeme.{Lexeme}
 use Rattle.pc_tree.specs.declared.keys.Keys.{Keys}
 use Rattle.pc_tree.specs.declared.tree.Item.{Item as RustItem}
 use Rattle.pc_tree.specs.Tree.{Item, Module}
-use Rattle.pc_tree.specs.Machine.{Reading, at, turn, arrive, stop_at, short}
-use Rattle.pc_tree.specs.Machine.Kinds.{a_kind}
-use Rattle.pc_tree.specs.Machine.Lines.{start, module_of as module_over}
-use Rattle.pc_tree.specs.Machine.States.{State, fixed, ended, stuck}
-use Rattle.pc_parse.specs.declared.headers.Headers.{Headers}
+use Rattle.pc_grammar.specs.Machine.{Reading, at, turn, arrive, stop_at, short}
+use Rattle.pc_grammar.specs.Machine.Kinds.{a_kind}
+use Rattle.pc_grammar.specs.Machine.Lines.{start, module_of as module_over}
+use Rattle.pc_grammar.specs.Machine.States.{State, fixed, ended, stuck}
 use Rattle.pc_reader.specs.declared.reader.Reader.{Reader}
-use Rattle.pc_parse.specs.declared.parser.Parser.{Parser}
 use Rattle.pc_reader.specs.Reading.{Blames, kind_ahead, lexeme, Came, Rejects}
-use Rattle.pc_parse.specs.Internal.Modules.{top_of, GivesLast, GivesModule, ItemsSoFar}
 use Rattle.pc_reader.proofs.Streams.{blame, at_end, same_step}
+use Rattle.pc_parse.specs.declared.headers.Headers.{Headers}
+use Rattle.pc_parse.specs.declared.parser.Parser.{Parser}
+use Rattle.pc_parse.specs.Internal.Modules.{top_of, GivesLast, GivesModule, ItemsSoFar}
 
 -- a state that waits for another token than one of this kind
 another : TokenKind → State
@@ -71,9 +71,9 @@ module _ {X I : Type 0} {text : X → List ℕ} {steps : I → Option (Result (T
     {can : I → Type 0} {left : I → Count} {a m : Parser X I} {h : Headers} {v : Vec RustItem Global}
     (s : ItemsSoFar text steps can left a m h v) where
   -- where an item does not go on
-  pub item_fails : {e : Fault} → Blames e (λ o. (top : Rattle.pc_tree.specs.Machine.States.Top)
+  pub item_fails : {e : Fault} → Blames e (λ o. (top : Rattle.pc_grammar.specs.Machine.States.Top)
       → Came text steps m.reader
-      (at (Rattle.pc_tree.specs.Machine.States.items Rattle.pc_tree.specs.Machine.States.after_headers top)) o)
+      (at (Rattle.pc_grammar.specs.Machine.States.items Rattle.pc_grammar.specs.Machine.States.after_headers top)) o)
       → Blames e (λ o. Came text steps a.reader (at start) o)
   item_fails w = blame (λ o u. s.leads o (u (top_of h s.all))) w
 

@@ -2,8 +2,9 @@
 use Rattle.std.proofs.Common.{◌≡◌, Bool, true, false, Some, None, refl, ap, sym, ◌∙◌}
 use Rattle.pc_tree.specs.Tree.{Name, Expr, name, attribute, index, Target, to_name, to_attribute, to_index, expr_of}
 use Rattle.pc_tree.specs.Depth.{whole_expr, whole_target}
-use Rattle.pc_tree.specs.Machine.States.{Part}
-use Rattle.pc_tree.specs.Machine.Finishing.{if_plain, name_of_tree, target_of_tree}
+use Rattle.pc_tree.specs.NamesAlone.{name_of_tree}
+use Rattle.pc_grammar.specs.Machine.States.{Part}
+use Rattle.pc_grammar.specs.Machine.Finishing.{if_plain, target_of_tree}
 use Rattle.pc_reader.specs.declared.operand.Operand.{Operand}
 use Rattle.pc_reader.specs.Internal.Operands.{a_name, another, form_of, KeepsPart}
 

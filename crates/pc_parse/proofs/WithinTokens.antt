@@ -21,17 +21,19 @@ use Rattle.pc_tree.specs.Tree.{to_name, to_attribute, to_index, Stmt, pass, brea
 use Rattle.pc_tree.specs.Tree.{annotated, assigns, evaluates, while_loop, for_loop, conditional, Stmts, no_stmts}
 use Rattle.pc_tree.specs.Tree.{more_stmts, Branches, no_branches, more_branches, Param, FuncDef, Member, field_member}
 use Rattle.pc_tree.specs.Tree.{method_member, Item, constant_item, class_item, def_item, Module}
-use Rattle.pc_tree.specs.Grammar.{Spelling, ◌⟫◌, At, Begins, Maybe, Rest, IsName, AfterComma, first_place, last_place}
-use Rattle.pc_tree.specs.Grammar.Expressions.{Wrapped, Spells, Expression, SpellsTarget}
-use Rattle.pc_tree.specs.Grammar.Annotations.{Annotation}
-use Rattle.pc_tree.specs.Grammar.Statements.{Suite, SpellsStmt, SpellsStmts, SpellsBranches}
-use Rattle.pc_tree.specs.Grammar.Modules.{SpellsParam, SpellsParams, Parameters, SpellsDef, SpellsMember, SpellsMembers}
-use Rattle.pc_tree.specs.Grammar.Modules.{ClassBody, SpellsItem, SpellsItems, SpellsModule}
 use Rattle.pc_tree.specs.Depth.{Whole, depth_limit, place_of, place_of_ann, whole_expr, whole_ann, whole_target}
 use Rattle.pc_tree.specs.Depth.{optional_exprs, optional_anns, wholes_of_stmt, wholes_of_stmts, wholes_of_branches}
 use Rattle.pc_tree.specs.Depth.{wholes_of_params, wholes_of_def, wholes_of_members, wholes_of_item, wholes_of_items}
 use Rattle.pc_tree.specs.Depth.{first_too_deep, too_deep_at}
-use Rattle.pc_tree.specs.Faults.{IsRefusal, IsMisfit}
+use Rattle.pc_grammar.specs.Grammar.{Spelling, ◌⟫◌, At, Begins, Maybe, Rest, IsName, AfterComma, first_place}
+use Rattle.pc_grammar.specs.Grammar.{last_place}
+use Rattle.pc_grammar.specs.Grammar.Expressions.{Wrapped, Spells, Expression, SpellsTarget}
+use Rattle.pc_grammar.specs.Grammar.Annotations.{Annotation}
+use Rattle.pc_grammar.specs.Grammar.Statements.{Suite, SpellsStmt, SpellsStmts, SpellsBranches}
+use Rattle.pc_grammar.specs.Grammar.Modules.{SpellsParam, SpellsParams, Parameters, SpellsDef, SpellsMember}
+use Rattle.pc_grammar.specs.Grammar.Modules.{SpellsMembers}
+use Rattle.pc_grammar.specs.Grammar.Modules.{ClassBody, SpellsItem, SpellsItems, SpellsModule}
+use Rattle.pc_grammar.specs.Faults.{IsRefusal, IsMisfit}
 use Rattle.pc_reader.specs.Reading.{lexeme}
 use Rattle.pc_parse.specs.Answering.{IsRead, IsRefusedByTokens, IsFaulty}
 

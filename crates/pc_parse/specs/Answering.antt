@@ -6,7 +6,7 @@ use Rattle.pc_source.specs.declared.fault.Refusal.{Refusal}
 use Rattle.pc_source.specs.Stream.{Yields}
 use Rattle.pc_token.specs.declared.token.Token.{Token}
 use Rattle.pc_tree.specs.Tree.{Module}
-use Rattle.pc_tree.specs.Faults.{IsModule, IsRefusal}
+use Rattle.pc_grammar.specs.Faults.{IsModule, IsRefusal}
 use Rattle.pc_reader.specs.Reading.{lexeme}
 
 module _ {X I : Type 0} (text : X → List ℕ) (steps : I → Option (Result (Token X) Fault) → I → Type 0) where

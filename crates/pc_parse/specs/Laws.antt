@@ -3,7 +3,7 @@ use Rattle.std.specs.Prelude.{ℕ, ◌≤◌, List}
 use Rattle.pc_source.specs.declared.fault.Refusal.{Refusal}
 use Rattle.pc_token.specs.Lexeme.{Lexeme}
 use Rattle.pc_token.specs.Within.{AreWithin}
-use Rattle.pc_tree.specs.Faults.{IsRefusal}
+use Rattle.pc_grammar.specs.Faults.{IsRefusal}
 
 -- the refusal of tokens that stand within a text of some length stands from 0 to that length
 abbrev pub RefusalsWithin : Type 0

@@ -3,11 +3,11 @@ ghost use Rattle.std.specs.Prelude.{◌≡◌, ◌≤◌, MatchResult, IfOk, fal
 ghost use Rattle.pc_source.specs.declared.fault.Fault.TheVariants as fault;
 ghost use Rattle.pc_token.specs.declared.token.TokenKind.TheVariants as kind;
 ghost use Rattle.pc_token.specs.declared.token.Operator.TheVariants as sign;
+ghost use Rattle.pc_token.specs.Lexeme.{Lexeme};
 ghost use Rattle.pc_tree.specs.Tree.{Ann as AnnTree, Anns, no_anns, applied as applied_tree, union as union_tree};
 ghost use Rattle.pc_tree.specs.Tree.{name_of};
-ghost use Rattle.pc_tree.specs.Machine.Finishing.{add_ann};
-ghost use Rattle.pc_tree.specs.Machine.States.{argument_due, empty_opened};
-ghost use Rattle.pc_token.specs.Lexeme.{Lexeme};
+ghost use Rattle.pc_grammar.specs.Machine.Finishing.{add_ann};
+ghost use Rattle.pc_grammar.specs.Machine.States.{argument_due, empty_opened};
 ghost use Rattle.std.specs.Prelude.{List};
 ghost use Rattle.pc_reader.specs.Reading.{IsReady, IsAhead};
 ghost use Rattle.pc_parse.specs.Internal.WholeTrees.{ReadsAnn};

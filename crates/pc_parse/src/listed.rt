@@ -7,7 +7,7 @@ ghost use Rattle.pc_source.specs.Within.{IsWithin};
 ghost use Rattle.pc_token.specs.Lexeme.{lexeme_of};
 ghost use Rattle.pc_token.specs.Within.{AreWithin};
 ghost use Rattle.pc_tree.specs.Tree.{Module as ModuleTree, module_of};
-ghost use Rattle.pc_tree.specs.Faults.{IsModule, IsRefusal};
+ghost use Rattle.pc_grammar.specs.Faults.{IsModule, IsRefusal};
 
 use crate::stream::parse_from;
 use pc_source::Fault;

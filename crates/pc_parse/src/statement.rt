@@ -1,8 +1,8 @@
 //! Statements of one line.
 ghost use Rattle.std.specs.Prelude.{◌≡◌, MatchOption, Some, None};
 ghost use Rattle.pc_tree.specs.Tree.{expr_of, target_of};
-ghost use Rattle.pc_tree.specs.Machine.Finishing.{if_plain, target_of_tree};
-ghost use Rattle.pc_tree.specs.Machine.Kinds.{lead_of as lead_of_kind, leads_return, leads_assert, leads_other};
+ghost use Rattle.pc_grammar.specs.Machine.Finishing.{if_plain, target_of_tree};
+ghost use Rattle.pc_grammar.specs.Machine.Kinds.{lead_of as lead_of_kind, leads_return, leads_assert, leads_other};
 ghost use Rattle.pc_reader.specs.Reading.{IsReady};
 ghost use Rattle.pc_parse.specs.Internal.Suites.{lead_view, HasLead, HasWord, kind_of_word, ReadsStmt, ReadsLineEnd};
 ghost use Rattle.pc_parse.specs.Internal.Suites.{ReadsLocal};

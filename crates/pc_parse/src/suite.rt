@@ -1,6 +1,6 @@
 //! Suites, and the statements that have them.
 ghost use Rattle.std.specs.Prelude.{◌≡◌};
-ghost use Rattle.pc_tree.specs.Machine.Kinds.{leads_while, leads_for, leads_if};
+ghost use Rattle.pc_grammar.specs.Machine.Kinds.{leads_while, leads_for, leads_if};
 ghost use Rattle.pc_reader.specs.Reading.{IsReady};
 ghost use Rattle.pc_parse.specs.Internal.Suites.{MayGoOn, HasLead, ReadsSuite, ReadsStmt, ReadsHeaded, ReadsElse};
 

@@ -7,9 +7,9 @@ use Rattle.pc_token.specs.declared.token.TokenKind.TheVariants as kind
 use Rattle.pc_token.specs.declared.token.Operator.TheVariants as sign
 use Rattle.pc_token.specs.Lexeme.{Lexeme}
 use Rattle.pc_tree.specs.Tree.{Name, Expr, Exprs, Entries as EntryTrees, Keywords as KeywordTrees, no_keywords}
-use Rattle.pc_tree.specs.Grammar.{first_place}
-use Rattle.pc_tree.specs.Machine.{at}
-use Rattle.pc_tree.specs.Machine.States.{Head, Stack, operand, item_due, key_due, naming}
+use Rattle.pc_grammar.specs.Grammar.{first_place}
+use Rattle.pc_grammar.specs.Machine.{at}
+use Rattle.pc_grammar.specs.Machine.States.{Head, Stack, operand, item_due, key_due, naming}
 use Rattle.pc_reader.specs.declared.reader.Reader.{Reader}
 use Rattle.pc_reader.specs.declared.items.Items.{Items}
 use Rattle.pc_reader.specs.declared.items.Entries.{Entries}

@@ -7,11 +7,12 @@ use Rattle.pc_tree.specs.declared.tree.Expr.{Expr as RustExpr}
 use Rattle.pc_tree.specs.declared.tree.Name.{Name as RustName}
 use Rattle.pc_tree.specs.Tree.{Expr, name, attribute, index, Name, name_of, expr_of}
 use Rattle.pc_tree.specs.Depth.{depth_of, place_of}
-use Rattle.pc_tree.specs.Grammar.{first_place, last_place, span, name_at}
-use Rattle.pc_tree.specs.Machine.Kinds.{Infix, arithmetic, comparison, both, either}
-use Rattle.pc_tree.specs.Machine.States.{Part}
-use Rattle.pc_tree.specs.Machine.Expressions.{infix_tree, grouped}
-use Rattle.pc_tree.specs.Machine.Finishing.{if_plain, name_of_tree}
+use Rattle.pc_tree.specs.NamesAlone.{name_of_tree}
+use Rattle.pc_grammar.specs.Grammar.{first_place, last_place, span, name_at}
+use Rattle.pc_grammar.specs.Machine.Kinds.{Infix, arithmetic, comparison, both, either}
+use Rattle.pc_grammar.specs.Machine.States.{Part}
+use Rattle.pc_grammar.specs.Machine.Expressions.{infix_tree, grouped}
+use Rattle.pc_grammar.specs.Machine.Finishing.{if_plain}
 use Rattle.pc_reader.specs.declared.operand.Operand.{Operand}
 use Rattle.pc_reader.specs.Internal.Operands.{Starts, Ends, Form, a_name, another, form_of, KeepsPart, Builds, node_of}
 

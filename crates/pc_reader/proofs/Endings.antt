@@ -9,14 +9,16 @@ use Rattle.pc_token.specs.declared.token.Operator.{Operator as Bracket}
 use Rattle.pc_token.specs.declared.token.Operator.TheVariants as sign
 use Rattle.pc_token.specs.Lexeme.{Lexeme}
 use Rattle.pc_tree.specs.Tree.{Name, Expr, Exprs, Entries, Keywords}
-use Rattle.pc_tree.specs.Machine.{turn}
-use Rattle.pc_tree.specs.Machine.Kinds.{same_kind, Ending, a_comma, a_colon, an_equal, closes_parenthesis}
-use Rattle.pc_tree.specs.Machine.Kinds.{closes_bracket, closes_brace, a_line_end, no_ending, Follow, link, a_dot, calls}
-use Rattle.pc_tree.specs.Machine.Kinds.{indexes, ends, follow_of}
-use Rattle.pc_tree.specs.Machine.States.{Part, Head, in_tuple, in_list, in_call, Stack, listing, have, stuck, go}
-use Rattle.pc_tree.specs.Machine.Finishing.{add_expr}
-use Rattle.pc_tree.specs.Machine.Expressions.{left_of_link, reduce, part, head_tree, closer, close, close_group}
-use Rattle.pc_tree.specs.Machine.Expressions.{close_item, close_index, close_keyword, close_key, close_value, have_turn}
+use Rattle.pc_grammar.specs.Machine.{turn}
+use Rattle.pc_grammar.specs.Machine.Kinds.{same_kind, Ending, a_comma, a_colon, an_equal, closes_parenthesis}
+use Rattle.pc_grammar.specs.Machine.Kinds.{closes_bracket, closes_brace, a_line_end, no_ending, Follow, link, a_dot}
+use Rattle.pc_grammar.specs.Machine.Kinds.{calls}
+use Rattle.pc_grammar.specs.Machine.Kinds.{indexes, ends, follow_of}
+use Rattle.pc_grammar.specs.Machine.States.{Part, Head, in_tuple, in_list, in_call, Stack, listing, have, stuck, go}
+use Rattle.pc_grammar.specs.Machine.Finishing.{add_expr}
+use Rattle.pc_grammar.specs.Machine.Expressions.{left_of_link, reduce, part, head_tree, closer, close, close_group}
+use Rattle.pc_grammar.specs.Machine.Expressions.{close_item, close_index, close_keyword, close_key, close_value}
+use Rattle.pc_grammar.specs.Machine.Expressions.{have_turn}
 use Rattle.pc_reader.specs.declared.reader.Reader.{Reader}
 use Rattle.pc_reader.specs.Reading.{lexeme, IsAhead, NeedsKind}
 use Rattle.pc_reader.specs.Internal.Expressions.{NextIs, Over, Undotted, Closes}

@@ -5,11 +5,12 @@ use Rattle.std.specs.Prelude.{nat_le}
 use Rattle.std.proofs.lemmas.Bool.Decides.{leb_tells}
 use Rattle.pc_token.specs.Lexeme.{Lexeme}
 use Rattle.pc_tree.specs.declared.tree.BinaryOperator.TheVariants.{Add, Sub, Mul, FloorDiv, Mod}
-use Rattle.pc_tree.specs.Machine.Kinds.{Infix, arithmetic, comparison, both, either, Link, linking, denying}
-use Rattle.pc_tree.specs.Machine.Kinds.{identifying, Follow, link, a_dot, calls, indexes, ends}
-use Rattle.pc_tree.specs.Machine.States.{Part, Prefix, Stack, joining, applying, Turn, stuck, on}
-use Rattle.pc_tree.specs.Machine.Expressions.{own_of, right_of, own_of_link, left_of_link, prefix_level, rank, joined}
-use Rattle.pc_tree.specs.Machine.Expressions.{applied, reduce, after_link, if_tight, have_turn}
+use Rattle.pc_grammar.specs.Machine.Kinds.{Infix, arithmetic, comparison, both, either, Link, linking, denying}
+use Rattle.pc_grammar.specs.Machine.Kinds.{identifying, Follow, link, a_dot, calls, indexes, ends}
+use Rattle.pc_grammar.specs.Machine.States.{Part, Prefix, Stack, joining, applying, Turn, stuck, on}
+use Rattle.pc_grammar.specs.Machine.Expressions.{own_of, right_of, own_of_link, left_of_link, prefix_level, rank}
+use Rattle.pc_grammar.specs.Machine.Expressions.{joined}
+use Rattle.pc_grammar.specs.Machine.Expressions.{applied, reduce, after_link, if_tight, have_turn}
 use Rattle.pc_reader.specs.Internal.Expressions.{Over, Undotted}
 
 pub not_le : (a b : ℕ) → b < a → nat_le a b ≡ false
@@ -54,7 +55,7 @@ frame own need level l t x y r h g = by_tells (leb_tells (left_of_link l) own) (
     by_tells (inr e) (inl d) = let q = e.1 in let w = d.1 in
         ap (λ z. if_tight (left_of_link l) level (after_link l t (if z then x else y))) e.0
         ∙ tight (left_of_link l) level (after_link l t y) w
-        ∙ ap (λ z. on z (Rattle.pc_tree.specs.Machine.Expressions.linked l t y.0 y.1) stuck)
+        ∙ ap (λ z. on z (Rattle.pc_grammar.specs.Machine.Expressions.linked l t y.0 y.1) stuck)
         (not_le (rank y.1) (own_of_link l) (let v = g w q in omega (arith, r)))
         ∙ sym (loose (left_of_link l) own (after_link l t x) q)
     by_tells (inr e) (inr d) = loose (left_of_link l) level _ d.1
@@ -108,7 +109,7 @@ join_turn op l o p s level t calls h v u = loose 7 level _ u ∙ sym (loose 7 (o
 join_turn op l o p s level t indexes h v u = loose 7 level _ u ∙ sym (loose 7 (own_of op) _ (omega (arith, own_low op)))
 join_turn op l o p s level t (ends e) h v u =
     ap (λ (z : Bool). let r = (if z then reduce 0 (joined op l o p) s else (p, joining op l o s)) in
-    Rattle.pc_tree.specs.Machine.Expressions.close r.0 r.1 t e) (is_le 0 (own_of op) (omega arith))
+    Rattle.pc_grammar.specs.Machine.Expressions.close r.0 r.1 t e) (is_le 0 (own_of op) (omega arith))
 
 -- what follows does not go on with a sign's operand
 pub apply_turn : (x : Prefix) (w : List Lexeme) (p : Part) (s : Stack) (level : ℕ) (t : Lexeme) (f : Follow)
@@ -123,7 +124,7 @@ apply_turn x w p s level t calls h v u y = loose 7 level _ u ∙ sym (loose 7 (p
 apply_turn x w p s level t indexes h v u y = loose 7 level _ u ∙ sym (loose 7 (prefix_level x) _ y)
 apply_turn x w p s level t (ends e) h v u y =
     ap (λ (z : Bool). let r = (if z then reduce 0 (applied x w p) s else (p, applying x w s)) in
-    Rattle.pc_tree.specs.Machine.Expressions.close r.0 r.1 t e) (is_le 0 (prefix_level x) (omega arith))
+    Rattle.pc_grammar.specs.Machine.Expressions.close r.0 r.1 t e) (is_le 0 (prefix_level x) (omega arith))
 
 pub own_left : (l : Link) → own_of_link l ≤ left_of_link l
 own_left (linking (arithmetic o)) = omega arith

@@ -4,10 +4,10 @@ use Rattle.std.proofs.Common.{◌∙◌, subst}
 use Rattle.pc_source.specs.declared.fault.Fault.{Fault}
 use Rattle.pc_token.specs.declared.token.Token.{Token}
 use Rattle.pc_token.specs.Lexeme.{Lexeme}
-use Rattle.pc_tree.specs.Machine.{at}
-use Rattle.pc_tree.specs.Machine.Kinds.{Infix, Link, Follow, link, a_dot, calls, indexes, ends, follow_of}
-use Rattle.pc_tree.specs.Machine.States.{Part, Prefix, Stack, joining, have}
-use Rattle.pc_tree.specs.Machine.Expressions.{own_of, right_of, own_of_link, left_of_link, prefix_level, joined}
+use Rattle.pc_grammar.specs.Machine.{at}
+use Rattle.pc_grammar.specs.Machine.Kinds.{Infix, Link, Follow, link, a_dot, calls, indexes, ends, follow_of}
+use Rattle.pc_grammar.specs.Machine.States.{Part, Prefix, Stack, joining, have}
+use Rattle.pc_grammar.specs.Machine.Expressions.{own_of, right_of, own_of_link, left_of_link, prefix_level, joined}
 use Rattle.pc_reader.specs.declared.reader.Reader.{Reader}
 use Rattle.pc_reader.specs.Internal.Operands.{signs_on, applied_all}
 use Rattle.pc_reader.specs.Reading.{lexeme, Onward}

@@ -7,7 +7,7 @@ use Rattle.std.proofs.lemmas.Bool.{eqb-true}
 use Rattle.std.proofs.lemmas.Bool.Decides.{leb_tells}
 use Rattle.std.proofs.lemmas.Grind.{common_steps}
 use Rattle.std.proofs.lemmas.Str.{encode_ascii, inside_one, length-encode, len_utf8_bounds}
-use Rattle.pc_tree.specs.Grammar.{digits_of, decoded, escaped}
+use Rattle.pc_grammar.specs.Grammar.{digits_of, decoded, escaped}
 
 -- a piece more is done
 one_more : (done next piece left rest all : List ℕ) → done ++ left ≡ all → left ≡ piece ++ rest → next ≡ done ++ piece

@@ -8,13 +8,13 @@ use Rattle.pc_token.specs.declared.token.TokenKind.TheVariants as kind
 use Rattle.pc_token.specs.declared.token.Operator.TheVariants as sign
 use Rattle.pc_token.specs.Lexeme.{Lexeme}
 use Rattle.pc_tree.specs.Tree.{Exprs, no_exprs, Entries, tuple, dict, call, no_keywords}
-use Rattle.pc_tree.specs.Grammar.{first_place}
-use Rattle.pc_tree.specs.Machine.{at, turn}
-use Rattle.pc_tree.specs.Machine.Kinds.{start_of}
-use Rattle.pc_tree.specs.Machine.States.{Part, Head, in_call, Stack, grouping, listing, keying, State, operand, have}
-use Rattle.pc_tree.specs.Machine.States.{group_due, item_due, key_due, on}
-use Rattle.pc_tree.specs.Machine.Finishing.{add_expr}
-use Rattle.pc_tree.specs.Machine.Expressions.{rank, part, head_tree, closer, call_part, operand_turn}
+use Rattle.pc_grammar.specs.Grammar.{first_place}
+use Rattle.pc_grammar.specs.Machine.{at, turn}
+use Rattle.pc_grammar.specs.Machine.Kinds.{start_of}
+use Rattle.pc_grammar.specs.Machine.States.{Part, Head, in_call, Stack, grouping, listing, keying, State, operand, have}
+use Rattle.pc_grammar.specs.Machine.States.{group_due, item_due, key_due, on}
+use Rattle.pc_grammar.specs.Machine.Finishing.{add_expr}
+use Rattle.pc_grammar.specs.Machine.Expressions.{rank, part, head_tree, closer, call_part, operand_turn}
 use Rattle.pc_reader.specs.declared.reader.Reader.{Reader}
 use Rattle.pc_reader.specs.declared.operand.Operand.{Operand}
 use Rattle.pc_reader.specs.declared.items.Items.{Items}

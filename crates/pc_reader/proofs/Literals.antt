@@ -14,12 +14,13 @@ use Rattle.pc_token.specs.Lexeme.{Lexeme}
 use Rattle.pc_tree.specs.declared.tree.Literal.{Literal as RustLiteral}
 use Rattle.pc_tree.specs.declared.tree.LiteralKind.TheVariants as rust
 use Rattle.pc_tree.specs.Tree.{number_literal, negative_literal, text_literal, literal_of}
-use Rattle.pc_tree.specs.Grammar.{span, digits_of, characters_of}
-use Rattle.pc_tree.specs.Machine.{at, turn}
-use Rattle.pc_tree.specs.Machine.Kinds.{same_kind}
-use Rattle.pc_tree.specs.Machine.States.{LiteralContext, State, literal_due, minus_read, literal_read, Turn, stuck, go}
-use Rattle.pc_tree.specs.Machine.Finishing.{finish_literal}
-use Rattle.pc_tree.specs.Machine.Lines.{literal_turn}
+use Rattle.pc_grammar.specs.Grammar.{span, digits_of, characters_of}
+use Rattle.pc_grammar.specs.Machine.{at, turn}
+use Rattle.pc_grammar.specs.Machine.Kinds.{same_kind}
+use Rattle.pc_grammar.specs.Machine.States.{LiteralContext, State, literal_due, minus_read, literal_read, Turn, stuck}
+use Rattle.pc_grammar.specs.Machine.States.{go}
+use Rattle.pc_grammar.specs.Machine.Finishing.{finish_literal}
+use Rattle.pc_grammar.specs.Machine.Lines.{literal_turn}
 use Rattle.pc_reader.specs.declared.reader.Reader.{Reader}
 use Rattle.pc_reader.specs.Reading.{Blames, IsAhead, lexeme, Came, IsReady, Takes, Rejects}
 use Rattle.pc_reader.specs.Internal.StatesAhead.{StandsBefore}

@@ -10,13 +10,14 @@ use Rattle.pc_token.specs.declared.token.Operator.TheVariants as sign
 use Rattle.pc_token.specs.Lexeme.{Lexeme}
 use Rattle.pc_tree.specs.declared.tree.Name.{Name as RustName}
 use Rattle.pc_tree.specs.Tree.{Name, Expr, Exprs, Keywords as KeywordTrees, no_keywords, name_of}
-use Rattle.pc_tree.specs.Grammar.{name_at}
-use Rattle.pc_tree.specs.Machine.{at, turn}
-use Rattle.pc_tree.specs.Machine.Kinds.{same_kind}
-use Rattle.pc_tree.specs.Machine.States.{Part, in_call, Stack, listing, naming, operand, have, keyword_due}
-use Rattle.pc_tree.specs.Machine.States.{keyword_named, go, on, stuck}
-use Rattle.pc_tree.specs.Machine.Finishing.{add_keyword, if_plain, name_of_tree}
-use Rattle.pc_tree.specs.Machine.Expressions.{rank, begin_keyword, call_part}
+use Rattle.pc_tree.specs.NamesAlone.{name_of_tree}
+use Rattle.pc_grammar.specs.Grammar.{name_at}
+use Rattle.pc_grammar.specs.Machine.{at, turn}
+use Rattle.pc_grammar.specs.Machine.Kinds.{same_kind}
+use Rattle.pc_grammar.specs.Machine.States.{Part, in_call, Stack, listing, naming, operand, have, keyword_due}
+use Rattle.pc_grammar.specs.Machine.States.{keyword_named, go, on, stuck}
+use Rattle.pc_grammar.specs.Machine.Finishing.{add_keyword, if_plain}
+use Rattle.pc_grammar.specs.Machine.Expressions.{rank, begin_keyword, call_part}
 use Rattle.pc_reader.specs.declared.reader.Reader.{Reader}
 use Rattle.pc_reader.specs.declared.operand.Operand.{Operand}
 use Rattle.pc_reader.specs.declared.items.Keywords.{Keywords}

@@ -7,11 +7,11 @@ use Rattle.pc_token.specs.declared.token.Token.{Token}
 use Rattle.pc_token.specs.declared.token.TokenKind.TheVariants as kind
 use Rattle.pc_token.specs.declared.token.Operator.TheVariants as sign
 use Rattle.pc_tree.specs.Tree.{Entries as EntryTrees, dict}
-use Rattle.pc_tree.specs.Machine.{at, turn}
-use Rattle.pc_tree.specs.Machine.Kinds.{start_of}
-use Rattle.pc_tree.specs.Machine.States.{Part, Stack, keying, valuing, operand, have, key_due, on}
-use Rattle.pc_tree.specs.Machine.Finishing.{add_entry}
-use Rattle.pc_tree.specs.Machine.Expressions.{rank, part, operand_turn}
+use Rattle.pc_grammar.specs.Machine.{at, turn}
+use Rattle.pc_grammar.specs.Machine.Kinds.{start_of}
+use Rattle.pc_grammar.specs.Machine.States.{Part, Stack, keying, valuing, operand, have, key_due, on}
+use Rattle.pc_grammar.specs.Machine.Finishing.{add_entry}
+use Rattle.pc_grammar.specs.Machine.Expressions.{rank, part, operand_turn}
 use Rattle.pc_reader.specs.declared.reader.Reader.{Reader}
 use Rattle.pc_reader.specs.declared.operand.Operand.{Operand}
 use Rattle.pc_reader.specs.declared.items.Entries.{Entries}

@@ -10,10 +10,11 @@ use Rattle.pc_token.specs.declared.token.Keyword.TheVariants as word
 use Rattle.pc_token.specs.declared.token.Operator.TheVariants as sign
 use Rattle.pc_token.specs.Lexeme.{Lexeme}
 use Rattle.pc_tree.specs.Tree.{no_exprs, index}
-use Rattle.pc_tree.specs.Machine.{at, turn}
-use Rattle.pc_tree.specs.Machine.States.{Part, minus, in_call, Stack, applying, indexing, State, operand, have, dotted}
-use Rattle.pc_tree.specs.Machine.States.{item_due, go}
-use Rattle.pc_tree.specs.Machine.Expressions.{rank, part}
+use Rattle.pc_grammar.specs.Machine.{at, turn}
+use Rattle.pc_grammar.specs.Machine.States.{Part, minus, in_call, Stack, applying, indexing, State, operand, have}
+use Rattle.pc_grammar.specs.Machine.States.{dotted}
+use Rattle.pc_grammar.specs.Machine.States.{item_due, go}
+use Rattle.pc_grammar.specs.Machine.Expressions.{rank, part}
 use Rattle.pc_reader.specs.declared.reader.Reader.{Reader}
 use Rattle.pc_reader.specs.declared.operand.Operand.{Operand}
 use Rattle.pc_reader.specs.Internal.Operands.{KeepsPart, Builds, signs_on, starts_of}

@@ -3,7 +3,7 @@ use Rattle.std.proofs.Common.{◌≡◌, ◌≢◌, ℕ, Bool, true, false, ◌|
 use Rattle.std.proofs.Common.{sym, ◌∙◌}
 use Rattle.std.proofs.lemmas.Bool.{eqb-true}
 use Rattle.pc_token.specs.Strings.{is_quote}
-use Rattle.pc_tree.specs.Grammar.{unclosed, unopened}
+use Rattle.pc_grammar.specs.Grammar.{unclosed, unopened}
 
 not_quote : (b : ℕ) → b ≢ 39 → b ≢ 34 → is_quote b ≡ false
 not_quote b n m = by_tests (b == 34) (b == 39) refl refl

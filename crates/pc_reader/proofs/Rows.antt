@@ -17,10 +17,10 @@ use Rattle.pc_tree.specs.Tree.{Expr, Exprs, no_exprs, more_exprs, Entries, no_en
 use Rattle.pc_tree.specs.Tree.{no_keywords, more_keywords, Name, list, tuple, dict, call, expr_of, exprs_of, entries_of}
 use Rattle.pc_tree.specs.Tree.{keywords_of, name_of}
 use Rattle.pc_tree.specs.Depth.{depth_of, depth_over, depth_over_entries, depth_over_keywords}
-use Rattle.pc_tree.specs.Machine.Finishing.{add_expr, add_entry, add_keyword}
+use Rattle.pc_grammar.specs.Machine.Finishing.{add_expr, add_entry, add_keyword}
 use Rattle.std.specs.Prelude.{Box}
-use Rattle.pc_tree.specs.Machine.States.{Part}
 use Rattle.pc_tree.specs.Lists.{exprs_of_list, entries_of_list, keywords_of_list}
+use Rattle.pc_grammar.specs.Machine.States.{Part}
 use Rattle.pc_reader.specs.declared.items.Items.{Items}
 use Rattle.pc_reader.specs.declared.items.Entries.{Entries as RustEntries}
 use Rattle.pc_reader.specs.declared.items.Keywords.{Keywords as RustKeywords}

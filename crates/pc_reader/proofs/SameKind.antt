@@ -12,7 +12,7 @@ use Rattle.pc_token.specs.declared.token.TokenKind.{TokenKind}
 use Rattle.pc_token.specs.declared.token.TokenKind.TheVariants as kind
 use Rattle.pc_token.specs.declared.token.Keyword.TheVariants as word
 use Rattle.pc_token.specs.declared.token.Operator.TheVariants as sign
-use Rattle.pc_tree.specs.Machine.Kinds.{kind_number, same_kind}
+use Rattle.pc_grammar.specs.Machine.Kinds.{kind_number, same_kind}
 
 -- the kinds in the order of their numbers
 abbrev words : List TokenKind

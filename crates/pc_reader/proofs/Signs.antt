@@ -2,11 +2,11 @@
 use Rattle.std.proofs.Common.{◌≡◌, ℕ, ◌≤◌, ◌<◌, List, [], ◌∷◌, ◌++◌, refl, arith, ap, ◌∙◌}
 use Rattle.pc_token.specs.declared.token.TokenKind.{TokenKind}
 use Rattle.pc_token.specs.Lexeme.{Lexeme}
-use Rattle.pc_tree.specs.Machine.{turn}
-use Rattle.pc_tree.specs.Machine.Kinds.{Link, Follow, link}
-use Rattle.pc_tree.specs.Machine.States.{Part, Prefix, minus, denial, Stack, applying, operand, go, on, stuck}
-use Rattle.pc_tree.specs.Machine.Expressions.{prefix_level, rank, applied, have_turn, left_of_link, own_of_link}
-use Rattle.pc_tree.specs.Fronts.Expressions.{prefix_kind}
+use Rattle.pc_grammar.specs.Machine.{turn}
+use Rattle.pc_grammar.specs.Machine.Kinds.{Link, Follow, link}
+use Rattle.pc_grammar.specs.Machine.States.{Part, Prefix, minus, denial, Stack, applying, operand, go, on, stuck}
+use Rattle.pc_grammar.specs.Machine.Expressions.{prefix_level, rank, applied, have_turn, left_of_link, own_of_link}
+use Rattle.pc_grammar.specs.Fronts.Expressions.{prefix_kind}
 use Rattle.pc_reader.specs.Internal.Operands.{signs_on, applied_all, starts_of}
 use Rattle.pc_reader.specs.Internal.Expressions.{TakesSign, Undotted, wrapped_level}
 use Rattle.pc_reader.proofs.Frames.{is_le, apply_turn, own_left, link_low, not_two}

@@ -5,9 +5,9 @@ use Rattle.pc_source.specs.declared.fault.Fault.{Fault}
 use Rattle.pc_token.specs.declared.token.Token.{Token}
 use Rattle.pc_token.specs.declared.token.TokenKind.{TokenKind}
 use Rattle.pc_token.specs.Lexeme.{Lexeme}
-use Rattle.pc_tree.specs.Machine.{at, turn, stop_at, short}
-use Rattle.pc_tree.specs.Machine.Kinds.{same_kind}
-use Rattle.pc_tree.specs.Machine.States.{State, Turn, stuck, go, on}
+use Rattle.pc_grammar.specs.Machine.{at, turn, stop_at, short}
+use Rattle.pc_grammar.specs.Machine.Kinds.{same_kind}
+use Rattle.pc_grammar.specs.Machine.States.{State, Turn, stuck, go, on}
 use Rattle.pc_reader.specs.declared.reader.Reader.{Reader}
 use Rattle.pc_reader.specs.Reading.{lexeme, Onward, Takes, NeedsKind}
 use Rattle.pc_reader.specs.Internal.StatesAhead.{StandsBefore, LeadsTo}

@@ -3,25 +3,26 @@ use Rattle.std.proofs.Common.{◌≡◌, ℕ, ◌≤◌, ◌<◌, true, false, L
 use Rattle.std.proofs.Common.{if◌then◌else◌, refl, arith, ap, sym, ◌∙◌, subst}
 use Rattle.std.specs.Iterator.{Count}
 use Rattle.pc_source.specs.declared.fault.Fault.{Fault}
+use Rattle.pc_source.specs.declared.fault.Fault.TheVariants as fault
 use Rattle.pc_token.specs.declared.token.Token.{Token}
 use Rattle.pc_token.specs.declared.token.TokenKind.{TokenKind}
 use Rattle.pc_token.specs.Lexeme.{Lexeme}
 use Rattle.pc_tree.specs.declared.tree.BinaryOperator.TheVariants.{Add, Sub, Mul, FloorDiv, Mod}
 use Rattle.pc_tree.specs.Tree.{Module}
-use Rattle.pc_tree.specs.Machine.{Reading, at, lost, short, stop_at, turn, arrive}
-use Rattle.pc_tree.specs.Machine.Kinds.{same_kind, arithmetic, comparison, both, either, Link, linking, denying}
-use Rattle.pc_tree.specs.Machine.Kinds.{identifying, Follow, link, follow_of}
-use Rattle.pc_tree.specs.Machine.States.{Part, minus, denial, Stack, whole, joining, applying, grouping, listing}
-use Rattle.pc_tree.specs.Machine.States.{indexing, naming, keying, valuing, State, stuck, go, on}
-use Rattle.pc_tree.specs.Machine.Expressions.{own_of, right_of, own_of_link, left_of_link, prefix_level, rank, reduce}
-use Rattle.pc_tree.specs.Machine.Expressions.{linked, have_turn}
+use Rattle.pc_grammar.specs.Machine.{Reading, at, lost, short, stop_at, turn, arrive}
+use Rattle.pc_grammar.specs.Machine.Kinds.{same_kind, arithmetic, comparison, both, either, Link, linking, denying}
+use Rattle.pc_grammar.specs.Machine.Kinds.{identifying, Follow, link, follow_of}
+use Rattle.pc_grammar.specs.Machine.States.{Part, minus, denial, Stack, whole, joining, applying, grouping, listing}
+use Rattle.pc_grammar.specs.Machine.States.{indexing, naming, keying, valuing, State, stuck, go, on}
+use Rattle.pc_grammar.specs.Machine.Expressions.{own_of, right_of, own_of_link, left_of_link, prefix_level, rank}
+use Rattle.pc_grammar.specs.Machine.Expressions.{reduce}
+use Rattle.pc_grammar.specs.Machine.Expressions.{linked, have_turn}
 use Rattle.pc_reader.specs.declared.reader.Reader.{Reader}
 use Rattle.pc_reader.specs.Internal.Expressions.{HasLink}
 use Rattle.pc_reader.specs.Reading.{kind_ahead, IsAhead, Blames, answer_for, lexeme, came, Came, Onward, Takes, Skips}
 use Rattle.pc_reader.specs.Reading.{NeedsKind}
 use Rattle.pc_reader.proofs.Frames.{is_le, not_le, tight, right_is, link_low, own_left}
 use Rattle.pc_reader.proofs.SameKind.{same_is}
-use Rattle.pc_source.specs.declared.fault.Fault.TheVariants as fault
 use Rattle.pc_reader.proofs.Streams.{blame_memory, run_end, same_step, at_end}
 
 -- the token that was taken leads from one state to another
@@ -70,11 +71,11 @@ meets kind k next e = ap (λ z. on z next stuck) (Rattle.pc_reader.proofs.SameKi
 
 reduce_none : (l : Link) (p : Part) (s : Stack) → rank s ≤ own_of_link l → reduce (left_of_link l) p s ≡ (p, s)
 reduce_none l p (joining op x o s) h = ap (λ z. if z then reduce (left_of_link l)
-    (Rattle.pc_tree.specs.Machine.Expressions.joined op x o p) s else (p, joining op x o s))
+    (Rattle.pc_grammar.specs.Machine.Expressions.joined op x o p) s else (p, joining op x o s))
     (not_le (left_of_link l) (own_of op) (let q = right_is op in let w = own_left l in omega arith))
 reduce_none l p (applying minus u s) h = absurd (let q = link_low l in omega arith)
 reduce_none l p (applying denial u s) h = ap (λ z. if z then reduce (left_of_link l)
-    (Rattle.pc_tree.specs.Machine.Expressions.applied denial u p) s else (p, applying denial u s))
+    (Rattle.pc_grammar.specs.Machine.Expressions.applied denial u p) s else (p, applying denial u s))
     (not_le (left_of_link l) 2 (over_two l h))
   where
     over_two : (l : Link) → 2 ≤ own_of_link l → 2 < left_of_link l
@@ -100,7 +101,7 @@ reduce_none l p (valuing es k ts s) h = refl
 pub link_turn : (l : Link) (level : ℕ) (p : Part) (s : Stack) (t : Lexeme) (f : Follow) → f ≡ link l
     → left_of_link l ≤ level → rank s ≤ own_of_link l → have_turn level p s t f ≡ go (linked l t p s)
 link_turn l level p s t f e h r = ap (λ z. have_turn level p s t z) e ∙ tight (left_of_link l) level _ h
-    ∙ ap (λ z. Rattle.pc_tree.specs.Machine.Expressions.after_link l t z) (reduce_none l p s r)
+    ∙ ap (λ z. Rattle.pc_grammar.specs.Machine.Expressions.after_link l t z) (reduce_none l p s r)
     ∙ ap (λ z. on z (linked l t p s) stuck) (is_le (rank s) (own_of_link l) r)
 
 -- one token is ahead

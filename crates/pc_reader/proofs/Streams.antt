@@ -5,8 +5,8 @@ use Rattle.pc_source.specs.declared.fault.Fault.{Fault}
 use Rattle.pc_source.specs.declared.fault.Fault.TheVariants as fault
 use Rattle.pc_token.specs.declared.token.Token.{Token}
 use Rattle.pc_tree.specs.Tree.{Module}
-use Rattle.pc_tree.specs.Machine.{Reading, at, lost, step, stop, arrive}
-use Rattle.pc_tree.specs.Machine.States.{State}
+use Rattle.pc_grammar.specs.Machine.{Reading, at, lost, step, stop, arrive}
+use Rattle.pc_grammar.specs.Machine.States.{State}
 use Rattle.pc_reader.specs.declared.reader.Reader.{Reader}
 use Rattle.std.specs.Iterator.{Count, IsFinite}
 use Rattle.pc_token.specs.declared.token.TokenKind.{TokenKind}

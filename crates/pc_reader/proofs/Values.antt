@@ -9,9 +9,9 @@ use Rattle.pc_token.specs.declared.token.TokenKind.TheVariants as kind
 use Rattle.pc_token.specs.declared.token.Keyword.TheVariants as word
 use Rattle.pc_token.specs.declared.token.Operator.TheVariants as sign
 use Rattle.pc_token.specs.Lexeme.{Lexeme}
-use Rattle.pc_tree.specs.Machine.Kinds.{same_kind, start_of}
-use Rattle.pc_tree.specs.Machine.States.{Stack, applying, operand, have, denial, stuck, go, on}
-use Rattle.pc_tree.specs.Machine.Expressions.{rank, name_part, operand_turn}
+use Rattle.pc_grammar.specs.Machine.Kinds.{same_kind, start_of}
+use Rattle.pc_grammar.specs.Machine.States.{Stack, applying, operand, have, denial, stuck, go, on}
+use Rattle.pc_grammar.specs.Machine.Expressions.{rank, name_part, operand_turn}
 use Rattle.pc_reader.specs.Internal.Expressions.{is_value_start, value_ahead}
 use Rattle.pc_reader.specs.Reading.{IsAhead}
 use Rattle.pc_reader.proofs.Frames.{not_le}

@@ -5,10 +5,10 @@ use Rattle.std.specs.Iterator.{Count}
 use Rattle.pc_source.specs.declared.fault.Fault.{Fault}
 use Rattle.pc_token.specs.declared.token.Token.{Token}
 use Rattle.pc_token.specs.declared.token.TokenKind.{TokenKind}
-use Rattle.pc_tree.specs.Machine.{Reading, at, stop, short}
-use Rattle.pc_tree.specs.Machine.Kinds.{Fixed, a_kind, a_form, is_fixed}
-use Rattle.pc_tree.specs.Machine.Lines.{due}
-use Rattle.pc_tree.specs.Machine.States.{State, fixed, stuck, on}
+use Rattle.pc_grammar.specs.Machine.{Reading, at, stop, short}
+use Rattle.pc_grammar.specs.Machine.Kinds.{Fixed, a_kind, a_form, is_fixed}
+use Rattle.pc_grammar.specs.Machine.Lines.{due}
+use Rattle.pc_grammar.specs.Machine.States.{State, fixed, stuck, on}
 use Rattle.pc_reader.specs.declared.reader.Reader.{Reader}
 use Rattle.pc_reader.specs.Reading.{Blames, Came, lexeme, Onward, Takes, NeedsKind, Rejects}
 use Rattle.pc_reader.specs.Internal.FixedWords.{kinds_of, IsFormAhead, NeedsForm, TakesForm, ReadsForm}

@@ -11,9 +11,9 @@ use Rattle.pc_token.specs.declared.token.Token.{Token}
 use Rattle.pc_token.specs.declared.token.TokenKind.{TokenKind}
 use Rattle.pc_token.specs.Lexeme.{Lexeme, form_of}
 use Rattle.pc_tree.specs.Tree.{Module}
-use Rattle.pc_tree.specs.Machine.{Reading, Outcome, reads, refuses, short, step, stop, stop_at, turn}
-use Rattle.pc_tree.specs.Machine.Kinds.{same_kind}
-use Rattle.pc_tree.specs.Machine.States.{State, stuck}
+use Rattle.pc_grammar.specs.Machine.{Reading, Outcome, reads, refuses, short, step, stop, stop_at, turn}
+use Rattle.pc_grammar.specs.Machine.Kinds.{same_kind}
+use Rattle.pc_grammar.specs.Machine.States.{State, stuck}
 use Rattle.pc_reader.specs.declared.reader.Reader.{Reader}
 
 -- the answer for an outcome of tokens that end at this byte

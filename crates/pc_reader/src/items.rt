@@ -4,8 +4,8 @@ ghost use Rattle.pc_source.specs.declared.fault.Fault.TheVariants as fault;
 ghost use Rattle.pc_tree.specs.Tree.{Exprs, Entries as EntryTrees, Keywords as KeywordTrees, tuple as tuple_tree};
 ghost use Rattle.pc_tree.specs.Tree.{list as list_tree, dict as dict_tree, call as call_tree, no_exprs, no_entries};
 ghost use Rattle.pc_tree.specs.Tree.{no_keywords, name_of};
-ghost use Rattle.pc_tree.specs.Machine.Finishing.{add_expr, add_entry, add_keyword};
-ghost use Rattle.pc_tree.specs.Machine.States.{Part};
+ghost use Rattle.pc_grammar.specs.Machine.Finishing.{add_expr, add_entry, add_keyword};
+ghost use Rattle.pc_grammar.specs.Machine.States.{Part};
 ghost use Rattle.pc_reader.specs.Internal.Operands.{KeepsPart, Builds};
 ghost use Rattle.pc_reader.specs.Internal.Brackets.{KeepsItems, KeepsEntries, KeepsKeywords};
 

@@ -1,7 +1,7 @@
 //! Operators by the tokens that begin them.
 ghost use Rattle.std.specs.Prelude.{◌≡◌, Some};
-ghost use Rattle.pc_tree.specs.Machine.Kinds.{follow_of};
-ghost use Rattle.pc_tree.specs.Machine.Expressions.{own_of_link, left_of_link, right_of};
+ghost use Rattle.pc_grammar.specs.Machine.Kinds.{follow_of};
+ghost use Rattle.pc_grammar.specs.Machine.Expressions.{own_of_link, left_of_link, right_of};
 ghost use Rattle.pc_reader.specs.Internal.Operands.{infix_of};
 ghost use Rattle.pc_reader.specs.declared.operand.Infix.TheVariants as infix_is;
 ghost use Rattle.pc_reader.specs.declared.link.Link.TheVariants as link_is;

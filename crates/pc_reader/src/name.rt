@@ -1,8 +1,8 @@
 //! Single tokens: names, and the values of literals.
 ghost use Rattle.std.specs.Prelude.{◌≡◌, MatchResult, string_bytes};
 ghost use Rattle.pc_source.specs.declared.fault.Fault.TheVariants as fault;
-ghost use Rattle.pc_tree.specs.Grammar.{digits_of, characters_of, escaped, name_at, unclosed, unopened};
 ghost use Rattle.pc_tree.specs.Tree.{name_of};
+ghost use Rattle.pc_grammar.specs.Grammar.{digits_of, characters_of, escaped, name_at, unclosed, unopened};
 ghost use Rattle.pc_reader.specs.Reading.{IsReady, lexeme};
 ghost use Rattle.pc_reader.specs.Internal.Expressions.{ReadsName};
 

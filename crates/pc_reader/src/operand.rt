@@ -3,9 +3,10 @@ ghost use Rattle.std.specs.Prelude.{◌≡◌, ◌+◌, ◌≤◌, ℕ, Bool, Li
 ghost use Rattle.std.specs.Prelude.{false};
 ghost use Rattle.pc_source.specs.declared.fault.Fault.TheVariants as fault;
 ghost use Rattle.pc_tree.specs.Tree.{attribute, index as index_tree, expr_of, name_of};
-ghost use Rattle.pc_tree.specs.Machine.Expressions.{infix_tree, prefix_tree, prefix_level, own_of};
-ghost use Rattle.pc_tree.specs.Machine.Finishing.{if_plain, name_of_tree};
-ghost use Rattle.pc_tree.specs.Machine.States.{Part};
+ghost use Rattle.pc_tree.specs.NamesAlone.{name_of_tree};
+ghost use Rattle.pc_grammar.specs.Machine.Expressions.{infix_tree, prefix_tree, prefix_level, own_of};
+ghost use Rattle.pc_grammar.specs.Machine.Finishing.{if_plain};
+ghost use Rattle.pc_grammar.specs.Machine.States.{Part};
 ghost use Rattle.pc_reader.specs.Internal.Operands.{KeepsPart, Builds, node_of, infix_of, prefix_of, none_tree};
 
 use pc_source::{Fault, Place};

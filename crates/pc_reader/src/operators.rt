@@ -2,8 +2,8 @@
 ghost use Rattle.std.specs.Prelude.{◌≡◌, List, [], ◌∷◌, ◌≤◌, MatchResult, MatchOption, IfOk, false};
 ghost use Rattle.pc_source.specs.declared.fault.Fault.TheVariants as fault;
 ghost use Rattle.pc_token.specs.Lexeme.{Lexeme};
-ghost use Rattle.pc_tree.specs.Machine.States.{Part, identified, dotted};
-ghost use Rattle.pc_tree.specs.Fronts.Expressions.{prefix_kind};
+ghost use Rattle.pc_grammar.specs.Machine.States.{Part, identified, dotted};
+ghost use Rattle.pc_grammar.specs.Fronts.Expressions.{prefix_kind};
 ghost use Rattle.pc_reader.specs.Internal.Operands.{KeepsPart, prefix_of, starts_of, applied_all};
 ghost use Rattle.pc_reader.specs.Reading.{IsReady, IsAhead};
 ghost use Rattle.pc_reader.specs.Internal.Links.{link_view};

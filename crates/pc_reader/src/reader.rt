@@ -1,10 +1,10 @@
 //! Tokens with the next one taken off already.
 ghost use Rattle.std.specs.Prelude.{◌≡◌, ◌<◌, List, ℕ, MatchResult, IfOk, None};
 ghost use Rattle.std.specs.Iterator.{IsFinite};
-ghost use Rattle.pc_tree.specs.Machine.Kinds.{same_kind};
-ghost use Rattle.pc_tree.specs.Machine.States.{State};
-ghost use Rattle.pc_tree.specs.Machine.{Reading, at, lost, stop, short};
 ghost use Rattle.pc_token.specs.Lexeme.{form_of};
+ghost use Rattle.pc_grammar.specs.Machine.Kinds.{same_kind};
+ghost use Rattle.pc_grammar.specs.Machine.States.{State};
+ghost use Rattle.pc_grammar.specs.Machine.{Reading, at, lost, stop, short};
 ghost use Rattle.pc_reader.specs.Internal.FixedWords.{IsFormAhead};
 ghost use Rattle.pc_reader.specs.Reading.{Blames, Came, IsAhead, kind_ahead, place_ahead, IsReady, Rejects};
 ghost use Rattle.pc_reader.specs.Reading.{ComesToAnswer, Takes, Skips, NeedsKind, misfit_at};

@@ -3,4 +3,3 @@ pub mod Json
 pub mod Lines
 pub mod Listed
 pub mod Order
-pub mod Taking

@@ -1,6 +1,6 @@
 -- The lawful labelling of an expression: each part obeys its own rule with respect to its neighbours alone.
 -- Language Reference 3.12, 6 "Expressions"; own rules of the profile.
-use Rattle.std.specs.Prelude.{◌≡◌, ℕ, suc, ◌+◌, ◌*◌, ◌-◌, List, [], ◌∷◌, map, Bool as Test, true, false, if◌then◌else◌}
+use Rattle.std.specs.Prelude.{◌≡◌, ℕ, suc, List, [], ◌∷◌, map, Bool as Test, true, false, if◌then◌else◌}
 use Rattle.std.specs.Prelude.{nat_eq, Option, Some, None, All, slice_get}
 use Rattle.pc_tree.specs.declared.tree.ComparisonOperator.{ComparisonOperator}
 use Rattle.pc_tree.specs.declared.tree.ComparisonOperator.TheVariants.{Equal, NotEqual, In, NotIn}
@@ -10,6 +10,7 @@ use Rattle.pc_tree.specs.Tree.{Name, Expr, Exprs, Entries, Keywords, name, numbe
 use Rattle.pc_tree.specs.Tree.{dict, negative, negation, binary, compare, is_none, is_not_none, conjunction}
 use Rattle.pc_tree.specs.Tree.{disjunction, attribute, index, call, no_exprs, more_exprs, no_entries, more_entries}
 use Rattle.pc_tree.specs.Tree.{no_keywords, more_keywords}
+use Rattle.pc_tree.specs.Digits.{number_behind}
 use Rattle.pc_scope.specs.Resolution.{is_one_of}
 use Rattle.pc_types.specs.Tree.{Tree, Any, Int, Bool, Str, NoneType, ListOf, DictOf, TupleOf}
 use Rattle.pc_types.specs.Below.{Bases, Static}
@@ -100,11 +101,6 @@ value_seat None = nowhere
 value_seat (Some kv) = item_seat (Some kv.value)
 
 -- ---- an int literal as an index
-
--- the number that digits stand for, after those that stand for n
-abbrev pub number_behind : ℕ → List ℕ → ℕ
-number_behind n [] = n
-number_behind n (d ∷ ds) = number_behind (10 * n + (d - 48)) ds
 
 -- the number of an int literal, none for any other expression
 abbrev pub int_literal : Expr → Option ℕ

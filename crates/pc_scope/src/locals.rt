@@ -66,7 +66,8 @@ fn locals_of_methods(
     keys: Keys,
     members: &[Member],
 ) -> Result<Vec<Locals>, OutOfMemory>
-    ensures { IfOk result (λ ls. map locals_in ls.items ≡ map (locals_by true) (methods_in (map member_of members.now))) }
+    ensures { IfOk result (λ ls. map locals_in ls.items
+        ≡ map (locals_by true) (methods_in (map member_of members.now))) }
 {
     let mut all = Vec::new(alloc);
     for member in members {
@@ -84,7 +85,8 @@ pub fn locals_of_functions(
     keys: Keys,
     items: &[Item],
 ) -> Result<Vec<Locals>, OutOfMemory>
-    ensures { IfOk result (λ ls. map locals_in ls.items ≡ map (locals_by false) (functions_in (map item_of items.now))) }
+    ensures { IfOk result (λ ls. map locals_in ls.items
+        ≡ map (locals_by false) (functions_in (map item_of items.now))) }
 {
     let mut all = Vec::new(alloc);
     for item in items {

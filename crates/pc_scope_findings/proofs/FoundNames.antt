@@ -6,15 +6,15 @@ use Rattle.std.proofs.lemmas.Bool.Decides.{nat_tests}
 use Rattle.std.proofs.lemmas.List.Elements.{Contains-append_left, Contains-append_right}
 use Rattle.pc_source.specs.declared.place.Place.{Place}
 use Rattle.pc_tree.specs.Tree.{Name, Expr}
-use Rattle.pc_tree.specs.Machine.Finishing.{name_of_tree}
+use Rattle.pc_tree.specs.NamesAlone.{name_of_tree}
 use Rattle.pc_tree.specs.Stopping.{one_if}
+use Rattle.pc_tree.proofs.Among.{none_among, first_among, later_among, among_first, either}
 use Rattle.pc_scope.specs.declared.resolution.Res.{Res}
 use Rattle.pc_scope.specs.declared.resolution.Res.TheVariants as res
 use Rattle.pc_scope.specs.Expressions.{parts_in, other_callee}
 use Rattle.pc_scope_findings.specs.Findings.{IsEarlyMeaning}
 use Rattle.pc_scope_findings.specs.Internal.FindingLists.{means_nothing, unknown_at, unknown_among, unknown_in}
 use Rattle.pc_scope_findings.specs.Internal.FindingLists.{is_early_meaning, early_at, callee_at, early_among}
-use Rattle.pc_tree.proofs.Among.{none_among, first_among, later_among, among_first, either}
 
 one : (b : Bool) (p q : Place) → Contains (one_if b p) q → (b ≡ true) × (p ≡ q)
 one true p q h = elim (among_first p [] q h) [ inl e ↦ (refl, e) | inr rest ↦ absurd (none_among q rest) ]

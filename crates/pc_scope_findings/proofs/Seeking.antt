@@ -9,20 +9,20 @@ use Rattle.pc_tree.specs.declared.tree.Entry.{Entry as RustEntry}
 use Rattle.pc_tree.specs.declared.tree.KeywordArgument.{KeywordArgument as RustKeyword}
 use Rattle.pc_tree.specs.Tree.{Expr, Exprs, more_exprs, expr_of}
 use Rattle.pc_tree.specs.Lists.{exprs_of_list, entries_of_list, keywords_of_list}
-use Rattle.pc_tree.specs.Machine.Finishing.{name_of_tree}
-use Rattle.pc_scope_findings.specs.declared.parts.Sought.{Sought}
-use Rattle.pc_scope_findings.specs.declared.parts.Sought.TheVariants as sought
+use Rattle.pc_tree.specs.NamesAlone.{name_of_tree}
+use Rattle.pc_tree.specs.Code.{at_code}
+use Rattle.pc_tree.proofs.Stops.{cons_at}
+use Rattle.pc_tree.proofs.Finds.{at_both}
 use Rattle.pc_scope.specs.declared.resolution.Owner.{Owner}
 use Rattle.pc_scope.specs.declared.resolution.Owner.TheVariants as owners
 use Rattle.pc_scope.specs.declared.resolution.Res.{Res}
 use Rattle.pc_scope.specs.Expressions.{parts_in, parts_in_all, parts_in_entries, parts_in_keywords, other_callee}
-use Rattle.pc_tree.specs.Code.{at_code}
+use Rattle.pc_scope.specs.Tables.{Tables, meaning_by_tables}
+use Rattle.pc_scope_findings.specs.declared.parts.Sought.{Sought}
+use Rattle.pc_scope_findings.specs.declared.parts.Sought.TheVariants as sought
 use Rattle.pc_scope_findings.specs.Internal.FindingLists.{unknown_at, unknown_among, unknown_in, early_at, early_among}
 use Rattle.pc_scope_findings.specs.Internal.FindingLists.{callee_at}
 use Rattle.pc_scope_findings.specs.Internal.SoughtParts.{sought_at, sought_among, some_parts}
-use Rattle.pc_scope.specs.Tables.{Tables, meaning_by_tables}
-use Rattle.pc_tree.proofs.Stops.{cons_at}
-use Rattle.pc_tree.proofs.Finds.{at_both}
 
 pub sought_both : (t : Tables) (s : Sought) (a b : List Expr) → sought_among t s (a ++ b) ≡ sought_among t s a
     ++ sought_among t s b

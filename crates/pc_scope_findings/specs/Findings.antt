@@ -8,15 +8,15 @@ use Rattle.pc_tree.specs.declared.code.Finding.{Finding}
 use Rattle.pc_tree.specs.Code.{finding}
 use Rattle.pc_tree.specs.Stopping.{IsStopping}
 use Rattle.pc_tree.specs.Tree.{Name, Expr, ClassDef, Constant, constant_item, Module}
-use Rattle.pc_tree.specs.Machine.Finishing.{name_of_tree}
+use Rattle.pc_tree.specs.NamesAlone.{name_of_tree}
 use Rattle.pc_scope.specs.declared.resolution.Owner.{Owner}
 use Rattle.pc_scope.specs.declared.resolution.Owner.TheVariants as owners
 use Rattle.pc_scope.specs.declared.resolution.Res.{Res}
 use Rattle.pc_scope.specs.declared.resolution.Res.TheVariants as res
 use Rattle.pc_scope.specs.Bindings.{constants_in, classes_in, Body, bodies}
 use Rattle.pc_scope.specs.Resolution.{resolve, resolve_in_module}
-use Rattle.pc_scope_findings.specs.Unreached.{unreached_places}
 use Rattle.pc_scope.specs.Expressions.{parts_in, other_callee, exprs_in_all}
+use Rattle.pc_scope_findings.specs.Unreached.{unreached_places}
 
 -- E01, E05, E28, E29, E31: those of the codes that stop a run which are not of classes
 abbrev pub IsScopeCode : Code → Type 0

@@ -2,9 +2,9 @@
 use Rattle.std.specs.Prelude.{◌≡◌, ◌⊎◌, ℕ, List, [], ◌∷◌, ◌++◌, codes, Option, None, Some}
 use Rattle.std.specs.Io.KnownBytes.{IsAtEnd}
 use Rattle.pc_source.specs.declared.counted.Counted.{Counted}
+use Rattle.pc_source.specs.Taken.{TakesAll}
 use Rattle.pc_wire.specs.Faults.{Gives, IsBroken}
 use Rattle.pc_wire.specs.Frames.{IsFrame, AreFrames}
-use Rattle.pc_wire.specs.Writing.{TakesAll}
 use Rattle.pc_session.specs.declared.checker.Found.{Found}
 use Rattle.pc_session.specs.declared.session.Stage.{Stage}
 use Rattle.pc_session.specs.declared.session.Stage.TheVariants.{Ended}

@@ -1,10 +1,10 @@
 //! Messages from a device, and replies to another.
 
 ghost use Rattle.std.specs.Prelude.{◌≡◌, ℕ, List, OnOk, IfErr};
+ghost use Rattle.pc_source.specs.Taken.{TakesAll};
 ghost use Rattle.pc_session.specs.States.{state_of};
 ghost use Rattle.pc_serve.specs.Runs.{no_memory, ended_with, IsWritten, IsTurned, OnStop, OnEnd};
 ghost use Rattle.pc_serve.specs.declared.serving.End.TheVariants as the_end;
-ghost use Rattle.pc_wire.specs.Writing.{TakesAll};
 
 use pc_session::{Checker, Session, Stage, step};
 use pc_source::{Counted, OutOfMemory};

@@ -3,7 +3,6 @@
 
 ghost use Rattle.std.specs.Prelude.{◌≡◌, ◌∷◌, [], map, All, IfOk, OnOk};
 ghost use Rattle.pc_tree.specs.Tree.{literal_of, option_literal_of, param_of};
-ghost use Rattle.pc_scope.specs.Reserved.{is_builtin_name};
 ghost use Rattle.pc_types.specs.Store.{Means, KeepsTypes};
 ghost use Rattle.pc_ann.specs.ModuleOutlines.{module_in, IsModuleOutline};
 ghost use Rattle.pc_class.specs.Facts.{parameters_of};
@@ -21,19 +20,13 @@ use crate::bound::{Texts, bind, is_bound};
 use pc_ann::ModuleOutline;
 use pc_class::Parameter;
 use pc_rules::{Checker, Label, find_flow};
-use pc_source::{OutOfMemory, Place};
+use pc_source::{OutOfMemory, Place, is_reserved};
 use pc_tree::{Literal, LiteralKind, Param};
 use pc_types::{Parents, TypeStore};
 use std::alloc::Global;
 
-/// Whether a name is reserved.
-pub(crate) fn is_reserved(name: &str) -> bool
-    ensures { result ≡ is_builtin_name name.now }
-{
-    pc_tree::is_reserved(name)
-}
-
 /// Whether a text is bound as a name where it stands: it is not reserved, and not bound already.
+#[tactic(auto, using(pc_class::proofs::ReservedNames::reserved_same))]
 pub(crate) fn binds(bound: &Texts, name: &str) -> bool
     ensures { result ≡ binds_text (bound_in bound.now) name.now }
 {

@@ -3,9 +3,8 @@
 
 ghost use Rattle.std.specs.Prelude.{◌≡◌, ◌++◌, ◌∷◌, [], if◌then◌else◌, map, None, is_some, IfOk, OnOk};
 ghost use Rattle.std.specs.Option.{option_map};
-ghost use Rattle.pc_tree.specs.Tree.{name_of, func_of, field_of, member_of};
+ghost use Rattle.pc_tree.specs.Tree.{func_of, field_of, member_of};
 ghost use Rattle.pc_tree.specs.Tree.{field_member, method_member};
-ghost use Rattle.pc_tree.specs.Stopping.{name_of_member};
 ghost use Rattle.pc_scope.specs.Bindings.{methods_in};
 ghost use Rattle.pc_types.specs.Tree.{Tree as TypeTree};
 ghost use Rattle.pc_ann.specs.ModuleOutlines.{module_in};
@@ -22,13 +21,13 @@ ghost use Rattle.pc_signatures.specs.Internal.SignaturesRead.{IsSignature, signa
 
 use crate::bound::{Texts, bind, is_bound};
 use crate::copies::copy_signature;
-use crate::defaults::{find_default, find_defaults, is_reserved};
+use crate::defaults::{find_default, find_defaults};
 use crate::signatures::read_signature;
 use indexmap::IndexSet;
 use pc_class::{ClassTable, Method, Parameter};
 use pc_rules::{Checker, ModuleContext, Signature};
-use pc_source::OutOfMemory;
-use pc_tree::{Field, FuncDef, Member, Name};
+use pc_source::{OutOfMemory, is_reserved};
+use pc_tree::{Field, FuncDef, Member};
 use pc_types::TypeStore;
 
 /// The number of a class of the module, and that of its base.
@@ -62,6 +61,7 @@ fn has_field<Ty: Drop>(classes: &ClassTable<Ty>, base: Option<usize>, name: &str
 
 /// Whether a field binds its name: not reserved, not `mro`, not bound already, no field's or method's of an ancestor.
 /// Own rule of the profile.
+#[tactic(auto, using(pc_class::proofs::ReservedNames::reserved_same))]
 fn binds_as_field<Ty: Drop>(
     classes: &ClassTable<Ty>,
     base: Option<usize>,
@@ -77,6 +77,7 @@ fn binds_as_field<Ty: Drop>(
 
 /// Whether a method binds its name: not reserved, not bound already, no field's of an ancestor. Own rule of the
 /// profile.
+#[tactic(auto, using(pc_class::proofs::ReservedNames::reserved_same))]
 fn binds_as_method<Ty: Drop>(
     classes: &ClassTable<Ty>,
     base: Option<usize>,
@@ -230,16 +231,6 @@ fn add_member<S: TypeStore>(
     }
 }
 
-/// The name of a member.
-fn name_of(member: &Member) -> &Name
-    ensures { name_of result.now ≡ name_of_member (member_of member.now) }
-{
-    match member {
-        Member::Field(field) => &field.name,
-        Member::Method(def) => &def.name,
-    }
-}
-
 /// What the methods of a class take and return; what is found of its members beside the class table. Language Reference
 /// 3.12, 8.8 "Class definitions"; library reference, `dataclasses`.
 pub(crate) fn read_members<S: TypeStore>(
@@ -263,7 +254,7 @@ pub(crate) fn read_members<S: TypeStore>(
     let mut bound = IndexSet::with_hasher(checker.alloc, globals.outline.tree.keys);
     for member in members {
         add_member(checker, globals, class, &bound, member, &mut methods)?;
-        bind(&mut bound, checker.alloc, name_of(member).text.as_str())?;
+        bind(&mut bound, checker.alloc, member.name().text.as_str())?;
     }
     Ok(methods)
 }

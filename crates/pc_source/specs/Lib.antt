@@ -5,6 +5,8 @@ pub mod Devices
 pub mod Laws
 pub mod Lines
 pub mod Refusals
+pub mod ReservedNames
 pub mod Stream
+pub mod Taken
 pub mod Text
 pub mod Within

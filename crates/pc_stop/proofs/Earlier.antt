@@ -4,7 +4,7 @@ use Rattle.std.proofs.Common.{get_or}
 use Rattle.std.specs.Prelude.{Bool, true, false, ◌&&◌, ◌||◌, not, bytes_eq}
 use Rattle.std.proofs.lemmas.List.{drop_all}
 use Rattle.pc_source.specs.declared.place.Place.{Place}
-use Rattle.pc_token.specs.Keywords.{is_reserved}
+use Rattle.pc_source.specs.ReservedNames.{is_reserved}
 use Rattle.pc_tree.specs.declared.code.Code.TheVariants.{E01}
 use Rattle.pc_tree.specs.declared.code.Finding.{Finding}
 use Rattle.pc_tree.specs.declared.tree.Param.{Param as RustParam}

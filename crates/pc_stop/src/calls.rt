@@ -145,7 +145,8 @@ fn find_given_in_optional(
     keys: RandomState,
     e: &Option<Box<Expr>>,
 ) -> Result<(), OutOfMemory>
-    ensures { OnOk result (found.new.items ≡ found.old.items ++ at_code E01 (given_in_optional (option_expr_of e.now))) }
+    ensures { OnOk result (found.new.items ≡ found.old.items
+        ++ at_code E01 (given_in_optional (option_expr_of e.now))) }
 {
     match e {
         Some(e) => find_given(found, alloc, keys, e),

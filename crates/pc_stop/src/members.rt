@@ -13,10 +13,10 @@ ghost use Rattle.pc_stop.specs.Members.{clashes_with, held_unless, base_at, Stan
 use crate::holdings::{DIGITS, EMPTY, Holding, Holdings};
 use crate::reserved::has_reserved_name;
 use indexmap::{IndexMap, IndexSet};
-use pc_source::OutOfMemory;
+use pc_source::{OutOfMemory, is_reserved};
 use pc_tree::{
     Code, Findings, Item, ItemKind, Member, Module, Name, NameMap, NameSet, bind_first, find_if,
-    is_reserved, put,
+    put,
 };
 use std::alloc::Global;
 use std::hash::RandomState;
@@ -184,7 +184,8 @@ pub fn find_in_classes(
     keys: RandomState,
     program: &Module,
 ) -> Result<(), OutOfMemory>
-    ensures { OnOk result (found.new.items ≡ found.old.items ++ at_code E06 (clashing_members (module_of program.now))) }
+    ensures { OnOk result (found.new.items ≡ found.old.items
+        ++ at_code E06 (clashing_members (module_of program.now))) }
 {
     let mut holdings = Holdings::new(alloc, keys)?;
     let mut bound = IndexMap::with_hasher(alloc, keys);

@@ -10,15 +10,14 @@ ghost use Rattle.pc_tree.specs.Stopping.{reserved_in_def, is_reserved_member};
 ghost use Rattle.pc_tree.specs.Code.{at_code};
 
 use crate::names::{add_params, names_of};
-use pc_source::OutOfMemory;
-use pc_tree::{
-    Code, Findings, FuncDef, Item, ItemKind, Member, Name, add_bound, find_if, is_reserved,
-};
+use pc_source::{OutOfMemory, is_reserved};
+use pc_tree::{Code, Findings, FuncDef, Item, ItemKind, Member, Name, add_bound, find_if};
 use std::alloc::Global;
 
 /// Finds the reserved ones among names that are bound.
 fn find_reserved(found: &mut Findings, names: &[&Name]) -> Result<(), OutOfMemory>
-    ensures { OnOk result (found.new.items ≡ found.old.items ++ at_code E29 (reserved_among (map name_seen names.now))) }
+    ensures { OnOk result (found.new.items ≡ found.old.items
+        ++ at_code E29 (reserved_among (map name_seen names.now))) }
 {
     for name in names {
         find_if(

@@ -1,6 +1,6 @@
 //! E01: a name that the module or a parameter list binds again. Language Reference 4.2.1 "Binding of names".
 ghost use Rattle.std.specs.Prelude.{◌≡◌, ◌++◌, ◌&&◌, not, map, [], OnOk, List, ℕ};
-ghost use Rattle.pc_token.specs.Keywords.{is_reserved};
+ghost use Rattle.pc_source.specs.ReservedNames.{is_reserved};
 ghost use Rattle.pc_tree.specs.declared.code.Code.TheVariants.{E01};
 ghost use Rattle.pc_tree.specs.Lists.{name_seen};
 ghost use Rattle.pc_tree.specs.Tree.{name_of, param_of, item_of};
@@ -10,8 +10,8 @@ ghost use Rattle.pc_tree.specs.Names.{texts_in};
 
 use crate::names::{add_params, names_of};
 use indexmap::IndexSet;
-use pc_source::OutOfMemory;
-use pc_tree::{Code, Findings, Item, Name, NameSet, Param, find_if, is_reserved, put};
+use pc_source::{OutOfMemory, is_reserved};
+use pc_tree::{Code, Findings, Item, Name, NameSet, Param, find_if, put};
 use std::alloc::Global;
 use std::hash::RandomState;
 

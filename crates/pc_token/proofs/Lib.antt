@@ -22,7 +22,6 @@ pub mod Steps
 pub mod StringBodies
 pub mod Turns
 pub mod WithinText
-pub mod ListSearch
 pub mod PiecesAtBytes
 pub mod FirstBytes
 pub mod WordBytes

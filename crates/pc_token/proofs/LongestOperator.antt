@@ -8,12 +8,12 @@ use Rattle.std.proofs.lemmas.Bool.{cases_Bool, and_parts}
 use Rattle.std.proofs.lemmas.Bool.Decides.{nat_tests, Decides-eqb}
 use Rattle.std.proofs.lemmas.Slice.Eq.{starts_is}
 use Rattle.std.proofs.Math.ListN.{get_or-append}
+use Rattle.pc_source.proofs.ListSearch.{found_passes, none_passes}
 use Rattle.pc_token.specs.declared.token.Operator.{Operator}
 use Rattle.pc_token.specs.declared.token.Operator.TheVariants as o
 use Rattle.pc_token.specs.declared.token.TokenKind.TheVariants as t
 use Rattle.pc_token.specs.Operators.{operator_text, operators}
 use Rattle.pc_token.specs.Spelling.{IsLongest}
-use Rattle.pc_token.proofs.ListSearch.{found_passes, none_passes}
 use Rattle.pc_token.proofs.Leads.{is_sign, lead_of, sign_token}
 
 abbrev size : Operator → ℕ

@@ -13,13 +13,13 @@ use Rattle.std.proofs.lemmas.Str.{encode_same, chars_past_char, encodes-IsAscii}
 use Rattle.std.proofs.Math.ListN.{get_or-append}
 use Rattle.unicode_ident.specs.Ident.{is_xid_start, is_xid_continue}
 use Rattle.unicode_ident.proofs.IdentLemmas.{is_xid_start-ascii, is_xid_continue-ascii, is_xid_start-is_xid_continue}
+use Rattle.pc_source.proofs.ListSearch.{found_passes, none_passes}
 use Rattle.pc_token.specs.declared.token.Keyword.{Keyword}
 use Rattle.pc_token.specs.declared.token.Keyword.TheVariants as k
 use Rattle.pc_token.specs.declared.token.TokenKind.{TokenKind}
 use Rattle.pc_token.specs.Keywords.{keyword_text, keywords}
 use Rattle.pc_token.specs.Names.{begins_name, IsName}
 use Rattle.pc_token.specs.Spelling.{IsToken, IsLongest}
-use Rattle.pc_token.proofs.ListSearch.{found_passes, none_passes}
 use Rattle.pc_token.proofs.Leads.{is_letter, lead_name, letter_token, some_bytes}
 use Rattle.pc_token.proofs.Names.{ascii_bytes}
 

@@ -1,5 +1,4 @@
--- Keywords and reserved names. Python Language Reference 3.12, 2.3.1 "Keywords"; which names are reserved is an own
--- rule of the profile.
+-- Keywords. Python Language Reference 3.12, 2.3.1 "Keywords".
 use Rattle.std.specs.Prelude.{ℕ, Bool, List, [], ◌∷◌, codes, bytes_eq}
 use Rattle.std.specs.List.{list_any}
 use Rattle.pc_token.specs.declared.token.Keyword.{Keyword}
@@ -52,14 +51,3 @@ keywords = k.False ∷ k.None ∷ k.True ∷ k.And ∷ k.As ∷ k.Assert ∷ k.A
 -- the text is a keyword's
 abbrev pub is_keyword : List ℕ → Bool
 is_keyword text = list_any (λ k. bytes_eq (keyword_text k) text) keywords
-
--- the names that are reserved
-abbrev pub reserved_names : List (List ℕ)
-reserved_names =
-    codes "Any" ∷ codes "annotations" ∷ codes "bool" ∷ codes "dataclass" ∷ codes "dict" ∷ codes "int"
-    ∷ codes "isinstance"
-    ∷ codes "len" ∷ codes "list" ∷ codes "object" ∷ codes "print" ∷ codes "range" ∷ codes "str" ∷ codes "tuple" ∷ []
-
--- the text is one of them
-abbrev pub is_reserved : List ℕ → Bool
-is_reserved text = list_any (λ name. bytes_eq text name) reserved_names

@@ -6,10 +6,11 @@ use Rattle.std.specs.List.{list_all, starts_with}
 use Rattle.std.specs.Option.{option_map_or}
 use Rattle.unicode_ident.specs.Ident.{is_xid_start, is_xid_continue}
 use Rattle.unicode_normalization.specs.Forms.{nfkc}
+use Rattle.pc_source.specs.ReservedNames.{is_reserved}
 use Rattle.pc_token.specs.declared.token.Keyword.TheVariants as k
 use Rattle.pc_token.specs.declared.token.TokenKind.{TokenKind}
 use Rattle.pc_token.specs.declared.token.TokenKind.TheVariants as t
-use Rattle.pc_token.specs.Keywords.{is_keyword, is_reserved}
+use Rattle.pc_token.specs.Keywords.{is_keyword}
 
 -- a character that may begin a name
 abbrev pub begins_name : ℕ → Bool

@@ -1,8 +1,8 @@
-//! Keywords and reserved names.
+//! Keywords.
 ghost use Rattle.std.specs.Prelude.{◌≡◌, find, bytes_eq};
 ghost use Rattle.std.specs.List.{filter};
 ghost use Rattle.pc_token.specs.Internal.Candidates.{may_be};
-ghost use Rattle.pc_token.specs.Keywords.{keyword_text, keywords, is_keyword, is_reserved};
+ghost use Rattle.pc_token.specs.Keywords.{keyword_text, keywords, is_keyword};
 
 use crate::bytes::byte_at;
 use crate::token::Keyword;
@@ -193,27 +193,4 @@ pub(crate) fn is_keyword(name: &str) -> bool
     ensures { result ≡ is_keyword name.now }
 {
     keyword_of(name).is_some()
-}
-
-/// Whether a name is reserved.
-pub(crate) fn is_reserved(name: &str) -> bool
-    ensures { result ≡ is_reserved name.now }
-{
-    matches!(
-        name,
-        "Any"
-            | "annotations"
-            | "bool"
-            | "dataclass"
-            | "dict"
-            | "int"
-            | "isinstance"
-            | "len"
-            | "list"
-            | "object"
-            | "print"
-            | "range"
-            | "str"
-            | "tuple"
-    )
 }

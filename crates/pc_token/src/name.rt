@@ -13,8 +13,9 @@ ghost use Rattle.pc_token.specs.Names.{is_bad_name};
 ghost use Rattle.pc_token.specs.Internal.WordBytes.{is_word_byte};
 
 use crate::bytes::{byte_at, bytes_from, char_at};
-use crate::keywords::{is_keyword, is_reserved};
+use crate::keywords::is_keyword;
 use crate::token::{Keyword, TokenKind};
+use pc_source::is_reserved;
 use std::alloc::{AllocError, Global};
 use unicode_ident::{is_xid_continue, is_xid_start};
 use unicode_normalization::to_nfkc;

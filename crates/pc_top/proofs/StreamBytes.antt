@@ -7,14 +7,15 @@ use Rattle.pc_source.specs.declared.fault.Refusal.{Refusal}
 use Rattle.pc_source.specs.declared.fault.RefusalCode.{RefusalCode}
 use Rattle.pc_source.specs.declared.fault.RefusalCode.TheVariants.{S1, S2, S3}
 use Rattle.pc_source.specs.Text.{source_limit, IsText, IsSourceFault}
-use Rattle.pc_front.specs.Bytes.{IsRefusalOf, of_source, of_tokens, of_layout, of_grammar}
 use Rattle.pc_source.specs.declared.counted.Counted.{Counted}
+use Rattle.pc_source.specs.Taken.{TakesAll, TakesBeginning}
+use Rattle.pc_front.specs.Bytes.{IsRefusalOf, of_source, of_tokens, of_layout, of_grammar}
 use Rattle.pc_report.specs.declared.format.Format.{Format}
 use Rattle.pc_report.specs.declared.report.Row.{Row}
 use Rattle.pc_report.specs.declared.writing.WriteFault.{WriteFault}
 use Rattle.pc_report.specs.declared.writing.WriteFault.TheVariants as write_fault
 use Rattle.pc_report.specs.Report.{errors_of, dynamic_count}
-use Rattle.pc_report.specs.Writing.{OnWriteFault, TakesAll, TakesBeginning}
+use Rattle.pc_report.specs.Writing.{OnWriteFault}
 use Rattle.pc_top.specs.Headline.{Headline, OnCheckFault}
 use Rattle.pc_top.specs.Streaming.{AreBytesOf, IsRefusedStream, IsReported, IsBegun, IsWithinStream, WhenRefused}
 use Rattle.pc_top.specs.Streaming.{WhenWriteFails, most_read, report_bytes, write_checked}

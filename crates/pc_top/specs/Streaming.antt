@@ -2,6 +2,7 @@
 use Rattle.std.specs.Prelude.{◌≡◌, ℕ, ◌≤◌, Bool, true, false, List, Option, None, Some, ⊤, Result, Err, length}
 use Rattle.pc_source.specs.declared.counted.Counted.{Counted}
 use Rattle.pc_source.specs.declared.fault.Refusal.{Refusal}
+use Rattle.pc_source.specs.Taken.{TakesAll, TakesBeginning}
 use Rattle.pc_front.specs.Bytes.{IsRefusalOf}
 use Rattle.pc_report.specs.declared.format.Format.{Format}
 use Rattle.pc_report.specs.declared.reading.ReadFault.{ReadFault}
@@ -12,7 +13,6 @@ use Rattle.pc_report.specs.declared.report.Row.{Row}
 use Rattle.pc_report.specs.Report.{report_text, errors_of, dynamic_count}
 use Rattle.pc_report.specs.Json.{report_json}
 use Rattle.pc_report.specs.Reading.{IsRead}
-use Rattle.pc_report.specs.Writing.{TakesAll, TakesBeginning}
 use Rattle.pc_top.specs.Headline.{Headline}
 use Rattle.pc_top.specs.declared.fault.CheckFault.{CheckFault}
 use Rattle.pc_top.specs.declared.fault.CheckFault.TheVariants as check_fault

@@ -1,12 +1,10 @@
 pub mod Code
 pub mod Depth
-pub mod Faults
-pub mod Fronts
-pub mod Grammar
+pub mod Digits
 pub mod Keys
 pub mod Lists
-pub mod Machine
 pub mod Names
+pub mod NamesAlone
 pub mod Stopping
 pub mod Suites
 pub mod Text

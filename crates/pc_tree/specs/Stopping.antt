@@ -5,7 +5,7 @@ use Rattle.std.specs.Prelude.{ℕ, ◌&&◌, ◌||◌, not, Bool, true, false, i
 use Rattle.std.specs.Prelude.{Some, None, is_some, is_none, Contains, bytes_eq, codes}
 use Rattle.std.specs.List.{list_any}
 use Rattle.pc_source.specs.declared.place.Place.{Place}
-use Rattle.pc_token.specs.Keywords.{is_reserved}
+use Rattle.pc_source.specs.ReservedNames.{is_reserved}
 use Rattle.pc_tree.specs.declared.code.Code.{Code}
 use Rattle.pc_tree.specs.declared.code.Code.TheVariants.{E01, E05, E06, E28, E29, E31}
 use Rattle.pc_tree.specs.Tree.{Name, Expr, name, number, text, truth, nothing, tuple, list, dict, negative, negation}

@@ -1,16 +1,14 @@
-//! The tree of a module, which token lists spell it, and the findings that stand at its places.
+//! The tree of a module, and the findings that stand at its places.
 #![tactic(auto)]
 
 mod bound;
 mod code;
 mod found;
 mod keys;
-mod laws;
 mod lists;
 mod maps;
 mod names;
 mod places;
-mod reserved;
 mod sets;
 mod suites;
 mod text;
@@ -20,10 +18,8 @@ pub use bound::{add_bound, add_bound_by, add_bound_in};
 pub use code::{Code, Finding, Findings};
 pub use found::{find, find_if};
 pub use keys::{KeyedHasher, Keys};
-pub use laws::{fronts, one_module};
 pub use lists::put_last;
 pub use maps::{NameMap, bind_first};
-pub use reserved::is_reserved;
 pub use sets::{NameSet, put};
 pub use text::Text;
 pub use tree::{

@@ -2,7 +2,7 @@
 use Rattle.std.proofs.Common.{◌≡◌, ℕ, suc, ◌+◌, ◌-◌, ◌*◌, ◌<◌, ◌≤◌, ◌^◌, false, List, [], ◌∷◌, length, get_or, take}
 use Rattle.std.proofs.Common.{drop, drop-cons, refl, arith}
 use Rattle.std.proofs.lemmas.Grind.{common_steps}
-use Rattle.pc_value.specs.Numbers.{number_behind}
+use Rattle.pc_tree.specs.Digits.{number_behind}
 use Rattle.pc_value.specs.Texts.{begins_with, occurs_in}
 
 -- a text that does not begin with the part

@@ -1,12 +1,8 @@
 -- Whole numbers without bound: what digits stand for, floor division, and order.
 -- Language Reference 2.4.4 "Numeric literals", 6.7 "Binary arithmetic operations".
-use Rattle.std.specs.Prelude.{◌≡◌, ℕ, zero, suc, ◌+◌, ◌-◌, ◌*◌, ◌/◌, ◌%◌, ◌^◌, Bool, true, false, List, [], ◌∷◌, ℤ, pos}
+use Rattle.std.specs.Prelude.{◌≡◌, ℕ, zero, suc, ◌-◌, ◌/◌, ◌%◌, ◌^◌, Bool, true, false, List, [], ◌∷◌, ℤ, pos}
 use Rattle.std.specs.Prelude.{negsuc, ◌+ℤ◌, ◌*ℤ◌, neg_ℤ, nat_eq, nat_lt, refl}
-
--- the number that digits stand for, after those that stand for n
-abbrev pub number_behind : ℕ → List ℕ → ℕ
-number_behind n [] = n
-number_behind n (d ∷ ds) = number_behind (10 * n + (d - 48)) ds
+use Rattle.pc_tree.specs.Digits.{number_behind}
 
 -- the number of a run of digits, and the one below zero
 abbrev pub number_of_digits : List ℕ → ℤ

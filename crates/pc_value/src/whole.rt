@@ -1,7 +1,8 @@
 //! Whole numbers of 128 signed bits.
 
 ghost use Rattle.std.specs.Prelude.{◌≡◌, ◌≢◌, ◌≤◌, ◌^◌, ◌<◌, pos, neg_ℤ, ◌+ℤ◌, ◌-ℤ◌, ◌*ℤ◌, MatchOption};
-ghost use Rattle.pc_value.specs.Numbers.{floor_div, floor_mod, floor_div_by, floor_mod_by, number_behind};
+ghost use Rattle.pc_tree.specs.Digits.{number_behind};
+ghost use Rattle.pc_value.specs.Numbers.{floor_div, floor_mod, floor_div_by, floor_mod_by};
 ghost use Rattle.pc_value.specs.Wholes.{whole_of, if_it_fits};
 ghost use Rattle.pc_value.specs.Doing.{written_number};
 

@@ -2,8 +2,8 @@
 use indexmap::{IndexMap, IndexSet};
 use pc_front::read_module;
 use pc_scope::{Owner, scopes};
-use pc_source::Fault;
-use pc_tree::{Keys, Text, bind_first, is_reserved, put, put_last};
+use pc_source::{Fault, is_reserved};
+use pc_tree::{Keys, Text, bind_first, put, put_last};
 use std::alloc::{AllocError, Global};
 use std::hash::BuildHasher;
 

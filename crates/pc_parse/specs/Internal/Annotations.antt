@@ -9,14 +9,14 @@ use Rattle.pc_tree.specs.declared.tree.Ann.{Ann as RustAnn}
 use Rattle.pc_tree.specs.declared.tree.Name.{Name as RustName}
 use Rattle.pc_tree.specs.Tree.{Name, name_of, Ann, Anns, no_anns, more_anns, ann_of}
 use Rattle.pc_tree.specs.Depth.{depth_of_ann, depth_over_anns, place_of_ann}
-use Rattle.pc_tree.specs.Grammar.{span}
-use Rattle.pc_tree.specs.Machine.{at}
-use Rattle.pc_tree.specs.Machine.States.{AnnStack, ann_inside, State, part_due, part_read, argument_due}
-use Rattle.pc_parse.specs.declared.annotation.Annotation.{Annotation}
-use Rattle.pc_parse.specs.declared.annotation.Annotations.{Annotations}
+use Rattle.pc_grammar.specs.Grammar.{span}
+use Rattle.pc_grammar.specs.Machine.{at}
+use Rattle.pc_grammar.specs.Machine.States.{AnnStack, ann_inside, State, part_due, part_read, argument_due}
 use Rattle.pc_reader.specs.declared.reader.Reader.{Reader}
 use Rattle.pc_reader.specs.Internal.Operands.{Starts, Ends}
 use Rattle.pc_reader.specs.Reading.{Blames, Came, Onward, IsReady, left_in}
+use Rattle.pc_parse.specs.declared.annotation.Annotation.{Annotation}
+use Rattle.pc_parse.specs.declared.annotation.Annotations.{Annotations}
 
 -- all of an annotation that these tokens spell, but for a tree that is too deep, of which that it is too deep
 pub record KeepsAnn (o : Annotation) (a : Ann) (ts : List Lexeme) : Type 0 where

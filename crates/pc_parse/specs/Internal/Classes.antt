@@ -15,14 +15,14 @@ use Rattle.pc_tree.specs.declared.tree.ClassDef.{ClassDef as RustClassDef}
 use Rattle.pc_tree.specs.Tree.{Field, Member, field_member, ClassDef, class_item, option_name_of, field_of, member_of}
 use Rattle.pc_tree.specs.Tree.{class_of}
 use Rattle.pc_tree.specs.Depth.{whole_ann, wholes_of_members}
-use Rattle.pc_tree.specs.Machine.{at}
-use Rattle.pc_tree.specs.Machine.States.{after_headers, Top, ClassStart, items, decorator_due, class_named, members}
-use Rattle.pc_tree.specs.Machine.States.{stuck}
-use Rattle.pc_tree.specs.Machine.Finishing.{after_class, add_item}
-use Rattle.pc_tree.specs.Machine.Lines.{members_end}
+use Rattle.pc_grammar.specs.Machine.{at}
+use Rattle.pc_grammar.specs.Machine.States.{after_headers, Top, ClassStart, items, decorator_due, class_named, members}
+use Rattle.pc_grammar.specs.Machine.States.{stuck}
+use Rattle.pc_grammar.specs.Machine.Finishing.{after_class, add_item}
+use Rattle.pc_grammar.specs.Machine.Lines.{members_end}
 use Rattle.pc_reader.specs.declared.reader.Reader.{Reader}
-use Rattle.pc_parse.specs.declared.parser.Parser.{Parser}
 use Rattle.pc_reader.specs.Reading.{Blames, IsAhead, Came, Onward, IsReady, left_in}
+use Rattle.pc_parse.specs.declared.parser.Parser.{Parser}
 use Rattle.pc_parse.specs.Internal.WholeTrees.{KeepsTree}
 
 -- a class of this name and base

@@ -14,17 +14,17 @@ use Rattle.pc_tree.specs.declared.tree.Item.{Item as RustItem}
 use Rattle.pc_tree.specs.declared.tree.Module.{Module as RustModule}
 use Rattle.pc_tree.specs.Tree.{Name, Constant, Item, constant_item, Module, constant_of, item_of, module_of}
 use Rattle.pc_tree.specs.Depth.{optional_anns, whole_expr, wholes_of_item, wholes_of_items}
-use Rattle.pc_tree.specs.Machine.{at}
-use Rattle.pc_tree.specs.Machine.Kinds.{Fixed, a_kind, a_form, same_kind}
-use Rattle.pc_tree.specs.Machine.States.{after_headers, Top, items, item_named, ended}
-use Rattle.pc_tree.specs.Machine.Finishing.{add_item}
-use Rattle.pc_tree.specs.Machine.Lines.{start, module_of as module_over}
+use Rattle.pc_grammar.specs.Machine.{at}
+use Rattle.pc_grammar.specs.Machine.Kinds.{Fixed, a_kind, a_form, same_kind}
+use Rattle.pc_grammar.specs.Machine.States.{after_headers, Top, items, item_named, ended}
+use Rattle.pc_grammar.specs.Machine.Finishing.{add_item}
+use Rattle.pc_grammar.specs.Machine.Lines.{start, module_of as module_over}
+use Rattle.pc_reader.specs.declared.reader.Reader.{Reader}
+use Rattle.pc_reader.specs.Reading.{Blames, Came, Onward, IsReady, left_in}
 use Rattle.pc_parse.specs.declared.headers.Headers.{Headers}
 use Rattle.pc_parse.specs.declared.piece.Piece.{Piece}
 use Rattle.pc_parse.specs.declared.piece.Piece.TheVariants as piece
-use Rattle.pc_reader.specs.declared.reader.Reader.{Reader}
 use Rattle.pc_parse.specs.declared.parser.Parser.{Parser}
-use Rattle.pc_reader.specs.Reading.{Blames, Came, Onward, IsReady, left_in}
 use Rattle.pc_parse.specs.Internal.WholeTrees.{KeepsTree}
 
 -- `M import N` and the end of the line

@@ -15,16 +15,16 @@ use Rattle.pc_tree.specs.declared.tree.Param.{Param as RustParam}
 use Rattle.pc_tree.specs.declared.tree.FuncDef.{FuncDef as RustFuncDef}
 use Rattle.pc_tree.specs.Tree.{Ann, no_anns, Param, FuncDef, option_ann_of, param_of, func_of}
 use Rattle.pc_tree.specs.Depth.{optional_anns, wholes_of_params, wholes_of_def}
-use Rattle.pc_tree.specs.Machine.{at}
-use Rattle.pc_tree.specs.Machine.Kinds.{same_kind, a_form}
-use Rattle.pc_tree.specs.Machine.States.{Owner, DefStart, AnnotationPosition, ann_whole, State, fixed, def_due}
-use Rattle.pc_tree.specs.Machine.States.{self_read, param_due, params_read, part_due, Turn, on}
-use Rattle.pc_tree.specs.Machine.Finishing.{finish_ann, param_end, after_def}
-use Rattle.pc_tree.specs.Machine.Lines.{params_of}
-use Rattle.pc_tree.specs.Fronts.Lines.{is_method}
-use Rattle.pc_parse.specs.declared.parser.Parser.{Parser}
+use Rattle.pc_grammar.specs.Machine.{at}
+use Rattle.pc_grammar.specs.Machine.Kinds.{same_kind, a_form}
+use Rattle.pc_grammar.specs.Machine.States.{Owner, DefStart, AnnotationPosition, ann_whole, State, fixed, def_due}
+use Rattle.pc_grammar.specs.Machine.States.{self_read, param_due, params_read, part_due, Turn, on}
+use Rattle.pc_grammar.specs.Machine.Finishing.{finish_ann, param_end, after_def}
+use Rattle.pc_grammar.specs.Machine.Lines.{params_of}
+use Rattle.pc_grammar.specs.Fronts.Lines.{is_method}
 use Rattle.pc_reader.specs.Reading.{Blames, IsAhead, Came, Onward, IsReady, left_in}
 use Rattle.pc_reader.specs.Internal.StatesAhead.{StandsBefore, LeadsTo}
+use Rattle.pc_parse.specs.declared.parser.Parser.{Parser}
 use Rattle.pc_parse.specs.Internal.WholeTrees.{KeepsTree}
 
 -- this sign begins an annotation, and any other token goes on so

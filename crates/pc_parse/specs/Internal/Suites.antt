@@ -16,22 +16,23 @@ use Rattle.pc_tree.specs.declared.tree.Branch.{Branch as RustBranch}
 use Rattle.pc_tree.specs.Tree.{Expr, no_anns, Stmt, conditional, Stmts, no_stmts, Branches, name_of, expr_of, stmt_of}
 use Rattle.pc_tree.specs.Tree.{stmt_of_kind, stmts_of_list}
 use Rattle.pc_tree.specs.Depth.{whole_expr, wholes_of_stmt, wholes_of_stmts, wholes_of_branches}
-use Rattle.pc_tree.specs.Machine.{at, turn, stop_at, short}
-use Rattle.pc_tree.specs.Machine.Kinds.{Lead as Joint, leads_pass, leads_break, leads_continue, leads_return}
-use Rattle.pc_tree.specs.Machine.Kinds.{leads_assert, leads_while, leads_for, leads_if, leads_out, leads_other, lead_of}
-use Rattle.pc_tree.specs.Machine.Kinds.{same_kind, Ending}
-use Rattle.pc_tree.specs.Machine.States.{Part, Nest, Block, Site, Begun, branching, in_statement, of_local, whole}
-use Rattle.pc_tree.specs.Machine.States.{ann_whole, State, stmts, after_branch, part_due, operand, stuck, go, on}
-use Rattle.pc_tree.specs.Machine.Finishing.{add_stmt, suite_of, after_suite, after_stmt, nested_in, at_colon}
-use Rattle.pc_tree.specs.Machine.Finishing.{finish_stmt}
-use Rattle.pc_tree.specs.Machine.Lines.{line_ends, lead_turn}
 use Rattle.pc_tree.specs.Lists.{branches_of_list}
+use Rattle.pc_grammar.specs.Machine.{at, turn, stop_at, short}
+use Rattle.pc_grammar.specs.Machine.Kinds.{Lead as Joint, leads_pass, leads_break, leads_continue, leads_return}
+use Rattle.pc_grammar.specs.Machine.Kinds.{leads_assert, leads_while, leads_for, leads_if, leads_out, leads_other}
+use Rattle.pc_grammar.specs.Machine.Kinds.{lead_of}
+use Rattle.pc_grammar.specs.Machine.Kinds.{same_kind, Ending}
+use Rattle.pc_grammar.specs.Machine.States.{Part, Nest, Block, Site, Begun, branching, in_statement, of_local, whole}
+use Rattle.pc_grammar.specs.Machine.States.{ann_whole, State, stmts, after_branch, part_due, operand, stuck, go, on}
+use Rattle.pc_grammar.specs.Machine.Finishing.{add_stmt, suite_of, after_suite, after_stmt, nested_in, at_colon}
+use Rattle.pc_grammar.specs.Machine.Finishing.{finish_stmt}
+use Rattle.pc_grammar.specs.Machine.Lines.{line_ends, lead_turn}
+use Rattle.pc_reader.specs.Reading.{Blames, Came, Onward, IsReady, IsAhead, lexeme, left_in}
 use Rattle.pc_parse.specs.declared.parser.Parser.{Parser}
 use Rattle.pc_parse.specs.declared.statement.Lead.{Lead}
 use Rattle.pc_parse.specs.declared.statement.Lead.TheVariants as rust
 use Rattle.pc_parse.specs.declared.statement.Word.{Word}
 use Rattle.pc_parse.specs.declared.statement.Word.TheVariants as alone
-use Rattle.pc_reader.specs.Reading.{Blames, Came, Onward, IsReady, IsAhead, lexeme, left_in}
 use Rattle.pc_parse.specs.Internal.WholeTrees.{KeepsTree, deep_after}
 
 -- what may begin a statement, as the token machine names it

@@ -7,16 +7,16 @@ use Rattle.pc_token.specs.declared.token.TokenKind.{TokenKind}
 use Rattle.pc_tree.specs.declared.tree.Ann.{Ann as RustAnn}
 use Rattle.pc_tree.specs.Tree.{Ann, no_anns, ann_of}
 use Rattle.pc_tree.specs.Depth.{Whole, whole_expr, whole_ann, first_too_deep}
-use Rattle.pc_tree.specs.Grammar.{first_place}
-use Rattle.pc_tree.specs.Machine.{at, turn, stop_at, short}
-use Rattle.pc_tree.specs.Machine.Kinds.{Follow, ends, follow_of, Ending, no_ending}
-use Rattle.pc_tree.specs.Machine.States.{Part, ExpressionPosition, AnnotationPosition, whole, ann_whole, State}
-use Rattle.pc_tree.specs.Machine.States.{part_due, operand, have}
-use Rattle.pc_tree.specs.Machine.Finishing.{finish, finish_ann}
+use Rattle.pc_grammar.specs.Grammar.{first_place}
+use Rattle.pc_grammar.specs.Machine.{at, turn, stop_at, short}
+use Rattle.pc_grammar.specs.Machine.Kinds.{Follow, ends, follow_of, Ending, no_ending}
+use Rattle.pc_grammar.specs.Machine.States.{Part, ExpressionPosition, AnnotationPosition, whole, ann_whole, State}
+use Rattle.pc_grammar.specs.Machine.States.{part_due, operand, have}
+use Rattle.pc_grammar.specs.Machine.Finishing.{finish, finish_ann}
 use Rattle.pc_reader.specs.declared.operand.Operand.{Operand}
-use Rattle.pc_parse.specs.declared.parser.Parser.{Parser}
 use Rattle.pc_reader.specs.Internal.Operands.{KeepsPart}
 use Rattle.pc_reader.specs.Reading.{Blames, Came, Onward, IsReady, lexeme, left_in}
+use Rattle.pc_parse.specs.declared.parser.Parser.{Parser}
 
 -- ---- the first that is too deep
 

@@ -12,14 +12,15 @@ use Rattle.pc_token.specs.Lexeme.{Lexeme}
 use Rattle.pc_token.specs.declared.token.Operator.{Operator as Bracket}
 use Rattle.pc_tree.specs.declared.tree.Name.{Name as RustName}
 use Rattle.pc_tree.specs.Tree.{Name, Expr, Exprs, Keywords, no_keywords, name_of}
-use Rattle.pc_tree.specs.Grammar.{name_at, first_place}
-use Rattle.pc_tree.specs.Machine.{at}
-use Rattle.pc_tree.specs.Machine.Kinds.{Infix as Operator, Link as Joint, Follow, link, a_dot, calls, indexes}
-use Rattle.pc_tree.specs.Machine.Kinds.{follow_of, Start, a_name, a_number, a_string, a_truth, a_none, start_of}
-use Rattle.pc_tree.specs.Machine.States.{Part, Prefix as Sign, minus, denial, Head, in_tuple, in_list, in_call, Stack}
-use Rattle.pc_tree.specs.Machine.States.{joining, naming, State, item_due, operand, have, identified, go}
-use Rattle.pc_tree.specs.Machine.Expressions.{rank, own_of, own_of_link, left_of_link, prefix_level, head_tree}
-use Rattle.pc_tree.specs.Machine.Expressions.{call_part, operand_turn}
+use Rattle.pc_grammar.specs.Grammar.{name_at, first_place}
+use Rattle.pc_grammar.specs.Machine.{at}
+use Rattle.pc_grammar.specs.Machine.Kinds.{Infix as Operator, Link as Joint, Follow, link, a_dot, calls, indexes}
+use Rattle.pc_grammar.specs.Machine.Kinds.{follow_of, Start, a_name, a_number, a_string, a_truth, a_none, start_of}
+use Rattle.pc_grammar.specs.Machine.States.{Part, Prefix as Sign, minus, denial, Head, in_tuple, in_list, in_call}
+use Rattle.pc_grammar.specs.Machine.States.{Stack}
+use Rattle.pc_grammar.specs.Machine.States.{joining, naming, State, item_due, operand, have, identified, go}
+use Rattle.pc_grammar.specs.Machine.Expressions.{rank, own_of, own_of_link, left_of_link, prefix_level, head_tree}
+use Rattle.pc_grammar.specs.Machine.Expressions.{call_part, operand_turn}
 use Rattle.pc_reader.specs.declared.reader.Reader.{Reader}
 use Rattle.pc_reader.specs.declared.operand.Operand.{Operand}
 use Rattle.pc_reader.specs.declared.operand.Infix.{Infix}
@@ -219,7 +220,7 @@ module _ {X I : Type 0} (text : X → List ℕ) (steps : I → Option (Result (T
     pub keeps : KeepsItems l.items items
     pub ends : Ends more l.end
     pub leads : (s : Stack) → Onward text steps a b (at (item_due h xs ts s))
-        (at (have 7 (Rattle.pc_tree.specs.Machine.Expressions.part (head_tree h items) (ts ++ more)) s))
+        (at (have 7 (Rattle.pc_grammar.specs.Machine.Expressions.part (head_tree h items) (ts ++ more)) s))
 
   -- items were read after those already kept, up to this bracket
   pub record GivesItems (close : Bracket) (a b : Reader X I) (some : Items) (l : Listed) : Type 0 where

@@ -4,10 +4,10 @@ use Rattle.std.specs.Iterator.{Count}
 use Rattle.pc_source.specs.declared.fault.Fault.{Fault}
 use Rattle.pc_token.specs.declared.token.Token.{Token}
 use Rattle.pc_token.specs.declared.token.TokenKind.{TokenKind}
-use Rattle.pc_tree.specs.Machine.{at, turn, stop_at, short}
-use Rattle.pc_tree.specs.Machine.Kinds.{Fixed, a_kind, a_form, is_fixed}
-use Rattle.pc_tree.specs.Machine.Lines.{due}
-use Rattle.pc_tree.specs.Machine.States.{State, stuck}
+use Rattle.pc_grammar.specs.Machine.{at, turn, stop_at, short}
+use Rattle.pc_grammar.specs.Machine.Kinds.{Fixed, a_kind, a_form, is_fixed}
+use Rattle.pc_grammar.specs.Machine.Lines.{due}
+use Rattle.pc_grammar.specs.Machine.States.{State, stuck}
 use Rattle.pc_reader.specs.declared.reader.Reader.{Reader}
 use Rattle.pc_reader.specs.Reading.{Blames, Came, Onward, IsReady, lexeme, left_in, Takes}
 

@@ -1,6 +1,6 @@
 -- Operators as the token machine names them.
 use Rattle.std.specs.Prelude.{◌≡◌, Option, Some, None}
-use Rattle.pc_tree.specs.Machine.Kinds.{Link as Joint, linking, denying, identifying, Follow, link}
+use Rattle.pc_grammar.specs.Machine.Kinds.{Link as Joint, linking, denying, identifying, Follow, link}
 use Rattle.pc_reader.specs.declared.link.Link.{Link}
 use Rattle.pc_reader.specs.declared.link.Link.TheVariants as rust
 use Rattle.pc_reader.specs.Internal.Operands.{infix_of}

@@ -11,11 +11,11 @@ use Rattle.pc_token.specs.declared.token.Operator.TheVariants as sign
 use Rattle.pc_token.specs.Lexeme.{Lexeme}
 use Rattle.pc_tree.specs.declared.tree.Literal.{Literal as RustLiteral}
 use Rattle.pc_tree.specs.Tree.{Literal, literal_of, option_literal_of}
-use Rattle.pc_tree.specs.Machine.{at}
-use Rattle.pc_tree.specs.Machine.Kinds.{same_kind}
-use Rattle.pc_tree.specs.Machine.States.{LiteralContext, State, literal_due, minus_read, literal_read, Turn, go, on}
-use Rattle.pc_tree.specs.Machine.Finishing.{finish_literal}
-use Rattle.pc_tree.specs.Machine.Lines.{literal_turn}
+use Rattle.pc_grammar.specs.Machine.{at}
+use Rattle.pc_grammar.specs.Machine.Kinds.{same_kind}
+use Rattle.pc_grammar.specs.Machine.States.{LiteralContext, State, literal_due, minus_read, literal_read, Turn, go, on}
+use Rattle.pc_grammar.specs.Machine.Finishing.{finish_literal}
+use Rattle.pc_grammar.specs.Machine.Lines.{literal_turn}
 use Rattle.pc_reader.specs.declared.reader.Reader.{Reader}
 use Rattle.pc_reader.specs.Reading.{Blames, Came, Onward, IsReady, left_in}
 use Rattle.pc_reader.specs.Internal.StatesAhead.{StandsBefore, LeadsTo}

@@ -5,9 +5,9 @@ use Rattle.pc_token.specs.Lexeme.{Lexeme}
 use Rattle.pc_tree.specs.declared.tree.Expr.{Expr as RustExpr}
 use Rattle.pc_tree.specs.Tree.{Name, Expr, name, attribute, index, is_none, is_not_none, expr_of}
 use Rattle.pc_tree.specs.Depth.{depth_of, place_of}
-use Rattle.pc_tree.specs.Machine.Kinds.{Infix as Operator, arithmetic, comparison, both, either}
-use Rattle.pc_tree.specs.Machine.States.{Part, Prefix as Sign, minus, denial, Stack, applying}
-use Rattle.pc_tree.specs.Machine.Expressions.{part, applied}
+use Rattle.pc_grammar.specs.Machine.Kinds.{Infix as Operator, arithmetic, comparison, both, either}
+use Rattle.pc_grammar.specs.Machine.States.{Part, Prefix as Sign, minus, denial, Stack, applying}
+use Rattle.pc_grammar.specs.Machine.Expressions.{part, applied}
 use Rattle.pc_reader.specs.declared.operand.Operand.{Operand}
 use Rattle.pc_reader.specs.declared.operand.Infix.{Infix}
 use Rattle.pc_reader.specs.declared.operand.Infix.TheVariants as rust_infix

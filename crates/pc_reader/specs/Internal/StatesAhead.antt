@@ -3,8 +3,8 @@ use Rattle.std.specs.Prelude.{ℕ, ◌≡◌, List, Option, Some, Result}
 use Rattle.pc_source.specs.declared.fault.Fault.{Fault}
 use Rattle.pc_token.specs.declared.token.Token.{Token}
 use Rattle.pc_token.specs.declared.token.TokenKind.{TokenKind}
-use Rattle.pc_tree.specs.Machine.{at, turn, stop_at, short}
-use Rattle.pc_tree.specs.Machine.States.{State, Turn}
+use Rattle.pc_grammar.specs.Machine.{at, turn, stop_at, short}
+use Rattle.pc_grammar.specs.Machine.States.{State, Turn}
 use Rattle.pc_reader.specs.declared.reader.Reader.{Reader}
 use Rattle.pc_reader.specs.Reading.{lexeme, Onward}
 

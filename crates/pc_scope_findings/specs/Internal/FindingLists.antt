@@ -6,7 +6,7 @@ use Rattle.pc_tree.specs.declared.code.Code.TheVariants.{E02, E03, E30}
 use Rattle.pc_tree.specs.declared.code.Finding.{Finding}
 use Rattle.pc_tree.specs.Tree.{Name, Expr, FuncDef, Member, field_member, method_member, Item, constant_item}
 use Rattle.pc_tree.specs.Tree.{class_item, def_item, Module}
-use Rattle.pc_tree.specs.Machine.Finishing.{name_of_tree}
+use Rattle.pc_tree.specs.NamesAlone.{name_of_tree}
 use Rattle.pc_tree.specs.Stopping.{one_if, of_defs}
 use Rattle.pc_tree.specs.Code.{at_code}
 use Rattle.pc_stop.specs.Found.{found_in_scopes}

@@ -4,15 +4,15 @@ use Rattle.pc_tree.specs.declared.code.Code.TheVariants.{E02, E03}
 use Rattle.pc_tree.specs.declared.code.Finding.{Finding}
 use Rattle.pc_tree.specs.Tree.{Expr, Exprs, name, number, text, truth, nothing, tuple, list, dict, negative, negation}
 use Rattle.pc_tree.specs.Tree.{binary, compare, is_none, is_not_none, conjunction, disjunction, attribute, index, call}
-use Rattle.pc_tree.specs.Machine.Finishing.{name_of_tree}
-use Rattle.pc_scope_findings.specs.declared.parts.Sought.{Sought}
-use Rattle.pc_scope_findings.specs.declared.parts.Sought.TheVariants as sought
+use Rattle.pc_tree.specs.NamesAlone.{name_of_tree}
+use Rattle.pc_tree.specs.Code.{at_code}
 use Rattle.pc_scope.specs.declared.resolution.Owner.TheVariants as owners
 use Rattle.pc_scope.specs.Expressions.{parts_in, parts_in_all, parts_in_first, parts_in_entries, parts_in_keywords}
 use Rattle.pc_scope.specs.Expressions.{first_or_all, is_instance_test, other_callee}
-use Rattle.pc_tree.specs.Code.{at_code}
-use Rattle.pc_scope_findings.specs.Internal.FindingLists.{unknown_at, early_at, callee_at}
 use Rattle.pc_scope.specs.Tables.{Tables, meaning_by_tables}
+use Rattle.pc_scope_findings.specs.declared.parts.Sought.{Sought}
+use Rattle.pc_scope_findings.specs.declared.parts.Sought.TheVariants as sought
+use Rattle.pc_scope_findings.specs.Internal.FindingLists.{unknown_at, early_at, callee_at}
 
 -- the second argument of a test of an instance is passed over
 abbrev pub is_judged : Sought → Bool

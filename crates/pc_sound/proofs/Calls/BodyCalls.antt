@@ -4,11 +4,12 @@ use Rattle.std.specs.Prelude.{Bool as Test, true, false, if◌then◌else◌, na
 use Rattle.std.specs.Option.{option_map}
 use Rattle.std.proofs.lemmas.Option.{slice_get-map}
 use Rattle.pc_source.specs.declared.place.Place.{Place}
-use Rattle.pc_token.specs.Keywords.{is_reserved}
+use Rattle.pc_source.specs.ReservedNames.{is_reserved}
 use Rattle.pc_tree.specs.declared.code.Code.TheVariants.{E03}
 use Rattle.pc_tree.specs.Tree.{Name, Expr, name, number, text, truth, nothing, tuple, list, dict, negative, negation}
 use Rattle.pc_tree.specs.Tree.{binary, compare, is_none, is_not_none, conjunction, disjunction, attribute, index, call}
 use Rattle.pc_tree.specs.Tree.{Exprs, Keywords, FuncDef, Module}
+use Rattle.pc_tree.specs.Depth.{place_of}
 use Rattle.pc_scope.specs.declared.resolution.Owner.{Owner}
 use Rattle.pc_scope.specs.declared.resolution.Owner.TheVariants as owners
 use Rattle.pc_scope.specs.declared.resolution.Res.{Res}
@@ -32,7 +33,6 @@ use Rattle.pc_rules.specs.Labels.{Labels, whole_label, type_of, with_label, item
 use Rattle.pc_rules.specs.Lawful.{Lawful, LawfulItems, LawfulKeywords, callee_of}
 use Rattle.pc_value.specs.Value.{Gives}
 use Rattle.pc_machine.specs.Names.{meaning_of_global}
-use Rattle.pc_tree.specs.Depth.{place_of}
 use Rattle.pc_machine.specs.Calls.{calls_value}
 use Rattle.pc_machine.specs.Steps.{Parts}
 use Rattle.pc_machine.specs.Free.{Step, ◌>>=◌, comes, Emits, free}

@@ -24,8 +24,9 @@ use Rattle.pc_class.specs.Facts.{method_by_name, binds_method, own_methods, meth
 use Rattle.pc_class.specs.Findings.{base_class}
 use Rattle.pc_class.specs.Overrides.{has_shape_of, TypeFlow, parameter_flows, IsGood, IsStatic, Judges, static, dynamic}
 use Rattle.pc_class.specs.Overrides.{wrong, overridden}
-use Rattle.pc_sound.proofs.Modules.Inheritance.{HasBase, has_base, base_known, below_class, class_over, class_is}
-use Rattle.pc_sound.proofs.Modules.Inheritance.{class_over_base, no_class_past}
+use Rattle.pc_class.proofs.ClassesBuilt.{HasBase, has_base, base_known, below_class, class_over, class_is}
+use Rattle.pc_class.proofs.ClassesBuilt.{no_class_past}
+use Rattle.pc_sound.proofs.Modules.Inheritance.{class_over_base}
 
 -- ---- all elements
 

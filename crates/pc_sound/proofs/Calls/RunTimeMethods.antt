@@ -15,6 +15,7 @@ use Rattle.pc_class.specs.Bases.{bases_of}
 use Rattle.pc_class.specs.Facts.{TypedParameter, Method, parameters_of, return_type, classes_of, class_facts_at}
 use Rattle.pc_class.specs.Facts.{class_in, method_by_name}
 use Rattle.pc_class.specs.Overrides.{has_shape_of, TypeFlow, parameter_flows, IsStatic}
+use Rattle.pc_class.proofs.ClassesBuilt.{no_class_past}
 use Rattle.pc_flow.specs.Environment.{Env}
 use Rattle.pc_value.specs.Value.{Value, location, seen, class_seen}
 use Rattle.pc_value.specs.Texts.{same_text}
@@ -32,7 +33,6 @@ use Rattle.pc_sound.proofs.Values.ValuesFlow.{of_static}
 use Rattle.pc_sound.proofs.Steps.SafeSteps.{Stays, weaken}
 use Rattle.pc_sound.proofs.Heap.SeenValues.{sees_instance}
 use Rattle.pc_sound.proofs.Heap.Fields.{Inherits}
-use Rattle.pc_sound.proofs.Modules.Inheritance.{no_class_past}
 use Rattle.pc_sound.proofs.Calls.OverridesFit.{IsIn, found_in, Dispatched}
 use Rattle.pc_sound.proofs.Statements.WaysOut.{GoodExec}
 use Rattle.pc_sound.proofs.Modules.MainWorld.{DefaultsHave, MethodIs, MethodsAre, World, Labelled, around_of}

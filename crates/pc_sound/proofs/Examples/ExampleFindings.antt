@@ -14,15 +14,15 @@ use Rattle.pc_tree.specs.Code.{finding}
 use Rattle.pc_tree.specs.Stopping.{has_none, twice, outside_loop, clashing_members, no_main, reserved_bound}
 use Rattle.pc_tree.specs.Stopping.{default_order, IsStopping, is_runnable}
 use Rattle.pc_tree.specs.Tree.{Expr, ClassDef, Item, constant_item, class_item, def_item, Module}
-use Rattle.pc_tree.specs.Machine.Finishing.{name_of_tree}
+use Rattle.pc_tree.specs.NamesAlone.{name_of_tree}
 use Rattle.pc_scope.specs.declared.resolution.Owner.{Owner}
 use Rattle.pc_scope.specs.declared.resolution.Owner.TheVariants as owners
 use Rattle.pc_scope.specs.declared.resolution.Res.{Res}
 use Rattle.pc_scope.specs.declared.resolution.Res.TheVariants as res
 use Rattle.pc_scope.specs.Bindings.{constants_in, classes_in, bodies}
 use Rattle.pc_scope.specs.Resolution.{resolve, resolve_in_module}
-use Rattle.pc_scope_findings.specs.Unreached.{unreached_places}
 use Rattle.pc_scope.specs.Expressions.{parts_in, other_callee, exprs_in_all}
+use Rattle.pc_scope_findings.specs.Unreached.{unreached_places}
 use Rattle.pc_scope_findings.specs.Findings as scope
 use Rattle.pc_scope_findings.specs.Findings.{IsUnknownIn, IsUnknown, IsEarlyMeaning, IsEarlyName, IsEarlyCallee}
 use Rattle.pc_scope_findings.specs.Findings.{IsEarly, IsUnreachable, ScopeFinds}

@@ -5,13 +5,13 @@ use Rattle.std.specs.List.{list_any}
 use Rattle.std.proofs.lemmas.Slice.Eq.{bytes_eq-Decides}
 use Rattle.std.proofs.lemmas.Bool.{and_parts, or_parts}
 use Rattle.pc_source.specs.declared.place.Place.{Place}
-use Rattle.pc_token.specs.Keywords.{is_reserved}
+use Rattle.pc_source.specs.ReservedNames.{is_reserved}
 use Rattle.pc_tree.specs.declared.code.Code.{Code}
 use Rattle.pc_tree.specs.declared.code.Code.TheVariants.{A7}
-use Rattle.pc_scope.specs.Expressions.{is_instance_test}
 use Rattle.pc_tree.specs.Tree.{Exprs, Keywords, no_exprs, more_exprs, no_keywords, Name, Expr, name, number, text}
 use Rattle.pc_tree.specs.Tree.{truth, nothing, tuple, list, dict, negative, binary, compare, attribute, index, negation}
 use Rattle.pc_tree.specs.Tree.{is_none, is_not_none, conjunction, disjunction, call}
+use Rattle.pc_scope.specs.Expressions.{is_instance_test}
 use Rattle.pc_scope.specs.declared.resolution.Res.{Res}
 use Rattle.pc_scope.specs.declared.resolution.Res.TheVariants as res
 use Rattle.pc_types.specs.Tree.{Tree, Any, Object, Int, Bool, Str}

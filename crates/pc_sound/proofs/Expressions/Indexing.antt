@@ -1,6 +1,6 @@
 -- Reads by index are safe where their parts are: the item is of the type that the label says, at a literal index into a
 -- tuple of that very item's.
-use Rattle.std.proofs.Common.{◌≡◌, ℕ, zero, suc, ◌+◌, ◌*◌, ◌-◌, List, [], ◌∷◌, map, length, refl, sym, ap, ◌∙◌, subst}
+use Rattle.std.proofs.Common.{◌≡◌, ℕ, zero, suc, List, [], ◌∷◌, map, length, refl, sym, ap, ◌∙◌, subst}
 use Rattle.std.proofs.Common.{inl, inr, arith}
 use Rattle.std.specs.Prelude.{◌⊎◌, Bool as Test, true, false, if◌then◌else◌, nat_lt, Option, Some, None, unwrap_or}
 use Rattle.std.specs.Prelude.{slice_get, ℤ, pos}
@@ -16,13 +16,12 @@ use Rattle.pc_flow.specs.Environment.{Env, join_all}
 use Rattle.pc_rules.specs.Operations.{offers_label, operand_types, index_member}
 use Rattle.pc_rules.specs.Context.{Context, FlowsInto}
 use Rattle.pc_rules.specs.Labels.{Labels, whole_label, type_of, Finds}
-use Rattle.pc_rules.specs.Lawful as lawful
 use Rattle.pc_rules.specs.Lawful.{Lawful, int_literal}
 use Rattle.pc_value.specs.Value as value
 use Rattle.pc_value.specs.Value.{Value, Values, Out, Gives, whole, boolean, string, tuple_of, location, no_values}
 use Rattle.pc_value.specs.Value.{more_values, list_of, a_number, Heap, seen}
 use Rattle.pc_value.specs.Actions as action
-use Rattle.pc_value.specs.Numbers.{number_behind, number_of_digits}
+use Rattle.pc_value.specs.Numbers.{number_of_digits}
 use Rattle.pc_value.specs.Containers.{index_among, at_index, item_numbered, gives_item, gives_character, item_outcome}
 use Rattle.pc_machine.specs.State.{State}
 use Rattle.pc_machine.specs.Steps.{Parts, value_out}
@@ -84,10 +83,6 @@ pub record ReadsNumbers (eval : Expr → Step Value) : Type 0 where
   pub number : (p : Place) (digits : List ℕ) (s s' : State) (events : List Place) (v : Value)
       → eval (number p digits) s events (Gives v) s' → v ≡ whole (number_of_digits digits)
 
-same_behind : (n : ℕ) (digits : List ℕ) → number_behind n digits ≡ lawful.number_behind n digits
-same_behind n [] = refl
-same_behind n (d ∷ ds) = same_behind (10 * n + (d - 48)) ds
-
 -- a value is the number of the literal, if the index is one
 abbrev IsLiteral : Option ℕ → Value → Type 0
 IsLiteral literal v = (i : ℕ) → literal ≡ Some i → v ≡ whole (pos i)
@@ -95,7 +90,7 @@ IsLiteral literal v = (i : ℕ) → literal ≡ Some i → v ≡ whole (pos i)
 literal_value : (eval : Expr → Step Value) → ReadsNumbers eval → (e : Expr) (s s' : State) (events : List Place)
     (v : Value) → eval e s events (Gives v) s' → IsLiteral (int_literal e) v
 literal_value eval reads (number p digits) s s' events v r i is = reads.number p digits s s' events v r
-    ∙ ap (λ n. whole (pos n)) (same_behind 0 digits ∙ same_Some _ _ is)
+    ∙ ap (λ n. whole (pos n)) (same_Some _ _ is)
 literal_value eval reads _ s s' events v r i is = absurd (grind (arith, is))
 
 -- ---- items

@@ -28,10 +28,10 @@ use Rattle.pc_class.specs.Facts.{TypedParameter, base_facts, classes_of, class_f
 use Rattle.pc_class.specs.Facts.{binds_field, own_fields}
 use Rattle.pc_class.specs.Findings as findings
 use Rattle.pc_class.specs.Findings.{base_class, member_texts, has_default_before}
+use Rattle.pc_class.proofs.ClassesBuilt.{below_class, class_is, no_class_past}
 use Rattle.pc_module_rules.specs.Modules.{Labelling, IsLawful}
 use Rattle.pc_sound.specs.Sound.{HasNoError}
 use Rattle.pc_sound.proofs.Lists.{get_at_end}
-use Rattle.pc_sound.proofs.Modules.Inheritance.{below_class, class_is, no_class_past}
 use Rattle.pc_sound.proofs.Modules.MadeClasses.{all_default, fields_last, BaseFound}
 use Rattle.pc_sound.proofs.Modules.MembersBind.{BindAll, members_bind}
 

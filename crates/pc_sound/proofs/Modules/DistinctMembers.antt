@@ -14,9 +14,9 @@ use Rattle.pc_class.specs.Facts as facts
 use Rattle.pc_class.specs.Facts.{TypedParameter, Method, field_by_name, method_by_name, class_in, class_facts_at}
 use Rattle.pc_class.specs.Facts.{base_facts, classes_of, parameters_of, binds_field, binds_method, own_fields}
 use Rattle.pc_class.specs.Facts.{own_methods, method_made}
+use Rattle.pc_class.proofs.ClassesBuilt.{no_class_past, class_is, class_over, below_class}
 use Rattle.pc_module_rules.specs.Modules.{Labelling, IsLawful}
 use Rattle.pc_sound.specs.Sound.{HasNoError}
-use Rattle.pc_sound.proofs.Modules.Inheritance.{no_class_past, class_is, class_over, below_class}
 use Rattle.pc_sound.proofs.Calls.OverridesFit.{IsIn, found_in, in_either}
 use Rattle.pc_sound.proofs.Calls.FilledParameters.{Distinct}
 use Rattle.pc_sound.proofs.Modules.MembersBind.{BindAll, members_bind}

@@ -15,7 +15,7 @@ use Rattle.pc_tree.specs.Tree.{Name, Expr, name, number, text, truth, nothing, t
 use Rattle.pc_tree.specs.Tree.{binary, compare, is_none, is_not_none, conjunction, disjunction, attribute, index, call}
 use Rattle.pc_tree.specs.Tree.{Constant, Exprs, no_exprs, more_exprs, Entries, no_entries, more_entries, Keywords}
 use Rattle.pc_tree.specs.Tree.{no_keywords, more_keywords, Item, constant_item, class_item, def_item, Module}
-use Rattle.pc_tree.specs.Machine.Finishing.{name_of_tree}
+use Rattle.pc_tree.specs.NamesAlone.{name_of_tree}
 use Rattle.pc_scope.specs.declared.resolution.Res.{Res}
 use Rattle.pc_scope.specs.declared.resolution.Res.TheVariants as res
 use Rattle.pc_scope.specs.Expressions.{parts_in, parts_in_all, parts_in_entries, parts_in_keywords}

@@ -19,6 +19,7 @@ use Rattle.pc_types.specs.Tree as tree
 use Rattle.pc_types.specs.Below.{Below}
 use Rattle.pc_types.proofs.Structural.{Chain, here, up, chain_below, Sub, s_class, sub_of}
 use Rattle.pc_class.specs.Bases.{bases_of}
+use Rattle.pc_class.proofs.ClassesBuilt.{has_base}
 use Rattle.pc_machine.specs.State.{Class, Globals}
 use Rattle.pc_machine.specs.Calls.{descends_from, class_at}
 use Rattle.pc_rules.specs.Signatures.{initializer_context}
@@ -27,7 +28,6 @@ use Rattle.pc_sound.proofs.Lists.{within}
 use Rattle.pc_sound.proofs.Expressions.NameReads.{KnowsNames}
 use Rattle.pc_sound.proofs.Values.InstanceTests.{Descends}
 use Rattle.pc_sound.proofs.Calls.KnownTests.{KnowsAncestors}
-use Rattle.pc_sound.proofs.Modules.Inheritance.{has_base}
 use Rattle.pc_sound.proofs.Modules.ModuleNames.{class_named}
 use Rattle.pc_sound.proofs.Modules.MainWorld.{World, Labelled, around_of, context_of}
 use Rattle.pc_sound.proofs.Calls.EnteredFunctions.{module_local}

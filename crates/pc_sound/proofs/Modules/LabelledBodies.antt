@@ -8,7 +8,7 @@ use Rattle.std.proofs.lemmas.List.Elements.{Contains-append_left, Contains-appen
 use Rattle.std.proofs.lemmas.Slice.Eq.{bytes_eq-Decides}
 use Rattle.std.proofs.lemmas.Option.{none-some, same_Some}
 use Rattle.pc_source.specs.declared.place.Place.{Place}
-use Rattle.pc_token.specs.Keywords as keywords
+use Rattle.pc_source.specs.ReservedNames as keywords
 use Rattle.pc_tree.specs.declared.code.Code.{Code}
 use Rattle.pc_tree.specs.declared.code.Code.TheVariants.{E05, E28, E29}
 use Rattle.pc_tree.specs.declared.code.Finding.{Finding}

@@ -7,7 +7,7 @@ use Rattle.std.proofs.lemmas.Bool.Decides.{nat_tests}
 use Rattle.std.proofs.lemmas.Option.{same_Some}
 use Rattle.std.proofs.lemmas.Bool.{false≢true, or_cases, or_left, or_right}
 use Rattle.pc_source.specs.declared.place.Place.{Place}
-use Rattle.pc_token.specs.Keywords.{is_reserved}
+use Rattle.pc_source.specs.ReservedNames.{is_reserved}
 use Rattle.pc_tree.specs.Tree.{Name, FuncDef, Member, field_member, method_member, ClassDef, class_item, Module}
 use Rattle.pc_scope.specs.declared.resolution.Owner.TheVariants as owners
 use Rattle.pc_scope.specs.declared.resolution.Res.{Res}
@@ -16,17 +16,21 @@ use Rattle.pc_scope.specs.Bindings.{classes_in, methods_in}
 use Rattle.pc_scope.specs.Reserved.{is_builtin_name as is_reserved_name}
 use Rattle.pc_scope.specs.Resolution.{function_of, method_at, is_one_of, resolve_in_module}
 use Rattle.pc_types.specs.Tree.{Tree}
-use Rattle.pc_ann.specs.Annotations.{read_ann}
 use Rattle.pc_types.specs.Tree as tree
 use Rattle.pc_types.specs.Below as subtyping
 use Rattle.pc_types.specs.Below.{Bases, Below, same, through}
 use Rattle.pc_types.proofs.Structural.{Chain, here, up, chain_below}
 use Rattle.pc_types.proofs.Descent.{chain_of}
+use Rattle.pc_ann.specs.Annotations.{read_ann}
 use Rattle.pc_class.specs.Bases.{bases_of, base_named, earlier_class}
 use Rattle.pc_class.specs.Facts as facts
 use Rattle.pc_class.specs.Facts.{TypedParameter, Method, base_facts, classes_of, class_facts_at, binds_field}
 use Rattle.pc_class.specs.Facts.{binds_method, own_fields, own_methods, method_made}
 use Rattle.pc_class.specs.Findings.{base_class}
+use Rattle.pc_class.proofs.ClassesBuilt.{has_base, base_known, class_is}
+use Rattle.pc_rules.specs.Signatures.{LawfulDefault}
+use Rattle.pc_module_rules.specs.Modules.{MembersLabels, LawfulMembers, MembersFind, BeforeItem, ItemLabels, LawfulItem}
+use Rattle.pc_module_rules.specs.Modules.{ItemFinds}
 use Rattle.pc_value.specs.Value.{Value, Gives, Stops, Raised, TypeError}
 use Rattle.pc_machine.specs.State as state
 use Rattle.pc_machine.specs.State.{State, Function, Class, a_class}
@@ -39,9 +43,6 @@ use Rattle.pc_machine.specs.Free.{Step, free}
 use Rattle.pc_machine.specs.Evaluation as evaluation
 use Rattle.pc_machine.specs.Evaluation.{make_members, exec_item, dataclass_found, binds_class, Members, fields_of}
 use Rattle.pc_machine.specs.Evaluation.{methods_of, ancestors_of, class_behind, all_have_defaults, defaults_last}
-use Rattle.pc_rules.specs.Signatures.{LawfulDefault}
-use Rattle.pc_module_rules.specs.Modules.{MembersLabels, LawfulMembers, MembersFind, BeforeItem, ItemLabels, LawfulItem}
-use Rattle.pc_module_rules.specs.Modules.{ItemFinds}
 use Rattle.pc_sound.specs.Values.{HeapTyping}
 use Rattle.pc_sound.proofs.Steps.Judgment.{EndsWell}
 use Rattle.pc_sound.proofs.TruthValues.{neither}
@@ -53,7 +54,6 @@ use Rattle.pc_sound.proofs.Modules.ModuleOrder.{BoundSoFar, bound_class, Between
 use Rattle.pc_sound.proofs.Modules.ModuleOrder.{function_made}
 use Rattle.pc_sound.proofs.Modules.ModuleItems.{ItemReady, GoodClasses}
 use Rattle.pc_sound.proofs.Modules.MainWorld.{AncestorsAre, DefaultHas, DefaultsHave, MadeOf, MethodsAre, ClassIs}
-use Rattle.pc_sound.proofs.Modules.Inheritance.{has_base, base_known, class_is}
 
 -- ---- the order of fields
 

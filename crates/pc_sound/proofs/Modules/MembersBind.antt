@@ -12,7 +12,7 @@ use Rattle.std.proofs.lemmas.Option.{same_Some}
 use Rattle.std.proofs.lemmas.Bool.{and_parts, false_from_ne_true, false≢true, or_cases, or_left, or_parts, or_right}
 use Rattle.std.proofs.Math.Bool.{and-true}
 use Rattle.pc_source.specs.declared.place.Place.{Place}
-use Rattle.pc_token.specs.Keywords as keywords
+use Rattle.pc_source.specs.ReservedNames as keywords
 use Rattle.pc_tree.specs.declared.code.Code.TheVariants.{E01, E06, E29}
 use Rattle.pc_tree.specs.Code.{finding}
 use Rattle.pc_tree.specs.Stopping as stopping
@@ -35,11 +35,11 @@ use Rattle.pc_class.specs.Facts.{TypedParameter, Method, field_by_name, method_b
 use Rattle.pc_class.specs.Facts.{class_facts_at, binds_field, binds_method, own_fields, own_methods}
 use Rattle.pc_class.specs.Findings as findings
 use Rattle.pc_class.specs.Findings.{base_class}
+use Rattle.pc_class.proofs.ClassesBuilt.{class_over, class_is, below_class}
 use Rattle.pc_module_rules.specs.Modules.{Labelling, IsLawful}
 use Rattle.pc_sound.specs.Sound.{HasNoError}
 use Rattle.pc_sound.proofs.Lists.{front_empty, rest_empty, same_text_back}
 use Rattle.pc_sound.proofs.Expressions.NameReads.{builtin_text, text_of_builtin}
-use Rattle.pc_sound.proofs.Modules.Inheritance.{class_over, class_is, below_class}
 use Rattle.pc_sound.proofs.Modules.ModuleNames.{class_named}
 use Rattle.pc_sound.proofs.Modules.MadeClasses.{earlier_is}
 

@@ -6,9 +6,10 @@ use Rattle.std.specs.Prelude.{slice_get, bytes_eq}
 use Rattle.std.proofs.lemmas.Option.{same_Some}
 use Rattle.std.proofs.lemmas.Bool.{and_parts, not-true}
 use Rattle.pc_source.specs.declared.place.Place.{Place}
-use Rattle.pc_token.specs.Keywords as keywords
+use Rattle.pc_source.specs.ReservedNames as keywords
 use Rattle.pc_tree.specs.Tree.{Name, Expr, ClassDef, FuncDef, Param, Item, constant_item, class_item, def_item, Module}
 use Rattle.pc_tree.specs.Stopping.{is_plain_def, has_none}
+use Rattle.pc_tree.specs.Depth.{place_of}
 use Rattle.pc_scope.specs.declared.resolution.Owner.TheVariants as owners
 use Rattle.pc_scope.specs.declared.resolution.Res.TheVariants as res
 use Rattle.pc_scope.specs.Reserved.{builtin_of, is_builtin_name}
@@ -26,7 +27,6 @@ use Rattle.pc_module_rules.specs.Modules.{LawfulModuleItems, ItemFinds, ItemsFin
 use Rattle.pc_value.specs.Value.{Gives}
 use Rattle.pc_machine.specs.State.{State, Function, Class, Globals}
 use Rattle.pc_machine.specs.Names.{meaning_in_run, meaning_of_global, meaning_of_local, global_by_name}
-use Rattle.pc_tree.specs.Depth.{place_of}
 use Rattle.pc_machine.specs.Calls.{Callee, calls_value, calls_function, calls_class, calls_reserved, calls_method}
 use Rattle.pc_machine.specs.Calls.{calls_builtin_method, callee_of_meaning, bound_arguments}
 use Rattle.pc_machine.specs.Steps.{Parts}

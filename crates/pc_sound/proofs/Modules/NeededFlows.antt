@@ -2,8 +2,8 @@
 use Rattle.std.proofs.Common.{List, length}
 use Rattle.pc_source.specs.declared.place.Place.{Place}
 use Rattle.pc_token.specs.Lexeme.{Lexeme}
-use Rattle.pc_tree.specs.Grammar.Modules.{SpellsModule}
 use Rattle.pc_tree.specs.Tree.{Module}
+use Rattle.pc_grammar.specs.Grammar.Modules.{SpellsModule}
 use Rattle.pc_types.specs.Tree.{Tree}
 use Rattle.pc_ann.specs.Bases.{bases_of}
 use Rattle.pc_ann.proofs.Earlier.{smaller}

@@ -7,7 +7,7 @@ use Rattle.std.specs.Prelude.{codes}
 use Rattle.std.proofs.lemmas.List.Elements.{Contains-append_left, Contains-append_right}
 use Rattle.std.proofs.lemmas.Option.{none-some}
 use Rattle.pc_source.specs.declared.place.Place.{Place}
-use Rattle.pc_token.specs.Keywords as keywords
+use Rattle.pc_source.specs.ReservedNames as keywords
 use Rattle.pc_tree.specs.declared.code.Code.TheVariants.{E01, E29}
 use Rattle.pc_tree.specs.Tree.{Name, Param, FuncDef, ClassDef, Module}
 use Rattle.pc_tree.specs.Stopping as stopping

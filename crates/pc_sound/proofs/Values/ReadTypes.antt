@@ -8,8 +8,8 @@ use Rattle.pc_token.specs.Lexeme.{Lexeme}
 use Rattle.pc_tree.specs.Tree.{Ann, Anns, named, none_type, applied, applied_empty, no_anns, more_anns, Member}
 use Rattle.pc_tree.specs.Tree.{field_member, method_member, ClassDef, Item, constant_item, class_item, def_item, Module}
 use Rattle.pc_tree.specs.Tree as tree
-use Rattle.pc_tree.specs.Grammar.Annotations.{AreSeveral, SpellsAnn, Separated, Annotation}
-use Rattle.pc_tree.specs.Grammar.Modules.{SpellsMembers, ClassBody, SpellsItems, SpellsModule}
+use Rattle.pc_grammar.specs.Grammar.Annotations.{AreSeveral, SpellsAnn, Separated, Annotation}
+use Rattle.pc_grammar.specs.Grammar.Modules.{SpellsMembers, ClassBody, SpellsItems, SpellsModule}
 use Rattle.pc_scope.specs.declared.resolution.Builtin.{Builtin}
 use Rattle.pc_scope.specs.declared.resolution.Builtin.TheVariants as builtin
 use Rattle.pc_scope.specs.declared.resolution.Res.{Res}

@@ -35,6 +35,12 @@ read_each-loop-part-preserved g t c =
       kept = λ ty h. c.read.ensures.kept ty (v.kept ty h);
     }
 
+pub read-apply-requires : goal.read-apply-requires
+read-apply-requires g t c = (_, c.in_ok-types-in-Apply.ensures.typed)
+
+pub read-unite-requires : goal.read-unite-requires
+read-unite-requires g t c = (_, c.in_ok-types-in-Union.ensures.typed)
+
 pub read-returns-in-Some-2-clause-typed : goal.read-returns-in-Some-2-clause-typed
 read-returns-in-Some-2-clause-typed g t c =
     let m = module_of c.args.outline.now.tree.now in
@@ -42,10 +48,10 @@ read-returns-in-Some-2-clause-typed g t c =
     let anns = anns_of_list c.in-Apply.arguments.items in
     let r = c.meaning-meaning-in-Apply.result in
     let f = applied_type r (readings m bases anns) in
-    let v = c.in_ok-reading-in-Apply.ensures.value in
+    let v = c.in_ok-reading-in-Apply.ensures.value _ c.in_ok-types-in-Apply.ensures.typed in
     let h : IsReadAny g.S.TypeStore.has g.S.TypeStore.tree c.apply.new.store
     (Some (c.in-Some-2.reading.head, c.in-Some-2.reading.ty)) f =
-    rw (c.in-Some-2.is, c.deref-in-Apply.ensures.value) at v in
+    rw (c.in-Some-2.is, c.deref.ensures.value) at v in
     subst (IsRead g.S.TypeStore.has g.S.TypeStore.tree c.apply.new.store c.in-Some-2.reading.head
     c.in-Some-2.reading.ty) (sym (applied_reading m bases (ann_of c.args.ann.now) c.in-Apply.place
     (name_of c.in-Apply.head) anns r f (applied_is _ _ _ _ c.in-Apply.is) c.meaning-meaning-in-Apply.ensures refl))
@@ -58,10 +64,10 @@ read-returns-in-Some-2-clause-pushed g t c =
     let anns = anns_of_list c.in-Apply.arguments.items in
     let r = c.meaning-meaning-in-Apply.result in
     let f = applied_type r (readings m bases anns) in
-    let v = c.in_ok-reading-in-Apply.ensures.value in
+    let v = c.in_ok-reading-in-Apply.ensures.value _ c.in_ok-types-in-Apply.ensures.typed in
     let h : IsReadAny g.S.TypeStore.has g.S.TypeStore.tree c.apply.new.store
     (Some (c.in-Some-2.reading.head, c.in-Some-2.reading.ty)) f =
-    rw (c.in-Some-2.is, c.deref-in-Apply.ensures.value) at v in
+    rw (c.in-Some-2.is, c.deref.ensures.value) at v in
     c.in_ok-types-in-Apply.ensures.pushed
     ∙ ap (λ l. c.args.found.now.items ++ parts_findings m bases (anns_of_list l)) c.deref.ensures.value
     ∙ ap (λ l. c.args.found.now.items ++ l) (sym (inside_some g.S.TypeStore.has g.S.TypeStore.tree c.apply.new.store _ f
@@ -76,9 +82,9 @@ read-returns-in-Apply-clause-typed g t c =
     let anns = anns_of_list c.in-Apply.arguments.items in
     let r = c.meaning-meaning-in-Apply.result in
     let f = applied_type r (readings m bases anns) in
-    let v = c.in_ok-reading-in-Apply.ensures.value in
+    let v = c.in_ok-reading-in-Apply.ensures.value _ c.in_ok-types-in-Apply.ensures.typed in
     let h : IsReadAny g.S.TypeStore.has g.S.TypeStore.tree c.apply.new.store None f =
-    rw (c.in-None-2.is, c.deref-in-Apply.ensures.value) at v in
+    rw (c.in-None-2.is, c.deref.ensures.value) at v in
     let e = applied_reading m bases (ann_of c.args.ann.now) c.in-Apply.place (name_of c.in-Apply.head) anns r None
     (applied_is _ _ _ _ c.in-Apply.is) c.meaning-meaning-in-Apply.ensures
     (none_is g.S.TypeStore.has g.S.TypeStore.tree c.apply.new.store f h) in
@@ -91,10 +97,10 @@ read-returns-in-Apply-clause-pushed g t c =
     let anns = anns_of_list c.in-Apply.arguments.items in
     let r = c.meaning-meaning-in-Apply.result in
     let f = applied_type r (readings m bases anns) in
-    let v = c.in_ok-reading-in-Apply.ensures.value in
+    let v = c.in_ok-reading-in-Apply.ensures.value _ c.in_ok-types-in-Apply.ensures.typed in
     let old = c.args.found.now.items in
     let h : IsReadAny g.S.TypeStore.has g.S.TypeStore.tree c.apply.new.store None f =
-    rw (c.in-None-2.is, c.deref-in-Apply.ensures.value) at v in
+    rw (c.in-None-2.is, c.deref.ensures.value) at v in
     let e = applied_found m bases (ann_of c.args.ann.now) c.in-Apply.place (name_of c.in-Apply.head) anns r None
     (applied_is _ _ _ _ c.in-Apply.is) c.meaning-meaning-in-Apply.ensures
     (none_is g.S.TypeStore.has g.S.TypeStore.tree c.apply.new.store f h) in
@@ -112,10 +118,10 @@ read-returns-in-Some-4-clause-typed g t c =
     let bases = c.args.outline.now.parents.now in
     let anns = anns_of_list c.in-Union.parts.items in
     let f = union_type bases (readings m bases anns) in
-    let v = c.in_ok-reading-in-Union.ensures.value in
+    let v = c.in_ok-reading-in-Union.ensures.value _ c.in_ok-types-in-Union.ensures.typed in
     let h : IsReadAny g.S.TypeStore.has g.S.TypeStore.tree c.unite.new.store
     (Some (c.in-Some-4.reading.head, c.in-Some-4.reading.ty)) f =
-    rw (c.in-Some-4.is, c.deref-in-Union-2.ensures.value) at v in
+    rw (c.in-Some-4.is, c.deref-in-Union.ensures.value) at v in
     subst (IsRead g.S.TypeStore.has g.S.TypeStore.tree c.unite.new.store c.in-Some-4.reading.head
     c.in-Some-4.reading.ty) (sym (union_reading m bases (ann_of c.args.ann.now) c.in-Union.place anns f
     (union_is _ _ _ c.in-Union.is) refl))
@@ -127,10 +133,10 @@ read-returns-in-Some-4-clause-pushed g t c =
     let bases = c.args.outline.now.parents.now in
     let anns = anns_of_list c.in-Union.parts.items in
     let f = union_type bases (readings m bases anns) in
-    let v = c.in_ok-reading-in-Union.ensures.value in
+    let v = c.in_ok-reading-in-Union.ensures.value _ c.in_ok-types-in-Union.ensures.typed in
     let h : IsReadAny g.S.TypeStore.has g.S.TypeStore.tree c.unite.new.store
     (Some (c.in-Some-4.reading.head, c.in-Some-4.reading.ty)) f =
-    rw (c.in-Some-4.is, c.deref-in-Union-2.ensures.value) at v in
+    rw (c.in-Some-4.is, c.deref-in-Union.ensures.value) at v in
     let e = union_found m bases (ann_of c.args.ann.now) c.in-Union.place anns f (union_is _ _ _ c.in-Union.is) refl in
     c.in_ok-types-in-Union.ensures.pushed
     ∙ ap (λ l. c.args.found.now.items ++ parts_findings m bases (anns_of_list l)) c.deref-in-Union.ensures.value
@@ -144,9 +150,9 @@ read-returns-clause-typed g t c =
     let bases = c.args.outline.now.parents.now in
     let anns = anns_of_list c.in-Union.parts.items in
     let f = union_type bases (readings m bases anns) in
-    let v = c.in_ok-reading-in-Union.ensures.value in
+    let v = c.in_ok-reading-in-Union.ensures.value _ c.in_ok-types-in-Union.ensures.typed in
     let h : IsReadAny g.S.TypeStore.has g.S.TypeStore.tree c.unite.new.store None f =
-    rw (c.in-None-4.is, c.deref-in-Union-2.ensures.value) at v in
+    rw (c.in-None-4.is, c.deref-in-Union.ensures.value) at v in
     let e = union_reading m bases (ann_of c.args.ann.now) c.in-Union.place anns None (union_is _ _ _ c.in-Union.is)
     (none_is g.S.TypeStore.has g.S.TypeStore.tree c.unite.new.store f h) in
     rw e c.fault-in-None-4.ensures.typed
@@ -157,10 +163,10 @@ read-returns-clause-pushed g t c =
     let bases = c.args.outline.now.parents.now in
     let anns = anns_of_list c.in-Union.parts.items in
     let f = union_type bases (readings m bases anns) in
-    let v = c.in_ok-reading-in-Union.ensures.value in
+    let v = c.in_ok-reading-in-Union.ensures.value _ c.in_ok-types-in-Union.ensures.typed in
     let old = c.args.found.now.items in
     let h : IsReadAny g.S.TypeStore.has g.S.TypeStore.tree c.unite.new.store None f =
-    rw (c.in-None-4.is, c.deref-in-Union-2.ensures.value) at v in
+    rw (c.in-None-4.is, c.deref-in-Union.ensures.value) at v in
     let e = union_found m bases (ann_of c.args.ann.now) c.in-Union.place anns None (union_is _ _ _ c.in-Union.is)
     (none_is g.S.TypeStore.has g.S.TypeStore.tree c.unite.new.store f h) in
     let fault = finding c.in-Union.place E10 ∷ [] in

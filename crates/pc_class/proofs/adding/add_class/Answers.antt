@@ -156,13 +156,11 @@ returns-clause-table g c =
     let b_is = c.in_ok-defaulted.ensures.defaulted ∙ ap (defaulted_in o.defaulted) entries4
     ∙ ap (λ (n : ClassNode). defaulted_in n.defaulted xs) o_is in
     let fs0 : c.len-fields_start.result ≡ length F = search rules in
-    let fs = c.places_between.ensures.start ∙ fs0 in
-    let fe0 : c.len-fields_end.result ≡ length c.add_fields.new.fields.items = search rules in
-    let fe = c.places_between.ensures.end ∙ fe0 in
+    let fs = c.places_from.ensures.start ∙ fs0 in
+    let fe = c.places_from.ensures.end ∙ ap length c.deref-7.ensures.value in
     let ms0 : c.len-methods_start.result ≡ length M = search rules in
-    let ms = c.places_between-2.ensures.start ∙ ms0 in
-    let me0 : c.len-methods_end.result ≡ length c.add_methods.new.methods.items = search rules in
-    let me = c.places_between-2.ensures.end ∙ me0 in
+    let ms = c.places_from-2.ensures.start ∙ ms0 in
+    let me = c.places_from-2.ensures.end ∙ ap length c.deref-8.ensures.value in
     let n_is = node_same base c.in_ok-fields.fields c.in_ok-methods.methods c.in_ok-defaulted.defaulted _ _ _ _ _ _ _ _
     fs fe ms me in
     let q : TableParts _ = record {
@@ -234,13 +232,11 @@ returns-clause-given g c =
     let b_is = c.in_ok-defaulted.ensures.defaulted ∙ ap (defaulted_in o.defaulted) entries4
     ∙ ap (λ (n : ClassNode). defaulted_in n.defaulted xs) o_is in
     let fs0 : c.len-fields_start.result ≡ length F = search rules in
-    let fs = c.places_between.ensures.start ∙ fs0 in
-    let fe0 : c.len-fields_end.result ≡ length c.add_fields.new.fields.items = search rules in
-    let fe = c.places_between.ensures.end ∙ fe0 in
+    let fs = c.places_from.ensures.start ∙ fs0 in
+    let fe = c.places_from.ensures.end ∙ ap length c.deref-7.ensures.value in
     let ms0 : c.len-methods_start.result ≡ length M = search rules in
-    let ms = c.places_between-2.ensures.start ∙ ms0 in
-    let me0 : c.len-methods_end.result ≡ length c.add_methods.new.methods.items = search rules in
-    let me = c.places_between-2.ensures.end ∙ me0 in
+    let ms = c.places_from-2.ensures.start ∙ ms0 in
+    let me = c.places_from-2.ensures.end ∙ ap length c.deref-8.ensures.value in
     let n_is = node_same base c.in_ok-fields.fields c.in_ok-methods.methods c.in_ok-defaulted.defaulted _ _ _ _ _ _ _ _
     fs fe ms me in
     let q : TableParts _ = record {
@@ -313,13 +309,11 @@ returns-clause-classes g c =
     let b_is = c.in_ok-defaulted.ensures.defaulted ∙ ap (defaulted_in o.defaulted) entries4
     ∙ ap (λ (n : ClassNode). defaulted_in n.defaulted xs) o_is in
     let fs0 : c.len-fields_start.result ≡ length F = search rules in
-    let fs = c.places_between.ensures.start ∙ fs0 in
-    let fe0 : c.len-fields_end.result ≡ length c.add_fields.new.fields.items = search rules in
-    let fe = c.places_between.ensures.end ∙ fe0 in
+    let fs = c.places_from.ensures.start ∙ fs0 in
+    let fe = c.places_from.ensures.end ∙ ap length c.deref-7.ensures.value in
     let ms0 : c.len-methods_start.result ≡ length M = search rules in
-    let ms = c.places_between-2.ensures.start ∙ ms0 in
-    let me0 : c.len-methods_end.result ≡ length c.add_methods.new.methods.items = search rules in
-    let me = c.places_between-2.ensures.end ∙ me0 in
+    let ms = c.places_from-2.ensures.start ∙ ms0 in
+    let me = c.places_from-2.ensures.end ∙ ap length c.deref-8.ensures.value in
     let n_is = node_same base c.in_ok-fields.fields c.in_ok-methods.methods c.in_ok-defaulted.defaulted _ _ _ _ _ _ _ _
     fs fe ms me in
     let q : TableParts _ = record {

@@ -1,5 +1,5 @@
 use Rattle.std.proofs.Common.{◌≡◌, ◌<◌, drop}
-use Rattle.pc_rules.specs.Lawful.{number_behind}
+use Rattle.pc_tree.specs.Digits.{number_behind}
 use Rattle.pc_operations.proofs.offers.small_number.Given as goal
 
 abbrev pub invariant-loop-digit : goal.invariant-loop-digit

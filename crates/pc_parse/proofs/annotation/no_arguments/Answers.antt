@@ -1,9 +1,9 @@
 use Rattle.std.proofs.Common.{[], ◌∷◌, ◌++◌, refl, arith, ap}
 use Rattle.std.proofs.lemmas.Result.{err_from_is_err_and}
 use Rattle.pc_tree.specs.Tree.{applied_empty, name_of}
-use Rattle.pc_tree.specs.Grammar.{span}
-use Rattle.pc_tree.specs.Machine.{turn}
-use Rattle.pc_tree.specs.Machine.States.{empty_opened, empty_closed, part_read}
+use Rattle.pc_grammar.specs.Grammar.{span}
+use Rattle.pc_grammar.specs.Machine.{turn}
+use Rattle.pc_grammar.specs.Machine.States.{empty_opened, empty_closed, part_read}
 use Rattle.pc_reader.specs.Reading.{lexeme}
 use Rattle.pc_reader.proofs.Building.{starts_more, ends_more, ends_one}
 use Rattle.pc_reader.proofs.Streams.{blame}

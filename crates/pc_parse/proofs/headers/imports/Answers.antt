@@ -2,9 +2,9 @@ use Rattle.std.proofs.Common.{[], ◌∷◌}
 use Rattle.std.proofs.lemmas.Result.{err_from_is_err_and}
 use Rattle.pc_token.specs.declared.token.TokenKind.TheVariants as kind
 use Rattle.pc_token.specs.declared.token.Keyword.TheVariants as word
+use Rattle.pc_grammar.specs.Machine.Kinds.{a_kind, a_form}
+use Rattle.pc_grammar.specs.Machine.States.{fixed}
 use Rattle.pc_reader.proofs.Streams.{blame}
-use Rattle.pc_tree.specs.Machine.Kinds.{a_kind, a_form}
-use Rattle.pc_tree.specs.Machine.States.{fixed}
 use Rattle.pc_reader.proofs.Words.{form_due, form_read, kind_due, kind_read}
 use Rattle.pc_parse.proofs.Imports.{import_read}
 use Rattle.pc_parse.proofs.headers.imports.Goals as goal

@@ -5,11 +5,11 @@ use Rattle.pc_token.specs.declared.token.Keyword.TheVariants as word
 use Rattle.pc_reader.proofs.Steps.{kind_seen}
 use Rattle.pc_reader.proofs.Streams.{blame}
 use Rattle.std.specs.Prelude.{codes}
-use Rattle.pc_tree.specs.Machine.{at}
-use Rattle.pc_tree.specs.Machine.Lines.{start, no_top}
-use Rattle.pc_tree.specs.Machine.States.{after_future, after_dataclasses, items}
-use Rattle.pc_parse.specs.Internal.Modules.{import_words}
+use Rattle.pc_grammar.specs.Machine.{at}
+use Rattle.pc_grammar.specs.Machine.Lines.{start, no_top}
+use Rattle.pc_grammar.specs.Machine.States.{after_future, after_dataclasses, items}
 use Rattle.pc_reader.proofs.Words.{kind_due}
+use Rattle.pc_parse.specs.Internal.Modules.{import_words}
 use Rattle.pc_parse.proofs.Imports.{dataclassed, headed, begun, future_fails, typing_fails, typed, dataclasses_fail}
 use Rattle.pc_parse.proofs.Imports.{classed, then_typing_fails, then_typed}
 use Rattle.pc_parse.proofs.headers.read_headers.Goals as goal

@@ -2,11 +2,11 @@ use Rattle.std.proofs.Common.{inl, ap, subst}
 use Rattle.std.proofs.lemmas.Result.{err_from_is_err_and}
 use Rattle.pc_source.specs.declared.fault.Fault.TheVariants as fault
 use Rattle.pc_source.specs.declared.fault.RefusalCode.TheVariants.{G2}
-use Rattle.pc_tree.specs.Machine.{at}
-use Rattle.pc_tree.specs.Machine.Lines.{start}
-use Rattle.pc_parse.specs.declared.parser.Parser.{Parser}
+use Rattle.pc_grammar.specs.Machine.{at}
+use Rattle.pc_grammar.specs.Machine.Lines.{start}
 use Rattle.pc_reader.specs.Reading.{Came}
 use Rattle.pc_reader.proofs.Streams.{blame}
+use Rattle.pc_parse.specs.declared.parser.Parser.{Parser}
 use Rattle.pc_parse.proofs.Bridging.{blamed, shallow_module, deep_module}
 use Rattle.pc_parse.proofs.WithinTokens.{fault_within, stream_within}
 use Rattle.pc_parse.proofs.stream.parse_from.Goals as goal

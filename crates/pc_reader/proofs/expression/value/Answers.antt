@@ -1,9 +1,9 @@
 use Rattle.std.proofs.Common.{true, false, [], ◌∷◌, refl, ap, ◌∙◌, rules}
 use Rattle.pc_token.specs.declared.token.TokenKind.TheVariants as kind
 use Rattle.pc_tree.specs.Tree.{name, number, text, truth, nothing}
-use Rattle.pc_tree.specs.Grammar.{digits_of, characters_of}
-use Rattle.pc_tree.specs.Machine.Kinds.{start_of}
-use Rattle.pc_tree.specs.Machine.Expressions.{operand_turn, name_part, part}
+use Rattle.pc_grammar.specs.Grammar.{digits_of, characters_of}
+use Rattle.pc_grammar.specs.Machine.Kinds.{start_of}
+use Rattle.pc_grammar.specs.Machine.Expressions.{operand_turn, name_part, part}
 use Rattle.pc_reader.specs.Reading.{lexeme}
 use Rattle.pc_reader.proofs.Building.{starts_one, ends_one, built}
 use Rattle.pc_reader.specs.Internal.Operands.{a_name}

@@ -1,7 +1,7 @@
 use Rattle.std.proofs.Common.{◌∙◌, sym, ap}
 use Rattle.pc_source.specs.declared.place.Place.{Place}
+use Rattle.pc_grammar.specs.Machine.Expressions.{infix_tree}
 use Rattle.pc_reader.specs.Internal.Operands.{infix_of}
-use Rattle.pc_tree.specs.Machine.Expressions.{infix_tree}
 use Rattle.pc_reader.proofs.Building.{built_two, infix_place, infix_depth, infix_form}
 use Rattle.pc_reader.proofs.operand.join.Goals as goal
 

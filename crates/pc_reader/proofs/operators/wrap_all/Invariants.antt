@@ -1,6 +1,6 @@
 use Rattle.std.proofs.Common.{◌≡◌, ◌≤◌, List, vec_len}
 use Rattle.pc_token.specs.Lexeme.{Lexeme}
-use Rattle.pc_tree.specs.Machine.States.{Part}
+use Rattle.pc_grammar.specs.Machine.States.{Part}
 use Rattle.pc_reader.specs.Internal.Operands.{KeepsPart, prefix_of, starts_of}
 use Rattle.pc_reader.specs.Internal.Expressions.{HasAppliedSigns}
 use Rattle.pc_reader.proofs.operators.wrap_all.Given as goal

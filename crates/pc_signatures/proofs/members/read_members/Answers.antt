@@ -22,7 +22,7 @@ loop-member-preserved g c =
     let v = c.loop-member.invariant in
     let less = c.loop-member-test.true in
     let is = c.member-item.is in
-    let text = c.as_str.ensures.value ∙ ap (λ (n : Name). n.text) c.name_of.ensures in
+    let text = c.as_str.ensures.value ∙ ap (λ (n : Name). n.text) c.name.ensures in
     let next = c.in_ok-bind.ensures ∙ ap (with_name (bound_in c.loop-member.bound)) text in
     record {
       table = (held_apart m c.args.class.number base (bound_in c.loop-member.bound) (bound_in c.bind.new.bound) ms i x

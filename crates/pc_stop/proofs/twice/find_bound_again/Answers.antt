@@ -2,7 +2,7 @@ use Rattle.std.proofs.Common.{◌∙◌, ◌+◌, ◌++◌, ◌∷◌, ap, sym, 
 use Rattle.std.specs.Prelude.{◌&&◌, not}
 use Rattle.std.specs.Borrow.{Bor}
 use Rattle.pc_source.specs.declared.place.Place.{Place}
-use Rattle.pc_token.specs.Keywords.{is_reserved}
+use Rattle.pc_source.specs.ReservedNames.{is_reserved}
 use Rattle.pc_tree.specs.declared.code.Code.TheVariants.{E01}
 use Rattle.pc_tree.specs.declared.tree.Name.{Name as RustName}
 use Rattle.pc_tree.specs.Lists.{name_seen}

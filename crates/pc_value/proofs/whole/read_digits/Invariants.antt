@@ -1,5 +1,5 @@
 use Rattle.std.proofs.Common.{◌≡◌, drop}
-use Rattle.pc_value.specs.Numbers.{number_behind}
+use Rattle.pc_tree.specs.Digits.{number_behind}
 use Rattle.pc_value.proofs.whole.read_digits.Given as goal
 
 abbrev pub invariant-loop-digit : goal.invariant-loop-digit

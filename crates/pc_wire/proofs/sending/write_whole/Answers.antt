@@ -1,5 +1,5 @@
 use Rattle.std.proofs.Common.{◌<◌, ◌≤◌, ◌+◌, length, rules, ◌∙◌}
-use Rattle.pc_wire.proofs.Taking.{takes_more, counts_none}
+use Rattle.pc_source.proofs.Taking.{takes_more, counts_none}
 use Rattle.pc_wire.proofs.sending.write_whole.Goals as goal
 
 pub loop-at-preserved : goal.loop-at-preserved

@@ -4,26 +4,27 @@ use Rattle.pc_token.specs.declared.token.TokenKind.TheVariants as kind
 use Rattle.pc_token.specs.declared.token.Keyword.TheVariants as word
 use Rattle.pc_token.specs.declared.token.Operator.TheVariants as sign
 use Rattle.pc_tree.specs.Tree.{while_loop, for_loop, conditional, no_stmts, no_branches, name_of, stmts_of_list}
-use Rattle.pc_tree.specs.Grammar.{name_at}
 use Rattle.pc_tree.specs.Depth.{whole_expr, wholes_of_stmts}
-use Rattle.pc_tree.specs.Machine.{at, turn}
-use Rattle.pc_tree.specs.Machine.Kinds.{same_kind}
-use Rattle.pc_tree.specs.Machine.States.{whole, in_statement, looping, iterating, branching, while_body, for_body}
-use Rattle.pc_tree.specs.Machine.States.{branch_body, else_body, fixed, stmts, target_due, after_branch, operand, have}
-use Rattle.pc_tree.specs.Machine.States.{stuck, go}
-use Rattle.pc_tree.specs.Machine.Finishing.{add_stmt, add_branch, after_stmt, after_suite, suite_of, nested_in}
-use Rattle.pc_tree.specs.Machine.Lines.{lead_turn}
+use Rattle.pc_tree.specs.Lists.{branches_of_list}
+use Rattle.pc_grammar.specs.Grammar.{name_at}
+use Rattle.pc_grammar.specs.Machine.{at, turn}
+use Rattle.pc_grammar.specs.Machine.Kinds.{same_kind}
+use Rattle.pc_grammar.specs.Machine.States.{whole, in_statement, looping, iterating, branching, while_body, for_body}
+use Rattle.pc_grammar.specs.Machine.States.{branch_body, else_body, fixed, stmts, target_due, after_branch, operand}
+use Rattle.pc_grammar.specs.Machine.States.{have}
+use Rattle.pc_grammar.specs.Machine.States.{stuck, go}
+use Rattle.pc_grammar.specs.Machine.Finishing.{add_stmt, add_branch, after_stmt, after_suite, suite_of, nested_in}
+use Rattle.pc_grammar.specs.Machine.Lines.{lead_turn}
+use Rattle.pc_grammar.specs.Machine.Kinds.{a_kind}
 use Rattle.pc_reader.specs.Reading.{lexeme}
-use Rattle.pc_parse.specs.Internal.WholeTrees.{ending_of}
-use Rattle.pc_parse.specs.Internal.Suites.{lead_view, site_at}
 use Rattle.pc_reader.proofs.Streams.{blame}
 use Rattle.pc_reader.proofs.Steps.{step_to, alike, needs, meets, kind_seen, not_seen}
+use Rattle.pc_parse.specs.Internal.WholeTrees.{ending_of}
+use Rattle.pc_parse.specs.Internal.Suites.{lead_view, site_at}
 use Rattle.pc_parse.proofs.Statements.{colon_turn, suite_ends, suite_stuck, on_unseen, on_go}
 use Rattle.pc_parse.proofs.Lines.{refit, seen_kind, no_statements, else_read}
 use Rattle.pc_parse.proofs.Depths.{noted_nothing, kept_tree}
 use Rattle.pc_parse.proofs.Keeping.{noted_then, none_then, keep_more, keep_branch, keep_if, keep_while, keep_for}
-use Rattle.pc_tree.specs.Machine.Kinds.{a_kind}
-use Rattle.pc_tree.specs.Lists.{branches_of_list}
 use Rattle.pc_parse.proofs.StatementRows.{if_is, branch_is}
 use Rattle.pc_parse.proofs.parser.Parser.+statements.Goals as goal
 

@@ -3,14 +3,15 @@ use Rattle.std.proofs.lemmas.Result.{err_from_is_err_and}
 use Rattle.pc_token.specs.declared.token.TokenKind.TheVariants as kind
 use Rattle.pc_token.specs.declared.token.Operator.TheVariants as sign
 use Rattle.pc_tree.specs.Tree.{annotated, no_anns, name_of, ann_of, expr_of}
-use Rattle.pc_tree.specs.Machine.{at}
-use Rattle.pc_tree.specs.Machine.Kinds.{same_kind}
-use Rattle.pc_tree.specs.Machine.States.{whole, ann_whole, in_statement, of_local, annotated_value, part_due, operand}
-use Rattle.pc_tree.specs.Machine.States.{have}
-use Rattle.pc_tree.specs.Machine.Finishing.{after_stmt}
-use Rattle.pc_parse.specs.Internal.Suites.{site_at}
+use Rattle.pc_grammar.specs.Machine.{at}
+use Rattle.pc_grammar.specs.Machine.Kinds.{same_kind}
+use Rattle.pc_grammar.specs.Machine.States.{whole, ann_whole, in_statement, of_local, annotated_value, part_due}
+use Rattle.pc_grammar.specs.Machine.States.{operand}
+use Rattle.pc_grammar.specs.Machine.States.{have}
+use Rattle.pc_grammar.specs.Machine.Finishing.{after_stmt}
 use Rattle.pc_reader.proofs.Streams.{blame}
 use Rattle.pc_reader.proofs.Steps.{step_to, not_seen}
+use Rattle.pc_parse.specs.Internal.Suites.{site_at}
 use Rattle.pc_parse.proofs.Statements.{line_end_turn, on_unseen, on_go}
 use Rattle.pc_parse.proofs.Lines.{line_ended, seen_kind}
 use Rattle.pc_parse.proofs.Keeping.{keep_annotated, keep_valued}

@@ -1,5 +1,5 @@
 use Rattle.std.proofs.lemmas.Result.{err_from_is_err_and}
-use Rattle.pc_tree.specs.Machine.States.{ann_whole}
+use Rattle.pc_grammar.specs.Machine.States.{ann_whole}
 use Rattle.pc_reader.proofs.Streams.{blame}
 use Rattle.pc_parse.proofs.AnnotationReads.{whole_annotation}
 use Rattle.pc_parse.proofs.parser.Parser.annotation.Goals as goal

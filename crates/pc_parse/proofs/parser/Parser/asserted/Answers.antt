@@ -3,14 +3,14 @@ use Rattle.std.proofs.lemmas.Result.{err_from_is_err_and}
 use Rattle.pc_token.specs.declared.token.TokenKind.TheVariants as kind
 use Rattle.pc_token.specs.declared.token.Operator.TheVariants as sign
 use Rattle.pc_tree.specs.Tree.{asserts, expr_of}
-use Rattle.pc_tree.specs.Machine.{at}
-use Rattle.pc_tree.specs.Machine.States.{whole, in_statement, asserted, asserted_with, stmts, operand, have}
-use Rattle.pc_tree.specs.Machine.Finishing.{after_stmt, finish}
-use Rattle.pc_tree.specs.Machine.Lines.{lead_turn}
-use Rattle.pc_parse.specs.Internal.WholeTrees.{ending_of}
-use Rattle.pc_parse.specs.Internal.Suites.{site_at}
+use Rattle.pc_grammar.specs.Machine.{at}
+use Rattle.pc_grammar.specs.Machine.States.{whole, in_statement, asserted, asserted_with, stmts, operand, have}
+use Rattle.pc_grammar.specs.Machine.Finishing.{after_stmt, finish}
+use Rattle.pc_grammar.specs.Machine.Lines.{lead_turn}
 use Rattle.pc_reader.proofs.Streams.{blame}
 use Rattle.pc_reader.proofs.Steps.{step_to, kind_seen, not_seen}
+use Rattle.pc_parse.specs.Internal.WholeTrees.{ending_of}
+use Rattle.pc_parse.specs.Internal.Suites.{site_at}
 use Rattle.pc_parse.proofs.Statements.{line_end_turn, condition_turn}
 use Rattle.pc_parse.proofs.Lines.{line_ended}
 use Rattle.pc_parse.proofs.Keeping.{keep_one, keep_two}

@@ -1,7 +1,7 @@
 use Rattle.std.proofs.Common.{refl}
 use Rattle.std.proofs.lemmas.Result.{err_from_is_err_and}
+use Rattle.pc_grammar.specs.Machine.States.{decorator_due}
 use Rattle.pc_reader.proofs.Streams.{blame}
-use Rattle.pc_tree.specs.Machine.States.{decorator_due}
 use Rattle.pc_parse.proofs.Members.{needs_dataclass, class_word_missing, class_name_missing, class_base_fails}
 use Rattle.pc_parse.proofs.Members.{class_members_fail, class_read}
 use Rattle.pc_parse.proofs.parser.Parser.class.Goals as goal

@@ -1,6 +1,6 @@
 use Rattle.std.proofs.Common.{refl}
 use Rattle.std.proofs.lemmas.Result.{err_from_is_err_and}
-use Rattle.pc_tree.specs.Machine.States.{whole}
+use Rattle.pc_grammar.specs.Machine.States.{whole}
 use Rattle.pc_reader.proofs.Streams.{blame}
 use Rattle.pc_parse.proofs.Lines.{whole_given}
 use Rattle.pc_parse.proofs.parser.Parser.expression.Goals as goal

@@ -1,7 +1,7 @@
 use Rattle.std.proofs.Common.{refl}
 use Rattle.std.proofs.lemmas.Result.{err_from_is_err_and}
+use Rattle.pc_grammar.specs.Machine.States.{members}
 use Rattle.pc_reader.proofs.Streams.{blame}
-use Rattle.pc_tree.specs.Machine.States.{members}
 use Rattle.pc_parse.proofs.Members.{no_field, colon_missing, field_annotation_fails, field_default_fails}
 use Rattle.pc_parse.proofs.Members.{line_end_missing, field_read}
 use Rattle.pc_parse.proofs.parser.Parser.field.Goals as goal

@@ -1,10 +1,10 @@
 use Rattle.std.proofs.Common.{refl}
 use Rattle.std.proofs.lemmas.Result.{err_from_is_err_and}
+use Rattle.pc_grammar.specs.Grammar.{name_at}
+use Rattle.pc_grammar.specs.Machine.States.{def_due}
+use Rattle.pc_grammar.specs.Machine.Lines.{params_of}
 use Rattle.pc_reader.proofs.Steps.{needs}
 use Rattle.pc_reader.proofs.Streams.{blame}
-use Rattle.pc_tree.specs.Grammar.{name_at}
-use Rattle.pc_tree.specs.Machine.States.{def_due}
-use Rattle.pc_tree.specs.Machine.Lines.{params_of}
 use Rattle.pc_parse.proofs.Functions.{signature_fails, returns_fail, colon_fails, suite_fails, function_read}
 use Rattle.pc_parse.proofs.parser.Parser.function.Goals as goal
 

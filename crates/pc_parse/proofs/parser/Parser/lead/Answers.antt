@@ -1,5 +1,5 @@
 use Rattle.std.proofs.Common.{ap, sym, ◌∙◌}
-use Rattle.pc_tree.specs.Machine.Kinds.{lead_of}
+use Rattle.pc_grammar.specs.Machine.Kinds.{lead_of}
 use Rattle.pc_parse.proofs.Lines.{ahead_kind}
 use Rattle.pc_parse.proofs.parser.Parser.lead.Goals as goal
 

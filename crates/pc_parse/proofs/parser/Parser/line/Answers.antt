@@ -3,18 +3,19 @@ use Rattle.std.proofs.lemmas.Result.{err_from_is_err_and}
 use Rattle.pc_token.specs.declared.token.TokenKind.TheVariants as kind
 use Rattle.pc_token.specs.declared.token.Operator.TheVariants as sign
 use Rattle.pc_tree.specs.Tree.{assigns, evaluates, no_anns, expr_of, name_of, target_of}
-use Rattle.pc_tree.specs.Grammar.{first_place}
 use Rattle.pc_tree.specs.Depth.{whole_expr}
-use Rattle.pc_tree.specs.Machine.{at}
-use Rattle.pc_tree.specs.Machine.States.{whole, ann_whole, in_line, in_statement, of_local, assigned, stmts, part_due}
-use Rattle.pc_tree.specs.Machine.States.{operand, have}
-use Rattle.pc_tree.specs.Machine.Finishing.{after_stmt, finish, begin_value, begin_annotation, line_site}
-use Rattle.pc_tree.specs.Machine.Lines.{lead_turn}
+use Rattle.pc_grammar.specs.Grammar.{first_place}
+use Rattle.pc_grammar.specs.Machine.{at}
+use Rattle.pc_grammar.specs.Machine.States.{whole, ann_whole, in_line, in_statement, of_local, assigned, stmts}
+use Rattle.pc_grammar.specs.Machine.States.{part_due}
+use Rattle.pc_grammar.specs.Machine.States.{operand, have}
+use Rattle.pc_grammar.specs.Machine.Finishing.{after_stmt, finish, begin_value, begin_annotation, line_site}
+use Rattle.pc_grammar.specs.Machine.Lines.{lead_turn}
 use Rattle.pc_reader.specs.Reading.{lexeme, Came}
-use Rattle.pc_parse.specs.Internal.WholeTrees.{ending_of, deep_after}
-use Rattle.pc_parse.specs.Internal.Suites.{site_at}
 use Rattle.pc_reader.proofs.Streams.{blame}
 use Rattle.pc_reader.proofs.Steps.{step_to, alike, kind_seen, not_seen}
+use Rattle.pc_parse.specs.Internal.WholeTrees.{ending_of, deep_after}
+use Rattle.pc_parse.specs.Internal.Suites.{site_at}
 use Rattle.pc_parse.proofs.Statements.{line_end_turn, line_turn}
 use Rattle.pc_parse.proofs.Lines.{line_ended, line_continued, no_place, first_is}
 use Rattle.pc_parse.proofs.Depths.{noted_nothing}

@@ -1,7 +1,7 @@
 use Rattle.std.proofs.Common.{refl, ap, ◌∙◌}
 use Rattle.std.proofs.lemmas.Result.{err_from_is_err_and}
 use Rattle.pc_token.specs.declared.token.TokenKind.TheVariants as kind
-use Rattle.pc_tree.specs.Machine.States.{stuck, on}
+use Rattle.pc_grammar.specs.Machine.States.{stuck, on}
 use Rattle.pc_reader.proofs.Streams.{blame}
 use Rattle.pc_reader.proofs.Steps.{step_to, meets}
 use Rattle.pc_parse.proofs.parser.Parser.line_end.Goals as goal

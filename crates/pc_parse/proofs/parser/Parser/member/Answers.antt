@@ -2,10 +2,10 @@ use Rattle.std.proofs.Common.{refl, sym, ◌∙◌}
 use Rattle.std.proofs.lemmas.Result.{err_from_is_err_and}
 use Rattle.pc_token.specs.declared.token.TokenKind.TheVariants as kind
 use Rattle.pc_token.specs.declared.token.Keyword.TheVariants as word
+use Rattle.pc_grammar.specs.Machine.{at}
+use Rattle.pc_grammar.specs.Machine.States.{members}
 use Rattle.pc_reader.proofs.Steps.{kind_seen}
 use Rattle.pc_reader.proofs.Streams.{blame}
-use Rattle.pc_tree.specs.Machine.{at}
-use Rattle.pc_tree.specs.Machine.States.{members}
 use Rattle.pc_parse.proofs.Members.{field_as_member, method_fails, method_as_member}
 use Rattle.pc_parse.proofs.parser.Parser.member.Goals as goal
 

@@ -1,11 +1,11 @@
 use Rattle.std.proofs.Common.{[], refl, arith, sym, ◌∙◌}
 use Rattle.std.proofs.lemmas.Result.{err_from_is_err_and}
 use Rattle.pc_token.specs.declared.token.TokenKind.TheVariants as kind
-use Rattle.pc_reader.proofs.Steps.{kind_seen}
-use Rattle.pc_reader.proofs.Streams.{blame}
-use Rattle.pc_tree.specs.Machine.Finishing.{after_class}
 use Rattle.pc_tree.specs.Tree.{member_of}
 use Rattle.pc_tree.specs.Depth.{wholes_of_members}
+use Rattle.pc_grammar.specs.Machine.Finishing.{after_class}
+use Rattle.pc_reader.proofs.Steps.{kind_seen}
+use Rattle.pc_reader.proofs.Streams.{blame}
 use Rattle.pc_parse.proofs.Parameters.{kept_none}
 use Rattle.pc_parse.proofs.Members.{no_members, passed_over, member_fails, more_members, dedent_fails, last_member}
 use Rattle.pc_parse.proofs.parser.Parser.members.Goals as goal

@@ -3,7 +3,7 @@ use Rattle.std.specs.Option.{is_some}
 use Rattle.std.proofs.lemmas.Result.{err_from_is_err_and}
 use Rattle.pc_tree.specs.Tree.{item_of}
 use Rattle.pc_tree.specs.Depth.{wholes_of_items}
-use Rattle.pc_tree.specs.Machine.Lines.{module_of as module_over}
+use Rattle.pc_grammar.specs.Machine.Lines.{module_of as module_over}
 use Rattle.pc_parse.specs.Internal.Modules.{top_of}
 use Rattle.pc_parse.proofs.Parameters.{kept_none}
 use Rattle.pc_parse.proofs.Pieces.{more_items}

@@ -5,9 +5,9 @@ use Rattle.pc_token.specs.declared.token.Operator.TheVariants as sign
 use Rattle.pc_reader.proofs.Steps.{kind_seen}
 use Rattle.pc_reader.proofs.Streams.{blame}
 use Rattle.std.specs.Prelude.{codes}
-use Rattle.pc_tree.specs.Machine.{at}
-use Rattle.pc_tree.specs.Machine.States.{fixed, self_read}
-use Rattle.pc_tree.specs.Machine.Kinds.{a_form}
+use Rattle.pc_grammar.specs.Machine.{at}
+use Rattle.pc_grammar.specs.Machine.States.{fixed, self_read}
+use Rattle.pc_grammar.specs.Machine.Kinds.{a_form}
 use Rattle.pc_reader.proofs.Words.{form_due, form_read}
 use Rattle.pc_parse.proofs.Functions.{after_self, self_alone, self_unclosed}
 use Rattle.pc_parse.proofs.parser.Parser.parameters_of_method.Goals as goal

@@ -3,11 +3,11 @@ use Rattle.std.proofs.lemmas.Result.{err_from_is_err_and}
 use Rattle.pc_token.specs.declared.token.TokenKind.TheVariants as kind
 use Rattle.pc_token.specs.declared.token.Keyword.TheVariants as word
 use Rattle.pc_token.specs.declared.token.Operator.TheVariants as sign
+use Rattle.pc_tree.specs.Tree.{name_of}
+use Rattle.pc_grammar.specs.Machine.{at}
+use Rattle.pc_grammar.specs.Machine.States.{items, after_headers}
 use Rattle.pc_reader.proofs.Steps.{kind_seen}
 use Rattle.pc_reader.proofs.Streams.{blame}
-use Rattle.pc_tree.specs.Tree.{name_of}
-use Rattle.pc_tree.specs.Machine.{at}
-use Rattle.pc_tree.specs.Machine.States.{items, after_headers}
 use Rattle.pc_parse.proofs.Pieces.{class_as_item, class_fails, function_as_item, function_fails, no_item, no_last_line}
 use Rattle.pc_parse.proofs.Pieces.{last_line_fails, last_read, constant_fails, constant_as_item}
 use Rattle.pc_parse.proofs.parser.Parser.piece.Goals as goal

@@ -2,14 +2,14 @@ use Rattle.std.proofs.Common.{Some, None, refl, arith, ap, sym, ◌∙◌}
 use Rattle.std.proofs.lemmas.Result.{err_from_is_err_and}
 use Rattle.pc_token.specs.declared.token.TokenKind.TheVariants as kind
 use Rattle.pc_tree.specs.Tree.{returns as returns_tree, expr_of}
-use Rattle.pc_tree.specs.Machine.{at}
-use Rattle.pc_tree.specs.Machine.Kinds.{same_kind}
-use Rattle.pc_tree.specs.Machine.States.{whole, in_statement, returned, stmts, return_due, operand, have, stuck}
-use Rattle.pc_tree.specs.Machine.Finishing.{after_stmt}
-use Rattle.pc_tree.specs.Machine.Lines.{lead_turn}
-use Rattle.pc_parse.specs.Internal.Suites.{site_at}
+use Rattle.pc_grammar.specs.Machine.{at}
+use Rattle.pc_grammar.specs.Machine.Kinds.{same_kind}
+use Rattle.pc_grammar.specs.Machine.States.{whole, in_statement, returned, stmts, return_due, operand, have, stuck}
+use Rattle.pc_grammar.specs.Machine.Finishing.{after_stmt}
+use Rattle.pc_grammar.specs.Machine.Lines.{lead_turn}
 use Rattle.pc_reader.proofs.Streams.{blame}
 use Rattle.pc_reader.proofs.Steps.{step_to, alike, not_seen}
+use Rattle.pc_parse.specs.Internal.Suites.{site_at}
 use Rattle.pc_parse.proofs.Statements.{line_end_turn, on_seen, on_unseen}
 use Rattle.pc_parse.proofs.Lines.{line_ended, seen_kind}
 use Rattle.pc_parse.proofs.Depths.{noted_nothing}

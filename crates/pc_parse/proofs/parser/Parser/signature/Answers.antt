@@ -1,7 +1,7 @@
 use Rattle.std.proofs.Common.{refl}
 use Rattle.std.proofs.lemmas.Result.{err_from_is_err_and}
+use Rattle.pc_grammar.specs.Machine.Lines.{params_of}
 use Rattle.pc_reader.proofs.Streams.{blame}
-use Rattle.pc_tree.specs.Machine.Lines.{params_of}
 use Rattle.pc_parse.proofs.Functions.{needs_open, signature_of_method, signature_of_function}
 use Rattle.pc_parse.proofs.parser.Parser.signature.Goals as goal
 

@@ -2,18 +2,18 @@ use Rattle.std.proofs.Common.{refl, arith, ap, sym, ◌∙◌}
 use Rattle.std.proofs.lemmas.Result.{err_from_is_err_and}
 use Rattle.std.specs.Prelude.{◌≡◌, []}
 use Rattle.pc_source.specs.declared.place.Place.{Place}
-use Rattle.pc_parse.specs.declared.statement.Word.{Word}
-use Rattle.pc_parse.specs.declared.statement.Word.TheVariants as alone
 use Rattle.pc_tree.specs.Depth.{wholes_of_stmt}
 use Rattle.pc_tree.specs.Tree.{stmt_of_kind}
-use Rattle.pc_tree.specs.Machine.{at}
-use Rattle.pc_tree.specs.Machine.States.{stmts}
-use Rattle.pc_tree.specs.Machine.Finishing.{add_stmt}
-use Rattle.pc_tree.specs.Machine.Lines.{line_ends}
-use Rattle.pc_parse.specs.Internal.WholeTrees.{deep_after}
-use Rattle.pc_parse.specs.Internal.Suites.{site_at, kind_of_word}
+use Rattle.pc_grammar.specs.Machine.{at}
+use Rattle.pc_grammar.specs.Machine.States.{stmts}
+use Rattle.pc_grammar.specs.Machine.Finishing.{add_stmt}
+use Rattle.pc_grammar.specs.Machine.Lines.{line_ends}
 use Rattle.pc_reader.proofs.Streams.{blame}
 use Rattle.pc_reader.proofs.Steps.{step_to}
+use Rattle.pc_parse.specs.declared.statement.Word.{Word}
+use Rattle.pc_parse.specs.declared.statement.Word.TheVariants as alone
+use Rattle.pc_parse.specs.Internal.WholeTrees.{deep_after}
+use Rattle.pc_parse.specs.Internal.Suites.{site_at, kind_of_word}
 use Rattle.pc_parse.proofs.Lines.{line_ended}
 use Rattle.pc_parse.proofs.Depths.{noted_nothing}
 use Rattle.pc_parse.proofs.parser.Parser.word.Goals as goal

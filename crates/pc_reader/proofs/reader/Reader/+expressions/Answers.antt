@@ -3,14 +3,15 @@ use Rattle.std.proofs.lemmas.Result.{err_from_is_err_and}
 use Rattle.pc_token.specs.declared.token.TokenKind.TheVariants as kind
 use Rattle.pc_token.specs.declared.token.Keyword.TheVariants as word
 use Rattle.pc_token.specs.declared.token.Operator.TheVariants as sign
-use Rattle.pc_tree.specs.Grammar.{first_place}
 use Rattle.pc_tree.specs.Tree.{tuple, no_exprs, more_exprs, no_entries, no_keywords, name_of}
-use Rattle.pc_tree.specs.Machine.{at, turn}
-use Rattle.pc_tree.specs.Machine.States.{minus, denial, in_tuple, in_list, in_call, joining, applying, grouping}
-use Rattle.pc_tree.specs.Machine.States.{listing, indexing, naming, keying, valuing, operand, have, dotted, group_due}
-use Rattle.pc_tree.specs.Machine.States.{item_due, keyword_due, keyword_named, key_due}
-use Rattle.pc_tree.specs.Machine.Finishing.{add_keyword}
-use Rattle.pc_tree.specs.Machine.Expressions.{part, joined, grouped, call_part}
+use Rattle.pc_grammar.specs.Grammar.{first_place}
+use Rattle.pc_grammar.specs.Machine.{at, turn}
+use Rattle.pc_grammar.specs.Machine.States.{minus, denial, in_tuple, in_list, in_call, joining, applying, grouping}
+use Rattle.pc_grammar.specs.Machine.States.{listing, indexing, naming, keying, valuing, operand, have, dotted}
+use Rattle.pc_grammar.specs.Machine.States.{group_due}
+use Rattle.pc_grammar.specs.Machine.States.{item_due, keyword_due, keyword_named, key_due}
+use Rattle.pc_grammar.specs.Machine.Finishing.{add_keyword}
+use Rattle.pc_grammar.specs.Machine.Expressions.{part, joined, grouped, call_part}
 use Rattle.pc_reader.specs.Internal.Operands.{infix_of, signs_on, applied_all}
 use Rattle.pc_reader.specs.Reading.{lexeme, Came}
 use Rattle.pc_reader.specs.Internal.Expressions.{NextIs, Over, Undotted}

@@ -1,8 +1,8 @@
 use Rattle.std.proofs.Common.{◌≡◌, ◌≤◌, ◌<◌, ◌+◌, ◌*◌, ◌-◌, List}
 use Rattle.pc_token.specs.Lexeme.{Lexeme}
 use Rattle.pc_tree.specs.Tree.{Exprs, no_exprs, Expr, name_of}
-use Rattle.pc_tree.specs.Machine.States.{Head, in_call}
-use Rattle.pc_tree.specs.Machine.Expressions.{rank}
+use Rattle.pc_grammar.specs.Machine.States.{Head, in_call}
+use Rattle.pc_grammar.specs.Machine.Expressions.{rank}
 use Rattle.pc_reader.specs.Internal.Brackets.{KeepsItems}
 use Rattle.pc_reader.specs.Internal.Expressions.{Gives, NextIs, Undotted, IsPrimary, Closes}
 use Rattle.pc_reader.specs.Reading.{IsReady, left_in}

@@ -1,5 +1,5 @@
 use Rattle.std.proofs.Common.{refl}
-use Rattle.pc_tree.specs.Machine.{lost}
+use Rattle.pc_grammar.specs.Machine.{lost}
 use Rattle.pc_reader.proofs.Streams.{at_end}
 use Rattle.pc_reader.proofs.reader.Reader.drain.Goals as goal
 

@@ -1,7 +1,7 @@
 use Rattle.std.proofs.Common.{ℕ, Result}
 use Rattle.pc_source.specs.declared.fault.Fault.{Fault}
 use Rattle.pc_tree.specs.Tree.{Module}
-use Rattle.pc_tree.specs.Machine.{lost}
+use Rattle.pc_grammar.specs.Machine.{lost}
 use Rattle.pc_reader.specs.Reading.{IsReady, left_in, Came}
 use Rattle.pc_reader.proofs.reader.Reader.drain.Given as goal
 

@@ -1,7 +1,7 @@
 use Rattle.std.proofs.Common.{drop, drop-cons}
 use Rattle.std.proofs.lemmas.Result.{err_from_is_err_and}
+use Rattle.pc_grammar.specs.Machine.Lines.{due}
 use Rattle.pc_reader.proofs.Streams.{blame}
-use Rattle.pc_tree.specs.Machine.Lines.{due}
 use Rattle.pc_reader.specs.Internal.FixedWords.{kinds_of}
 use Rattle.pc_reader.proofs.Words.{next_due}
 use Rattle.pc_reader.proofs.reader.Reader.fixed.Goals as goal

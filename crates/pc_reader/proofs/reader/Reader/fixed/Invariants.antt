@@ -1,7 +1,7 @@
 use Rattle.std.proofs.Common.{◌≤◌, drop}
-use Rattle.pc_tree.specs.Machine.{at}
-use Rattle.pc_tree.specs.Machine.Lines.{due}
-use Rattle.pc_tree.specs.Machine.States.{State}
+use Rattle.pc_grammar.specs.Machine.{at}
+use Rattle.pc_grammar.specs.Machine.Lines.{due}
+use Rattle.pc_grammar.specs.Machine.States.{State}
 use Rattle.pc_reader.specs.Reading.{IsReady, left_in, Onward}
 use Rattle.pc_reader.specs.Internal.FixedWords.{kinds_of}
 use Rattle.pc_reader.proofs.reader.Reader.fixed.Given as goal

@@ -3,8 +3,8 @@ use Rattle.std.proofs.lemmas.Result.{err_from_is_err_and}
 use Rattle.pc_token.specs.declared.token.TokenKind.TheVariants as kind
 use Rattle.pc_token.specs.declared.token.Keyword.TheVariants as word
 use Rattle.pc_tree.specs.declared.tree.ComparisonOperator.TheVariants as cmp
-use Rattle.pc_tree.specs.Machine.Kinds.{comparison, linking, denying, identifying}
-use Rattle.pc_tree.specs.Machine.States.{joining, operand, have, denied, identified}
+use Rattle.pc_grammar.specs.Machine.Kinds.{comparison, linking, denying, identifying}
+use Rattle.pc_grammar.specs.Machine.States.{joining, operand, have, denied, identified}
 use Rattle.pc_reader.specs.Internal.Operands.{infix_of}
 use Rattle.pc_reader.specs.Reading.{lexeme}
 use Rattle.pc_reader.proofs.Streams.{blame}

@@ -1,14 +1,14 @@
 use Rattle.std.proofs.Common.{[], ◌∷◌, ◌++◌, refl, ap, sym, ◌∙◌}
 use Rattle.std.proofs.lemmas.Result.{err_from_is_err_and}
 use Rattle.pc_tree.specs.Tree.{attribute, name_of}
-use Rattle.pc_tree.specs.Machine.{turn}
-use Rattle.pc_tree.specs.Machine.States.{have, dotted, go}
-use Rattle.pc_tree.specs.Machine.Expressions.{part}
+use Rattle.pc_grammar.specs.Machine.{turn}
+use Rattle.pc_grammar.specs.Machine.States.{have, dotted, go}
+use Rattle.pc_grammar.specs.Machine.Expressions.{part}
+use Rattle.pc_grammar.specs.Grammar.{name_at}
 use Rattle.pc_reader.specs.Reading.{lexeme}
 use Rattle.pc_reader.proofs.Building.{starts_more, ends_more}
 use Rattle.pc_reader.proofs.Streams.{blame}
 use Rattle.pc_reader.proofs.Steps.{step_to, needs, on_result}
-use Rattle.pc_tree.specs.Grammar.{name_at}
 use Rattle.pc_reader.proofs.Building.{name_ends, first_more}
 use Rattle.pc_reader.proofs.reader.Reader.member.Goals as goal
 

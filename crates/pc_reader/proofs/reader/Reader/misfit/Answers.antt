@@ -1,7 +1,7 @@
 use Rattle.std.proofs.Common.{ℕ, sym, subst}
+use Rattle.pc_grammar.specs.Machine.{at}
 use Rattle.pc_reader.proofs.Streams.{blame_any, blame, rejected, rejected_end, rejected_late}
 use Rattle.pc_reader.specs.Reading.{Came, misfit_at}
-use Rattle.pc_tree.specs.Machine.{at}
 use Rattle.pc_reader.proofs.reader.Reader.misfit.Goals as goal
 use Rattle.pc_reader.proofs.reader.Reader.misfit.Goals.{in-Some, in-None}
 

@@ -1,7 +1,7 @@
 use Rattle.std.proofs.Common.{ap, sym, ◌∙◌}
 use Rattle.std.proofs.lemmas.Result.{err_from_is_err_and}
 use Rattle.pc_token.specs.declared.token.TokenKind.TheVariants as kind
-use Rattle.pc_tree.specs.Machine.{at}
+use Rattle.pc_grammar.specs.Machine.{at}
 use Rattle.pc_reader.specs.Reading.{IsAhead}
 use Rattle.pc_reader.proofs.Streams.{blame}
 use Rattle.pc_reader.proofs.SameKind.{same_is}

@@ -3,10 +3,10 @@ use Rattle.std.proofs.lemmas.Result.{err_from_is_err_and}
 use Rattle.pc_token.specs.declared.token.TokenKind.TheVariants as kind
 use Rattle.pc_token.specs.declared.token.Keyword.TheVariants as word
 use Rattle.pc_tree.specs.Tree.{is_none, is_not_none}
-use Rattle.pc_tree.specs.Machine.{turn, at}
-use Rattle.pc_tree.specs.Machine.Kinds.{same_kind}
-use Rattle.pc_tree.specs.Machine.States.{have, identified, unidentified, stuck, on}
-use Rattle.pc_tree.specs.Machine.Expressions.{part}
+use Rattle.pc_grammar.specs.Machine.{turn, at}
+use Rattle.pc_grammar.specs.Machine.Kinds.{same_kind}
+use Rattle.pc_grammar.specs.Machine.States.{have, identified, unidentified, stuck, on}
+use Rattle.pc_grammar.specs.Machine.Expressions.{part}
 use Rattle.pc_reader.specs.Reading.{lexeme}
 use Rattle.pc_reader.proofs.Building.{first_more, starts_more, ends_more, ends_one}
 use Rattle.pc_reader.proofs.Streams.{blame}

@@ -1,15 +1,15 @@
 use Rattle.std.proofs.Common.{[], ◌∷◌, ◌++◌, refl, arith, ap, sym, ◌∙◌, subst}
 use Rattle.std.proofs.lemmas.Result.{err_from_is_err_and}
-use Rattle.pc_tree.specs.Machine.{at}
-use Rattle.pc_tree.specs.Machine.States.{applying, operand}
+use Rattle.pc_grammar.specs.Machine.{at}
+use Rattle.pc_grammar.specs.Machine.States.{applying, operand}
 use Rattle.pc_reader.specs.Internal.Operands.{prefix_of, signs_on}
 use Rattle.pc_reader.specs.Reading.{lexeme, Came}
 use Rattle.pc_reader.proofs.Streams.{blame}
 use Rattle.pc_reader.proofs.Steps.{same_place, step_to, kind_seen}
 use Rattle.pc_reader.proofs.Signs.{some_sign, signs_more, starts_push, takes_signs, sign_turn}
 use Rattle.std.proofs.Common.{append_assoc}
-use Rattle.pc_tree.specs.Grammar.{first_place}
-use Rattle.pc_tree.specs.Fronts.Expressions.{prefix_kind}
+use Rattle.pc_grammar.specs.Grammar.{first_place}
+use Rattle.pc_grammar.specs.Fronts.Expressions.{prefix_kind}
 use Rattle.pc_reader.specs.Reading.{IsAhead}
 use Rattle.pc_reader.proofs.reader.Reader.signs.Goals as goal
 

@@ -2,8 +2,8 @@ use Rattle.std.proofs.Common.{refl, arith, ap, sym, ◌∙◌}
 use Rattle.std.proofs.lemmas.Result.{err_from_is_err_and}
 use Rattle.pc_token.specs.declared.token.TokenKind.TheVariants as kind
 use Rattle.pc_token.specs.declared.token.Operator.TheVariants as sign
-use Rattle.pc_tree.specs.Machine.{at}
-use Rattle.pc_tree.specs.Machine.States.{operand, have, go}
+use Rattle.pc_grammar.specs.Machine.{at}
+use Rattle.pc_grammar.specs.Machine.States.{operand, have, go}
 use Rattle.pc_reader.specs.Internal.Expressions.{value_ahead}
 use Rattle.pc_reader.proofs.Streams.{blame}
 use Rattle.pc_reader.proofs.Steps.{same_place, step_to, not_seen, skipped, nothing_ahead}
