@@ -1,13 +1,21 @@
--- Locals with types in boxes that are well-formed: one more of them, and what declares them.
-use Rattle.std.proofs.Common.{◌≡◌, ℕ, List, [], ◌∷◌, Option, Some, None, sym, subst, arith}
+-- Locals with types in boxes that are well-formed: one more of them, and what declares them; how many there are.
+use Rattle.std.proofs.Common.{◌≡◌, ℕ, zero, suc, List, [], ◌∷◌, Option, Some, None, length, refl, ap, sym, subst, arith}
 use Rattle.std.specs.Prelude.{slice_set}
 use Rattle.pc_types.specs.Below.{Bases}
 use Rattle.pc_types.specs.Boxed.{IsGiven, tree_of}
 use Rattle.pc_types.specs.WellFormed.{IsWellFormed}
 use Rattle.pc_types.specs.declared.boxed.BoxType.{BoxType}
+use Rattle.pc_flow.specs.Agreement.{TakesInOutside}
 use Rattle.pc_flow.specs.Stored.{HasEach, env_of, declared_of}
 use Rattle.pc_flow.specs.WellFormed.{IsWellFormedEnv, AreWellFormed}
 use Rattle.pc_flow.proofs.Assigned.{set_given, set_well_formed}
+
+-- there are as many locals after one of them is given another type
+pub set_length : (types : List (Option BoxType)) (x : ℕ) (o : Option BoxType)
+    → length (slice_set types x o) ≡ length types
+set_length [] x o = refl
+set_length (t ∷ ts) zero o = refl
+set_length (t ∷ ts) (suc x) o = ap suc (set_length ts x o)
 
 module _ (bases : Bases) where
   -- the type of each local that has one is of its store, and well-formed
@@ -26,3 +34,15 @@ module _ (bases : Bases) where
   declared_well_formed [] h = tt
   declared_well_formed (None ∷ os) h = ((tt, tt, omega arith), declared_well_formed os h.1)
   declared_well_formed (Some t ∷ os) h = (h.0, declared_well_formed os h.1)
+
+  -- where there are three locals, all others are taken in
+  pub all_taken_in : (a b : List (Option BoxType)) → length a ≡ 3
+      → TakesInOutside bases (0 ∷ 1 ∷ 2 ∷ []) (env_of tree_of a) (env_of tree_of b)
+  all_taken_in a b n zero h = cc
+  all_taken_in a b n (suc zero) h = cc
+  all_taken_in a b n (suc (suc zero)) h = cc
+  all_taken_in [] b n (suc (suc (suc x))) h = tt
+  all_taken_in (p ∷ []) b n (suc (suc (suc x))) h = tt
+  all_taken_in (p ∷ q ∷ []) b n (suc (suc (suc x))) h = tt
+  all_taken_in (p ∷ q ∷ r ∷ []) b n (suc (suc (suc x))) h = tt
+  all_taken_in (p ∷ q ∷ r ∷ s ∷ a) b n (suc (suc (suc x))) h = absurd (grind arith)

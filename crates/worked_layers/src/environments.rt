@@ -1,5 +1,5 @@
 //! What is known of locals, by `pc_flow`: where two ways meet, at heads of loops, after assignments, by conditions.
-ghost use Rattle.std.specs.Prelude.{IfOk};
+ghost use Rattle.std.specs.Prelude.{◌≡◌, IfOk, length};
 ghost use Rattle.std.specs.Option.{option_copied};
 ghost use Rattle.pc_scope.specs.ModuleScopes.{AreScopes};
 ghost use Rattle.pc_ann.specs.ModuleOutlines.{module_in};
@@ -11,18 +11,21 @@ ghost use Rattle.pc_flow.specs.WellFormed.{IsWellFormedEnv};
 use crate::conditions::condition_in;
 use pc_ann::{ModuleOutline, parents_of, read_option, type_text};
 use pc_flow::{
-    Declarations, DeclaredTypes, Env, OwnerNames, assigned_type, copy_env, join_env,
-    join_or_object, loop_head, narrow_false, narrow_true,
+    Declarations, DeclaredTypes, Env, OwnerNames, assigned_type, copy_env, join_env, join_env_onto,
+    join_or_object, loop_head, narrow_false, narrow_simple, narrow_true,
 };
 use pc_front::read_module;
 use pc_scope::{Owner, Res, scopes};
-use pc_source::Fault;
-use pc_tree::{Ann, Code, FuncDef, ItemKind, Module, Param};
+use pc_source::{Fault, OutOfMemory};
+use pc_tree::{Ann, Code, Expr, FuncDef, ItemKind, Module, Param};
 use pc_types::{BoxStore, BoxType, TypeStore};
 use std::alloc::{AllocError, Global};
 
 /// The most locals of a row.
 const LOCALS: usize = 3;
+
+/// How a row begins that narrows by a condition that is no `not`, `and` or `or`.
+const SIMPLY: &str = "simple ";
 
 /// What the environments of a row stand in.
 #[derive(Drop)]
@@ -82,6 +85,7 @@ fn assigned(row: &Environment, alloc: Global, def: &FuncDef) -> Result<Env<BoxTy
     ensures given { IfOk result (λ e. HasEach IsGiven e) }
     ensures well_formed { IfOk result
         (λ e. IsWellFormedEnv row.now.outline.now.parents.now (env_of tree_of e)) }
+    ensures locals { IfOk result (λ e. length e ≡ 3) }
 {
     let mut env = Env::new(alloc, LOCALS)?;
     for param in &def.params {
@@ -160,39 +164,86 @@ fn numbers(row: &Environment, alloc: Global, words: &str) -> Result<Vec<usize>, 
     Ok(numbers)
 }
 
-/// What is known after a row: where its two ways meet (`join`), at the head of a loop that binds the locals among its
-/// words (`loop`), or of a copy of the first way.
+/// What is known where the two ways of a row meet (`join`), or where the second one is joined onto the first (`onto`),
+/// then with the numbers of the locals at which joining it again may change something.
+#[tactic(auto, using(crate::proofs::Locals::all_taken_in))]
+fn met_text(
+    row: &Environment,
+    alloc: Global,
+    words: &str,
+    one: Env<BoxType>,
+    other: &Env<BoxType>,
+) -> Result<String, Fault>
+    requires scopes { AreScopes (module_in row.now.outline.now) row.now.outline.now.scopes.now }
+    requires one { HasEach IsGiven one }
+    requires locals { length one ≡ 3 }
+    requires other { HasEach IsGiven other.now }
+{
+    let declared = declared_types(row, alloc)?;
+    let names = OwnerNames {
+        scopes: row.outline.scopes,
+        owner: Owner::Func(0),
+    };
+    let declarations = Declarations {
+        parents: row.outline.parents,
+        declared: &declared,
+        names: &names,
+    };
+    let mut store = BoxStore::new();
+    if words == "join" {
+        let env = join_env(&mut store, alloc, &declarations, &one, other)?;
+        return env_text(row, alloc, &env);
+    }
+    let met = join_env_onto(&mut store, alloc, &declarations, &[0, 1, 2], one, other)?;
+    let mut out = env_text(row, alloc, &met.env)?;
+    write!(out, "; {:?}", met.unsettled)?;
+    Ok(out)
+}
+
+/// What is known after a row: at the head of a loop that binds the locals among its words (`loop`), or of a copy of its
+/// way.
 fn known(
     row: &Environment,
     alloc: Global,
     words: &str,
     one: &Env<BoxType>,
-    other: &Env<BoxType>,
 ) -> Result<Env<BoxType>, Fault>
     requires scopes { AreScopes (module_in row.now.outline.now) row.now.outline.now.scopes.now }
     requires one { HasEach IsGiven one.now }
-    requires other { HasEach IsGiven other.now }
     ensures { IfOk result (λ e. HasEach IsGiven e) }
 {
-    let declared = declared_types(row, alloc)?;
     let mut store = BoxStore::new();
-    if words == "join" {
-        let names = OwnerNames {
-            scopes: row.outline.scopes,
-            owner: Owner::Func(0),
-        };
-        let declarations = Declarations {
-            parents: row.outline.parents,
-            declared: &declared,
-            names: &names,
-        };
-        return Ok(join_env(&mut store, alloc, &declarations, one, other)?);
-    }
     if words.starts_with("loop") {
+        let declared = declared_types(row, alloc)?;
         let bound = numbers(row, alloc, words)?;
         return Ok(loop_head(&mut store, alloc, &bound, &declared, one)?);
     }
     Ok(copy_env(&store, alloc, one)?)
+}
+
+/// What is left of an environment where a condition is true, or where it is false, if it is no `not`, `and` or `or`.
+fn narrowed_simply(
+    alloc: Global,
+    declarations: &Declarations<'_, BoxType>,
+    condition: &Expr,
+    holds: bool,
+    env: Env<BoxType>,
+) -> Result<Env<BoxType>, OutOfMemory>
+    requires env { HasEach IsGiven env }
+    requires well_formed { IsWellFormedEnv declarations.now.parents.now (env_of tree_of env) }
+    ensures { IfOk result (λ e. HasEach IsGiven e) }
+{
+    match condition {
+        Expr::Not(_, _) | Expr::And(_, _, _) | Expr::Or(_, _, _) => Ok(env),
+        _ => {
+            let ways = narrow_simple(&mut BoxStore::new(), alloc, declarations, condition, env)?;
+            if holds {
+                Ok(ways.where_true)
+            } else {
+                Ok(ways.where_false)
+            }
+        }
+    }
 }
 
 /// What is left of an environment where the condition of the function of the locals is true, or where it is false.
@@ -221,6 +272,10 @@ fn narrowed(
         declared: &declared,
         names: &names,
     };
+    if let Some(way) = words.strip_prefix(SIMPLY) {
+        let holds = way.starts_with("true");
+        return Ok(narrowed_simply(alloc, &declarations, condition, holds, env)?);
+    }
     let mut store = BoxStore::new();
     if words.starts_with("true") {
         return Ok(narrow_true(&mut store, alloc, &declarations, condition, env)?);
@@ -269,9 +324,9 @@ fn either_text(row: &Environment, alloc: Global, env: &Env<BoxType>) -> Result<S
 
 /// The condition of a row that narrows by one, after the word that says which way is taken.
 fn condition_of_row(words: &str) -> Option<&str> {
-    words
-        .strip_prefix("true ")
-        .or_else(|| words.strip_prefix("false "))
+    let way = words.strip_prefix(SIMPLY).unwrap_or(words);
+    way.strip_prefix("true ")
+        .or_else(|| way.strip_prefix("false "))
 }
 
 /// The body of the function of the locals: an `if` with the condition of the row, where it has one.
@@ -303,8 +358,11 @@ fn done(
         let env = narrowed(row, alloc, words, one)?;
         return env_text(row, alloc, &env);
     }
-    let other = assigned(row, alloc, other)?;
-    let env = known(row, alloc, words, &one, &other)?;
+    if words == "join" || words == "onto" {
+        let other = assigned(row, alloc, other)?;
+        return met_text(row, alloc, words, one, &other);
+    }
+    let env = known(row, alloc, words, &one)?;
     env_text(row, alloc, &env)
 }
 

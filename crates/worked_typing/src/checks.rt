@@ -1,18 +1,23 @@
 //! What the check of a module explains and finds, by `pc_check` and `pc_signatures`, over any store of types.
+ghost use Rattle.std.specs.Prelude.{All};
 ghost use Rattle.pc_tree.specs.Tree.{module_of};
 ghost use Rattle.pc_scope.specs.ModuleScopes.{AreScopes};
+ghost use Rattle.pc_class.specs.Tables.{HasEntries};
+ghost use Rattle.pc_rules.specs.Computed.Standing.{HasSignature};
 
 use pc_ann::{ModuleOutline, parents_of, type_text};
 use pc_check::{check_module, explain_flow};
 use pc_class::class_table;
+use pc_expr::type_expr;
+use pc_flow::{DeclaredTypes, Env, OwnerNames};
 use pc_front::read_module;
 use pc_intern::InternStore;
 use pc_notes::Notes;
-use pc_rules::Checker;
-use pc_scope::{Scopes, scopes};
+use pc_rules::{Checker, ModuleContext, Setting};
+use pc_scope::{Owner, Scopes, scopes};
 use pc_signatures::read_signatures;
 use pc_source::{OutOfMemory, Place};
-use pc_tree::Module;
+use pc_tree::{Expr, ItemKind, Module};
 use pc_types::{BoxStore, TypeStore};
 use std::alloc::{AllocError, Global};
 
@@ -116,8 +121,97 @@ fn signed_text<S: TypeStore>(
     )
 }
 
-/// What a store answers to a module in a part of this name: the flow at a place, what is found in the module, or what
-/// its signatures are.
+/// The initializer of the last constant of a module.
+fn last_initializer(tree: &Module) -> Option<&Expr> {
+    let mut last = None;
+    for item in &tree.items {
+        if let ItemKind::Constant(constant) = &item.kind {
+            last = Some(&constant.value);
+        }
+    }
+    last
+}
+
+/// A type and what is found, as a table writes them.
+fn typed(alloc: Global, ty: &str, notes: &Notes) -> Result<String, OutOfMemory> {
+    let found = listed(alloc, notes)?;
+    Ok(format!(in alloc; "{ty}; {found}")?)
+}
+
+/// The type of the initializer of a module's last constant, and what is found in it. In a body functions may be called.
+fn label_text<S: TypeStore>(
+    store: &mut S,
+    alloc: Global,
+    globals: &ModuleContext<'_, S::Ty>,
+    in_body: bool,
+) -> Result<String, OutOfMemory>
+    requires classes { HasEntries (S.has store.old) globals.now.classes.now }
+    requires functions { All (HasSignature (S.has store.old)) globals.now.functions.now }
+    requires constants { All (S.has store.old) globals.now.constants.now }
+{
+    let Some(value) = last_initializer(globals.outline.tree) else {
+        return Ok(String::from_str(alloc, "no constant")?);
+    };
+    let names = OwnerNames {
+        scopes: globals.outline.scopes,
+        owner: Owner::Module,
+    };
+    let declared = DeclaredTypes::new(alloc, 0)?;
+    let env = Env::new(alloc, 0)?;
+    let setting = Setting {
+        globals,
+        in_body,
+        names: &names,
+        declared: &declared,
+    };
+    let mut notes = Notes::new(alloc);
+    let mut checker = Checker {
+        store,
+        alloc,
+        found: &mut notes,
+    };
+    let label = type_expr(&mut checker, &setting, &env, &None, value)?;
+    let ty = type_text(checker.store, alloc, globals.outline.tree, &label.ty)?;
+    typed(alloc, ty.as_str(), &notes)
+}
+
+/// The type of the initializer of a module's last constant, and what is found in it, where all constants and classes of
+/// the module may be named.
+fn typed_text<S: TypeStore>(
+    store: &mut S,
+    alloc: Global,
+    tree: &Module,
+    scopes: &Scopes,
+    in_body: bool,
+) -> Result<String, OutOfMemory>
+    requires { AreScopes (module_of tree.now) scopes.now }
+{
+    let mut aside = Vec::new(alloc);
+    let classes = class_table(store, alloc, tree, scopes, &mut aside)?;
+    let mut notes = Notes::new(alloc);
+    let mut checker = Checker {
+        store,
+        alloc,
+        found: &mut notes,
+    };
+    let outline = ModuleOutline {
+        tree,
+        scopes,
+        parents: classes.parents(),
+    };
+    let signed = read_signatures(&mut checker, &outline, &classes)?;
+    let globals = ModuleContext {
+        outline: &outline,
+        classes: &classes,
+        functions: signed.functions(),
+        constants: signed.constants(),
+        known: classes.count(),
+    };
+    label_text(checker.store, alloc, &globals, in_body)
+}
+
+/// What a store answers to a module in a part of this name: the flow at a place, what is found in the module, what its
+/// last initializer is as in a body or as an initializer, or what its signatures are.
 fn answer<S: TypeStore>(
     store: &mut S,
     alloc: Global,
@@ -129,6 +223,8 @@ fn answer<S: TypeStore>(
     match part {
         "FLOWS" => flow_text(store, alloc, tree, &scopes, place),
         "FOUND" => checked_text(store, alloc, tree, &scopes),
+        "TYPED" => typed_text(store, alloc, tree, &scopes, true),
+        "INITIAL" => typed_text(store, alloc, tree, &scopes, false),
         _ => signed_text(store, alloc, tree, &scopes),
     }
 }
