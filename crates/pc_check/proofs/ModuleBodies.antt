@@ -19,11 +19,11 @@ use Rattle.pc_types.specs.Tree.{Tree}
 use Rattle.pc_types.specs.Below.{Bases}
 use Rattle.pc_class.specs.Bases.{bases_of}
 use Rattle.pc_class.specs.Facts.{ClassFacts, classes_of, return_type}
-use Rattle.pc_class.specs.Tables.{ClassEntry, HasParameter, HasMethod, HasEntry, HasEntries}
-use Rattle.pc_class.specs.declared.table.Parameter.{Parameter as RustParameter}
 use Rattle.pc_rules.specs.Context.{Signature}
 use Rattle.pc_rules.specs.Signatures.{signature_of, signatures_of}
 use Rattle.pc_rules.specs.Computed.Signatures.{class_methods, method_signatures}
+use Rattle.pc_rules.proofs.Kept.{entries_kept}
+use Rattle.pc_headers.proofs.HeldSignatures.{signatures_kept}
 use Rattle.pc_signatures.specs.SignaturesHeld.{HeldSignatures, HasSigned, signature_numbered, all_signatures_with}
 use Rattle.pc_rules.specs.Computed.Standing.{HasSignature, signature_with}
 use Rattle.pc_rules.specs.declared.setting.Signature.{Signature as RustSignature}
@@ -34,26 +34,12 @@ use Rattle.pc_module_rules.specs.Computed.Statements.{BodyContext, body_context_
 -- ---- what the store gave stays given
 
 module _ {Store Ty : Type 0} (has : Store → Ty → Type 0) (tree : Ty → Tree) (a b : Store) (k : KeepsTypes has a b) where
-  params_kept : (ps : List (RustParameter Ty)) → All (HasParameter (has a)) ps → All (HasParameter (has b)) ps
-  params_kept ps h = All-weaker (HasParameter (has a)) (HasParameter (has b)) (λ p g. k p.ty g) ps h
-
-  pub entries_kept : (cs : List (ClassEntry Ty)) → HasEntries (has a) cs → HasEntries (has b) cs
-  entries_kept cs h = All-weaker (HasEntry (has a)) (HasEntry (has b)) (λ c g. record {
-    fields = params_kept c.fields g.fields;
-    methods = All-weaker (HasMethod (has a)) (HasMethod (has b))
-        (λ x y. record { params = params_kept x.params y.params; ret = k x.ret y.ret }) c.methods g.methods;
-  }) cs h
-
-  signatures_kept : (ss : List (RustSignature Ty)) → All (HasSignature (has a)) ss → All (HasSignature (has b)) ss
-  signatures_kept ss h = All-weaker (HasSignature (has a)) (HasSignature (has b))
-      (λ s g. record { params = params_kept s.params g.params; ret = k s.ret g.ret }) ss h
-
   signed_kept : (s : HeldSignatures Ty) → HasSigned (has a) s → HasSigned (has b) s
   signed_kept s h = record {
     constants = All-weaker (has a) (has b) k s.constants h.constants;
-    functions = signatures_kept s.functions h.functions;
-    methods = All-weaker (λ ms. All (HasSignature (has a)) ms) (λ ms. All (HasSignature (has b)) ms) signatures_kept
-        s.methods h.methods;
+    functions = signatures_kept has a b k s.functions h.functions;
+    methods = All-weaker (λ ms. All (HasSignature (has a)) ms) (λ ms. All (HasSignature (has b)) ms)
+        (signatures_kept has a b k) s.methods h.methods;
   }
 
   -- what bodies stand in stays that of their module
@@ -61,7 +47,7 @@ module _ {Store Ty : Type 0} (has : Store → Ty → Type 0) (tree : Ty → Tree
   bodies_kept s h = record {
     outline = h.outline;
     classes = h.classes;
-    entries = entries_kept s.globals.now.classes.now h.entries;
+    entries = entries_kept (has a) (has b) k s.globals.now.classes.now h.entries;
     held = signed_kept s.signatures.now h.held;
     same_constants = h.same_constants;
     same_functions = h.same_functions;

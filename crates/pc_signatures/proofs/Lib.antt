@@ -1,6 +1,3 @@
-pub mod HeldSignatures
 pub mod InitializerStanding
-pub mod LiteralPlaces
-pub mod MembersHeld
-pub mod NamesBound
-pub mod SignatureWalks
+pub mod ItemWalks
+pub mod MethodsSeen

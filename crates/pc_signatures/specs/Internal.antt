@@ -1,3 +1,2 @@
 -- What only the contracts of private functions say: the public contracts speak of the files beside this folder.
-pub mod MembersHeld
-pub mod SignaturesRead
+pub mod ItemsRead

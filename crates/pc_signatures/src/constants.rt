@@ -16,18 +16,15 @@ ghost use Rattle.pc_rules.specs.Computed.Signatures.{type_of_constant, constant_
 ghost use Rattle.pc_rules.specs.Computed.Signatures.{items_findings, constants_of, method_signatures};
 ghost use Rattle.pc_rules.specs.Computed.Signatures.{class_notes, value_findings};
 ghost use Rattle.pc_rules.specs.Computed.Signatures.{nothing_reached};
-ghost use Rattle.pc_signatures.specs.Internal.SignaturesRead.{AreGlobals};
-ghost use Rattle.pc_signatures.specs.Internal.SignaturesRead.{HasReached, methods_with, reached_with};
+ghost use Rattle.pc_headers.specs.SignaturesRead.{AreGlobals};
+ghost use Rattle.pc_signatures.specs.Internal.ItemsRead.{HasReached, methods_with, reached_with};
 ghost use Rattle.pc_rules.specs.Computed.Standing.{HasIfAny, label_in, finds_in};
 ghost use Rattle.pc_rules.specs.Computed.Checkers.{Finds, GoesOn, IsLabel};
 
-use crate::bound::{Texts, bind};
-use crate::defaults::{binds, find_into};
-use crate::members::{ClassNumbers, read_members};
-use crate::signatures::read_annotation;
 use indexmap::IndexSet;
 use pc_expr::type_expr;
 use pc_flow::{DeclaredTypes, Env, OwnerNames};
+use pc_headers::{ClassNumbers, Texts, bind, binds, find_into, read_annotation, read_members};
 use pc_rules::{Checker, Label, ModuleContext, Setting, Signature};
 use pc_scope::Owner;
 use pc_source::OutOfMemory;

@@ -14,9 +14,9 @@ ghost use Rattle.pc_rules.specs.Computed.Standing.{signature_with};
 ghost use Rattle.pc_rules.specs.Computed.Checkers.{Finds, GoesOn};
 
 use crate::constants::read_items;
-use crate::signatures::read_functions;
 use pc_ann::ModuleOutline;
 use pc_class::ClassTable;
+use pc_headers::read_functions;
 use pc_rules::{Checker, ModuleContext, Signature};
 use pc_source::OutOfMemory;
 use pc_types::TypeStore;

@@ -1,26 +1,71 @@
 //! What is found in a module.
 
-ghost use Rattle.std.specs.Prelude.{◌≡◌, ◌↔◌, Contains, IfOk};
-ghost use Rattle.pc_tree.specs.declared.code.Finding.{Finding};
+ghost use Rattle.std.specs.Prelude.{◌≡◌, ◌↔◌, ◌++◌, map, Contains, IfOk, OnOk};
+ghost use Rattle.pc_tree.specs.declared.code.Finding.{Finding as FindingOf};
 ghost use Rattle.pc_tree.specs.Tree.{module_of};
 ghost use Rattle.pc_scope.specs.ModuleScopes.{AreScopes};
 ghost use Rattle.pc_types.specs.Store.{KeepsTypes};
-ghost use Rattle.pc_notes.specs.Notes.{findings_of, notes_of};
+ghost use Rattle.pc_class.specs.Annotated.{member_annotations};
+ghost use Rattle.pc_class.specs.Built.{class_findings};
+ghost use Rattle.pc_class.specs.Facts.{classes_of};
+ghost use Rattle.pc_class.specs.Tables.{HasEntries, classes_with};
+ghost use Rattle.pc_notes.specs.Notes.{findings_of, notes_of, plain_note};
 ghost use Rattle.pc_module_rules.specs.Modules.{IsFinding};
 ghost use Rattle.pc_module_rules.specs.Laws.Flows.{TellsFlows};
 
 use pc_ann::parents_of;
 use pc_check::check_module;
-use pc_class::class_table;
+use pc_class::{ClassTable, class_table};
 use pc_intern::InternStore;
 use pc_notes::Notes;
 use pc_overrides::override_findings;
 use pc_scope::{Scopes, scopes};
 use pc_scope_findings::scope_findings;
 use pc_source::OutOfMemory;
-use pc_tree::Module;
+use pc_tree::{Finding, Module};
 use pc_types::TypeStore;
 use std::alloc::Global;
+
+/// Notes what is found of the names and of the classes of a module, which tells of no flow.
+fn note_others(
+    found: &mut Notes,
+    of_scopes: &[Finding],
+    of_classes: &[Finding],
+) -> Result<(), OutOfMemory>
+    ensures { OnOk result (notes_of found.new ≡ (notes_of found.old ++ map plain_note of_scopes.now)
+        ++ map plain_note of_classes.now) }
+{
+    found.put_all(of_scopes)?;
+    found.put_all(of_classes)
+}
+
+/// What is found in a module whose table of classes is given, and beside it what was found as that was made. The table is
+/// lent, since a proof takes long where a function that may end early owns one.
+fn findings_with<S: TypeStore>(
+    store: &mut S,
+    alloc: Global,
+    module: &Module,
+    scopes: &Scopes,
+    classes: &ClassTable<S::Ty>,
+    of_classes: &mut Vec<Finding>,
+) -> Result<Notes, OutOfMemory>
+    requires scopes { AreScopes (module_of «module».now) scopes.now }
+    requires classes { classes_with S.tree classes.now ≡ classes_of (module_of «module».now) }
+    requires entries { HasEntries (S.has store.old) classes.now }
+    requires of_classes { of_classes.old.items ≡ class_findings (module_of «module».now)
+        ++ member_annotations (module_of «module».now) }
+    ensures found { IfOk result
+        (λ v. (f : FindingOf) → Contains (findings_of (notes_of v)) f ↔ IsFinding (module_of «module».now) f) }
+    ensures flows { IfOk result (λ v. TellsFlows (module_of «module».now) (notes_of v)) }
+    ensures kept { KeepsTypes S.has store.old store.new }
+{
+    override_findings(store, module, classes, of_classes)?;
+    let of_scopes = scope_findings(alloc, module, scopes)?;
+    let mut found = Notes::new(alloc);
+    check_module(store, alloc, module, scopes, classes, &mut found)?;
+    note_others(&mut found, &of_scopes, of_classes)?;
+    Ok(found)
+}
 
 /// What is found in a module, over any store of types: in its signatures, constants and bodies, each dynamic flow with
 /// its types, which are those under the module's lawful labelling; of its names; of its classes. It is the same over
@@ -37,19 +82,13 @@ pub fn findings_by<S: TypeStore>(
 ) -> Result<Notes, OutOfMemory>
     requires { AreScopes (module_of «module».now) scopes.now }
     ensures found { IfOk result
-        (λ v. (f : Finding) → Contains (findings_of (notes_of v)) f ↔ IsFinding (module_of «module».now) f) }
+        (λ v. (f : FindingOf) → Contains (findings_of (notes_of v)) f ↔ IsFinding (module_of «module».now) f) }
     ensures flows { IfOk result (λ v. TellsFlows (module_of «module».now) (notes_of v)) }
     ensures kept { KeepsTypes S.has store.old store.new }
 {
     let mut of_classes = Vec::new(alloc);
     let classes = class_table(store, alloc, module, scopes, &mut of_classes)?;
-    override_findings(store, module, &classes, &mut of_classes)?;
-    let mut found = Notes::new(alloc);
-    check_module(store, alloc, module, scopes, &classes, &mut found)?;
-    let of_scopes = scope_findings(alloc, module, scopes)?;
-    found.put_all(&of_scopes)?;
-    found.put_all(&of_classes)?;
-    Ok(found)
+    findings_with(store, alloc, module, scopes, &classes, &mut of_classes)
 }
 
 /// What is found in a module, and what it was found with.
@@ -63,7 +102,7 @@ pub(crate) struct Found {
 /// What is found in a module, by types that are kept once each.
 pub(crate) fn findings(alloc: Global, module: &Module) -> Result<Found, OutOfMemory>
     ensures found { IfOk result
-        (λ v. (f : Finding) → Contains (findings_of (notes_of v.notes)) f ↔ IsFinding (module_of «module».now) f) }
+        (λ v. (f : FindingOf) → Contains (findings_of (notes_of v.notes)) f ↔ IsFinding (module_of «module».now) f) }
     ensures flows { IfOk result (λ v. TellsFlows (module_of «module».now) (notes_of v.notes)) }
 {
     let scopes = scopes(alloc, module)?;

@@ -1,26 +1,42 @@
 //! The checker whose reports are compared with the tables.
 use pc_front::module_in;
+use pc_notes::Notes;
 use pc_scope::scopes;
-use pc_source::{Counted, read_source};
+use pc_source::{Counted, Source, read_source};
 use pc_top::{CheckFault, Format, Report, check, check_stream, findings_by};
+use pc_tree::Module;
 use pc_types::BoxStore;
 use std::alloc::{AllocError, Global};
 use std::io::{Read, Write};
-use worked_reports::Checker;
+use worked_cases::reports::Checker;
 
 /// The checker that the programs call.
 pub struct Checking;
 
+/// The report of what was noted in a module.
+fn report_of_notes(
+    alloc: Global,
+    source: &Source,
+    module: &Module,
+    notes: &Notes,
+) -> Result<Report, CheckFault> {
+    let flows = notes.texts(alloc, module)?;
+    let found = notes.findings(alloc)?;
+    Ok(Report::of(alloc, source, &found, &flows)?)
+}
+
 /// The report of a module, by types in boxes.
-fn report_by_boxes(alloc: Global, bytes: &[u8]) -> Result<Report, CheckFault> {
+fn report_by_boxes(alloc: Global, source: &Source, module: &Module) -> Result<Report, CheckFault> {
+    let scopes = scopes(alloc, module)?;
+    let notes = findings_by(&mut BoxStore::new(), alloc, module, &scopes)?;
+    report_of_notes(alloc, source, module, &notes)
+}
+
+/// The report of the module that bytes spell, by types in boxes.
+fn check_by_boxes(alloc: Global, bytes: &[u8]) -> Result<Report, CheckFault> {
     let source = read_source(alloc, bytes)?;
     let module = module_in(alloc, &source)?;
-    let scopes = scopes(alloc, &module)?;
-    let mut store = BoxStore::new();
-    let notes = findings_by(&mut store, alloc, &module, &scopes)?;
-    let flows = notes.texts(alloc, &module)?;
-    let found = notes.findings(alloc)?;
-    Ok(Report::of(alloc, &source, &found, &flows)?)
+    report_by_boxes(alloc, &source, &module)
 }
 
 /// The text of a report in a format, or of the refusal.
@@ -46,7 +62,7 @@ impl Checker for Checking {
     }
 
     fn by_boxes(&self, alloc: Global, bytes: &[u8], format: Format) -> Result<String, AllocError> {
-        told(alloc, report_by_boxes(alloc, bytes), format)
+        told(alloc, check_by_boxes(alloc, bytes), format)
     }
 
     fn of_stream<R: Read + Drop, W: Write + Drop>(

@@ -12,11 +12,11 @@ pub fn judge(alloc: Global, file: &str, table: &str, tally: &mut Tally) -> Resul
     let (folder, name) = file.split_once('/').ok_or(TableFault::Kind)?;
     let (_, kind) = name.rsplit_once('.').ok_or(TableFault::Kind)?;
     match folder {
-        "texts" => worked_texts::judge(alloc, kind, table, tally),
-        "runs" => worked_runs::judge(alloc, kind, table, tally),
-        "layers" => worked_layers::judge(alloc, kind, table, tally),
+        "texts" => worked_cases::texts::judge(alloc, kind, table, tally),
+        "runs" => worked_cases::runs::judge(alloc, kind, table, tally),
+        "layers" => worked_cases::layers::judge(alloc, kind, table, tally),
         "typing" => worked_typing::judge(alloc, kind, table, tally),
-        "reports" => worked_reports::judge(alloc, kind, table, &Checking, tally),
+        "reports" => worked_cases::reports::judge(alloc, kind, table, &Checking, tally),
         _ => Err(TableFault::Kind),
     }
 }

@@ -1,13 +1,14 @@
 //! What the check of a module explains and finds, by `pc_check` and `pc_signatures`, over any store of types.
-ghost use Rattle.std.specs.Prelude.{All};
+ghost use Rattle.std.specs.Prelude.{◌≡◌, All};
 ghost use Rattle.pc_tree.specs.Tree.{module_of};
 ghost use Rattle.pc_scope.specs.ModuleScopes.{AreScopes};
-ghost use Rattle.pc_class.specs.Tables.{HasEntries};
+ghost use Rattle.pc_class.specs.Facts.{classes_of};
+ghost use Rattle.pc_class.specs.Tables.{HasEntries, classes_with};
 ghost use Rattle.pc_rules.specs.Computed.Standing.{HasSignature};
 
 use pc_ann::{ModuleOutline, parents_of, type_text};
 use pc_check::{check_module, explain_flow};
-use pc_class::class_table;
+use pc_class::{ClassTable, class_table};
 use pc_expr::type_expr;
 use pc_flow::{DeclaredTypes, Env, OwnerNames};
 use pc_front::read_module;
@@ -32,13 +33,14 @@ fn flow_text<S: TypeStore>(
     alloc: Global,
     tree: &Module,
     scopes: &Scopes,
+    classes: &ClassTable<S::Ty>,
     place: Place,
 ) -> Result<String, OutOfMemory>
-    requires { AreScopes (module_of tree.now) scopes.now }
+    requires scopes { AreScopes (module_of tree.now) scopes.now }
+    requires classes { classes_with S.tree classes.now ≡ classes_of (module_of tree.now) }
+    requires entries { HasEntries (S.has store.old) classes.now }
 {
-    let mut aside = Vec::new(alloc);
-    let classes = class_table(store, alloc, tree, scopes, &mut aside)?;
-    match explain_flow(store, alloc, tree, scopes, &classes, place)? {
+    match explain_flow(store, alloc, tree, scopes, classes, place)? {
         None => Ok(String::from_str(alloc, "none")?),
         Some((from, into)) => {
             let from = type_text(store, alloc, tree, &from)?;
@@ -69,13 +71,14 @@ fn checked_text<S: TypeStore>(
     alloc: Global,
     tree: &Module,
     scopes: &Scopes,
+    classes: &ClassTable<S::Ty>,
 ) -> Result<String, OutOfMemory>
-    requires { AreScopes (module_of tree.now) scopes.now }
+    requires scopes { AreScopes (module_of tree.now) scopes.now }
+    requires classes { classes_with S.tree classes.now ≡ classes_of (module_of tree.now) }
+    requires entries { HasEntries (S.has store.old) classes.now }
 {
-    let mut aside = Vec::new(alloc);
-    let classes = class_table(store, alloc, tree, scopes, &mut aside)?;
     let mut notes = Notes::new(alloc);
-    check_module(store, alloc, tree, scopes, &classes, &mut notes)?;
+    check_module(store, alloc, tree, scopes, classes, &mut notes)?;
     listed(alloc, &notes)
 }
 
@@ -88,37 +91,6 @@ fn counted(
 ) -> Result<String, OutOfMemory> {
     let found = listed(alloc, notes)?;
     Ok(format!(in alloc; "{constants} {functions}; {found}")?)
-}
-
-/// How many constants and functions the signatures of a module are of, and what is found in them.
-fn signed_text<S: TypeStore>(
-    store: &mut S,
-    alloc: Global,
-    tree: &Module,
-    scopes: &Scopes,
-) -> Result<String, OutOfMemory>
-    requires { AreScopes (module_of tree.now) scopes.now }
-{
-    let mut aside = Vec::new(alloc);
-    let classes = class_table(store, alloc, tree, scopes, &mut aside)?;
-    let mut notes = Notes::new(alloc);
-    let mut checker = Checker {
-        store,
-        alloc,
-        found: &mut notes,
-    };
-    let outline = ModuleOutline {
-        tree,
-        scopes,
-        parents: classes.parents(),
-    };
-    let signed = read_signatures(&mut checker, &outline, &classes)?;
-    counted(
-        alloc,
-        signed.constants().len(),
-        signed.functions().len(),
-        &notes,
-    )
 }
 
 /// The initializer of the last constant of a module.
@@ -175,19 +147,20 @@ fn label_text<S: TypeStore>(
     typed(alloc, ty.as_str(), &notes)
 }
 
-/// The type of the initializer of a module's last constant, and what is found in it, where all constants and classes of
-/// the module may be named.
-fn typed_text<S: TypeStore>(
+/// What the signatures of a module are, and what is found in them; or what its last initializer is, where all its
+/// constants and classes may be named.
+fn signed_text<S: TypeStore>(
     store: &mut S,
     alloc: Global,
     tree: &Module,
     scopes: &Scopes,
-    in_body: bool,
+    classes: &ClassTable<S::Ty>,
+    part: &str,
 ) -> Result<String, OutOfMemory>
-    requires { AreScopes (module_of tree.now) scopes.now }
+    requires scopes { AreScopes (module_of tree.now) scopes.now }
+    requires classes { classes_with S.tree classes.now ≡ classes_of (module_of tree.now) }
+    requires entries { HasEntries (S.has store.old) classes.now }
 {
-    let mut aside = Vec::new(alloc);
-    let classes = class_table(store, alloc, tree, scopes, &mut aside)?;
     let mut notes = Notes::new(alloc);
     let mut checker = Checker {
         store,
@@ -199,19 +172,44 @@ fn typed_text<S: TypeStore>(
         scopes,
         parents: classes.parents(),
     };
-    let signed = read_signatures(&mut checker, &outline, &classes)?;
+    let signed = read_signatures(&mut checker, &outline, classes)?;
+    if part == "SIGNATURES" {
+        let (constants, functions) = (signed.constants().len(), signed.functions().len());
+        return counted(alloc, constants, functions, &notes);
+    }
     let globals = ModuleContext {
         outline: &outline,
-        classes: &classes,
+        classes,
         functions: signed.functions(),
         constants: signed.constants(),
         known: classes.count(),
     };
-    label_text(checker.store, alloc, &globals, in_body)
+    label_text(checker.store, alloc, &globals, part == "TYPED")
 }
 
-/// What a store answers to a module in a part of this name: the flow at a place, what is found in the module, what its
-/// last initializer is as in a body or as an initializer, or what its signatures are.
+/// What a store answers in a part of this name to a module with its names and its table of classes: the flow at a place,
+/// what is found in the module, what its last initializer is as in a body or as an initializer, or what its signatures are.
+fn answer_with<S: TypeStore>(
+    store: &mut S,
+    alloc: Global,
+    tree: &Module,
+    scopes: &Scopes,
+    classes: &ClassTable<S::Ty>,
+    part: &str,
+    place: Place,
+) -> Result<String, OutOfMemory>
+    requires scopes { AreScopes (module_of tree.now) scopes.now }
+    requires classes { classes_with S.tree classes.now ≡ classes_of (module_of tree.now) }
+    requires entries { HasEntries (S.has store.old) classes.now }
+{
+    match part {
+        "FLOWS" => flow_text(store, alloc, tree, scopes, classes, place),
+        "FOUND" => checked_text(store, alloc, tree, scopes, classes),
+        _ => signed_text(store, alloc, tree, scopes, classes, part),
+    }
+}
+
+/// What a store answers to a module in a part of this name.
 fn answer<S: TypeStore>(
     store: &mut S,
     alloc: Global,
@@ -220,13 +218,9 @@ fn answer<S: TypeStore>(
     place: Place,
 ) -> Result<String, OutOfMemory> {
     let scopes = scopes(alloc, tree)?;
-    match part {
-        "FLOWS" => flow_text(store, alloc, tree, &scopes, place),
-        "FOUND" => checked_text(store, alloc, tree, &scopes),
-        "TYPED" => typed_text(store, alloc, tree, &scopes, true),
-        "INITIAL" => typed_text(store, alloc, tree, &scopes, false),
-        _ => signed_text(store, alloc, tree, &scopes),
-    }
+    let mut aside = Vec::new(alloc);
+    let classes = class_table(store, alloc, tree, &scopes, &mut aside)?;
+    answer_with(store, alloc, tree, &scopes, &classes, part, place)
 }
 
 /// The answers of both stores to a module, or the one that both give.

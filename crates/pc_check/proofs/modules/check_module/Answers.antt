@@ -4,7 +4,7 @@ use Rattle.pc_tree.specs.Tree.{item_of, module_of}
 use Rattle.pc_scope.specs.Bindings.{classes_in}
 use Rattle.pc_class.specs.Facts.{ClassFacts}
 use Rattle.pc_class.proofs.ItemsBuilt.{bases_are, bases_there}
-use Rattle.pc_check.proofs.ModuleBodies.{entries_kept}
+use Rattle.pc_rules.proofs.Kept.{entries_kept}
 use Rattle.pc_check.proofs.modules.check_module.Goals as goal
 
 pub read_signatures-requires-clause-outline : goal.read_signatures-requires-clause-outline
@@ -24,8 +24,8 @@ check_bodies-requires g c =
             ∙ ap (map (λ (x : ClassFacts). x.base)) c.requires.classes ∙ bases_are (module_of c.args.tree.now);
       };
       classes = c.requires.classes;
-      entries = entries_kept has g.S.TypeStore.tree c.args.store.now _ c.read_signatures.ensures.goes_on.kept
-          c.args.classes.now c.requires.entries;
+      entries = entries_kept (has c.args.store.now) (has _) c.read_signatures.ensures.goes_on.kept c.args.classes.now
+          c.requires.entries;
       held = c.in_ok-signatures.ensures.held;
       same_constants = c.constants.ensures;
       same_functions = c.functions.ensures;

@@ -6,8 +6,8 @@ use Rattle.pc_ann.specs.Bases.{bases_of}
 use Rattle.pc_ann.specs.ModuleOutlines.{module_in}
 use Rattle.pc_class.specs.Facts.{base_facts, classes_of}
 use Rattle.pc_rules.specs.Computed.Signatures.{no_name}
-use Rattle.pc_signatures.specs.Internal.MembersHeld.{AreHeld}
-use Rattle.pc_signatures.proofs.MembersHeld.{members_held}
+use Rattle.pc_headers.specs.MembersHeld.{AreHeld}
+use Rattle.pc_headers.proofs.MembersHeld.{members_held}
 use Rattle.pc_signatures.proofs.constants.add_class.Goals as goal
 
 pub read_members-requires-clause-table : goal.read_members-requires-clause-table

@@ -6,7 +6,8 @@ use Rattle.pc_notes.specs.Notes.{notes_of}
 use Rattle.pc_rules.specs.Computed.Signatures.{nothing_reached, signatures_of_methods, behind_all, items_findings}
 use Rattle.pc_rules.specs.Computed.Checkers.{GoesOn}
 use Rattle.pc_ann.specs.ModuleOutlines.{module_in}
-use Rattle.pc_signatures.specs.Internal.SignaturesRead.{AreGlobals, HasReached, methods_with, reached_with}
+use Rattle.pc_headers.specs.SignaturesRead.{AreGlobals}
+use Rattle.pc_signatures.specs.Internal.ItemsRead.{HasReached, methods_with, reached_with}
 use Rattle.pc_signatures.proofs.constants.read_items.Given as goal
 
 abbrev pub invariant-loop-item : goal.invariant-loop-item

@@ -1,7 +1,9 @@
 use Rattle.std.proofs.Common.{ap, sym, subst, ◌∙◌}
 use Rattle.std.proofs.lemmas.List.Elements.{All-map}
-use Rattle.pc_signatures.specs.Internal.SignaturesRead.{HasSignatures, signatures_with}
-use Rattle.pc_signatures.proofs.HeldSignatures.{entries_kept, signatures_kept, all_seen}
+use Rattle.pc_headers.specs.SignaturesRead.{HasSignatures, signatures_with}
+use Rattle.pc_rules.proofs.Kept.{entries_kept}
+use Rattle.pc_headers.proofs.HeldSignatures.{signatures_kept}
+use Rattle.pc_signatures.proofs.MethodsSeen.{all_seen}
 use Rattle.pc_signatures.proofs.sigs.read_signatures.Goals as goal
 
 pub read_items-requires : goal.read_items-requires
@@ -13,7 +15,7 @@ read_items-requires g c =
     record {
       outline = c.requires.outline;
       classes = c.requires.classes;
-      entries = entries_kept has c.args.checker.now.store.now store c.read_functions.ensures.goes_on.kept _
+      entries = entries_kept (has c.args.checker.now.store.now) (has store) c.read_functions.ensures.goes_on.kept _
           c.requires.entries;
       functions = record {
         given = subst (HasSignatures (has store)) (sym c.deref.ensures.value) typed.given;

@@ -1,46 +1,4 @@
-use Rattle.std.proofs.Common.{◌≡◌, List, ◌++◌, [], map, ap, ◌∙◌}
-use Rattle.pc_tree.specs.declared.code.Finding.{Finding}
-use Rattle.pc_tree.specs.Tree.{Module, module_of}
-use Rattle.pc_class.specs.Annotated.{member_annotations}
-use Rattle.pc_class.specs.Built.{class_findings}
-use Rattle.pc_class.specs.OverrideFindings.{override_findings}
-use Rattle.pc_overrides.proofs.ClassOverrides.{entries_keep}
-use Rattle.pc_notes.specs.declared.notes.Entry.{Entry}
-use Rattle.pc_notes.specs.Notes.{plain_note, notes_of}
-use Rattle.pc_module_rules.specs.Computed.Modules.{module_finds}
-use Rattle.pc_top.proofs.ModuleFindings.{exactly, same_flows, told_flows}
 use Rattle.pc_top.proofs.checking.findings_by.Goals as goal
 
--- what is found by the table of classes
-abbrev of_tables : Module → List Finding
-of_tables m = class_findings m ++ member_annotations m
-
-pub returns : goal.returns
-returns g c =
-    let m = module_of c.args.module.now in
-    let of_scopes = c.in_ok-of_scopes.of_scopes.items in
-    let noted : notes_of c.check_module.new.found ≡ module_finds m [] = c.in_ok-check_module.ensures.found
-    ∙ ap (λ (l : List Entry). module_finds m (notes_of l)) c.new-found.ensures in
-    let classes : c.override_findings.new.found.items ≡ of_tables m ++ override_findings m =
-    c.in_ok-override_findings.ensures.found ∙ ap (λ (l : List Finding). l ++ override_findings m)
-    (c.in_ok-classes.ensures.found ∙ ap (λ (l : List Finding). l ++ of_tables m)
-    c.new-of_classes.ensures.items) in
-    let first : notes_of c.put_all.new.self ≡ module_finds m [] ++ map plain_note of_scopes = c.in_ok-put_all.ensures
-    ∙ (λ i. noted i ++ map plain_note (c.deref.ensures.value i)) in
-    let listed = c.deref-2.ensures.value ∙ classes in
-    let all : notes_of c.put_all-2.new.self ≡ (module_finds m [] ++ map plain_note of_scopes) ++ map plain_note
-    (of_tables m ++ override_findings m) = c.in_ok-put_all-2.ensures
-    ∙ (λ i. first i ++ map plain_note (listed i)) in
-    record {
-      found = exactly m of_scopes (c.in_ok-of_scopes.ensures.found c.requires) (notes_of c.put_all-2.new.self) all;
-      flows = told_flows m (notes_of c.put_all-2.new.self) (λ p. same_flows p (notes_of c.put_all-2.new.self)
-          (module_finds m []) of_scopes (of_tables m ++ override_findings m) all);
-      kept = λ ty h. c.check_module.ensures.kept ty (c.override_findings.ensures.kept ty
-          (c.class_table.ensures.kept ty h));
-    }
-
-pub check_module-requires-clause-entries : goal.check_module-requires-clause-entries
-check_module-requires-clause-entries g c =
-    let has = g.S.TypeStore.has in
-    entries_keep (has c.class_table.new.store) (has c.override_findings.new.store) c.in_ok-classes.classes
-    c.in_ok-override_findings.ensures.kept c.in_ok-classes.ensures.given
+pub returns-clause-kept : goal.returns-clause-kept
+returns-clause-kept g c = λ ty h. c.findings_with.ensures.kept ty (c.class_table.ensures.kept ty h)

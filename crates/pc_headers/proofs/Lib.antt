@@ -1,0 +1,5 @@
+pub mod HeldSignatures
+pub mod LiteralPlaces
+pub mod MembersHeld
+pub mod NamesBound
+pub mod SignatureWalks

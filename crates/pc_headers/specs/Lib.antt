@@ -1,0 +1,2 @@
+pub mod MembersHeld
+pub mod SignaturesRead

@@ -1,0 +1,265 @@
+//! What is known of locals, by `pc_flow`: where two ways meet, at heads of loops, after assignments, by conditions.
+ghost use Rattle.std.specs.Prelude.{◌≡◌, IfOk, length};
+ghost use Rattle.pc_scope.specs.ModuleScopes.{AreScopes};
+ghost use Rattle.pc_ann.specs.ModuleOutlines.{module_in};
+ghost use Rattle.pc_types.specs.Boxed.{IsGiven, tree_of};
+ghost use Rattle.pc_flow.specs.Stored.{HasEach, env_of};
+ghost use Rattle.pc_flow.specs.WellFormed.{IsWellFormedEnv};
+
+use crate::layers::conditions::condition_in;
+use crate::layers::locals::{Environment, assigned, declared_types, env_text, function, numbers};
+use pc_ann::{ModuleOutline, parents_of, type_text};
+use pc_flow::{
+    Declarations, Env, OwnerNames, assigned_type, copy_env, join_env, join_env_onto,
+    join_or_object, loop_head, narrow_false, narrow_simple, narrow_true,
+};
+use pc_front::read_module;
+use pc_scope::{Owner, scopes};
+use pc_source::{Fault, OutOfMemory};
+use pc_tree::{Code, Expr, FuncDef};
+use pc_types::{BoxStore, BoxType};
+use std::alloc::{AllocError, Global};
+
+/// How a row begins that narrows by a condition that is no `not`, `and` or `or`.
+const SIMPLY: &str = "simple ";
+
+/// What is known where the two ways of a row meet (`join`), or where the second one is joined onto the first (`onto`),
+/// then with the numbers of the locals at which joining it again may change something.
+#[tactic(auto, using(crate::proofs::Locals::all_taken_in))]
+fn met_text(
+    row: &Environment,
+    alloc: Global,
+    words: &str,
+    one: Env<BoxType>,
+    other: &Env<BoxType>,
+) -> Result<String, Fault>
+    requires scopes { AreScopes (module_in row.now.outline.now) row.now.outline.now.scopes.now }
+    requires one { HasEach IsGiven one }
+    requires locals { length one ≡ 3 }
+    requires other { HasEach IsGiven other.now }
+{
+    let declared = declared_types(row, alloc)?;
+    let names = OwnerNames {
+        scopes: row.outline.scopes,
+        owner: Owner::Func(0),
+    };
+    let declarations = Declarations {
+        parents: row.outline.parents,
+        declared: &declared,
+        names: &names,
+    };
+    let mut store = BoxStore::new();
+    if words == "join" {
+        let env = join_env(&mut store, alloc, &declarations, &one, other)?;
+        return env_text(row, alloc, &env);
+    }
+    let met = join_env_onto(&mut store, alloc, &declarations, &[0, 1, 2], one, other)?;
+    let mut out = env_text(row, alloc, &met.env)?;
+    write!(out, "; {:?}", met.unsettled)?;
+    Ok(out)
+}
+
+/// What is known after a row: at the head of a loop that binds the locals among its words (`loop`), or of a copy of its
+/// way.
+fn known(
+    row: &Environment,
+    alloc: Global,
+    words: &str,
+    one: &Env<BoxType>,
+) -> Result<Env<BoxType>, Fault>
+    requires scopes { AreScopes (module_in row.now.outline.now) row.now.outline.now.scopes.now }
+    requires one { HasEach IsGiven one.now }
+    ensures { IfOk result (λ e. HasEach IsGiven e) }
+{
+    let mut store = BoxStore::new();
+    if words.starts_with("loop") {
+        let declared = declared_types(row, alloc)?;
+        let bound = numbers(row, alloc, words)?;
+        return Ok(loop_head(&mut store, alloc, &bound, &declared, one)?);
+    }
+    Ok(copy_env(&store, alloc, one)?)
+}
+
+/// What is left of an environment where a condition is true, or where it is false, if it is no `not`, `and` or `or`.
+fn narrowed_simply(
+    alloc: Global,
+    declarations: &Declarations<'_, BoxType>,
+    condition: &Expr,
+    holds: bool,
+    env: Env<BoxType>,
+) -> Result<Env<BoxType>, OutOfMemory>
+    requires env { HasEach IsGiven env }
+    requires well_formed { IsWellFormedEnv declarations.now.parents.now (env_of tree_of env) }
+    ensures { IfOk result (λ e. HasEach IsGiven e) }
+{
+    match condition {
+        Expr::Not(_, _) | Expr::And(_, _, _) | Expr::Or(_, _, _) => Ok(env),
+        _ => {
+            let ways = narrow_simple(&mut BoxStore::new(), alloc, declarations, condition, env)?;
+            if holds {
+                Ok(ways.where_true)
+            } else {
+                Ok(ways.where_false)
+            }
+        }
+    }
+}
+
+/// What is left of an environment where the condition of the function of the locals is true, or where it is false.
+#[tactic(auto, using(crate::proofs::Locals::declared_well_formed))]
+fn narrowed(
+    row: &Environment,
+    alloc: Global,
+    words: &str,
+    env: Env<BoxType>,
+) -> Result<Env<BoxType>, Fault>
+    requires scopes { AreScopes (module_in row.now.outline.now) row.now.outline.now.scopes.now }
+    requires env { HasEach IsGiven env }
+    requires well_formed { IsWellFormedEnv row.now.outline.now.parents.now (env_of tree_of env) }
+    ensures { IfOk result (λ e. HasEach IsGiven e) }
+{
+    let Some(condition) = condition_in(row.declared) else {
+        return Ok(env);
+    };
+    let declared = declared_types(row, alloc)?;
+    let names = OwnerNames {
+        scopes: row.outline.scopes,
+        owner: Owner::Func(0),
+    };
+    let declarations = Declarations {
+        parents: row.outline.parents,
+        declared: &declared,
+        names: &names,
+    };
+    if let Some(way) = words.strip_prefix(SIMPLY) {
+        let holds = way.starts_with("true");
+        return Ok(narrowed_simply(alloc, &declarations, condition, holds, env)?);
+    }
+    let mut store = BoxStore::new();
+    if words.starts_with("true") {
+        return Ok(narrow_true(&mut store, alloc, &declarations, condition, env)?);
+    }
+    Ok(narrow_false(&mut store, alloc, &declarations, condition, env)?)
+}
+
+/// What was found of the flow of a row that assigns.
+fn found_in(words: &str) -> Option<Code> {
+    match words {
+        "assign A1" => Some(Code::A1),
+        "assign E12" => Some(Code::E12),
+        _ => None,
+    }
+}
+
+/// The type of the first local, which is declared, after the type that it has on the one way is assigned to it.
+fn assigned_text(
+    row: &Environment,
+    alloc: Global,
+    words: &str,
+    from: &Env<BoxType>,
+) -> Result<String, Fault>
+    requires scopes { AreScopes (module_in row.now.outline.now) row.now.outline.now.scopes.now }
+    requires from { HasEach IsGiven from.now }
+{
+    let declared = declared_types(row, alloc)?;
+    let (Some(into), Some(ty)) = (declared.declared(0), from.current(0)) else {
+        return Ok(String::from_str(alloc, "no types")?);
+    };
+    let ty = assigned_type(&BoxStore::new(), alloc, into, ty, found_in(words))?;
+    Ok(type_text(&BoxStore::new(), alloc, row.outline.tree, &ty)?)
+}
+
+/// The join of the types of the first two locals, or `object`.
+fn either_text(row: &Environment, alloc: Global, env: &Env<BoxType>) -> Result<String, Fault>
+    requires { HasEach IsGiven env.now }
+{
+    let (Some(s), Some(t)) = (env.current(0), env.current(1)) else {
+        return Ok(String::from_str(alloc, "no types")?);
+    };
+    let mut store = BoxStore::new();
+    let ty = join_or_object(&mut store, alloc, row.outline.parents, s, t)?;
+    Ok(type_text(&store, alloc, row.outline.tree, &ty)?)
+}
+
+/// The condition of a row that narrows by one, after the word that says which way is taken.
+fn condition_of_row(words: &str) -> Option<&str> {
+    let way = words.strip_prefix(SIMPLY).unwrap_or(words);
+    way.strip_prefix("true ")
+        .or_else(|| way.strip_prefix("false "))
+}
+
+/// The body of the function of the locals: an `if` with the condition of the row, where it has one.
+fn body(alloc: Global, words: &str) -> Result<String, AllocError> {
+    match condition_of_row(words) {
+        Some(condition) => format!(in alloc; "    if {condition}:\n        pass\n"),
+        None => String::from_str(alloc, "    pass\n"),
+    }
+}
+
+/// What comes of the words of a row and of its two ways.
+fn done(
+    row: &Environment,
+    alloc: Global,
+    words: &str,
+    one: &FuncDef,
+    other: &FuncDef,
+) -> Result<String, Fault>
+    requires { AreScopes (module_in row.now.outline.now) row.now.outline.now.scopes.now }
+{
+    let one = assigned(row, alloc, one)?;
+    if words.starts_with("assign") {
+        return assigned_text(row, alloc, words, &one);
+    }
+    if words == "either" {
+        return either_text(row, alloc, &one);
+    }
+    if condition_of_row(words).is_some() {
+        let env = narrowed(row, alloc, words, one)?;
+        return env_text(row, alloc, &env);
+    }
+    if words == "join" || words == "onto" {
+        let other = assigned(row, alloc, other)?;
+        return met_text(row, alloc, words, one, &other);
+    }
+    let env = known(row, alloc, words, &one)?;
+    env_text(row, alloc, &env)
+}
+
+/// What comes of the words of a row in the module of this text.
+fn reading(alloc: Global, text: &str, words: &str) -> Result<String, Fault> {
+    let tree = read_module(alloc, text.as_bytes())?;
+    let scopes = scopes(alloc, &tree)?;
+    let parents = parents_of(alloc, &tree, &scopes)?;
+    let (Some(declared), Some(one), Some(other)) = (
+        function(&tree, "declared"),
+        function(&tree, "one"),
+        function(&tree, "other"),
+    ) else {
+        return Ok(String::from_str(alloc, "no functions")?);
+    };
+    let outline = ModuleOutline {
+        tree: &tree,
+        scopes: &scopes,
+        parents: &parents,
+    };
+    let row = Environment {
+        outline: &outline,
+        declared,
+    };
+    done(&row, alloc, words, one, other)
+}
+
+/// What comes of a row in a module that begins with the lines before it. The row has its words, the parameters that
+/// declare its locals, and those that are assigned on two ways; without the first way locals are as they are declared.
+pub fn row_text(alloc: Global, before: &str, row: &str) -> Result<String, Fault> {
+    let (words, rest) = row.split_once(" ; ").unwrap_or((row, ""));
+    let (declared, ways) = rest.split_once(" ; ").unwrap_or((rest, rest));
+    let (one, other) = ways.split_once(" ; ").unwrap_or((ways, ""));
+    let mut text = String::from_str(alloc, before)?;
+    write!(text, "def declared({declared}):\n{}", body(alloc, words)?)?;
+    for (name, params) in [("one", one), ("other", other), ("main", "")] {
+        write!(text, "def {name}({params}):\n    pass\n")?;
+    }
+    text.push_str("main()\n")?;
+    reading(alloc, text.as_str(), words)
+}

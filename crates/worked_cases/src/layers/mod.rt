@@ -1,0 +1,13 @@
+//! Tables of what layers below the checker answer: names, what stops runs, types, classes, locals, notes.
+mod classes;
+mod conditions;
+mod environments;
+mod locals;
+mod modules;
+mod names;
+mod notes;
+mod questions;
+mod tables;
+mod types;
+
+pub use tables::judge;

@@ -1,0 +1,164 @@
+//! Types as annotations spell them, by both stores.
+use crate::layers::questions::{Question, answer, made};
+use pc_ann::{ModuleOutline, parents_of};
+use pc_front::read_module;
+use pc_intern::InternStore;
+use pc_scope::scopes;
+use pc_source::Fault;
+use pc_types::{BoxStore, TypeStore};
+use std::alloc::{AllocError, Global};
+use worked_rows::{BETWEEN, TableFault, Tally};
+
+/// What stands after the types of a row in its module.
+const TAIL: &str = "def main():\n    pass\nmain()\n";
+
+/// What stands between the head of the modules and the rows.
+const ROWS: &str = "rows:\n";
+
+/// How a line begins that is no row.
+const COMMENT: &str = "# ";
+
+/// A row of a table: what is asked of which types, and what the table says.
+#[derive(Drop)]
+struct Row<'a> {
+    question: Question,
+    first: &'a str,
+    second: &'a str,
+    want: &'a str,
+}
+
+/// The question that a word stands for.
+fn question_of(word: &str) -> Option<Question> {
+    match word {
+        "flow" => Some(Question::Flow),
+        "join" => Some(Question::Join),
+        "join_all" => Some(Question::JoinAll),
+        "nodes" => Some(Question::Nodes),
+        "parts" => Some(Question::Parts),
+        "members" => Some(Question::Members),
+        "copy" => Some(Question::Copy),
+        "taken" => Some(Question::Taken),
+        "made" => Some(Question::Made),
+        _ => None,
+    }
+}
+
+/// The row of a line. Where it names one type alone, that one is the second, too.
+fn row_of(line: &str) -> Option<Row<'_>> {
+    let (word, rest) = line.split_once(" ; ")?;
+    let (types, want) = rest.rsplit_once(" ; ")?;
+    let (first, second) = types.split_once(" ; ").unwrap_or((types, types));
+    Some(Row {
+        question: question_of(word)?,
+        first,
+        second,
+        want,
+    })
+}
+
+/// Adds a constant, annotated with a type, to a module; one without an annotation stands for `Never`.
+fn add_constant(text: &mut String, name: &str, ty: &str) -> Result<(), AllocError> {
+    if ty == "Never" {
+        write!(text, "{name} = 1\n")
+    } else {
+        write!(text, "{name}: {ty} = 1\n")
+    }
+}
+
+/// The text of the module of a row: its constants are of the types that are asked of.
+fn module_of(alloc: Global, head: &str, row: &Row) -> Result<String, AllocError> {
+    let mut text = String::from_str(alloc, head)?;
+    match row.question {
+        Question::Made => {}
+        _ => {
+            add_constant(&mut text, "s", row.first)?;
+            add_constant(&mut text, "t", row.second)?;
+        }
+    }
+    text.push_str(TAIL)?;
+    Ok(text)
+}
+
+/// The answer of a store to a row.
+fn answer_of<S: TypeStore>(
+    store: &mut S,
+    alloc: Global,
+    head: &str,
+    row: &Row,
+) -> Result<String, Fault> {
+    let text = module_of(alloc, head, row)?;
+    let module = read_module(alloc, text.as_bytes())?;
+    let scopes = scopes(alloc, &module)?;
+    let parents = parents_of(alloc, &module, &scopes)?;
+    let outline = ModuleOutline {
+        tree: &module,
+        scopes: &scopes,
+        parents: &parents,
+    };
+    match row.question {
+        Question::Made => Ok(made(store, alloc, &module, row.first)?),
+        question => Ok(answer(store, alloc, &outline, question)?),
+    }
+}
+
+/// The answers of both stores to a row, or the one that both give.
+fn ask(
+    alloc: Global,
+    numbers: &mut InternStore,
+    boxes: &mut BoxStore,
+    head: &str,
+    row: &Row,
+) -> Result<String, Fault> {
+    let by_numbers = answer_of(numbers, alloc, head, row)?;
+    let by_boxes = answer_of(boxes, alloc, head, row)?;
+    if by_numbers.as_str() == by_boxes.as_str() {
+        return Ok(by_numbers);
+    }
+    Ok(format!(in alloc; "{by_numbers} by numbers, {by_boxes} by boxes")?)
+}
+
+/// Counts the rows of a part of a table.
+fn count_rows(
+    alloc: Global,
+    numbers: &mut InternStore,
+    boxes: &mut BoxStore,
+    part: &str,
+    tally: &mut Tally,
+) -> Result<(), TableFault> {
+    let (head, rows) = part.split_once(ROWS).ok_or(TableFault::Form)?;
+    for line in rows.lines() {
+        if line.starts_with(COMMENT) {
+            continue;
+        }
+        let row = row_of(line).ok_or(TableFault::Form)?;
+        let got = match ask(alloc, numbers, boxes, head, &row) {
+            Ok(answer) => answer,
+            Err(fault) => format!(in alloc; "{fault}")?,
+        };
+        tally.count(line, row.want, got.as_str())?;
+    }
+    Ok(())
+}
+
+/// A store of types as numbers, whose parents are those of the classes of a module's head.
+fn store_for(alloc: Global, head: &str) -> Result<InternStore, Fault> {
+    let text = format!(in alloc; "{head}{TAIL}")?;
+    let module = read_module(alloc, text.as_bytes())?;
+    let scopes = scopes(alloc, &module)?;
+    let parents = parents_of(alloc, &module, &scopes)?;
+    Ok(InternStore::new(alloc, module.keys, parents)?)
+}
+
+/// Counts the rows of a table, twice over, so that each is asked again when the others were asked. One store of each
+/// kind is asked all of them; its parents are those of the first part.
+pub fn count_types(alloc: Global, table: &str, tally: &mut Tally) -> Result<(), TableFault> {
+    let (head, _) = table.split_once(ROWS).ok_or(TableFault::Form)?;
+    let mut numbers = store_for(alloc, head).map_err(|_| TableFault::Form)?;
+    let mut boxes = BoxStore::new();
+    for _ in 0..2 {
+        for part in table.split(BETWEEN) {
+            count_rows(alloc, &mut numbers, &mut boxes, part, tally)?;
+        }
+    }
+    Ok(())
+}

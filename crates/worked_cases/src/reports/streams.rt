@@ -1,0 +1,199 @@
+//! Modules that are checked as streams, from readers and to writers that fail.
+use crate::reports::checker::Checker;
+use pc_report::{Format, read_at_most};
+use pc_source::Counted;
+use std::alloc::{AllocError, Global};
+use std::io;
+use std::io::{Read, Write};
+use worked_rows::{TableFault, Tally, bytes_of};
+
+/// What stands before each text of a table.
+const TEXT: &str = "====\n";
+
+/// What stands for the report of a text that is only read.
+const READS: &str = "reads";
+
+/// What stands after a text, and after its report.
+const NEXT: &str = "\n----\n";
+
+/// A reader of bytes that gives so many a call; after so many calls each one fails.
+#[derive(Drop)]
+struct FailingReader {
+    bytes: Vec<u8>,
+    at: usize,
+    each: usize,
+    calls: usize,
+}
+
+impl Read for FailingReader {
+    fn read(&mut self, buf: &mut [u8]) -> io::Result<usize> {
+        if self.calls == 0 {
+            return Err(io::Error::from(io::ErrorKind::Interrupted));
+        }
+        self.calls -= 1;
+        let left = self.bytes.len().saturating_sub(self.at);
+        let count = left.min(self.each).min(buf.len());
+        for to in 0..count {
+            buf[to] = self.bytes[self.at + to];
+        }
+        self.at += count;
+        Ok(count)
+    }
+}
+
+/// A writer that takes so many bytes a call, and so many in all; the call after that fails, and so does each flush.
+#[derive(Drop)]
+struct FailingWriter {
+    taken: Vec<u8>,
+    each: usize,
+    most: usize,
+}
+
+impl Write for FailingWriter {
+    fn write(&mut self, buf: &[u8]) -> io::Result<usize> {
+        let room = self.most.saturating_sub(self.taken.len());
+        if room == 0 {
+            return Err(io::Error::from(io::ErrorKind::Interrupted));
+        }
+        let count = buf.len().min(room).min(self.each);
+        self.taken.extend_from_slice(&buf[..count])?;
+        Ok(count)
+    }
+
+    fn flush(&mut self) -> io::Result<()> {
+        Err(io::Error::from(io::ErrorKind::Interrupted))
+    }
+}
+
+/// A number of a table.
+fn number(words: &[&str], at: usize) -> Result<usize, TableFault> {
+    match words.get(at) {
+        Some(word) => word.parse().map_err(|_| TableFault::Form),
+        None => Err(TableFault::Form),
+    }
+}
+
+/// What is said of what a writer took: how many bytes of the report from its start.
+fn taken_text(alloc: Global, taken: &[u8], report: &str) -> Result<String, AllocError> {
+    if report.as_bytes().starts_with(taken) {
+        let count = taken.len();
+        format!(in alloc; "{count} bytes of the report")
+    } else {
+        String::from_str(alloc, "other bytes than the report's")
+    }
+}
+
+/// What comes of a check of these bytes with such a reader and such a writer: the answer; the calls of the reader and
+/// of the writer that failed, among them that of a flush after the check; the bytes that were read and the calls that
+/// were left; what the writer took.
+fn told<C: Checker>(
+    alloc: Global,
+    mut reader: Counted<FailingReader>,
+    mut writer: Counted<FailingWriter>,
+    json: bool,
+    report: &str,
+    checker: &C,
+) -> Result<String, AllocError> {
+    let answer = checker.of_stream(alloc, &mut reader, &mut writer, json, Format::One)?;
+    let _ = writer.flush();
+    let taken = taken_text(alloc, writer.inner().taken.as_slice(), report)?;
+    let (failed_reads, failed_writes) = (reader.failures(), writer.failures());
+    let (read, left) = (reader.inner().at, reader.inner().calls);
+    format!(in alloc;
+        "{answer}; failed {failed_reads} {failed_writes}; read {read}, left {left}; {taken}"
+    )
+}
+
+/// What comes of a row: the bytes that the reader gives a call and its calls, the bytes that the writer takes a call
+/// and in all, and whether the report is written as JSON.
+fn answer<C: Checker>(
+    alloc: Global,
+    text: &str,
+    report: &str,
+    row: &str,
+    checker: &C,
+) -> Result<String, TableFault> {
+    let words: Vec<&str> = row.split(' ').collect(alloc)?;
+    let reader = FailingReader {
+        bytes: bytes_of(alloc, text)?,
+        at: 0,
+        each: number(&words, 0)?,
+        calls: number(&words, 1)?,
+    };
+    let writer = FailingWriter {
+        taken: Vec::new(alloc),
+        each: number(&words, 2)?,
+        most: number(&words, 3)?,
+    };
+    let json = row.ends_with(" json");
+    Ok(told(
+        alloc,
+        Counted::new(reader),
+        Counted::new(writer),
+        json,
+        report,
+        checker,
+    )?)
+}
+
+/// What comes of three reads in turn of at most so many bytes of a text: the bytes that the reader gives a call, its
+/// calls, and the most that each read asks for. The fault, or how many bytes it gives, and whether they stand there.
+fn reads_text(alloc: Global, text: &str, row: &str) -> Result<String, TableFault> {
+    let words: Vec<&str> = row.split(' ').collect(alloc)?;
+    let mut reader = Counted::new(FailingReader {
+        bytes: bytes_of(alloc, text)?,
+        at: 0,
+        each: number(&words, 0)?,
+        calls: number(&words, 1)?,
+    });
+    let most = number(&words, 2)?;
+    let mut told = String::new(alloc);
+    for _ in 0..3 {
+        let before = reader.inner().at;
+        match read_at_most(alloc, &mut reader, most) {
+            Ok(bytes) => {
+                let at = reader.inner().at;
+                let is_same = reader.inner().bytes.get(before..at) == Some(bytes.as_slice());
+                write!(told, "{} {is_same}; ", bytes.len())?;
+            }
+            Err(fault) => write!(told, "{fault}; ")?,
+        }
+    }
+    let (failures, left) = (reader.failures(), reader.inner().calls);
+    write!(told, "failed {failures}, left {left}")?;
+    Ok(told)
+}
+
+/// Counts the rows of a text.
+fn count_text<C: Checker>(
+    alloc: Global,
+    part: &str,
+    checker: &C,
+    tally: &mut Tally,
+) -> Result<(), TableFault> {
+    let (text, rest) = part.split_once(NEXT).ok_or(TableFault::Form)?;
+    let (report, rows) = rest.split_once(NEXT).ok_or(TableFault::Form)?;
+    for row in rows.lines() {
+        let (devices, want) = row.split_once("  ⇒ ").ok_or(TableFault::Form)?;
+        let got = if report == READS {
+            reads_text(alloc, text, devices)?
+        } else {
+            answer(alloc, text, report, devices, checker)?
+        };
+        tally.count(devices, want, got.as_str())?;
+    }
+    Ok(())
+}
+
+/// Counts the rows of a table. What stands before its first text says what the table is about.
+pub fn count_streams<C: Checker>(
+    alloc: Global,
+    table: &str,
+    checker: &C,
+    tally: &mut Tally,
+) -> Result<(), TableFault> {
+    for part in table.split(TEXT).skip(1) {
+        count_text(alloc, part, checker, tally)?;
+    }
+    Ok(())
+}

@@ -1,0 +1,46 @@
+//! Modules that are made of a case's lines.
+
+use crate::runs::cases::Case;
+use pc_front::read_module;
+use pc_run::{Trace, run, trace_text};
+use pc_source::Fault;
+use std::alloc::{AllocError, Global};
+
+/// The first line of each module.
+const HEADER: &str = "from __future__ import annotations\n";
+
+/// A module whose `main` has these statements, after what stands before it.
+pub fn module_of_statements(
+    alloc: Global,
+    before: &str,
+    statements: &str,
+) -> Result<String, AllocError> {
+    let mut text = format!(in alloc; "{HEADER}{before}def main():\n")?;
+    for line in statements.split('\n') {
+        for part in ["    ", line, "\n"] {
+            text.push_str(part)?;
+        }
+    }
+    text.push_str("main()\n")?;
+    Ok(text)
+}
+
+/// A module of these lines, but for its first and its last one.
+pub fn module_of_lines(alloc: Global, lines: &str) -> Result<String, AllocError> {
+    format!(in alloc; "{HEADER}{lines}\nmain()\n")
+}
+
+/// The trace of a module that is run with the fuel and the choices of a case.
+fn traced(alloc: Global, text: &str, case: &Case) -> Result<Trace, Fault> {
+    let program = read_module(alloc, text.as_bytes())?;
+    let keys = program.keys.state()?;
+    Ok(run(alloc, keys, &program, case.fuel, case.choices.as_slice())?)
+}
+
+/// The lines of the trace of a module, or why it has none.
+pub fn trace_of(alloc: Global, text: &str, case: &Case) -> Result<String, AllocError> {
+    match traced(alloc, text, case) {
+        Ok(trace) => trace_text(alloc, &trace).map_err(|_| AllocError),
+        Err(fault) => format!(in alloc; "{fault}"),
+    }
+}

@@ -1,0 +1,93 @@
+//! Lists of tokens that no text spells, and the trees of statements.
+//!
+//! In a text the words `NL`, `IN`, `OUT` and `END` stand for the marks of the layout. Names are ASCII.
+use crate::texts::tables::fault_text;
+use pc_parse::{parse, parse_from};
+use pc_source::{Fault, Refusal, RefusalCode, read_source};
+use pc_token::{Tok, Token, TokenKind, tokens};
+use pc_tree::{ItemKind, Module};
+use std::alloc::{AllocError, Global};
+
+/// What stands before a suite of `main`.
+const BEFORE: &str = "from __future__ import annotations NL def main ( ) : ";
+
+/// The mark of the layout that a token stands for, or else the token itself.
+fn marked<'a>(token: &Tok<'a>) -> Tok<'a> {
+    let kind = match token.text {
+        "NL" => TokenKind::Newline,
+        "IN" => TokenKind::Indent,
+        "OUT" => TokenKind::Dedent,
+        "END" => TokenKind::End,
+        _ => token.kind,
+    };
+    Token {
+        kind,
+        place: token.place,
+        text: token.text,
+        form: None,
+    }
+}
+
+/// The module that a text spells.
+fn parsed(alloc: Global, text: &str) -> Result<Module, Fault> {
+    let source = read_source(alloc, text.as_bytes())?;
+    let lines = tokens(alloc, &source)?;
+    let mut items = Vec::new(alloc);
+    for line in lines.iter() {
+        for token in line.tokens.iter() {
+            items.push(marked(token))?;
+        }
+    }
+    parse(alloc, items.as_slice())
+}
+
+/// The module that the tokens of a text spell, with a fault of the stream after them.
+fn broken_off(alloc: Global, text: &str) -> Result<Module, Fault> {
+    let source = read_source(alloc, text.as_bytes())?;
+    let lines = tokens(alloc, &source)?;
+    let mut items = Vec::new(alloc);
+    for line in lines.iter() {
+        for token in line.tokens.iter() {
+            items.push(Ok(marked(token)))?;
+        }
+    }
+    items.push(Err(Fault::Refused(Refusal {
+        code: RefusalCode::L1,
+        byte: text.len(),
+    })))?;
+    parse_from(alloc, items.into_iter())
+}
+
+/// Whether a suite of `main` is one of a module, or the code of its refusal and the byte in the suite.
+fn suite_text(alloc: Global, suite: &str) -> Result<String, AllocError> {
+    let text = format!(in alloc; "{BEFORE}{suite}")?;
+    match parsed(alloc, text.as_str()) {
+        Ok(_) => String::from_str(alloc, "module"),
+        Err(fault) => fault_text(alloc, fault, BEFORE.len()),
+    }
+}
+
+/// The statements of the first function of a module, as they are printed.
+pub fn statements(alloc: Global, text: &str) -> Result<String, Fault> {
+    let module = parsed(alloc, text)?;
+    match module.items.first().map(|item| &item.kind) {
+        Some(ItemKind::Def(def)) => Ok(format!(in alloc; "{:?}", def.body)?),
+        _ => Ok(String::from_str(alloc, "no function comes first")?),
+    }
+}
+
+/// What comes of a row of a part of this name: that its tokens are a module (`LIST`), or a suite of `main` (`SUITE`),
+/// or with a fault of the stream after them (`STREAM`), or the module as it is printed.
+pub fn tokens_text(alloc: Global, name: &str, text: &str) -> Result<String, Fault> {
+    if name == "SUITE" {
+        return Ok(suite_text(alloc, text)?);
+    }
+    let module = match name {
+        "STREAM" => broken_off(alloc, text)?,
+        _ => parsed(alloc, text)?,
+    };
+    if name == "MODULE" {
+        return Ok(format!(in alloc; "{module:?}")?);
+    }
+    Ok(String::from_str(alloc, "module")?)
+}
