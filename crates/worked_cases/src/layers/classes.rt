@@ -258,6 +258,22 @@ fn add_findings(source: &Source, found: &[Finding], out: &mut String) -> Result<
     Ok(())
 }
 
+/// What a class table says, and what is found of classes.
+fn told(
+    alloc: Global,
+    source: &Source,
+    tree: &Module,
+    table: &ClassTable<BoxType>,
+    found: &[Finding],
+) -> Result<String, Fault>
+    requires { HasEntries IsGiven table.now }
+{
+    let mut out = String::new(alloc);
+    add_table(alloc, tree, table, &mut out)?;
+    add_findings(source, found, &mut out)?;
+    Ok(out)
+}
+
 /// What the class table of a module says, and what is found of its classes.
 fn described(
     alloc: Global,
@@ -271,10 +287,7 @@ fn described(
     let mut found = Vec::new(alloc);
     let table = class_table(&mut store, alloc, tree, scopes, &mut found)?;
     override_findings(&mut store, tree, &table, &mut found)?;
-    let mut out = String::new(alloc);
-    add_table(alloc, tree, &table, &mut out)?;
-    add_findings(source, &found, &mut out)?;
-    Ok(out)
+    told(alloc, source, tree, &table, &found)
 }
 
 /// What the class table says of the module that a text spells, and what is found of its classes.

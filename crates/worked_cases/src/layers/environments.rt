@@ -16,7 +16,7 @@ use pc_flow::{
 use pc_front::read_module;
 use pc_scope::{Owner, scopes};
 use pc_source::{Fault, OutOfMemory};
-use pc_tree::{Code, Expr, FuncDef};
+use pc_tree::{Code, Expr, FuncDef, Module};
 use pc_types::{BoxStore, BoxType};
 use std::alloc::{AllocError, Global};
 
@@ -225,28 +225,37 @@ fn done(
     env_text(row, alloc, &env)
 }
 
-/// What comes of the words of a row in the module of this text.
-fn reading(alloc: Global, text: &str, words: &str) -> Result<String, Fault> {
-    let tree = read_module(alloc, text.as_bytes())?;
-    let scopes = scopes(alloc, &tree)?;
-    let parents = parents_of(alloc, &tree, &scopes)?;
+/// What comes of the words of a row in a module of this outline.
+fn done_in(alloc: Global, outline: &ModuleOutline, words: &str) -> Result<String, Fault>
+    requires { AreScopes (module_in outline.now) outline.now.scopes.now }
+{
     let (Some(declared), Some(one), Some(other)) = (
-        function(&tree, "declared"),
-        function(&tree, "one"),
-        function(&tree, "other"),
+        function(outline.tree, "declared"),
+        function(outline.tree, "one"),
+        function(outline.tree, "other"),
     ) else {
         return Ok(String::from_str(alloc, "no functions")?);
     };
+    let row = Environment { outline, declared };
+    done(&row, alloc, words, one, other)
+}
+
+/// What comes of the words of a row in a module.
+fn reading_in(alloc: Global, tree: &Module, words: &str) -> Result<String, Fault> {
+    let scopes = scopes(alloc, tree)?;
+    let parents = parents_of(alloc, tree, &scopes)?;
     let outline = ModuleOutline {
-        tree: &tree,
+        tree,
         scopes: &scopes,
         parents: &parents,
     };
-    let row = Environment {
-        outline: &outline,
-        declared,
-    };
-    done(&row, alloc, words, one, other)
+    done_in(alloc, &outline, words)
+}
+
+/// What comes of the words of a row in the module of this text.
+fn reading(alloc: Global, text: &str, words: &str) -> Result<String, Fault> {
+    let tree = read_module(alloc, text.as_bytes())?;
+    reading_in(alloc, &tree, words)
 }
 
 /// What comes of a row in a module that begins with the lines before it. The row has its words, the parameters that

@@ -4,7 +4,8 @@ use pc_ann::{ModuleOutline, parents_of};
 use pc_front::read_module;
 use pc_intern::InternStore;
 use pc_scope::scopes;
-use pc_source::Fault;
+use pc_source::{Fault, OutOfMemory};
+use pc_tree::Module;
 use pc_types::{BoxStore, TypeStore};
 use std::alloc::{AllocError, Global};
 use worked_rows::{BETWEEN, TableFault, Tally};
@@ -79,6 +80,26 @@ fn module_of(alloc: Global, head: &str, row: &Row) -> Result<String, AllocError>
     Ok(text)
 }
 
+/// The answer of a store to a row whose module was read.
+fn answer_in<S: TypeStore>(
+    store: &mut S,
+    alloc: Global,
+    module: &Module,
+    row: &Row,
+) -> Result<String, Fault> {
+    let scopes = scopes(alloc, module)?;
+    let parents = parents_of(alloc, module, &scopes)?;
+    let outline = ModuleOutline {
+        tree: module,
+        scopes: &scopes,
+        parents: &parents,
+    };
+    match row.question {
+        Question::Made => Ok(made(store, alloc, module, row.first)?),
+        question => Ok(answer(store, alloc, &outline, question)?),
+    }
+}
+
 /// The answer of a store to a row.
 fn answer_of<S: TypeStore>(
     store: &mut S,
@@ -88,17 +109,7 @@ fn answer_of<S: TypeStore>(
 ) -> Result<String, Fault> {
     let text = module_of(alloc, head, row)?;
     let module = read_module(alloc, text.as_bytes())?;
-    let scopes = scopes(alloc, &module)?;
-    let parents = parents_of(alloc, &module, &scopes)?;
-    let outline = ModuleOutline {
-        tree: &module,
-        scopes: &scopes,
-        parents: &parents,
-    };
-    match row.question {
-        Question::Made => Ok(made(store, alloc, &module, row.first)?),
-        question => Ok(answer(store, alloc, &outline, question)?),
-    }
+    answer_in(store, alloc, &module, row)
 }
 
 /// The answers of both stores to a row, or the one that both give.
@@ -140,13 +151,18 @@ fn count_rows(
     Ok(())
 }
 
+/// A store of types as numbers, whose parents are those of the classes of a module.
+fn store_of(alloc: Global, module: &Module) -> Result<InternStore, OutOfMemory> {
+    let scopes = scopes(alloc, module)?;
+    let parents = parents_of(alloc, module, &scopes)?;
+    InternStore::new(alloc, module.keys, parents)
+}
+
 /// A store of types as numbers, whose parents are those of the classes of a module's head.
 fn store_for(alloc: Global, head: &str) -> Result<InternStore, Fault> {
     let text = format!(in alloc; "{head}{TAIL}")?;
     let module = read_module(alloc, text.as_bytes())?;
-    let scopes = scopes(alloc, &module)?;
-    let parents = parents_of(alloc, &module, &scopes)?;
-    Ok(InternStore::new(alloc, module.keys, parents)?)
+    Ok(store_of(alloc, &module)?)
 }
 
 /// Counts the rows of a table, twice over, so that each is asked again when the others were asked. One store of each
