@@ -103,7 +103,8 @@ fn check_bodies<S: TypeStore>(
 }
 
 /// Finds what stands under the labels of a module, appended to `found`: first what is found of its signatures and its
-/// constants, then in the bodies of its functions and methods, in text order.
+/// constants, then in the bodies of its functions and methods, in text order. What stands in annotations that the class
+/// table reads, those of fields and of methods that bind their names, is found with that table.
 ///
 /// Language Reference 3.12, 7 "Simple statements" and 8 "Compound statements"; the codes are own rules of the profile.
 #[tactic(auto, unfolding(pc_module_rules::specs::Computed::Modules::module_finds))]

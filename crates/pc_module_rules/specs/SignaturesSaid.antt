@@ -1,6 +1,5 @@
 -- What labels say of a module outside its bodies: of the signatures of its functions and methods, of its fields and of
--- its
--- constants. Own rule of the profile.
+-- its constants. Own rule of the profile.
 use Rattle.std.specs.Prelude.{◌⊎◌, List, [], ◌∷◌}
 use Rattle.pc_tree.specs.declared.code.Finding.{Finding}
 use Rattle.pc_tree.specs.Tree.{FuncDef, Member, field_member, method_member, Item, constant_item, class_item, def_item}

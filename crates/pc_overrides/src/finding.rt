@@ -9,6 +9,7 @@ ghost use Rattle.pc_class.specs.Facts.{classes_of};
 ghost use Rattle.pc_class.specs.Overrides.{overridden};
 ghost use Rattle.pc_class.specs.OverrideFindings.{override_code, override_finding, found_at_method, class_overrides};
 ghost use Rattle.pc_class.specs.OverrideFindings.{override_findings};
+ghost use Rattle.pc_class.specs.Parts.{bases_in};
 ghost use Rattle.pc_class.specs.Tables.{HasEntries, IsMethod, method_with, classes_with};
 ghost use Rattle.pc_overrides.specs.Internal.OverrideTests.{IsJudging, module_judged, methods_above};
 ghost use Rattle.pc_overrides.specs.Internal.Standing.{StandIn, IsKnown, AreKnown};
@@ -49,7 +50,7 @@ fn find_override<'t, S: TypeStore>(
     requires method { IsMethod judging.now.classes.now method.now }
     ensures found { OnOk result
         (found.new.items ≡ found.old.items
-        ++ found_at_method judging.now.parents.now (methods_above judging.now base) (method_with S.tree method.now)) }
+        ++ found_at_method (bases_in judging.now.classes.now) (methods_above judging.now base) (method_with S.tree method.now)) }
     ensures method { IfOk result (λ k. k.method.now ≡ method.now) }
     ensures code { IfOk result (λ k. k.code ≡ override_code (bases_of (module_judged judging.now))
         (overridden (methods_above judging.now base) (method_with S.tree method.now).name)
@@ -85,7 +86,7 @@ fn find_class_overrides<'t, S: TypeStore>(
     ensures known { IfOk result (λ own. All (IsKnown S.tree judging.now class) own.items) }
     ensures kept { KeepsTypes S.has store.old store.new }
 {
-    let base = judging.parents.base(class);
+    let base = judging.classes.parents().base(class);
     let methods = judging.classes.own_methods(class);
     let mut own = Vec::new(judging.alloc);
     for method in methods {
@@ -110,11 +111,9 @@ pub fn override_findings<S: TypeStore>(
     ensures found { OnOk result (found.new.items ≡ found.old.items ++ override_findings (module_of tree.now)) }
     ensures kept { KeepsTypes S.has store.old store.new }
 {
-    let parents = classes.parents();
     let alloc = *found.allocator();
     let judging = Judging {
         tree,
-        parents,
         classes,
         alloc,
     };

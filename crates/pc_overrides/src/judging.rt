@@ -7,6 +7,7 @@ ghost use Rattle.pc_types.specs.Store.{KeepsTypes};
 ghost use Rattle.pc_ann.specs.Bases.{bases_of};
 ghost use Rattle.pc_class.specs.Overrides.{overridden};
 ghost use Rattle.pc_class.specs.OverrideFindings.{is_good_to, is_static_to, code_where, override_code};
+ghost use Rattle.pc_class.specs.Parts.{bases_in};
 ghost use Rattle.pc_class.specs.Tables.{HasMethod, HasEntries, IsMethod, method_with};
 ghost use Rattle.pc_overrides.specs.declared.overriding.Relation.TheVariants.{Static, Assignable};
 ghost use Rattle.pc_overrides.specs.Internal.OverrideTests.{meets_demand, IsJudging, module_judged, methods_above};
@@ -31,16 +32,17 @@ fn static_among<S: TypeStore>(
     requires listed { AreListed S.tree judging.now demands.now }
     requires method { HasMethod (S.has store.old) method.now }
     ensures value { result ≡ static_where
-        (list_all (meets_demand S.tree Assignable judging.now.parents.now (method_with S.tree method.now)) demands.now)
-        (list_all (meets_demand S.tree Static judging.now.parents.now (method_with S.tree method.now)) demands.now) }
+        (list_all (meets_demand S.tree Assignable (bases_in judging.now.classes.now) (method_with S.tree method.now)) demands.now)
+        (list_all (meets_demand S.tree Static (bases_in judging.now.classes.now) (method_with S.tree method.now)) demands.now) }
     ensures kept { KeepsTypes S.has store.old store.new }
 {
+    let parents = judging.classes.parents();
     let mut is_static = true;
     for demand in demands {
         let old = demand.method;
         if !meets(
             store,
-            judging.parents,
+            parents,
             Relation::Assignable,
             method,
             old,
@@ -49,14 +51,7 @@ fn static_among<S: TypeStore>(
             return None;
         }
         if is_static {
-            is_static = meets(
-                store,
-                judging.parents,
-                Relation::Static,
-                method,
-                old,
-                demand.part,
-            );
+            is_static = meets(store, parents, Relation::Static, method, old, demand.part);
         }
     }
     Some(is_static)
@@ -114,12 +109,13 @@ fn code_of<S: TypeStore>(
     requires judged { AreKnown S.tree judging.now judged.now }
     requires method { HasMethod (S.has store.old) method.now }
     ensures value { IfOk result (λ code. code ≡ code_where
-        (list_all (is_good_to judging.now.parents.now (method_with S.tree method.now))
+        (list_all (is_good_to (bases_in judging.now.classes.now) (method_with S.tree method.now))
         (overridden (methods_above judging.now base) (method_with S.tree method.now).name))
-        (others && list_all (is_static_to judging.now.parents.now (method_with S.tree method.now))
+        (others && list_all (is_static_to (bases_in judging.now.classes.now) (method_with S.tree method.now))
         (overridden (methods_above judging.now base) (method_with S.tree method.now).name))) }
     ensures kept { KeepsTypes S.has store.old store.new }
 {
+    let parents = judging.classes.parents();
     let mut is_static = others;
     let mut at = base;
     while let Some(class) = at {
@@ -128,16 +124,16 @@ fn code_of<S: TypeStore>(
                 at = None;
             }
             Some(old) => {
-                if !overrides(store, judging.parents, Relation::Assignable, method, old) {
+                if !overrides(store, parents, Relation::Assignable, method, old) {
                     return Ok(Some(Code::E11));
                 }
-                let here = overrides(store, judging.parents, Relation::Static, method, old);
+                let here = overrides(store, parents, Relation::Static, method, old);
                 is_static = is_static && here;
                 // A method is static to one that is like it, which is tested sooner than whether it is like it.
                 if here && let Some(known) = judged_alike(judging, store, judged, old, method)? {
                     return Ok(with_others(known.code, is_static));
                 }
-                at = judging.parents.base(old.owner);
+                at = parents.base(old.owner);
             }
         }
     }

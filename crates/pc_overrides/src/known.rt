@@ -10,14 +10,12 @@ ghost use Rattle.pc_overrides.specs.Internal.Standing.{StandIn, IsKnown, AreKnow
 use crate::overriding::Demand;
 use pc_class::{ClassTable, Method};
 use pc_tree::{Code, Module};
-use pc_types::Parents;
 use std::alloc::Global;
 
-/// What overrides are judged in: a module, the parents of its classes, and their table; and where memory comes from.
+/// What overrides are judged in: a module and the table of its classes; and where memory comes from.
 #[derive(Drop)]
 pub struct Judging<'a, Ty: Drop> {
     pub tree: &'a Module,
-    pub parents: &'a Parents,
     pub classes: &'a ClassTable<Ty>,
     pub alloc: Global,
 }

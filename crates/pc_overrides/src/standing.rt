@@ -46,7 +46,8 @@ fn stands_for<S: TypeStore>(
         (method_with S.tree new.now) (method_with S.tree old.now) part) }
     ensures kept { KeepsTypes S.has store.old store.new }
 {
-    if !meets(store, judging.parents, Relation::Static, new, old, part) {
+    let parents = judging.classes.parents();
+    if !meets(store, parents, Relation::Static, new, old, part) {
         return Ok(false);
     }
     let settled = settles_at(store, judging.alloc, new, old, part)?;

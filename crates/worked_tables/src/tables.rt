@@ -14,7 +14,7 @@ pub fn judge(alloc: Global, file: &str, table: &str, tally: &mut Tally) -> Resul
     match folder {
         "texts" => worked_cases::texts::judge(alloc, kind, table, tally),
         "runs" => worked_cases::runs::judge(alloc, kind, table, tally),
-        "layers" => worked_cases::layers::judge(alloc, kind, table, tally),
+        "layers" => worked_layers::judge(alloc, kind, table, tally),
         "typing" => worked_typing::judge(alloc, kind, table, tally),
         "reports" => worked_cases::reports::judge(alloc, kind, table, &Checking, tally),
         _ => Err(TableFault::Kind),

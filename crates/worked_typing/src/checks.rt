@@ -1,10 +1,10 @@
 //! What the check of a module explains and finds, by `pc_check` and `pc_signatures`, over any store of types.
-ghost use Rattle.std.specs.Prelude.{◌≡◌, All};
+ghost use Rattle.std.specs.Prelude.{◌≡◌, All, IfOk};
 ghost use Rattle.pc_tree.specs.Tree.{module_of};
 ghost use Rattle.pc_scope.specs.ModuleScopes.{AreScopes};
 ghost use Rattle.pc_class.specs.Facts.{classes_of};
 ghost use Rattle.pc_class.specs.Tables.{HasEntries, classes_with};
-ghost use Rattle.pc_rules.specs.Computed.Standing.{HasSignature};
+ghost use Rattle.pc_rules.specs.Computed.Standing.{HasIfAny, HasSignature};
 
 use pc_ann::{ModuleOutline, parents_of, type_text};
 use pc_check::{check_module, explain_flow};
@@ -14,7 +14,7 @@ use pc_flow::{DeclaredTypes, Env, OwnerNames};
 use pc_front::read_module;
 use pc_intern::InternStore;
 use pc_notes::Notes;
-use pc_rules::{Checker, ModuleContext, Setting};
+use pc_rules::{Checker, ModuleContext, Setting, Signature};
 use pc_scope::{Owner, Scopes, scopes};
 use pc_signatures::read_signatures;
 use pc_source::{OutOfMemory, Place};
@@ -82,15 +82,73 @@ fn checked_text<S: TypeStore>(
     listed(alloc, &notes)
 }
 
-/// How many constants and functions there are, and what is found in them, as a table writes it.
-fn counted(
+/// Adds the text of a type behind those of others.
+fn add_text(out: &mut String, text: &str) -> Result<(), OutOfMemory> {
+    if !out.is_empty() {
+        out.push_str(", ")?;
+    }
+    Ok(out.push_str(text)?)
+}
+
+/// The types of constants.
+fn constants_text<S: TypeStore>(
+    store: &S,
     alloc: Global,
-    constants: usize,
-    functions: usize,
-    notes: &Notes,
-) -> Result<String, OutOfMemory> {
+    tree: &Module,
+    constants: &[S::Ty],
+) -> Result<String, OutOfMemory>
+    requires { All (S.has store.now) constants.now }
+{
+    let mut out = String::new(alloc);
+    for ty in constants {
+        add_text(&mut out, type_text(store, alloc, tree, ty)?.as_str())?;
+    }
+    Ok(out)
+}
+
+/// The types that functions return.
+fn returns_text<S: TypeStore>(
+    store: &S,
+    alloc: Global,
+    tree: &Module,
+    functions: &[Signature<S::Ty>],
+) -> Result<String, OutOfMemory>
+    requires { All (HasSignature (S.has store.now)) functions.now }
+{
+    let mut out = String::new(alloc);
+    for signature in functions {
+        add_text(
+            &mut out,
+            type_text(store, alloc, tree, &signature.ret)?.as_str(),
+        )?;
+    }
+    Ok(out)
+}
+
+/// The types of constants, those that functions return, and what was found in both, as a table writes it.
+fn signatures_text<S: TypeStore>(
+    checker: &Checker<'_, S>,
+    tree: &Module,
+    constants: &[S::Ty],
+    functions: &[Signature<S::Ty>],
+) -> Result<String, OutOfMemory>
+    requires constants { All (S.has checker.now.store.now) constants.now }
+    requires functions { All (HasSignature (S.has checker.now.store.now)) functions.now }
+{
+    let constants = constants_text(checker.store, checker.alloc, tree, constants)?;
+    let returns = returns_text(checker.store, checker.alloc, tree, functions)?;
+    told(
+        checker.alloc,
+        constants.as_str(),
+        returns.as_str(),
+        checker.found,
+    )
+}
+
+/// Two texts, and what is found.
+fn told(alloc: Global, one: &str, other: &str, notes: &Notes) -> Result<String, OutOfMemory> {
     let found = listed(alloc, notes)?;
-    Ok(format!(in alloc; "{constants} {functions}; {found}")?)
+    Ok(format!(in alloc; "{one}; {other}; {found}")?)
 }
 
 /// The initializer of the last constant of a module.
@@ -110,13 +168,32 @@ fn typed(alloc: Global, ty: &str, notes: &Notes) -> Result<String, OutOfMemory> 
     Ok(format!(in alloc; "{ty}; {found}")?)
 }
 
-/// The type of the initializer of a module's last constant, and what is found in it. In a body functions may be called.
+/// The type of the last constant, where it is expected of its initializer.
+fn expected<S: TypeStore>(
+    store: &S,
+    alloc: Global,
+    constants: &[S::Ty],
+    is_expected: bool,
+) -> Result<Option<S::Ty>, OutOfMemory>
+    requires { All (S.has store.now) constants.now }
+    ensures { IfOk result (λ want. HasIfAny (S.has store.now) want) }
+{
+    match constants.last() {
+        Some(ty) if is_expected => Ok(Some(store.copy(alloc, ty)?)),
+        _ => Ok(None),
+    }
+}
+
+/// The type of the initializer of a module's last constant, of which this type may be expected, and what is found in it.
+/// In a body functions may be called.
 fn label_text<S: TypeStore>(
     store: &mut S,
     alloc: Global,
     globals: &ModuleContext<'_, S::Ty>,
     in_body: bool,
+    want: &Option<S::Ty>,
 ) -> Result<String, OutOfMemory>
+    requires want { HasIfAny (S.has store.old) want.now }
     requires classes { HasEntries (S.has store.old) globals.now.classes.now }
     requires functions { All (HasSignature (S.has store.old)) globals.now.functions.now }
     requires constants { All (S.has store.old) globals.now.constants.now }
@@ -142,13 +219,13 @@ fn label_text<S: TypeStore>(
         alloc,
         found: &mut notes,
     };
-    let label = type_expr(&mut checker, &setting, &env, &None, value)?;
+    let label = type_expr(&mut checker, &setting, &env, want, value)?;
     let ty = type_text(checker.store, alloc, globals.outline.tree, &label.ty)?;
     typed(alloc, ty.as_str(), &notes)
 }
 
-/// What the signatures of a module are, and what is found in them; or what its last initializer is, where all its
-/// constants and classes may be named.
+/// What the constants and functions of a module are by its signatures, and what is found in them; or what its last
+/// initializer is, where all its constants and classes may be named.
 fn signed_text<S: TypeStore>(
     store: &mut S,
     alloc: Global,
@@ -173,22 +250,24 @@ fn signed_text<S: TypeStore>(
         parents: classes.parents(),
     };
     let signed = read_signatures(&mut checker, &outline, classes)?;
+    let (constants, functions) = (signed.constants(), signed.functions());
     if part == "SIGNATURES" {
-        let (constants, functions) = (signed.constants().len(), signed.functions().len());
-        return counted(alloc, constants, functions, &notes);
+        return signatures_text(&checker, tree, constants, functions);
     }
     let globals = ModuleContext {
         outline: &outline,
         classes,
-        functions: signed.functions(),
-        constants: signed.constants(),
+        functions,
+        constants,
         known: classes.count(),
     };
-    label_text(checker.store, alloc, &globals, part == "TYPED")
+    let want = expected(checker.store, alloc, constants, part == "EXPECTED")?;
+    label_text(checker.store, alloc, &globals, part != "INITIAL", &want)
 }
 
 /// What a store answers in a part of this name to a module with its names and its table of classes: the flow at a place,
-/// what is found in the module, what its last initializer is as in a body or as an initializer, or what its signatures are.
+/// what is found in the module, what its last initializer is as in a body, as in a body where its type is expected, or as
+/// an initializer, or what its signatures are.
 fn answer_with<S: TypeStore>(
     store: &mut S,
     alloc: Global,

@@ -15,6 +15,7 @@ use Rattle.pc_class.specs.Facts.{TypedParameter, Method, base_facts, classes_of}
 use Rattle.pc_class.specs.Overrides.{TypeFlow, has_shape_of, override_flows}
 use Rattle.pc_class.specs.OverrideFindings.{flow_is_static, flow_is_good}
 use Rattle.pc_class.specs.Tables.{classes_with, method_lent}
+use Rattle.pc_class.specs.Parts.{bases_in}
 
 -- whether a flow is in the relation
 abbrev pub flow_fits : Relation → Bases → TypeFlow → Bool
@@ -56,9 +57,9 @@ module _ {Ty : Type 0} where
   abbrev pub module_judged : Judging Ty → Module
   module_judged s = module_of s.tree.now
 
-  -- the parents and the table of classes are those of the module
+  -- the table of classes is that of the module, and so are its bases
   pub record IsJudging (tree : Ty → Tree) (s : Judging Ty) : Type 0 where
-    pub parents : s.parents.now ≡ bases_of (module_judged s)
+    pub parents : bases_in s.classes.now ≡ bases_of (module_judged s)
     pub classes : classes_with tree s.classes.now ≡ classes_of (module_judged s)
 
   -- the methods that a class of this base inherits

@@ -12,6 +12,7 @@ use Rattle.pc_overrides.specs.Internal.Standing.{IsKnown}
 use Rattle.pc_class.specs.OverrideFindings.{found_at_methods}
 use Rattle.pc_class.specs.Overrides.{overridden}
 use Rattle.pc_class.specs.Tables.{empty_entry, inherited_entry, method_with}
+use Rattle.pc_class.specs.Parts.{bases_in}
 use Rattle.pc_class.proofs.ClassesBuilt.{base_here}
 use Rattle.pc_overrides.proofs.ClassOverrides.{entries_keep, as_many, one_more, own_there, methods_next}
 use Rattle.pc_overrides.proofs.KnownMethods.{known_more}
@@ -47,7 +48,7 @@ loop-method-preserved g c =
     let less : class < length cs = omega (arith, many, c.requires.class) in
     let more = one_more m cs class less in
     let base = base_named m class more.class.base in
-    let at = c.base-base.ensures.value ∙ ap (λ bs. base_of bs class) c.requires.judging.parents in
+    let at = (rw c.parents.ensures at c.base-base.ensures.value) ∙ ap (λ bs. base_of bs class) c.requires.judging.parents in
     let same_base : c.base-base.result ≡ base = at ∙ base_here m class more.class more.is in
     let among = own_among tree own _
     (own_there tree es m class more.class more.is c.requires.judging.classes own c.own_methods-methods.ensures.over)
@@ -56,7 +57,7 @@ loop-method-preserved g c =
     ∙ ap (λ o. method_with tree x ∷ overridden (methods_above j o) (string_bytes x.name)) (sym same_base) in
     record {
       store = λ t h. c.find_override.ensures.kept t (c.loop-method.invariant.store t h);
-      found = methods_next tree j.parents.now (methods_above j c.base-base.result) own
+      found = methods_next tree (bases_in j.classes.now) (methods_above j c.base-base.result) own
           c.loop-method.method-index x c.loop-method-test.true c.method-item.is
           c.loop-method.found.items c.find_override.new.found.items _ c.loop-method.invariant.found
           c.in_ok-known.ensures.found;
@@ -77,16 +78,16 @@ returns-clause-found g c definition is =
     let old = c.args.found.now.items in
     let base = base_named m c.args.class definition.base in
     let above = methods_above j c.base-base.result in
-    let same_base : c.base-base.result ≡ base = c.base-base.ensures.value
+    let same_base : c.base-base.result ≡ base = (rw c.parents.ensures at c.base-base.ensures.value)
     ∙ ap (λ bs. base_of bs c.args.class) c.requires.judging.parents ∙ base_here m c.args.class definition is in
     sym (append-nil c.loop-method.found.items)
-    ∙ ap (λ (xs : List (RustMethod _)). c.loop-method.found.items ++ found_at_methods j.parents.now above
+    ∙ ap (λ (xs : List (RustMethod _)). c.loop-method.found.items ++ found_at_methods (bases_in j.classes.now) above
     (map (method_with tree) xs)) (sym (drop_of_length-le own c.loop-method-test.false))
     ∙ c.loop-method.invariant.found
-    ∙ ap (λ (xs : List Method). old ++ found_at_methods j.parents.now above xs)
+    ∙ ap (λ (xs : List Method). old ++ found_at_methods (bases_in j.classes.now) above xs)
     (own_there tree j.classes.now m c.args.class definition is c.requires.judging.classes own
     c.own_methods-methods.ensures.over)
-    ∙ ap (λ o. old ++ found_at_methods j.parents.now (methods_above j o)
+    ∙ ap (λ o. old ++ found_at_methods (bases_in j.classes.now) (methods_above j o)
     (own_methods m (base_facts (classes_of m) base) c.args.class 0 [] definition.members)) same_base
     ∙ ap (λ bs. old ++ found_at_methods bs (methods_above j base)
     (own_methods m (base_facts (classes_of m) base) c.args.class 0 [] definition.members))

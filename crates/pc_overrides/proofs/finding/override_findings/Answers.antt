@@ -16,7 +16,7 @@ use Rattle.pc_overrides.proofs.finding.override_findings.Goals as goal
 
 pub find_class_overrides-requires-clause-judging : goal.find_class_overrides-requires-clause-judging
 find_class_overrides-requires-clause-judging g c = record {
-  parents = c.parents-parents.ensures ∙ sym (bases_there g.S.TypeStore.tree c.args.classes.now)
+  parents = sym (bases_there g.S.TypeStore.tree c.args.classes.now)
       ∙ ap (map (λ (x : ClassFacts). x.base)) c.requires.classes ∙ bases_are (module_of c.args.tree.now);
   classes = c.requires.classes;
 }
@@ -44,7 +44,6 @@ loop-class-preserved g c =
     let tree = g.S.TypeStore.tree in
     let j : Judging g.row.S-Ty.Denot = record {
       tree = c.args.tree;
-      parents = c.parents-parents.result;
       classes = c.args.classes;
       alloc = c.allocator-alloc.result.now;
     } in

@@ -7,6 +7,7 @@ use Rattle.pc_ann.specs.Bases.{bases_of}
 use Rattle.pc_class.specs.Overrides.{overridden}
 use Rattle.pc_class.specs.OverrideFindings.{is_good_to, is_static_to, code_where}
 use Rattle.pc_class.specs.Tables.{method_with}
+use Rattle.pc_class.specs.Parts.{bases_in}
 use Rattle.pc_overrides.specs.declared.overriding.Relation.TheVariants as relations
 use Rattle.pc_overrides.specs.Internal.OverrideTests.{meets_demand, module_judged, methods_above}
 use Rattle.pc_overrides.specs.Internal.Standing.{static_where}
@@ -53,7 +54,7 @@ returns-in-None-clause-value g c =
     let good : Bases → Bool = λ bs. list_all (meets_demand tree relations.Assignable bs x) demands in
     let static : Bases → Bool = λ bs. list_all (meets_demand tree relations.Static bs x) demands in
     let wrong : good bases ≡ false = ap good (sym c.requires.judging.parents)
-    ∙ not_good (good j.parents.now) (static j.parents.now) c.in-None.ensures.value in
+    ∙ not_good (good (bases_in j.classes.now)) (static (bases_in j.classes.now)) c.in-None.ensures.value in
     ap (λ b. code_where (b && list_all (is_good_to bases x) rest)
     (static bases && list_all (is_static_to bases x) rest)) (sym wrong)
     ∙ code_by_enough tree bases demands rest all x c.requires.above.enough (listed_well_formed tree j.classes.now
@@ -71,12 +72,12 @@ returns-in_ok-code-in-Some-clause-value g c =
     let all = overridden (methods_above j c.args.above.now.base) x.name in
     let good : Bases → Bool = λ bs. list_all (meets_demand tree relations.Assignable bs x) demands in
     let static : Bases → Bool = λ bs. list_all (meets_demand tree relations.Static bs x) demands in
-    let told = good_and (good j.parents.now) (static j.parents.now) c.in-Some.is_static c.in-Some.ensures.value in
+    let told = good_and (good (bases_in j.classes.now)) (static (bases_in j.classes.now)) c.in-Some.is_static c.in-Some.ensures.value in
     c.in_ok-code-in-Some.ensures.value
-    ∙ ap (λ b. code_where (b && list_all (is_good_to j.parents.now x) rest)
-    (c.in-Some.is_static && list_all (is_static_to j.parents.now x) rest)) (sym told.0)
-    ∙ ap (λ b. code_where (good j.parents.now && list_all (is_good_to j.parents.now x) rest)
-    (b && list_all (is_static_to j.parents.now x) rest)) told.1
+    ∙ ap (λ b. code_where (b && list_all (is_good_to (bases_in j.classes.now) x) rest)
+    (c.in-Some.is_static && list_all (is_static_to (bases_in j.classes.now) x) rest)) (sym told.0)
+    ∙ ap (λ b. code_where (good (bases_in j.classes.now) && list_all (is_good_to (bases_in j.classes.now) x) rest)
+    (b && list_all (is_static_to (bases_in j.classes.now) x) rest)) told.1
     ∙ ap (λ bs. code_where (good bs && list_all (is_good_to bs x) rest)
     (static bs && list_all (is_static_to bs x) rest)) parents
     ∙ code_by_enough tree bases demands rest all x c.requires.above.enough (listed_well_formed tree j.classes.now

@@ -7,6 +7,7 @@ use Rattle.pc_types.specs.Below.{base_of}
 use Rattle.pc_ann.specs.Bases.{bases_of}
 use Rattle.pc_class.specs.OverrideFindings.{is_good_to, is_static_to, code_where, override_code}
 use Rattle.pc_class.specs.Tables.{method_with, IsMethodIfAny}
+use Rattle.pc_class.specs.Parts.{bases_in}
 use Rattle.pc_overrides.specs.declared.known.Judged.{Judged}
 use Rattle.pc_overrides.proofs.Demands.{and_further}
 use Rattle.pc_overrides.proofs.OverrideWalk.{method_given, method_keeps, above, all_next, all_done, base_fewer}
@@ -45,10 +46,10 @@ loop-at-preserved-in-None g c =
     c.requires.judging.classes c.as_str.ensures.value (c.method.ensures.value tree) c.in-None.is in
     record {
       store = c.loop-at.invariant.store;
-      good = c.loop-at.invariant.good ∙ all_done m name (is_good_to j.parents.now new) c.loop-at.at c.in-Some.class
+      good = c.loop-at.invariant.good ∙ all_done m name (is_good_to (bases_in j.classes.now) new) c.loop-at.at c.in-Some.class
           c.in-Some.is none;
       static = c.loop-at.invariant.static ∙ ap (λ b. c.loop-at.is_static && b)
-          (all_done m name (is_static_to j.parents.now new) c.loop-at.at c.in-Some.class c.in-Some.is none);
+          (all_done m name (is_static_to (bases_in j.classes.now) new) c.loop-at.at c.in-Some.class c.in-Some.is none);
     }
 
 pub returns-then-not-overrides-clause-value : goal.returns-then-not-overrides-clause-value
@@ -62,13 +63,13 @@ returns-then-not-overrides-clause-value g c =
     let some = found_there tree j.classes.now m c.in-Some.class c.as_str.result.now name c.method.result
     (Some c.in-Some-method.old) c.requires.judging.classes c.as_str.ensures.value (c.method.ensures.value tree)
     c.in-Some-method.is in
-    let test = is_good_to j.parents.now new in
-    let base = base_of j.parents.now old.owner in
+    let test = is_good_to (bases_in j.classes.now) new in
+    let base = base_of (bases_in j.classes.now) old.owner in
     let is_base = ap (λ bs. base_of bs old.owner) c.requires.judging.parents in
-    ap (λ b. code_where b (c.args.others && list_all (is_static_to j.parents.now new)
+    ap (λ b. code_where b (c.args.others && list_all (is_static_to (bases_in j.classes.now) new)
     (above m name c.args.base)))
     (sym (c.loop-at.invariant.good ∙ all_next m name test c.loop-at.at c.in-Some.class old base c.in-Some.is some
-    is_base ∙ ap (λ b. b && list_all test (above m name base)) (sym c.overrides.ensures.value
+    is_base ∙ ap (λ b. b && list_all test (above m name base)) (sym (c.overrides.ensures.value ∙ ap (λ bs. is_good_to bs new old) c.parents-parents.ensures)
     ∙ c.if-not-overrides.true)))
 
 pub loop-at-smaller : goal.loop-at-smaller
@@ -96,13 +97,13 @@ loop-at-preserved g c =
     (Some c.in-Some-method.old) c.requires.judging.classes c.as_str.ensures.value (c.method.ensures.value tree)
     c.in-Some-method.is in
     let base = c.base-at.result in
-    let is_base = c.base-at.ensures.value ∙ ap (λ bs. base_of bs old.owner) c.requires.judging.parents in
-    let good = is_good_to j.parents.now new in
-    let static = is_static_to j.parents.now new in
+    let is_base = (rw c.parents-parents.ensures at c.base-at.ensures.value) ∙ ap (λ bs. base_of bs old.owner) c.requires.judging.parents in
+    let good = is_good_to (bases_in j.classes.now) new in
+    let static = is_static_to (bases_in j.classes.now) new in
     let rest = list_all static (above m name base) in
     let so_far = c.loop-at.is_static in
     let flag : (so_far && static old) ≡ c.if-is_static.is_static = elim c.if-is_static.branch [
-      | then-is_static w ↦ ap (λ b. b && static old) w.if-is_static.true ∙ sym c.overrides-here.ensures.value
+      | then-is_static w ↦ ap (λ b. b && static old) w.if-is_static.true ∙ sym (c.overrides-here.ensures.value ∙ ap (λ bs. is_static_to bs new old) c.parents-parents.ensures)
           ∙ sym w.is_static-is
       | else-is_static w ↦ ap (λ b. b && static old) w.if-is_static.false ∙ sym w.if-is_static.false
           ∙ sym w.is_static-is
@@ -110,7 +111,7 @@ loop-at-preserved g c =
     record {
       store = λ t h. c.overrides-here.ensures.kept t (c.overrides.ensures.kept t (c.loop-at.invariant.store t h));
       good = c.loop-at.invariant.good ∙ all_next m name good c.loop-at.at c.in-Some.class old base c.in-Some.is some
-          is_base ∙ ap (λ b. b && list_all good (above m name base)) (sym c.overrides.ensures.value
+          is_base ∙ ap (λ b. b && list_all good (above m name base)) (sym (c.overrides.ensures.value ∙ ap (λ bs. is_good_to bs new old) c.parents-parents.ensures)
           ∙ c.if-not-overrides.false);
       static = c.loop-at.invariant.static
           ∙ ap (λ b. so_far && b) (all_next m name static c.loop-at.at c.in-Some.class old base c.in-Some.is some
@@ -138,12 +139,12 @@ returns-in-Some-method-clause-value g c =
     (Some c.in-Some-method.old) c.requires.judging.classes c.as_str.ensures.value (c.method.ensures.value tree)
     c.in-Some-method.is in
     let base = base_of (bases_of m) old.owner in
-    let good = is_good_to j.parents.now new in
-    let static = is_static_to j.parents.now new in
+    let good = is_good_to (bases_in j.classes.now) new in
+    let static = is_static_to (bases_in j.classes.now) new in
     let rest = above m name base in
     let so_far = c.loop-at.is_static in
     let flag : (so_far && static old) ≡ c.if-is_static.is_static = elim c.if-is_static.branch [
-      | then-is_static w ↦ ap (λ b. b && static old) w.if-is_static.true ∙ sym c.overrides-here.ensures.value
+      | then-is_static w ↦ ap (λ b. b && static old) w.if-is_static.true ∙ sym (c.overrides-here.ensures.value ∙ ap (λ bs. is_static_to bs new old) c.parents-parents.ensures)
           ∙ sym w.is_static-is
       | else-is_static w ↦ ap (λ b. b && static old) w.if-is_static.false ∙ sym w.if-is_static.false
           ∙ sym w.is_static-is
@@ -156,7 +157,7 @@ returns-in-Some-method-clause-value g c =
     ∙ ap (λ bs. override_code bs rest new) (sym parents) in
     let all_good : list_all good (above m name c.args.base) ≡ list_all good rest = c.loop-at.invariant.good
     ∙ all_next m name good c.loop-at.at c.in-Some.class old base c.in-Some.is some refl
-    ∙ ap (λ b. b && list_all good rest) (sym c.overrides.ensures.value ∙ c.if-not-overrides.false) in
+    ∙ ap (λ b. b && list_all good rest) (sym (c.overrides.ensures.value ∙ ap (λ bs. is_good_to bs new old) c.parents-parents.ensures) ∙ c.if-not-overrides.false) in
     let all_static : (c.args.others && list_all static (above m name c.args.base))
     ≡ (c.if-is_static.is_static && list_all static rest) = c.loop-at.invariant.static
     ∙ ap (λ b. so_far && b) (all_next m name static c.loop-at.at c.in-Some.class old base c.in-Some.is some refl)

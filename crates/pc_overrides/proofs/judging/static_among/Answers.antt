@@ -2,6 +2,7 @@ use Rattle.std.proofs.Common.{◌≡◌, ◌∙◌, ◌&&◌, ◌+◌, drop, sym
 use Rattle.std.specs.Prelude.{false}
 use Rattle.std.specs.List.{list_all}
 use Rattle.pc_class.specs.Tables.{method_with}
+use Rattle.pc_class.specs.Parts.{bases_in}
 use Rattle.pc_overrides.specs.declared.overriding.Relation.TheVariants as relations
 use Rattle.pc_overrides.specs.Internal.OverrideTests.{meets_demand}
 use Rattle.pc_overrides.specs.Internal.Standing.{static_where}
@@ -22,7 +23,7 @@ meets-requires-clause-old g c =
 
 pub returns-then-not-meets-clause-value : goal.returns-then-not-meets-clause-value
 returns-then-not-meets-clause-value g c =
-    let bases = c.args.judging.now.parents.now in
+    let bases = bases_in c.args.judging.now.classes.now in
     let tree = g.S.TypeStore.tree in
     let x = method_with tree c.args.method.now in
     let good = meets_demand tree relations.Assignable bases x in
@@ -30,7 +31,7 @@ returns-then-not-meets-clause-value g c =
     let i = c.loop-demand.demand-index in
     let all : list_all good demands ≡ false = c.loop-demand.invariant.good
     ∙ tested_from good demands i c.demand-item.result c.loop-demand-test.true c.demand-item.is
-    ∙ ap (λ b. b && list_all good (drop (i + 1) demands)) (sym c.meets.ensures.value ∙ c.if-not-meets.true) in
+    ∙ ap (λ b. b && list_all good (drop (i + 1) demands)) (sym (rw c.parents-parents.ensures at c.meets.ensures.value) ∙ c.if-not-meets.true) in
     ap (λ b. static_where b (list_all (meets_demand tree relations.Static bases x) demands)) (sym all)
 
 pub meets-is_static-requires-clause-old : goal.meets-is_static-requires-clause-old
@@ -46,7 +47,7 @@ meets-is_static-requires-clause-old g c =
 
 pub loop-demand-preserved : goal.loop-demand-preserved
 loop-demand-preserved g c =
-    let bases = c.args.judging.now.parents.now in
+    let bases = bases_in c.args.judging.now.classes.now in
     let tree = g.S.TypeStore.tree in
     let has = g.S.TypeStore.has in
     let x = method_with tree c.args.method.now in
@@ -58,7 +59,7 @@ loop-demand-preserved g c =
     let static = meets_demand tree relations.Static bases x in
     let rest = list_all static (drop (i + 1) demands) in
     let flag : (so_far && static d) ≡ c.if-is_static.is_static = elim c.if-is_static.branch [
-      | then-is_static w ↦ ap (λ b. b && static d) w.if-is_static.true ∙ sym w.meets-is_static.ensures.value
+      | then-is_static w ↦ ap (λ b. b && static d) w.if-is_static.true ∙ sym (rw c.parents-parents.ensures at w.meets-is_static.ensures.value)
           ∙ sym w.is_static-is
       | else-is_static w ↦ ap (λ b. b && static d) w.if-is_static.false ∙ sym w.if-is_static.false
           ∙ sym w.is_static-is
@@ -71,7 +72,7 @@ loop-demand-preserved g c =
             (c.loop-demand.invariant.store t h))
       ];
       good = c.loop-demand.invariant.good ∙ tested_from good demands i d c.loop-demand-test.true c.demand-item.is
-          ∙ ap (λ b. b && list_all good (drop (i + 1) demands)) (sym c.meets.ensures.value ∙ c.if-not-meets.false);
+          ∙ ap (λ b. b && list_all good (drop (i + 1) demands)) (sym (rw c.parents-parents.ensures at c.meets.ensures.value) ∙ c.if-not-meets.false);
       static = c.loop-demand.invariant.static
           ∙ ap (λ b. so_far && b) (tested_from static demands i d c.loop-demand-test.true c.demand-item.is)
           ∙ sym (and_further so_far (static d) rest) ∙ ap (λ b. b && rest) flag;

@@ -17,6 +17,6 @@ returns-clause-value g c =
     let old = method_with tree c.args.old.now in
     let part = c.args.part in
     let tested = ap (λ bs. meets relations.Static bs new old part) (sym c.requires.judging.parents)
-    ∙ sym c.meets.ensures.value ∙ c.if-not-meets.false in
+    ∙ sym (rw c.parents-parents.ensures at c.meets.ensures.value) ∙ c.if-not-meets.false in
     λ e. stands (bases_of m) (smaller m) new old c.requires.types c.requires.old_types part tested
     (c.in_ok-settled.ensures e)

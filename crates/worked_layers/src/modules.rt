@@ -1,5 +1,5 @@
 //! What is found of a module's names, what stops each of its runs, and the names that it has, by layers alone.
-use crate::layers::conditions::condition_text;
+use crate::conditions::condition_text;
 use pc_front::read_module;
 use pc_scope::scopes;
 use pc_scope_findings::scope_findings;

@@ -1,8 +1,8 @@
 use Rattle.std.proofs.Common.{◌≡◌, List, Option, length, ap, sym, subst, ◌∙◌}
 use Rattle.pc_types.specs.declared.boxed.BoxType.{BoxType}
-use Rattle.worked_cases.proofs.Locals.{AreHeld, set_held, set_length}
-use Rattle.worked_cases.proofs.layers.locals.assigned.Goals as goal
-use Rattle.worked_cases.proofs.layers.locals.assigned.Goals.{in-Some+in_ok-ty+in_ok-assign, in_default}
+use Rattle.worked_layers.proofs.HeldLocals.{AreHeld, set_held, set_length}
+use Rattle.worked_layers.proofs.locals.assigned.Goals as goal
+use Rattle.worked_layers.proofs.locals.assigned.Goals.{in-Some+in_ok-ty+in_ok-assign, in_default}
 
 pub loop-param-preserved : goal.loop-param-preserved
 loop-param-preserved c =

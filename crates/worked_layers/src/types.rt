@@ -1,5 +1,5 @@
 //! Types as annotations spell them, by both stores.
-use crate::layers::questions::{Question, answer, made};
+use crate::questions::{Question, answer, made};
 use pc_ann::{ModuleOutline, parents_of};
 use pc_front::read_module;
 use pc_intern::InternStore;

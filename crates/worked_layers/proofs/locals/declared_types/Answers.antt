@@ -1,7 +1,7 @@
 use Rattle.std.proofs.Common.{sym, subst, ◌∙◌}
-use Rattle.worked_cases.proofs.Locals.{AreHeld, set_held}
-use Rattle.worked_cases.proofs.layers.locals.declared_types.Goals as goal
-use Rattle.worked_cases.proofs.layers.locals.declared_types.Goals.{then-is_some+in-Some+in_ok-ty, else-is_some}
+use Rattle.worked_layers.proofs.HeldLocals.{AreHeld, set_held}
+use Rattle.worked_layers.proofs.locals.declared_types.Goals as goal
+use Rattle.worked_layers.proofs.locals.declared_types.Goals.{then-is_some+in-Some+in_ok-ty, else-is_some}
 
 pub loop-param-preserved : goal.loop-param-preserved
 loop-param-preserved c =

@@ -206,7 +206,18 @@ fn taken<S: TypeStore>(
     type_text(store, alloc, tree, &again)
 }
 
-/// The type that a store makes by its maker of this name, of `int` where it has parts, and the union of none.
+/// The union that a store makes of `int` and `str`.
+fn int_or_str<S: TypeStore>(store: &mut S, alloc: Global) -> Result<Option<S::Ty>, OutOfMemory>
+    ensures { IfOk result (λ o. IfSome o (S.has store.new)) }
+{
+    let mut members = Vec::new(alloc);
+    members.push(store.int(alloc)?)?;
+    members.push(store.str(alloc)?)?;
+    store.union(alloc, &members)
+}
+
+/// The type that a store makes by its maker of this name, of `int` where it has parts; of unions that of `int` and `str`,
+/// and the one of no type.
 fn make<S: TypeStore>(
     store: &mut S,
     alloc: Global,
@@ -235,7 +246,8 @@ fn make<S: TypeStore>(
             parts.push(store.int(alloc)?)?;
             store.tuple(alloc, &parts)
         }
-        "union" => store.union(alloc, &[]),
+        "union" => int_or_str(store, alloc),
+        "union of none" => store.union(alloc, &[]),
         _ => Ok(Some(store.int(alloc)?)),
     }
 }

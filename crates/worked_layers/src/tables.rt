@@ -1,10 +1,10 @@
 //! The kinds of tables of the layers.
-use crate::layers::classes::count_classes;
-use crate::layers::environments::row_text;
-use crate::layers::modules::module_text;
-use crate::layers::names::{meaning_text, words_text};
-use crate::layers::notes::note_text;
-use crate::layers::types::count_types;
+use crate::classes::count_classes;
+use crate::environments::row_text;
+use crate::modules::module_text;
+use crate::names::{meaning_text, words_text};
+use crate::notes::note_text;
+use crate::types::count_types;
 use pc_source::Fault;
 use std::alloc::{AllocError, Global};
 use worked_rows::{Row, TableFault, Tally, rows};

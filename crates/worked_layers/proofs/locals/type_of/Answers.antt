@@ -3,7 +3,7 @@ use Rattle.pc_tree.specs.Tree.{option_ann_of}
 use Rattle.pc_types.specs.WellFormed.{IsWellFormed}
 use Rattle.pc_ann.specs.ModuleOutlines.{module_in}
 use Rattle.pc_ann.proofs.Readings.{read_option_well_formed}
-use Rattle.worked_cases.proofs.layers.locals.type_of.Goals as goal
+use Rattle.worked_layers.proofs.locals.type_of.Goals as goal
 
 pub returns-clause-well_formed : goal.returns-clause-well_formed
 returns-clause-well_formed c =

@@ -6,8 +6,9 @@ ghost use Rattle.pc_types.specs.Boxed.{IsGiven, tree_of};
 ghost use Rattle.pc_flow.specs.Stored.{HasEach, env_of};
 ghost use Rattle.pc_flow.specs.WellFormed.{IsWellFormedEnv};
 
-use crate::layers::conditions::condition_in;
-use crate::layers::locals::{Environment, assigned, declared_types, env_text, function, numbers};
+use crate::conditions::condition_in;
+use crate::junctions::narrowed_by_parts;
+use crate::locals::{Environment, assigned, declared_types, env_text, function, numbers};
 use pc_ann::{ModuleOutline, parents_of, type_text};
 use pc_flow::{
     Declarations, Env, OwnerNames, assigned_type, copy_env, join_env, join_env_onto,
@@ -23,9 +24,12 @@ use std::alloc::{AllocError, Global};
 /// How a row begins that narrows by a condition that is no `not`, `and` or `or`.
 const SIMPLY: &str = "simple ";
 
+/// How a row begins that narrows by an `and` or `or` of two such conditions, each asked by itself.
+const BY_PARTS: &str = "parts ";
+
 /// What is known where the two ways of a row meet (`join`), or where the second one is joined onto the first (`onto`),
 /// then with the numbers of the locals at which joining it again may change something.
-#[tactic(auto, using(crate::proofs::Locals::all_taken_in))]
+#[tactic(auto, using(crate::proofs::HeldLocals::all_taken_in))]
 fn met_text(
     row: &Environment,
     alloc: Global,
@@ -106,7 +110,7 @@ fn narrowed_simply(
 }
 
 /// What is left of an environment where the condition of the function of the locals is true, or where it is false.
-#[tactic(auto, using(crate::proofs::Locals::declared_well_formed))]
+#[tactic(auto, using(crate::proofs::HeldLocals::declared_well_formed))]
 fn narrowed(
     row: &Environment,
     alloc: Global,
@@ -134,6 +138,10 @@ fn narrowed(
     if let Some(way) = words.strip_prefix(SIMPLY) {
         let holds = way.starts_with("true");
         return Ok(narrowed_simply(alloc, &declarations, condition, holds, env)?);
+    }
+    if let Some(way) = words.strip_prefix(BY_PARTS) {
+        let holds = way.starts_with("true");
+        return Ok(narrowed_by_parts(alloc, &declarations, condition, holds, env)?);
     }
     let mut store = BoxStore::new();
     if words.starts_with("true") {
@@ -184,6 +192,7 @@ fn either_text(row: &Environment, alloc: Global, env: &Env<BoxType>) -> Result<S
 /// The condition of a row that narrows by one, after the word that says which way is taken.
 fn condition_of_row(words: &str) -> Option<&str> {
     let way = words.strip_prefix(SIMPLY).unwrap_or(words);
+    let way = way.strip_prefix(BY_PARTS).unwrap_or(way);
     way.strip_prefix("true ")
         .or_else(|| way.strip_prefix("false "))
 }

@@ -1,2 +1,2 @@
 pub mod HeldTables
-pub mod Locals
+pub mod HeldLocals
