@@ -2,8 +2,9 @@
 ghost use Rattle.std.specs.Prelude.{◌≡◌, All};
 ghost use Rattle.pc_tree.specs.Tree.{module_of};
 ghost use Rattle.pc_scope.specs.ModuleScopes.{AreScopes};
-ghost use Rattle.pc_types.specs.Boxed.{IsGiven};
-ghost use Rattle.pc_class.specs.Tables.{HasParameter, HasMethod, HasEntries};
+ghost use Rattle.pc_types.specs.Boxed.{IsGiven, tree_of};
+ghost use Rattle.pc_class.specs.Facts.{classes_of};
+ghost use Rattle.pc_class.specs.Tables.{HasParameter, HasMethod, HasEntries, classes_with};
 
 use pc_ann::type_text;
 use pc_class::{ClassTable, Listing, Method, Parameter, class_table};
@@ -11,7 +12,7 @@ use pc_front::module_in;
 use pc_overrides::override_findings;
 use pc_scope::{Scopes, scopes};
 use pc_source::{Fault, Source, read_source};
-use pc_tree::{Finding, ItemKind, Member, Module};
+use pc_tree::{Finding, Findings, ItemKind, Member, Module};
 use pc_types::{BoxStore, BoxType};
 use std::alloc::{AllocError, Global};
 use worked_rows::{BETWEEN, ROW, TableFault, Tally};
@@ -274,6 +275,22 @@ fn told(
     Ok(out)
 }
 
+/// What a class table says, and what is found of classes, their overrides among it.
+fn judged(
+    store: &mut BoxStore,
+    source: &Source,
+    tree: &Module,
+    table: &ClassTable<BoxType>,
+    found: &mut Findings,
+) -> Result<String, Fault>
+    requires classes { classes_with tree_of table.now ≡ classes_of (module_of tree.now) }
+    requires entries { HasEntries IsGiven table.now }
+{
+    let alloc = *found.allocator();
+    override_findings(store, tree, table, found)?;
+    told(alloc, source, tree, table, found)
+}
+
 /// What the class table of a module says, and what is found of its classes.
 fn described(
     alloc: Global,
@@ -286,16 +303,20 @@ fn described(
     let mut store = BoxStore::new();
     let mut found = Vec::new(alloc);
     let table = class_table(&mut store, alloc, tree, scopes, &mut found)?;
-    override_findings(&mut store, tree, &table, &mut found)?;
-    told(alloc, source, tree, &table, &found)
+    judged(&mut store, source, tree, &table, &mut found)
+}
+
+/// What the class table of a module that was read says, and what is found of its classes.
+fn reading_in(alloc: Global, source: &Source, tree: &Module) -> Result<String, Fault> {
+    let scopes = scopes(alloc, tree)?;
+    described(alloc, source, tree, &scopes)
 }
 
 /// What the class table says of the module that a text spells, and what is found of its classes.
 fn reading(alloc: Global, text: &str) -> Result<String, Fault> {
     let source = read_source(alloc, text.as_bytes())?;
     let tree = module_in(alloc, &source)?;
-    let scopes = scopes(alloc, &tree)?;
-    described(alloc, &source, &tree, &scopes)
+    reading_in(alloc, &source, &tree)
 }
 
 /// What the classes of a module come to, or why it is none.

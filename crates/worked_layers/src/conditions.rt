@@ -31,18 +31,23 @@ fn is_test(e: &Expr) -> bool {
 
 /// The locals that a condition tests, then the local that it names, what `isinstance` tests for by it, and whether it
 /// is a test of an instance.
+fn test_text(alloc: Global, names: &OwnerNames, condition: &Expr) -> Result<String, OutOfMemory> {
+    let mut tested = Vec::new(alloc);
+    add_tested(names, condition, &mut tested)?;
+    let (named, test) = (local_named(names, condition), test_of(names, condition));
+    let is_test = is_test(condition);
+    Ok(format!(in alloc; "{tested:?}; {named:?} {test:?} {is_test}")?)
+}
+
+/// The same of the condition of a module's first function.
 pub fn condition_text(alloc: Global, module: &Module) -> Result<String, OutOfMemory> {
-    let scopes = scopes(alloc, module)?;
     let Some(condition) = condition_of(module) else {
         return Ok(String::from_str(alloc, "no condition")?);
     };
+    let scopes = scopes(alloc, module)?;
     let names = OwnerNames {
         scopes: &scopes,
         owner: Owner::Func(0),
     };
-    let mut tested = Vec::new(alloc);
-    add_tested(&names, condition, &mut tested)?;
-    let (named, test) = (local_named(&names, condition), test_of(&names, condition));
-    let is_test = is_test(condition);
-    Ok(format!(in alloc; "{tested:?}; {named:?} {test:?} {is_test}")?)
+    test_text(alloc, &names, condition)
 }

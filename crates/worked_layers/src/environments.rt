@@ -3,8 +3,8 @@ ghost use Rattle.std.specs.Prelude.{◌≡◌, IfOk, length};
 ghost use Rattle.pc_scope.specs.ModuleScopes.{AreScopes};
 ghost use Rattle.pc_ann.specs.ModuleOutlines.{module_in};
 ghost use Rattle.pc_types.specs.Boxed.{IsGiven, tree_of};
-ghost use Rattle.pc_flow.specs.Stored.{HasEach, env_of};
-ghost use Rattle.pc_flow.specs.WellFormed.{IsWellFormedEnv};
+ghost use Rattle.pc_flow.specs.Stored.{HasEach, env_of, declared_of};
+ghost use Rattle.pc_flow.specs.WellFormed.{IsWellFormedEnv, AreWellFormed};
 
 use crate::conditions::condition_in;
 use crate::junctions::narrowed_by_parts;
@@ -29,7 +29,6 @@ const BY_PARTS: &str = "parts ";
 
 /// What is known where the two ways of a row meet (`join`), or where the second one is joined onto the first (`onto`),
 /// then with the numbers of the locals at which joining it again may change something.
-#[tactic(auto, using(crate::proofs::HeldLocals::all_taken_in))]
 fn met_text(
     row: &Environment,
     alloc: Global,
@@ -52,12 +51,30 @@ fn met_text(
         declared: &declared,
         names: &names,
     };
+    met_with(row, alloc, words, &declarations, one, other)
+}
+
+/// The same, by these declarations.
+#[tactic(auto, using(crate::proofs::HeldLocals::all_taken_in))]
+fn met_with(
+    row: &Environment,
+    alloc: Global,
+    words: &str,
+    declarations: &Declarations<'_, BoxType>,
+    one: Env<BoxType>,
+    other: &Env<BoxType>,
+) -> Result<String, Fault>
+    requires declared { HasEach IsGiven declarations.now.declared.now }
+    requires one { HasEach IsGiven one }
+    requires locals { length one ≡ 3 }
+    requires other { HasEach IsGiven other.now }
+{
     let mut store = BoxStore::new();
     if words == "join" {
-        let env = join_env(&mut store, alloc, &declarations, &one, other)?;
+        let env = join_env(&mut store, alloc, declarations, &one, other)?;
         return env_text(row, alloc, &env);
     }
-    let met = join_env_onto(&mut store, alloc, &declarations, &[0, 1, 2], one, other)?;
+    let met = join_env_onto(&mut store, alloc, declarations, &[0, 1, 2], one, other)?;
     let mut out = env_text(row, alloc, &met.env)?;
     write!(out, "; {:?}", met.unsettled)?;
     Ok(out)
@@ -109,6 +126,34 @@ fn narrowed_simply(
     }
 }
 
+/// What is left of an environment by a condition, in the way that the words of a row say.
+fn narrowed_by(
+    alloc: Global,
+    declarations: &Declarations<'_, BoxType>,
+    words: &str,
+    condition: &Expr,
+    env: Env<BoxType>,
+) -> Result<Env<BoxType>, OutOfMemory>
+    requires declared { HasEach IsGiven declarations.now.declared.now }
+    requires declared_well_formed { AreWellFormed declarations.now.parents.now
+        (declared_of tree_of declarations.now.declared.now) }
+    requires env { HasEach IsGiven env }
+    requires well_formed { IsWellFormedEnv declarations.now.parents.now (env_of tree_of env) }
+    ensures { IfOk result (λ e. HasEach IsGiven e) }
+{
+    if let Some(way) = words.strip_prefix(SIMPLY) {
+        return narrowed_simply(alloc, declarations, condition, way.starts_with("true"), env);
+    }
+    if let Some(way) = words.strip_prefix(BY_PARTS) {
+        return narrowed_by_parts(alloc, declarations, condition, way.starts_with("true"), env);
+    }
+    let mut store = BoxStore::new();
+    if words.starts_with("true") {
+        return narrow_true(&mut store, alloc, declarations, condition, env);
+    }
+    narrow_false(&mut store, alloc, declarations, condition, env)
+}
+
 /// What is left of an environment where the condition of the function of the locals is true, or where it is false.
 #[tactic(auto, using(crate::proofs::HeldLocals::declared_well_formed))]
 fn narrowed(
@@ -135,19 +180,7 @@ fn narrowed(
         declared: &declared,
         names: &names,
     };
-    if let Some(way) = words.strip_prefix(SIMPLY) {
-        let holds = way.starts_with("true");
-        return Ok(narrowed_simply(alloc, &declarations, condition, holds, env)?);
-    }
-    if let Some(way) = words.strip_prefix(BY_PARTS) {
-        let holds = way.starts_with("true");
-        return Ok(narrowed_by_parts(alloc, &declarations, condition, holds, env)?);
-    }
-    let mut store = BoxStore::new();
-    if words.starts_with("true") {
-        return Ok(narrow_true(&mut store, alloc, &declarations, condition, env)?);
-    }
-    Ok(narrow_false(&mut store, alloc, &declarations, condition, env)?)
+    Ok(narrowed_by(alloc, &declarations, words, condition, env)?)
 }
 
 /// What was found of the flow of a row that assigns.

@@ -3,7 +3,7 @@ use indexmap::{IndexMap, IndexSet};
 use pc_front::read_module;
 use pc_scope::{Owner, scopes};
 use pc_source::{Fault, is_reserved};
-use pc_tree::{Keys, Text, bind_first, put, put_last};
+use pc_tree::{Keys, Module, Text, bind_first, put, put_last};
 use std::alloc::{AllocError, Global};
 use std::hash::BuildHasher;
 
@@ -20,6 +20,13 @@ fn owner_of(words: &[&str]) -> Option<Owner> {
     }
 }
 
+/// What a name means to an owner in a module, and how many locals the owner has.
+fn meaning_in(alloc: Global, module: &Module, owner: Owner, name: &str) -> Result<String, Fault> {
+    let names = scopes(alloc, module)?;
+    let (meaning, locals) = (names.resolve(owner, name), names.count_locals(owner));
+    Ok(format!(in alloc; "{meaning:?} of {locals}")?)
+}
+
 /// What the name that a row says last means to the owner that it says first, in a module, and how many locals the owner
 /// has.
 pub fn meaning_text(alloc: Global, module: &str, row: &str) -> Result<String, Fault> {
@@ -29,9 +36,7 @@ pub fn meaning_text(alloc: Global, module: &str, row: &str) -> Result<String, Fa
         return Ok(String::from_str(alloc, "no owner")?);
     };
     let module = read_module(alloc, module.as_bytes())?;
-    let names = scopes(alloc, &module)?;
-    let locals = names.count_locals(owner);
-    Ok(format!(in alloc; "{:?} of {locals}", names.resolve(owner, name))?)
+    meaning_in(alloc, &module, owner, name)
 }
 
 /// What each word has in a map in which each was bound to its number, where it was not bound before.

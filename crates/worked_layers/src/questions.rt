@@ -265,6 +265,32 @@ pub fn made<S: TypeStore>(
     }
 }
 
+/// What a store answers of two types, or of the first one.
+fn answer_of_types<S: TypeStore>(
+    store: &mut S,
+    alloc: Global,
+    outline: &ModuleOutline,
+    question: Question,
+    s: &S::Ty,
+    t: &S::Ty,
+) -> Result<String, OutOfMemory>
+    requires left { S.has store.old s.now }
+    requires right { S.has store.old t.now }
+{
+    let tree = outline.tree;
+    match question {
+        Question::Flow => flow(store, alloc, outline.parents, s, t),
+        Question::Join => join(store, alloc, outline, s, t),
+        Question::JoinAll => join_all(store, alloc, outline, s),
+        Question::Nodes => Ok(format!(in alloc; "{}", store.nodes(s))?),
+        Question::Parts => parts(store, alloc, tree, s),
+        Question::Members => listed(store, alloc, tree, &store.members(alloc, s)?),
+        Question::Copy => type_text(store, alloc, tree, &store.copy(alloc, s)?),
+        Question::Taken => taken(store, alloc, tree, s),
+        Question::Made => Ok(String::new(alloc)),
+    }
+}
+
 /// The answer of a store.
 pub fn answer<S: TypeStore>(
     store: &mut S,
@@ -280,20 +306,5 @@ pub fn answer<S: TypeStore>(
     if !found.is_empty() {
         return Ok(String::from_str(alloc, "an annotation with findings")?);
     }
-    let tree = outline.tree;
-    let text = match question {
-        Question::Flow => flow(store, alloc, outline.parents, &s, &t),
-        Question::Join => join(store, alloc, outline, &s, &t),
-        Question::JoinAll => join_all(store, alloc, outline, &s),
-        Question::Nodes => Ok(format!(in alloc; "{}", store.nodes(&s))?),
-        Question::Parts => parts(store, alloc, tree, &s),
-        Question::Members => listed(store, alloc, tree, &store.members(alloc, &s)?),
-        Question::Copy => type_text(store, alloc, tree, &store.copy(alloc, &s)?),
-        Question::Taken => taken(store, alloc, tree, &s),
-        Question::Made => Ok(String::new(alloc)),
-    }?;
-    if text.is_empty() {
-        return Ok(String::from_str(alloc, "nothing")?);
-    }
-    Ok(text)
+    answer_of_types(store, alloc, outline, question, &s, &t)
 }

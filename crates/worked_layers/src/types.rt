@@ -112,7 +112,7 @@ fn answer_of<S: TypeStore>(
     answer_in(store, alloc, &module, row)
 }
 
-/// The answers of both stores to a row, or the one that both give.
+/// The answers of both stores to a row, or the one that both give, where an empty one is `nothing`.
 fn ask(
     alloc: Global,
     numbers: &mut InternStore,
@@ -122,10 +122,13 @@ fn ask(
 ) -> Result<String, Fault> {
     let by_numbers = answer_of(numbers, alloc, head, row)?;
     let by_boxes = answer_of(boxes, alloc, head, row)?;
-    if by_numbers.as_str() == by_boxes.as_str() {
-        return Ok(by_numbers);
+    if by_numbers.as_str() != by_boxes.as_str() {
+        return Ok(format!(in alloc; "{by_numbers} by numbers, {by_boxes} by boxes")?);
     }
-    Ok(format!(in alloc; "{by_numbers} by numbers, {by_boxes} by boxes")?)
+    if by_numbers.is_empty() {
+        return Ok(String::from_str(alloc, "nothing")?);
+    }
+    Ok(by_numbers)
 }
 
 /// Counts the rows of a part of a table.

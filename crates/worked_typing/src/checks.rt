@@ -27,6 +27,22 @@ fn flow(alloc: Global, from: &str, into: &str) -> Result<String, OutOfMemory> {
     Ok(format!(in alloc; "{from} -> {into}")?)
 }
 
+/// A flow from one type into another.
+fn flow_between<S: TypeStore>(
+    store: &S,
+    alloc: Global,
+    tree: &Module,
+    from: &S::Ty,
+    into: &S::Ty,
+) -> Result<String, OutOfMemory>
+    requires from { S.has store.now from.now }
+    requires into { S.has store.now into.now }
+{
+    let from = type_text(store, alloc, tree, from)?;
+    let into = type_text(store, alloc, tree, into)?;
+    flow(alloc, from.as_str(), into.as_str())
+}
+
 /// The two types of the dynamic flow at a place of a module, or `none`.
 fn flow_text<S: TypeStore>(
     store: &mut S,
@@ -42,11 +58,7 @@ fn flow_text<S: TypeStore>(
 {
     match explain_flow(store, alloc, tree, scopes, classes, place)? {
         None => Ok(String::from_str(alloc, "none")?),
-        Some((from, into)) => {
-            let from = type_text(store, alloc, tree, &from)?;
-            let into = type_text(store, alloc, tree, &into)?;
-            flow(alloc, from.as_str(), into.as_str())
-        }
+        Some((from, into)) => flow_between(store, alloc, tree, &from, &into),
     }
 }
 
@@ -302,16 +314,21 @@ fn answer<S: TypeStore>(
     answer_with(store, alloc, tree, &scopes, &classes, part, place)
 }
 
+/// What a store of types as numbers answers.
+fn answer_by_numbers(
+    alloc: Global,
+    tree: &Module,
+    part: &str,
+    place: Place,
+) -> Result<String, OutOfMemory> {
+    let parents = parents_of(alloc, tree, &scopes(alloc, tree)?)?;
+    let mut store = InternStore::new(alloc, tree.keys, parents)?;
+    answer(&mut store, alloc, tree, part, place)
+}
+
 /// The answers of both stores to a module, or the one that both give.
 fn answers(alloc: Global, tree: &Module, part: &str, place: Place) -> Result<String, OutOfMemory> {
-    let parents = parents_of(alloc, tree, &scopes(alloc, tree)?)?;
-    let by_numbers = answer(
-        &mut InternStore::new(alloc, tree.keys, parents)?,
-        alloc,
-        tree,
-        part,
-        place,
-    )?;
+    let by_numbers = answer_by_numbers(alloc, tree, part, place)?;
     let by_boxes = answer(&mut BoxStore::new(), alloc, tree, part, place)?;
     if by_numbers.as_str() == by_boxes.as_str() {
         return Ok(by_numbers);

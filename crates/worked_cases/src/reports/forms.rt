@@ -78,7 +78,21 @@ fn written<C: Checker>(
     format!(in alloc; "another report, or {counts}")
 }
 
-/// Counts the modules of a table.
+/// Counts a module in both forms.
+fn count_case<C: Checker>(
+    alloc: Global,
+    case: &Case,
+    checker: &C,
+    tally: &mut Tally,
+) -> Result<(), AllocError> {
+    for (json, report) in [(false, case.text.as_str()), (true, case.json.as_str())] {
+        let got = written(alloc, case, json, report, checker)?;
+        tally.count(case.module.as_str(), report, got.as_str())?;
+    }
+    Ok(())
+}
+
+/// Counts the modules of a table, each in both forms.
 pub fn count_forms<C: Checker>(
     alloc: Global,
     table: &str,
@@ -87,10 +101,7 @@ pub fn count_forms<C: Checker>(
 ) -> Result<(), TableFault> {
     for lines in table.split(BETWEEN) {
         let case = case_of(alloc, lines)?;
-        let mut got = written(alloc, &case, false, case.text.as_str(), checker)?;
-        got.push_str(written(alloc, &case, true, case.json.as_str(), checker)?.as_str())?;
-        let want = format!(in alloc; "{}{}", case.text.as_str(), case.json.as_str())?;
-        tally.count(case.module.as_str(), want.as_str(), got.as_str())?;
+        count_case(alloc, &case, checker, tally)?;
     }
     Ok(())
 }

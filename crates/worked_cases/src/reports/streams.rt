@@ -88,13 +88,13 @@ fn taken_text(alloc: Global, taken: &[u8], report: &str) -> Result<String, Alloc
 /// were left; what the writer took.
 fn told<C: Checker>(
     alloc: Global,
-    mut reader: Counted<FailingReader>,
-    mut writer: Counted<FailingWriter>,
+    reader: &mut Counted<FailingReader>,
+    writer: &mut Counted<FailingWriter>,
     json: bool,
     report: &str,
     checker: &C,
 ) -> Result<String, AllocError> {
-    let answer = checker.of_stream(alloc, &mut reader, &mut writer, json, Format::One)?;
+    let answer = checker.of_stream(alloc, reader, writer, json, Format::One)?;
     let _ = writer.flush();
     let taken = taken_text(alloc, writer.inner().taken.as_slice(), report)?;
     let (failed_reads, failed_writes) = (reader.failures(), writer.failures());
@@ -114,43 +114,34 @@ fn answer<C: Checker>(
     checker: &C,
 ) -> Result<String, TableFault> {
     let words: Vec<&str> = row.split(' ').collect(alloc)?;
-    let reader = FailingReader {
-        bytes: bytes_of(alloc, text)?,
-        at: 0,
-        each: number(&words, 0)?,
-        calls: number(&words, 1)?,
-    };
-    let writer = FailingWriter {
-        taken: Vec::new(alloc),
-        each: number(&words, 2)?,
-        most: number(&words, 3)?,
-    };
-    let json = row.ends_with(" json");
-    Ok(told(
-        alloc,
-        Counted::new(reader),
-        Counted::new(writer),
-        json,
-        report,
-        checker,
-    )?)
-}
-
-/// What comes of three reads in turn of at most so many bytes of a text: the bytes that the reader gives a call, its
-/// calls, and the most that each read asks for. The fault, or how many bytes it gives, and whether they stand there.
-fn reads_text(alloc: Global, text: &str, row: &str) -> Result<String, TableFault> {
-    let words: Vec<&str> = row.split(' ').collect(alloc)?;
+    let (given, calls) = (number(&words, 0)?, number(&words, 1)?);
+    let (each, most) = (number(&words, 2)?, number(&words, 3)?);
     let mut reader = Counted::new(FailingReader {
         bytes: bytes_of(alloc, text)?,
         at: 0,
-        each: number(&words, 0)?,
-        calls: number(&words, 1)?,
+        each: given,
+        calls,
     });
-    let most = number(&words, 2)?;
+    let mut writer = Counted::new(FailingWriter {
+        taken: Vec::new(alloc),
+        each,
+        most,
+    });
+    let json = row.ends_with(" json");
+    Ok(told(alloc, &mut reader, &mut writer, json, report, checker)?)
+}
+
+/// What comes of three reads in turn of at most so many bytes: the fault, or how many bytes it gives, and whether they
+/// stand there.
+fn reads_of(
+    alloc: Global,
+    reader: &mut Counted<FailingReader>,
+    most: usize,
+) -> Result<String, AllocError> {
     let mut told = String::new(alloc);
     for _ in 0..3 {
         let before = reader.inner().at;
-        match read_at_most(alloc, &mut reader, most) {
+        match read_at_most(alloc, reader, most) {
             Ok(bytes) => {
                 let at = reader.inner().at;
                 let is_same = reader.inner().bytes.get(before..at) == Some(bytes.as_slice());
@@ -162,6 +153,20 @@ fn reads_text(alloc: Global, text: &str, row: &str) -> Result<String, TableFault
     let (failures, left) = (reader.failures(), reader.inner().calls);
     write!(told, "failed {failures}, left {left}")?;
     Ok(told)
+}
+
+/// What comes of three reads in turn of a text: the row has the bytes that the reader gives a call, its calls, and the
+/// most that each read asks for.
+fn reads_text(alloc: Global, text: &str, row: &str) -> Result<String, TableFault> {
+    let words: Vec<&str> = row.split(' ').collect(alloc)?;
+    let (each, calls, most) = (number(&words, 0)?, number(&words, 1)?, number(&words, 2)?);
+    let mut reader = Counted::new(FailingReader {
+        bytes: bytes_of(alloc, text)?,
+        at: 0,
+        each,
+        calls,
+    });
+    Ok(reads_of(alloc, &mut reader, most)?)
 }
 
 /// Counts the rows of a text.

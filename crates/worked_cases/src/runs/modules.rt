@@ -3,7 +3,8 @@
 use crate::runs::cases::Case;
 use pc_front::read_module;
 use pc_run::{Trace, run, trace_text};
-use pc_source::Fault;
+use pc_source::{Fault, OutOfMemory};
+use pc_tree::Module;
 use std::alloc::{AllocError, Global};
 
 /// The first line of each module.
@@ -30,11 +31,21 @@ pub fn module_of_lines(alloc: Global, lines: &str) -> Result<String, AllocError>
     format!(in alloc; "{HEADER}{lines}\nmain()\n")
 }
 
+/// The trace of a module that was read, run with the fuel and the choices of a case.
+fn trace_in(alloc: Global, program: &Module, case: &Case) -> Result<Trace, OutOfMemory> {
+    run(
+        alloc,
+        program.keys.state()?,
+        program,
+        case.fuel,
+        case.choices.as_slice(),
+    )
+}
+
 /// The trace of a module that is run with the fuel and the choices of a case.
 fn traced(alloc: Global, text: &str, case: &Case) -> Result<Trace, Fault> {
     let program = read_module(alloc, text.as_bytes())?;
-    let keys = program.keys.state()?;
-    Ok(run(alloc, keys, &program, case.fuel, case.choices.as_slice())?)
+    Ok(trace_in(alloc, &program, case)?)
 }
 
 /// The lines of the trace of a module, or why it has none.

@@ -12,37 +12,42 @@ fn text(alloc: Global, characters: &str) -> Result<Value, AllocError> {
     Ok(Value::Str(text))
 }
 
-/// The list of one value.
-fn alone(alloc: Global, value: Value) -> Result<Vec<Value>, AllocError> {
+/// The list of one number.
+fn alone(alloc: Global, number: i128) -> Result<Vec<Value>, AllocError> {
     let mut values = Vec::new(alloc);
-    values.push(value)?;
+    values.push(Value::Int(number))?;
     Ok(values)
 }
 
-/// The entry of a dict with one.
-fn entry(alloc: Global, key: Value, value: Value) -> Result<Vec<Entry>, AllocError> {
+/// The entry of a dict with one, of numbers.
+fn entry(alloc: Global, key: i128, value: i128) -> Result<Vec<Entry>, AllocError> {
     let mut entries = Vec::new(alloc);
-    entries.push(Entry { key, value })?;
+    entries.push(Entry {
+        key: Value::Int(key),
+        value: Value::Int(value),
+    })?;
     Ok(entries)
 }
 
-/// The field of an instance with one.
-fn field(alloc: Global, value: Value) -> Result<Vec<Slot>, AllocError> {
+/// The field of an instance with one, a number.
+fn field(alloc: Global, number: i128) -> Result<Vec<Slot>, AllocError> {
     let mut fields = Vec::new(alloc);
     let name = String::from_str(alloc, "a")?;
-    fields.push(Slot { name, value })?;
+    fields.push(Slot {
+        name,
+        value: Value::Int(number),
+    })?;
     Ok(fields)
 }
 
 /// What is made in the heap under this name.
 fn made(alloc: Global, name: &str) -> Result<Option<Action>, AllocError> {
-    let seven = Value::Int(7);
     match name {
         "[]" => Ok(Some(Action::NewList(Vec::new(alloc)))),
-        "[7]" => Ok(Some(Action::NewList(alone(alloc, seven)?))),
+        "[7]" => Ok(Some(Action::NewList(alone(alloc, 7)?))),
         "{}" => Ok(Some(Action::NewDict(Vec::new(alloc)))),
-        "{1: 7}" => Ok(Some(Action::NewDict(entry(alloc, Value::Int(1), seven)?))),
-        "A(7)" => Ok(Some(Action::NewInstance(0, field(alloc, seven)?))),
+        "{1: 7}" => Ok(Some(Action::NewDict(entry(alloc, 1, 7)?))),
+        "A(7)" => Ok(Some(Action::NewInstance(0, field(alloc, 7)?))),
         _ => Ok(None),
     }
 }
@@ -56,7 +61,7 @@ fn simple(alloc: Global, name: &str) -> Result<Value, TableFault> {
         "least" => Ok(Value::Int(i128::MIN)),
         "greatest" => Ok(Value::Int(i128::MAX)),
         "()" => Ok(Value::Tuple(Vec::new(alloc))),
-        "(1,)" => Ok(Value::Tuple(alone(alloc, Value::Int(1))?)),
+        "(1,)" => Ok(Value::Tuple(alone(alloc, 1)?)),
         "''" => Ok(text(alloc, "")?),
         _ => {
             if let Some(location) = name.strip_prefix("@") {

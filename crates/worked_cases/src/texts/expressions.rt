@@ -1,7 +1,7 @@
 //! Expressions of a stream of tokens, as the reader reads them.
 use pc_reader::Reader;
 use pc_source::{Fault, read_source};
-use pc_token::{Token, tokens};
+use pc_token::{Line, Tok, Token, tokens};
 use std::alloc::{AllocError, Global};
 
 /// What is printed of an expression, without its places.
@@ -17,12 +17,13 @@ fn without_places(alloc: Global, printed: &str) -> Result<String, AllocError> {
     Ok(out)
 }
 
-/// The expression that a text spells, as it is printed; its names are ASCII.
-fn printed(alloc: Global, text: &str) -> Result<String, Fault> {
-    let source = read_source(alloc, text.as_bytes())?;
-    let lines = tokens(alloc, &source)?;
+/// The tokens of lines, as a stream gives them.
+fn stream_of<'a>(
+    alloc: Global,
+    lines: &[Line<'a>],
+) -> Result<Vec<Result<Tok<'a>, Fault>>, AllocError> {
     let mut items = Vec::new(alloc);
-    for line in lines.iter() {
+    for line in lines {
         for token in line.tokens.iter() {
             items.push(Ok(Token {
                 kind: token.kind,
@@ -32,9 +33,21 @@ fn printed(alloc: Global, text: &str) -> Result<String, Fault> {
             }))?;
         }
     }
+    Ok(items)
+}
+
+/// The expression that tokens spell, as it is printed.
+fn read(alloc: Global, items: Vec<Result<Tok<'_>, Fault>>) -> Result<String, Fault> {
     let mut reader = Reader::new(items.into_iter())?;
     let operand = reader.operators(alloc, 0)?;
     Ok(format!(in alloc; "{:?}", operand.expr)?)
+}
+
+/// The expression that a text spells, as it is printed; its names are ASCII.
+fn printed(alloc: Global, text: &str) -> Result<String, Fault> {
+    let source = read_source(alloc, text.as_bytes())?;
+    let lines = tokens(alloc, &source)?;
+    read(alloc, stream_of(alloc, lines.as_slice())?)
 }
 
 /// What a text spells, without places, or its refusal.

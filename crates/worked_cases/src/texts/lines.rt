@@ -41,11 +41,10 @@ fn is_placed(text: &str, line: &Line<'_>) -> bool {
     true
 }
 
-/// Each line of a text.
-pub fn lines_text(alloc: Global, text: &str) -> Result<String, Fault> {
-    let source = read_source(alloc, text.as_bytes())?;
+/// Each of the lines of a text.
+fn listed(alloc: Global, text: &str, lines: &[Line<'_>]) -> Result<String, AllocError> {
     let mut out = String::new(alloc);
-    for line in &tokens(alloc, &source)? {
+    for line in lines {
         if !out.is_empty() {
             out.push_str(" ; ")?;
         }
@@ -58,4 +57,11 @@ pub fn lines_text(alloc: Global, text: &str) -> Result<String, Fault> {
         out.push_str("no line")?;
     }
     Ok(out)
+}
+
+/// Each line of a text.
+pub fn lines_text(alloc: Global, text: &str) -> Result<String, Fault> {
+    let source = read_source(alloc, text.as_bytes())?;
+    let lines = tokens(alloc, &source)?;
+    Ok(listed(alloc, text, lines.as_slice())?)
 }

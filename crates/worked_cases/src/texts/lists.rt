@@ -4,7 +4,7 @@
 use crate::texts::tables::fault_text;
 use pc_parse::{parse, parse_from};
 use pc_source::{Fault, Refusal, RefusalCode, read_source};
-use pc_token::{Tok, Token, TokenKind, tokens};
+use pc_token::{Line, Tok, Token, TokenKind, tokens};
 use pc_tree::{ItemKind, Module};
 use std::alloc::{AllocError, Global};
 
@@ -28,33 +28,47 @@ fn marked<'a>(token: &Tok<'a>) -> Tok<'a> {
     }
 }
 
-/// The module that a text spells.
-fn parsed(alloc: Global, text: &str) -> Result<Module, Fault> {
-    let source = read_source(alloc, text.as_bytes())?;
-    let lines = tokens(alloc, &source)?;
+/// The tokens of lines, of which some are marks of the layout.
+fn items_of<'a>(alloc: Global, lines: &[Line<'a>]) -> Result<Vec<Tok<'a>>, AllocError> {
     let mut items = Vec::new(alloc);
-    for line in lines.iter() {
+    for line in lines {
         for token in line.tokens.iter() {
             items.push(marked(token))?;
         }
     }
+    Ok(items)
+}
+
+/// The module that a text spells.
+fn parsed(alloc: Global, text: &str) -> Result<Module, Fault> {
+    let source = read_source(alloc, text.as_bytes())?;
+    let lines = tokens(alloc, &source)?;
+    let items = items_of(alloc, lines.as_slice())?;
     parse(alloc, items.as_slice())
+}
+
+/// The tokens of lines as a stream gives them, with its fault after them at this byte.
+fn stream_of<'a>(
+    alloc: Global,
+    lines: &[Line<'a>],
+    byte: usize,
+) -> Result<Vec<Result<Tok<'a>, Fault>>, AllocError> {
+    let mut items = Vec::new(alloc);
+    for line in lines {
+        for token in line.tokens.iter() {
+            items.push(Ok(marked(token)))?;
+        }
+    }
+    let code = RefusalCode::L1;
+    items.push(Err(Fault::Refused(Refusal { code, byte })))?;
+    Ok(items)
 }
 
 /// The module that the tokens of a text spell, with a fault of the stream after them.
 fn broken_off(alloc: Global, text: &str) -> Result<Module, Fault> {
     let source = read_source(alloc, text.as_bytes())?;
     let lines = tokens(alloc, &source)?;
-    let mut items = Vec::new(alloc);
-    for line in lines.iter() {
-        for token in line.tokens.iter() {
-            items.push(Ok(marked(token)))?;
-        }
-    }
-    items.push(Err(Fault::Refused(Refusal {
-        code: RefusalCode::L1,
-        byte: text.len(),
-    })))?;
+    let items = stream_of(alloc, lines.as_slice(), text.len())?;
     parse_from(alloc, items.into_iter())
 }
 
