@@ -18,8 +18,8 @@ exit {status}
 """
 SLOW_STEPS = ("tools/check_definitions", "tools/check_edits", "tools/check_tested", "tools/check_pages",
               "tools/architecture", "tools/check_help", "tests/tools/run", "tools/check_codes", "tools/compare_rows",
-              "tools/generated", "tests/memory/run", "tests/depth/run", "tests/speed/run", "tests/growth/run",
-              "tests/mypy/run")
+              "tools/generated", "tests/memory/run", "tests/depth/run", "tests/search/run", "tests/speed/run",
+              "tests/growth/run", "tests/mypy/run")
 
 
 class Gate(RoomCase):
@@ -90,7 +90,7 @@ class Gate(RoomCase):
                     "tools/architecture": "architecture", "tools/check_help": "help",
                     "tests/tools/run": "tools", "tools/check_codes": "pages", "tools/compare_rows": "examples left_out",
                     "tools/generated": "generated", "tests/memory/run": "memory", "tests/depth/run": "depth",
-                    "tests/speed/run": "speed", "tests/growth/run": "growth", "tests/mypy/run": "mypy",
+                    "tests/search/run": "search", "tests/speed/run": "speed", "tests/growth/run": "growth", "tests/mypy/run": "mypy",
                     "tests/release/run": "release",
                     "tests/reports/run": "reports", "tests/server/run": "server", "tools/editors/neovim": "editors",
                     "tools/wrong_bodies": "wrong_bodies"}

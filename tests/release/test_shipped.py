@@ -145,6 +145,18 @@ class Unwritable(RoomCase):
         self.check(HOME=str(self.home))
         self.assertEqual(self.unpacked(), [".cache/pycheck"])
 
+    def test_a_folder_that_is_not_named_from_the_root_is_not_taken(self) -> None:
+        work = self.room / "work"
+        work.mkdir()
+        if self.user:
+            os.chown(work, 65534, 65534)
+        for more in ({"XDG_CACHE_HOME": "kept", "HOME": str(self.home)}, {"HOME": "kept", "TMPDIR": str(self.home)}):
+            with self.subTest(more):
+                done = self.run_few(self.clone / "pycheck", AGES, user=self.user, cwd=work, more=more)
+                self.assert_answer(done, *report_of(AGES))
+                self.assertEqual(os.listdir(work), [])
+        self.assertEqual(sorted(self.unpacked()), [".", ".cache/pycheck"])
+
     def test_it_is_unpacked_among_the_temporary_files(self) -> None:
         self.check(HOME="/nowhere", TMPDIR=str(self.home))
         self.assertEqual(self.unpacked(), ["."])

@@ -88,6 +88,22 @@ class Bytes(Wheel):
         self.assertIn("pycheck_all/command.py", package)
         self.assertEqual([it for it in names if it.startswith("pycheck_all/")], sorted(package))
 
+    def test_a_stray_file_is_not_packed(self) -> None:
+        first = self.wheel("first").read_bytes()
+        package = self.clone / "tools" / "pycheck_all"
+        (package / "inner").mkdir()
+        for name in ("stray.py", ".env", "inner/more.py", "command.py.orig", "os.py"):
+            (package / name).write_text("raise SystemExit\n", encoding="utf-8")
+        (package / "link.py").symlink_to("/etc/passwd")
+        self.assertEqual(self.wheel("second").read_bytes(), first)
+
+    def test_no_wheel_comes_of_a_package_without_a_file(self) -> None:
+        module = self.clone / "tools" / "pycheck_all" / "patterns.py"
+        module.unlink()
+        self.assert_no_wheel("there is no tools/pycheck_all/patterns.py")
+        module.symlink_to("texts.py")
+        self.assert_no_wheel("there is no tools/pycheck_all/patterns.py")
+
     def test_its_record_is_true(self) -> None:
         with zipfile.ZipFile(self.wheel()) as opened:
             record, wanted = f"pycheck-{self.version()}.dist-info/RECORD", []

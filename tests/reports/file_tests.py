@@ -118,7 +118,7 @@ class Files(Test):
             self.write(name, ERROR)
         with open(os.fsencode(self.folder) + b"/n\xff.py", "wb") as file:
             file.write(ERROR.encode())
-        wanted = [" b .py", "-a.py", "c\\nd.py", "e\\x9b.py", "größe 𐀀\u00a0.py", "n\udcff.py"]
+        wanted = [" b .py", "-a.py", "c\\nd.py", "e\\x9b.py", "größe 𐀀\u00a0.py", "n\\xff.py"]
         self.assertEqual(self.lines(".")[:-1], [f"{name}:4:11: E13 operator" for name in wanted])
         self.assertEqual(self.check("--", "-a.py").status, 1)
 

@@ -53,6 +53,18 @@ class Package(Test):
         )
         self.assertEqual(subprocess.run(words, capture_output=True).returncode, 1)
 
+    def test_an_error_that_does_not_say_what_it_is_in_a_run_is_told(self) -> None:
+        page = (ROOT / "docs" / "CODES.md").read_text(encoding="utf-8")
+        said = "**In a run:** This error is silent at a function, and heard at a method.\n\n"
+        for other in ("", said.replace("heard", "loud"), said.replace(",", "")):
+            self.write("docs/CODES.md", page.replace(said, other))
+            self.write("tools/codes_as_data", (ROOT / "tools" / "codes_as_data").read_bytes())
+            self.write("tools/pycheck_all/codes.json", "{}")
+            words = [sys.executable, str(self.folder / "tools" / "codes_as_data")]
+            done = subprocess.run(words, capture_output=True)
+            self.assertEqual(done.stdout, b"CODES.md: the entry of E21 has no sentence `In a run`\n")
+            self.assertEqual(done.returncode, 1)
+
     def test_each_code_has_a_sentence(self) -> None:
         from pycheck_all import codes
 

@@ -160,6 +160,18 @@ class Choice(Test):
         path = f"{self.folder}/path:/usr/bin:/bin"
         self.assertEqual(self.run_words(words, PATH=path), (0, f"pycheck 7.8.9 at {self.folder}/path/pycheck\n", ""))
 
+    def test_nothing_of_the_folder_is_found_on_path(self) -> None:
+        for name in ("pycheck", "gzip", "sha256sum", "cat"):
+            self.write(f"here/{name}", f"#!/bin/sh\ntouch {self.folder}/trace\n").chmod(0o755)
+        words = self.checkout("cat /dev/null; echo it cannot be unpacked >&2; exit 1")
+        wanted = (3, "", "check_all: error: it cannot be unpacked\n")
+        for path in (":/usr/bin:/bin", ".:/usr/bin:/bin", "here:/usr/bin:/bin", "/usr/bin:/bin:"):
+            with self.subTest(path):
+                settings = variables({"PYCHECK": None, "PATH": path})
+                done = subprocess.run(words, capture_output=True, cwd=self.folder / "here", env=settings)
+                self.assertEqual((done.returncode, done.stdout.decode(), done.stderr.decode()), wanted)
+        self.assertFalse((self.folder / "trace").exists())
+
     def test_a_broken_program_of_a_checkout(self) -> None:
         self.stand_in("path/pycheck", "pycheck 7.8.9")
         words = self.checkout("echo its sum is another >&2; exit 3")

@@ -7,12 +7,18 @@ from __future__ import annotations
 import dataclasses
 import json
 import os
-from typing import Any, Counter, Dict, List, Optional, Sequence, Tuple
+import re
+from typing import Any, Counter, List, Optional, Sequence, Tuple
 
+from . import codes, reading, texts
 from .findings import Checked, Finding, Known
 
 FORMAT = 1
+LIMIT = 16 << 20
+MOST = 1 << 24
+CODE = re.compile(r"[A-Z]\d{1,2}")
 REFUSALS = "SLING"
+NAMES = ("path", "code", "line", "count")
 Key = Tuple[str, str, str]
 
 
@@ -34,11 +40,11 @@ class Baseline:
 
     def key_path(self, path: str) -> str:
         """The path of a file as the baseline writes it."""
-        return os.path.relpath(os.path.abspath(path), self.folder).replace(os.sep, "/")
+        return texts.plain(os.path.relpath(os.path.abspath(path), self.folder).replace(os.sep, "/"))
 
     def exists(self, path: str) -> bool:
-        """Whether a file of the baseline is still there."""
-        return os.path.lexists(os.path.join(self.folder, path))
+        """Whether a file of the baseline is still there. One whose name is written in escapes counts as there."""
+        return "\\" in path or os.path.lexists(os.path.join(self.folder, path))
 
     def mark(self, files: Sequence[Checked]) -> List[Known]:
         """Marks the findings that are known, and gives the entries that are gone from the code.
@@ -75,30 +81,52 @@ class Baseline:
 def read(path: str) -> Baseline:
     """The baseline of a file, or NoBaseline."""
     try:
-        with open(path, encoding="utf-8") as file:
-            whole = json.load(file)
-        if whole["format"] != FORMAT:
-            raise NoBaseline(f"{path}: a baseline of format {whole['format']}, which this version does not know")
-        return Baseline(path, Counter(dict(map(entry_of, whole["known"]))))
+        whole = json.loads(reading.regular(path, LIMIT).decode("utf-8"))
+        return Baseline(path, Counter(dict(map(entry_of, rows_of(whole)))))
     except OSError as fault:
-        raise NoBaseline(f"{path}: {fault.strerror}") from None
-    except (ValueError, KeyError, TypeError) as fault:
+        raise NoBaseline(f"{path}: {fault.strerror or fault}") from None
+    except RecursionError:
+        raise NoBaseline(f"{path}: this is no baseline: it is nested too deep") from None
+    except ValueError as fault:
         raise NoBaseline(f"{path}: this is no baseline: {fault}") from None
 
 
-def entry_of(row: Dict[str, Any]) -> Tuple[Key, int]:
-    """An entry of the file."""
-    path, code, line, count = row["path"], row["code"], row["line"], row["count"]
-    if not (isinstance(path, str) and isinstance(code, str) and isinstance(line, str) and isinstance(count, int)):
-        raise ValueError("an entry has a value of another kind")
-    os.fsencode(path + code + line)
+def rows_of(whole: Any) -> List[Any]:
+    """The rows of a baseline, or ValueError."""
+    if not isinstance(whole, dict) or not isinstance(whole.get("known"), list):
+        raise ValueError("it is no object with a list of what is known")
+    if type(whole.get("format")) is not int or whole["format"] != FORMAT:
+        raise ValueError(f"its format is not {FORMAT}, the one that this version knows")
+    rows: List[Any] = whole["known"]
+    return rows
+
+
+def entry_of(row: Any) -> Tuple[Key, int]:
+    """An entry of the file, or ValueError where a value of it is of another kind or form."""
+    if not isinstance(row, dict):
+        raise ValueError("an entry is no object")
+    path, code, line, count = (row.get(name) for name in NAMES)
+    if not isinstance(path, str) or not path or texts.CONTROL.search(path):
+        raise ValueError("the path of an entry is no text, is empty, or has a control character")
+    if not isinstance(code, str) or not is_code(code):
+        raise ValueError("the code of an entry is no code")
+    if not isinstance(line, str) or re.search("[\n\ud800-\udfff]", line):
+        raise ValueError("the line of an entry is no line of text")
+    if type(count) is not int or not 1 <= count <= MOST:
+        raise ValueError(f"the count of an entry is no number from 1 to {MOST}")
     return (path, code, line), count
 
 
-def write(path: str, files: Sequence[Checked]) -> int:
-    """Writes down everything that was found, and gives the number of it. Of a baseline that is there already, the
-    entries of files that were not checked now, and are still there, stay. NoBaseline says why it could not be
-    written."""
+def is_code(code: str) -> bool:
+    """Whether it is one of the codes; where their texts are not there, whether it has the form of one."""
+    return code in codes.entries() if codes.entries() else CODE.fullmatch(code) is not None
+
+
+def text_of(path: str, files: Sequence[Checked]) -> str:
+    """The baseline that has everything that was found, as a text for that path.
+
+    Of a baseline that is there already, the entries of files that were not checked now, and are still there, stay.
+    NoBaseline says why it cannot be read."""
     old = read(path) if os.path.exists(path) else Baseline(path, Counter())
     counts: Counter[Key] = Counter()
     checked = {old.key_path(it.path): it for it in files}
@@ -108,12 +136,5 @@ def write(path: str, files: Sequence[Checked]) -> int:
             counts[key] = count
     for name, file in checked.items():
         counts.update((name, it.code, file.line_of(it)) for it in file.findings)
-    names = ("path", "code", "line", "count")
-    rows = [json.dumps(dict(zip(names, (*key, count)))) for key, count in sorted(counts.items())]
-    text = f'{{"format": {FORMAT}, "known": [' + ",".join(f"\n {row}" for row in rows) + ("\n]}\n" if rows else "]}\n")
-    try:
-        with open(path, "w", encoding="utf-8") as file_written:
-            file_written.write(text)
-    except OSError as fault:
-        raise NoBaseline(f"{path}: {fault.strerror}") from None
-    return sum(counts.values())
+    rows = [json.dumps(dict(zip(NAMES, (*key, count)))) for key, count in sorted(counts.items())]
+    return f'{{"format": {FORMAT}, "known": [' + ",".join(f"\n {row}" for row in rows) + ("\n]}\n" if rows else "]}\n")

@@ -15,11 +15,12 @@ LINK = re.compile(r"\[([^\]]+)\]\([^)]*\)")
 
 
 class Entry(NamedTuple):
-    """What the page says of a code; the rows say what to write instead of what."""
+    """What the page says of a code; the rows say what to write instead of what, `run` what an error is in a run."""
 
     title: str
     kind: str
     meaning: str
+    run: str
     mend: str
     rows: List[List[str]]
     entry: str

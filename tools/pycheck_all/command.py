@@ -7,9 +7,10 @@ import signal
 import sys
 from typing import Iterator, List, Optional, Sequence
 
-from . import baseline, codes, program, running, words
+from . import baseline, codes, program, running, texts, words
 from .files import Files
 from .findings import Project, summary
+from .outputs import Links
 
 FAILED = 3
 INTERRUPTED = 128 + signal.SIGINT
@@ -42,6 +43,9 @@ def run(given: Optional[Sequence[str]] = None, name: str = "pycheck-all") -> int
         leave_output()
     except MemoryError:
         tell(f"{name}: error: out of memory")
+    except Exception as fault:
+        # Python's own end has the status of a file with errors
+        tell(f"{name}: error: {type(fault).__name__}: {fault}")
     return FAILED
 
 
@@ -49,7 +53,7 @@ def answered(asked: words.Words) -> int:
     """Does what the words ask for."""
     width = shutil.get_terminal_size((100, 24)).columns
     if asked.explain:
-        write([codes.explained(asked.explain, min(width, 100)).rstrip("\n")])
+        write(codes.explained(asked.explain, min(width, 100)).splitlines())
         return 0
     used = program.Program(program.chosen(asked.program))
     if asked.version:
@@ -65,17 +69,20 @@ def answered(asked: words.Words) -> int:
 def checked(asked: words.Words, used: program.Program) -> Project:
     """Checks the files, and marks what is known."""
     known = baseline.read(asked.baseline) if asked.baseline else None
-    texts = Files(asked.exclude, asked.stdin_name)
+    links = Links(asked.files)
+    for path in filter(None, (asked.page, asked.write_baseline)):
+        refuse_links(path, links)
+    named = Files(asked.exclude, asked.stdin_name)
     try:
-        found = texts.find(asked.files)
+        found = named.find(asked.files)
         if not found.sources:
             raise Failure(f"no module to check in {', '.join(asked.files)}")
-        files = running.Run(used, asked.all_refusals, bool(asked.page)).all(found.sources)
+        files = running.Run(used, asked.timeout, asked.all_refusals, bool(asked.page)).all(found.sources)
     finally:
-        texts.close()
+        named.close()
     project = Project(files, asked.strict, found.excluded)
     if asked.write_baseline:
-        baseline.write(asked.write_baseline, files)
+        written(asked.write_baseline, links, baseline.text_of(asked.write_baseline, files))
         if not known:
             known = baseline.read(asked.write_baseline)
     if known:
@@ -83,24 +90,36 @@ def checked(asked: words.Words, used: program.Program) -> Project:
     return project
 
 
+def refuse_links(path: str, links: Links) -> None:
+    """Stops where a file that is written lies behind a link that is not followed."""
+    try:
+        links.refuse(path)
+    except OSError as fault:
+        raise Failure(f"{path}: {fault.strerror or fault}") from None
+
+
+def written(path: str, links: Links, text: str) -> None:
+    """Writes a file."""
+    try:
+        links.write(path, text)
+    except OSError as fault:
+        raise Failure(f"{path}: {fault.strerror or fault}") from None
+
+
 def show(asked: words.Words, project: Project, width: int) -> None:
     """Shows what was found, in the form that is asked for."""
     if asked.page:
         from . import page
 
-        try:
-            with open(asked.page, "w", encoding="utf-8", errors="replace") as file:
-                file.write(page.document(project))
-        except OSError as fault:
-            raise Failure(f"{asked.page}: {fault.strerror}") from None
+        written(asked.page, Links(asked.files), page.document(project))
     form = asked.output or ("full" if is_terminal() else "concise")
     rest = closing(asked, project)
     if form in DOCUMENTS:
-        write([document(form, project)])
+        write(document(form, project).split("\n"))
         for line in rest if form != "json" else []:
             tell(line)
     else:
-        write([*lines(form, asked, project, width), *rest])
+        write([*lines(form, asked, project, width), *rest], form == "full" and is_coloured(asked))
 
 
 def closing(asked: words.Words, project: Project) -> List[str]:
@@ -115,7 +134,7 @@ def lines(form: str, asked: words.Words, project: Project, width: int) -> Iterat
     if form == "full":
         from . import colours, full
 
-        yield from full.Full(colours.Colours(colours.wanted(asked.color, sys.stdout)), width).lines(project)
+        yield from full.Full(colours.Colours(is_coloured(asked)), width).lines(project)
     elif form == "github":
         from . import github
 
@@ -134,26 +153,33 @@ def document(form: str, project: Project) -> str:
     return makers[form](project)
 
 
+def is_coloured(asked: words.Words) -> bool:
+    """Whether the form `full` has colours."""
+    from . import colours
+
+    return sys.stdout is not None and colours.wanted(asked.color, sys.stdout)
+
+
 def is_terminal() -> bool:
     """Whether standard output is a terminal."""
     return sys.stdout is not None and sys.stdout.isatty()
 
 
-def write(texts: Sequence[str]) -> None:
-    """Writes lines to standard output, in UTF-8; bytes of names that are not UTF-8 as they are."""
+def write(lines: Sequence[str], coloured: bool = False) -> None:
+    """Writes lines to standard output, in UTF-8, each as `texts.line` makes it."""
     if sys.stdout is None:
         raise Failure("standard output is closed")
     sys.stdout.flush()
     with open(sys.stdout.fileno(), "wb", closefd=False) as output:
-        for text in texts:
-            output.write(f"{text}\n".encode("utf-8", "surrogateescape"))
+        for line in lines:
+            output.write(f"{texts.line(line, coloured)}\n".encode())
 
 
 def tell(text: str) -> None:
-    """Writes a line to standard error, if that is open."""
+    """Writes a line to standard error, if that is open, as `texts.line` makes it."""
     try:
         if sys.stderr is not None:
-            print(text, file=sys.stderr, flush=True)
+            print(texts.line(text), file=sys.stderr, flush=True)
     except OSError:
         pass
 

@@ -4,7 +4,8 @@ from __future__ import annotations
 from typing import Iterator
 
 from . import codes
-from .findings import GUIDE, REFUSED, Checked, Finding, Project, printed
+from .findings import GUIDE, REFUSED, Checked, Finding, Project
+from .texts import plain
 
 
 def line_of(file: Checked, finding: Finding, mending: bool) -> str:
@@ -16,18 +17,18 @@ def line_of(file: Checked, finding: Finding, mending: bool) -> str:
             title += ". " + codes.mending_of(finding.code, file.spot_of(finding))
     if finding.flow:
         title = f"{title} {finding.flow[0]} -> {finding.flow[1]}"
-    return f"{printed(file.path)}:{start.line}:{start.column}: {finding.code} {title}".rstrip()
+    return f"{plain(file.path)}:{start.line}:{start.column}: {finding.code} {title}".rstrip()
 
 
 def lines(project: Project, mending: bool) -> Iterator[str]:
     """The lines of the new findings of all files, and of the files that could not be checked."""
     for file in project.files:
         if file.failure:
-            yield f"{printed(file.path)}: {file.failure}"
+            yield f"{plain(file.path)}: {file.failure}"
         for finding in file.new:
             yield line_of(file, finding, mending)
         if file.unlisted:
-            yield f"{printed(file.path)}: there may be more refusals: {file.unlisted}"
+            yield f"{plain(file.path)}: there may be more refusals: {file.unlisted}"
     yield from gone(project)
 
 
@@ -35,4 +36,4 @@ def gone(project: Project) -> Iterator[str]:
     """A line for each entry of the baseline that is no longer found."""
     for entry in project.gone:
         times = f" ({entry.times} times)" if entry.times > 1 else ""
-        yield f"{printed(entry.path)}: {entry.code} is known but gone{times}: {printed(entry.line)}"
+        yield f"{plain(entry.path)}: {entry.code} is known but gone{times}: {plain(entry.line)}"

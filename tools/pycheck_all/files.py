@@ -2,11 +2,14 @@
 from __future__ import annotations
 
 import fnmatch
+import functools
 import os
 import stat
-import subprocess
+import sys
 import tempfile
-from typing import Iterator, List, NamedTuple, Optional, Sequence, Set, Tuple
+from typing import Callable, Iterator, List, NamedTuple, Optional, Sequence, Set, Tuple, Union
+
+from . import ignored, reading
 
 LIMIT = 1024 * 1024 + 4096
 STANDARD_INPUT = "-"
@@ -22,6 +25,11 @@ class Source(NamedTuple):
     failure: str = ""
 
 
+# A module, or what stands in a folder, one after the other
+Entry = Union[Source, "Iterator[Entry]"]
+RulesFor = Callable[[bool], Optional[ignored.Rules]]
+
+
 class Found(NamedTuple):
     """The files, in the order in which they are shown, and how many files and folders were left out by --exclude."""
 
@@ -32,21 +40,6 @@ class Found(NamedTuple):
 def reason(fault: OSError) -> str:
     """Why a file cannot be read, in the words of the system."""
     return f"cannot be read: {fault.strerror or fault}"
-
-
-def ignored_by_git(folder: str) -> Set[str]:
-    """What git ignores in a folder, as absolute paths; nothing outside a checkout, or where there is no git."""
-    words = ["git", "-C", folder, "ls-files", "-z", "--others", "--ignored", "--exclude-standard", "--directory"]
-    # A hook of git runs with variables that name another checkout or index
-    kept = {name: value for name, value in os.environ.items() if not name.startswith("GIT_")}
-    try:
-        done = subprocess.run(
-            words, stdin=subprocess.DEVNULL, stdout=subprocess.PIPE, stderr=subprocess.DEVNULL, env=kept
-        )
-    except OSError:
-        return set()
-    names = os.fsdecode(done.stdout).split("\0")[:-1] if done.returncode == 0 else []
-    return {os.path.abspath(os.path.join(folder, name)) for name in names if name not in ("./", "../")}
 
 
 class Walk:
@@ -65,28 +58,49 @@ class Walk:
                 return True
         return False
 
-    def modules(self, folder: str, top: str, ignored: Set[str]) -> Iterator[Source]:
-        """The modules of a folder and of those in it, without hidden ones and those that git ignores. `top` is the
-        folder that is named."""
-        if folder == top or os.path.lexists(os.path.join(folder, ".git")):
-            ignored = ignored | ignored_by_git(folder)
+    def modules(self, top: str) -> Iterator[Source]:
+        """The modules of a folder that is named and of those in it, without hidden ones and those that git ignores."""
+        levels = [self.entries(top, top, lambda _: ignored.rules_of(top))]
+        while levels:
+            found = next(levels[-1], None)
+            if found is None:
+                levels.pop()
+            elif isinstance(found, Source):
+                yield found
+            else:
+                levels.append(found)
+
+    def entries(self, folder: str, top: str, rules_for: RulesFor) -> Iterator[Entry]:
+        """The modules of a folder, and the entries of the folders in it, in the order of their names. `rules_for` gives
+        the rules of the folder, told whether it has a `.git`."""
         try:
             with os.scandir(folder) as entries:
                 inside = sorted(entries, key=lambda it: os.fsencode(it.name))
         except OSError as fault:
             yield Source(folder, folder, reason(fault))
             return
+        rules = rules_for(any(it.name == ".git" for it in inside))
         for entry in inside:
             path = os.path.normpath(os.path.join(folder, entry.name))
-            is_folder = entry.is_dir(follow_symlinks=False)
-            if entry.name.startswith(".") or not (is_folder or is_module(entry)) or os.path.abspath(path) in ignored:
+            is_folder = is_folder_itself(entry)
+            if entry.name.startswith(".") or not (is_folder or is_module(entry)):
+                continue
+            if rules and rules.ignore(os.fsencode(entry.name), is_folder):
                 continue
             if self.excludes(path, top):
                 self.excluded += 1
             elif is_folder:
-                yield from self.modules(path, top, ignored)
+                yield self.entries(path, top, functools.partial(ignored.rules_in, rules, entry.name, path))
             else:
                 yield Source(path, path)
+
+
+def is_folder_itself(entry: os.DirEntry[str]) -> bool:
+    """Whether it is a folder, and no link to one."""
+    try:
+        return entry.is_dir(follow_symlinks=False)
+    except OSError:
+        return False
 
 
 def is_module(entry: os.DirEntry[str]) -> bool:
@@ -143,7 +157,7 @@ class Files:
             return
         if stat.S_ISDIR(kind):
             folder = os.path.normpath(word)
-            yield from walk.modules(folder, folder, set())
+            yield from walk.modules(folder)
         elif stat.S_ISREG(kind) and not os.path.abspath(word).startswith(OF_PROCESSES):
             yield Source(word, word)
         else:
@@ -151,6 +165,8 @@ class Files:
 
     def kept(self, name: str, descriptor: Optional[int]) -> Source:
         """A text that can be read only once, from an open file or by its name, kept in a file of its own."""
+        if descriptor == 0 and sys.stdin is None:
+            return Source(name, name, "cannot be read: standard input is closed")
         try:
             with open(name if descriptor is None else descriptor, "rb", closefd=descriptor is None) as file:
                 data = file.read(LIMIT)
@@ -167,5 +183,4 @@ class Files:
 
 def content_of(path: str) -> bytes:
     """The bytes of a file, or somewhat more of them than the program reads."""
-    with open(path, "rb") as file:
-        return file.read(LIMIT)
+    return reading.beginning(path, LIMIT)

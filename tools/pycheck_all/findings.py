@@ -3,14 +3,13 @@ from __future__ import annotations
 
 import collections
 import dataclasses
-import os
-import re
+import functools
 from typing import Counter, List, NamedTuple, Optional, Tuple
 
+from . import silent
 from .source import Place, Spot, Text
 
 ERROR, DYNAMIC, REFUSED, GUIDE = "error", "dynamic", "refused", "guide"
-CONTROL = re.compile("[\x00-\x1f\x7f-\x9f\u2028\u2029]")
 
 
 @dataclasses.dataclass(frozen=True)
@@ -62,6 +61,14 @@ class Checked:
         """The findings that do not stand in the baseline."""
         return [it for it in self.findings if not it.known]
 
+    @functools.cached_property
+    def suspended(self) -> str:
+        """The sentence that says which lines suspend the promise, known findings included; empty where none does."""
+        tells = silent.Silent(self.text.data)
+        starts = [(it.code, it.place.start) for it in self.findings if it.kind == ERROR]
+        lines = [start.line for code, start in starts if tells.kind(code, start.byte)]
+        return silent.sentence(lines) if lines else ""
+
     def line_of(self, finding: Finding) -> str:
         """The text of the line in which a finding starts, without blanks at its ends."""
         return self.text.line(finding.place.start.line).strip()
@@ -99,13 +106,15 @@ class Project:
         return max((it.status(self.strict) for it in self.files), default=0)
 
     def counted(self) -> Counter[str]:
-        """The counts: of files, of each kind of findings, of those that are known, and of what was not looked at.
+        """The counts: of files, of each kind of findings, of those that are known, of what was not looked at, and of
+        files whose silent errors suspend the promise.
 
         What is known counts as known alone; `refused` counts files, `guide` the refusals after the first."""
         counts: Counter[str] = collections.Counter(files=len(self.files), excluded=self.excluded)
         for file in self.files:
             counts["failed"] += bool(file.failure)
             counts["unlisted"] += bool(file.unlisted)
+            counts["suspended"] += bool(file.suspended)
             for finding in file.findings:
                 counts["known" if finding.known else finding.kind] += 1
         counts["gone"] = sum(it.times for it in self.gone)
@@ -134,14 +143,6 @@ def summary(project: Project) -> str:
         ("excluded", "left out by --exclude"),
     ]
     parts += [f"{counts[name]} {words}" for name, words in rest if counts[name]]
+    if counts["suspended"]:
+        parts.append(f"the promise suspended in {amount(counts['suspended'], 'file')}")
     return f"{amount(counts['files'], 'file')}: {', '.join(parts)}"
-
-
-def shown(path: str) -> str:
-    """A path as a document shows it: control characters and bytes that are not UTF-8 are written as `\\xNN`."""
-    return printed(os.fsencode(path).decode("utf-8", "backslashreplace"))
-
-
-def printed(path: str) -> str:
-    """A path as lines show it: as it is, but for control characters and ends of lines, which are written as `\\xNN`."""
-    return CONTROL.sub(lambda found: found[0].encode("unicode_escape").decode(), path)

@@ -6,8 +6,9 @@ from typing import Iterator, List, Tuple
 
 from . import codes, concise, widths
 from .colours import Colours
-from .findings import GUIDE, Checked, Finding, Project, printed
+from .findings import GUIDE, Checked, Finding, Project
 from .source import Place
+from .texts import plain
 
 FIRST_LINES, LAST_LINES = 4, 2
 NARROWEST = 40
@@ -21,17 +22,21 @@ class Full:
         self.width = max(NARROWEST, width)
 
     def lines(self, project: Project) -> Iterator[str]:
-        """The lines of all new findings, with an empty line after each, and of the files that could not be checked."""
+        """The lines of all new findings, with an empty line after each, of the files whose promise is suspended, and of
+        those that could not be checked."""
         for file in project.files:
-            name = self.colours("path", printed(file.path))
+            name = self.colours("path", plain(file.path))
             if file.failure:
-                yield f"{name}: {self.colours('refused', 'not checked')}: {file.failure}"
+                yield f"{name}: {self.colours('refused', 'not checked')}: {plain(file.failure)}"
                 yield ""
             for finding in file.new:
                 yield from self.finding(file, finding)
                 yield ""
+            if file.suspended:
+                yield f"{name}: {file.suspended}"
+                yield ""
             if file.unlisted:
-                yield f"{name}: there may be more refusals: {file.unlisted}"
+                yield f"{name}: there may be more refusals: {plain(file.unlisted)}"
                 yield ""
         yield from concise.gone(project)
 
@@ -39,11 +44,11 @@ class Full:
         """The lines of one finding."""
         start = finding.place.start
         title, meaning = codes.title_of(finding.code), codes.meaning_of(finding.code)
-        where = self.colours("path", f"{printed(file.path)}:{start.line}:{start.column}:")
+        where = self.colours("path", f"{plain(file.path)}:{start.line}:{start.column}:")
         what = self.colours(finding.kind, f"{finding.kind} {finding.code} {title}".rstrip())
         yield f"{where} {what}" + (f": {meaning}" if meaning else "")
         yield from self.excerpt(file, finding)
-        mending = codes.mending_of(finding.code, file.spot_of(finding))
+        mending = plain(codes.mending_of(finding.code, file.spot_of(finding)))
         if finding.kind == GUIDE:
             mending += " This is a guide: the program was asked again without the refusals before."
         before = " " * (3 + len(str(finding.place.end.line)))
@@ -58,7 +63,7 @@ class Full:
         place = finding.place
         numbers = self.numbers(place)
         gutter = len(str(place.end.line))
-        beside = f" {finding.flow[0]} -> {finding.flow[1]}" if finding.flow else ""
+        beside = plain(f" {finding.flow[0]} -> {finding.flow[1]}") if finding.flow else ""
         for at, number in enumerate(numbers):
             if at and numbers[at - 1] != number - 1:
                 yield self.colours("number", f"  {'.' * gutter} |")

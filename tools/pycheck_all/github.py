@@ -3,13 +3,14 @@ from __future__ import annotations
 
 from typing import Iterator
 
-from .findings import DYNAMIC, GUIDE, Finding, Project, shown
+from .findings import DYNAMIC, GUIDE, Finding, Project
 from .messages import message_of, name_of
+from .texts import Command, plain
 
 
 def data(text: str) -> str:
     """A text as the message of a command."""
-    return text.replace("%", "%25").replace("\r", "%0D").replace("\n", "%0A")
+    return plain(text).replace("%", "%25")
 
 
 def value(text: str) -> str:
@@ -24,10 +25,15 @@ def level_of(finding: Finding, strict: bool) -> str:
     return "warning" if finding.kind == DYNAMIC and not strict else "error"
 
 
-def lines(project: Project) -> Iterator[str]:
+def lines(project: Project) -> Iterator[Command]:
+    """The commands of a project."""
+    yield from map(Command, texts_of(project))
+
+
+def texts_of(project: Project) -> Iterator[str]:
     """A command for each new finding and for each file that could not be checked."""
     for file in project.files:
-        path = value(shown(file.path))
+        path = value(file.path)
         if file.failure:
             yield f"::error file={path},title=not checked::{data(file.failure)}"
         for it in file.new:
@@ -37,4 +43,4 @@ def lines(project: Project) -> Iterator[str]:
         if file.unlisted:
             yield f"::notice file={path},title=there may be more refusals::{data(file.unlisted)}"
     for entry in project.gone:
-        yield f"::notice title=known but gone::{data(f'{shown(entry.path)}: {entry.code}: {entry.line}')}"
+        yield f"::notice title=known but gone::{data(f'{entry.path}: {entry.code}: {entry.line}')}"

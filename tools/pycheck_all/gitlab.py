@@ -1,12 +1,12 @@
 """The form `gitlab`: a report of Code Quality, which GitLab shows in merge requests."""
 from __future__ import annotations
 
-import json
 import os
 from typing import Any, Dict, Iterator
 
-from .findings import DYNAMIC, ERROR, GUIDE, REFUSED, Checked, Project, shown
+from .findings import DYNAMIC, ERROR, GUIDE, REFUSED, Checked, Project
 from .messages import fingerprint, fingerprints, message_of, name_of
+from .texts import json_of, plain
 
 SEVERITIES = {ERROR: "major", REFUSED: "critical", GUIDE: "info", DYNAMIC: "minor"}
 
@@ -18,7 +18,7 @@ def entry(file: Checked, name: str, text: str, severity: str, mark: str, lines: 
         "check_name": name,
         "fingerprint": mark,
         "severity": severity,
-        "location": {"path": shown(os.path.normpath(file.path)), "lines": lines},
+        "location": {"path": plain(os.path.normpath(file.path)), "lines": lines},
     }
 
 
@@ -37,4 +37,4 @@ def entries(project: Project) -> Iterator[Dict[str, Any]]:
 
 def document(project: Project) -> str:
     """The report."""
-    return json.dumps(list(entries(project)), indent=1)
+    return json_of(list(entries(project)))

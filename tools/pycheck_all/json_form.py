@@ -1,12 +1,12 @@
 """The form `json`: one document with everything that was found."""
 from __future__ import annotations
 
-import json
 from typing import Any, Dict
 
 from . import codes
-from .findings import GUIDE, REFUSED, Checked, Finding, Known, Project, shown
+from .findings import GUIDE, REFUSED, Checked, Finding, Known, Project
 from .source import Point
+from .texts import json_of, plain
 
 FORMAT = 1
 
@@ -29,7 +29,7 @@ def of_finding(file: Checked, it: Finding) -> Dict[str, Any]:
 
 def of_file(file: Checked, strict: bool) -> Dict[str, Any]:
     """A file: what was found in it, or why it was not checked."""
-    found: Dict[str, Any] = {"path": shown(file.path), "status": file.status(strict)}
+    found: Dict[str, Any] = {"path": plain(file.path), "status": file.status(strict)}
     if file.failure:
         found["failure"] = file.failure
     refusals = [of_finding(file, it) for it in file.findings if it.kind == REFUSED]
@@ -43,7 +43,7 @@ def of_file(file: Checked, strict: bool) -> Dict[str, Any]:
 
 def of_known(it: Known) -> Dict[str, Any]:
     """An entry of the baseline."""
-    return {"path": shown(it.path), "code": it.code, "line": it.line, "count": it.times}
+    return {"path": plain(it.path), "code": it.code, "line": it.line, "count": it.times}
 
 
 def document(project: Project) -> str:
@@ -69,4 +69,4 @@ def document(project: Project) -> str:
         "files": [of_file(it, project.strict) for it in project.files],
         "gone": [of_known(it) for it in project.gone],
     }
-    return json.dumps(whole, indent=1)
+    return json_of(whole)

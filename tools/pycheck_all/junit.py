@@ -5,16 +5,18 @@ import re
 from typing import Iterator, List, Tuple
 from xml.sax.saxutils import quoteattr
 
-from .findings import DYNAMIC, GUIDE, Checked, Finding, Project, shown
+from .findings import DYNAMIC, GUIDE, Checked, Finding, Project
 from .messages import message_of, name_of
+from .texts import CONTROL, MARK, plain
 
 # What XML 1.0 has no way to write
 NO_CHARACTER = re.compile("[^\t\n\r\x20-\ud7ff\ue000-\ufffd\U00010000-\U0010ffff]")
 
 
 def attribute(text: str) -> str:
-    """A text as the value of an attribute, in quotes."""
-    return quoteattr(NO_CHARACTER.sub("\ufffd", text), {"\n": "&#10;", "\r": "&#13;", "\t": "&#9;"})
+    """A text as the value of an attribute, in quotes; control characters by their numbers."""
+    quoted = CONTROL.sub(lambda it: f"&#{ord(it[0])};", quoteattr(NO_CHARACTER.sub("\ufffd", text)))
+    return MARK.sub(r"\1&#91;", quoted)
 
 
 def outcome_of(finding: Finding, strict: bool) -> str:
@@ -33,7 +35,7 @@ def case_of(path: str, name: str, outcome: str, message: str) -> List[str]:
 
 def cases_of(file: Checked, strict: bool) -> Iterator[Tuple[str, List[str]]]:
     """The cases of a file, each with its outcome. A file without findings is one case that passes."""
-    path = shown(file.path)
+    path = plain(file.path)
     if file.failure:
         yield "error", case_of(path, "not checked", "error", file.failure)
     elif not file.findings:
@@ -61,7 +63,7 @@ def document(project: Project) -> str:
         cases = list(cases_of(file, project.strict))
         outcomes = [outcome for outcome, _ in cases]
         all_outcomes += outcomes
-        lines.append(f" <testsuite name={attribute(shown(file.path))} {counted(outcomes)}>")
+        lines.append(f" <testsuite name={attribute(plain(file.path))} {counted(outcomes)}>")
         lines += [line for _, case in cases for line in case]
         lines.append(" </testsuite>")
     head = f'<?xml version="1.0" encoding="UTF-8"?>\n<testsuites name="pycheck" {counted(all_outcomes)}>'

@@ -9,8 +9,9 @@ import re
 from typing import Iterator, List, NamedTuple, Sequence, Set, Tuple
 
 from . import codes, full
-from .findings import DYNAMIC, ERROR, GUIDE, REFUSED, Checked, Finding, Project, shown, summary
+from .findings import DYNAMIC, ERROR, GUIDE, REFUSED, Checked, Finding, Project, summary
 from .messages import name_of
+from .texts import plain
 from .widths import REPLACEMENT, UNFIT
 
 STYLE = """
@@ -82,20 +83,20 @@ def worded(text: str) -> str:
 
 
 def tooltip(finding: Finding) -> str:
-    """What is said of a finding where a pointer rests on its place."""
-    flow = f"\n{finding.flow[0]} flows into {finding.flow[1]}" if finding.flow else ""
-    return f"{name_of(finding)}: {codes.meaning_of(finding.code)}{flow}{' (known)' if finding.known else ''}"
+    """What is said of a finding where a pointer rests on its place, as HTML."""
+    flow = f"\n{escaped(f'{finding.flow[0]} flows into {finding.flow[1]}')}" if finding.flow else ""
+    said = escaped(f"{name_of(finding)}: {codes.meaning_of(finding.code)}")
+    return f"{said}{flow}{' (known)' if finding.known else ''}"
 
 
-def parts_of(findings: Sequence[Finding], number: int, line: str) -> List[Part]:
-    """The parts of a line that belong to findings; outer ones first."""
+def parts_of(findings: Sequence[Finding], touching: Sequence[int], number: int, line: str) -> List[Part]:
+    """The parts of a line that belong to the findings that touch it; outer ones first."""
     parts = []
-    for at, finding in enumerate(findings):
-        place = finding.place
-        if place.start.line <= number <= place.end.line:
-            start, end = full.part_of(line, number, place)
-            if start < end or number == place.start.line:
-                parts.append(Part(start, end, at))
+    for at in touching:
+        place = findings[at].place
+        start, end = full.part_of(line, number, place)
+        if start < end or number == place.start.line:
+            parts.append(Part(start, end, at))
     return sorted(parts, key=lambda it: (it.start, -it.end, it.number))
 
 
@@ -115,7 +116,7 @@ class Module:
         self.begun.add(part.number)
         words = "\n\n".join(tooltip(self.file.findings[it.number]) for it in [*outer, part])
         place = f' id="{self.name}-p{part.number}"' if first else ""
-        return f'<mark class="{"place" if first else "rest"} {" ".join(kinds)}"{place} title="{html.escape(words)}">'
+        return f'<mark class="{"place" if first else "rest"} {" ".join(kinds)}"{place} title="{words}">'
 
     def code(self, line: str, parts: Sequence[Part]) -> str:
         """A line with its parts marked."""
@@ -135,13 +136,13 @@ class Module:
         """The lines of the module; the number of a line with a finding links to its first one."""
         findings = self.file.findings
         last = max([self.file.text.lines, *(it.place.start.line for it in findings)])
-        touching: List[List[Finding]] = [[] for _ in range(last + 1)]
-        for finding in findings:
+        touching: List[List[int]] = [[] for _ in range(last + 1)]
+        for at, finding in enumerate(findings):
             for number in range(finding.place.start.line, min(last, finding.place.end.line) + 1):
-                touching[number].append(finding)
+                touching[number].append(at)
         for number in range(1, last + 1):
             line = self.file.text.line(number)
-            parts = parts_of(findings, number, line) if touching[number] else []
+            parts = parts_of(findings, touching[number], number, line)
             target = f"{self.name}-n{min(it.number for it in parts)}" if parts else f"{self.name}-l{number}"
             link = f'<a class="number" href="#{target}">{number}</a>'
             yield f'<div class="line" id="{self.name}-l{number}">{link}{self.code(line, parts)}</div>'
@@ -154,16 +155,18 @@ class Module:
             flow = f" <code>{escaped(it.flow[0])} -&gt; {escaped(it.flow[1])}</code>" if it.flow else ""
             known = ' <span class="soft">known</span>' if it.known else ""
             words = f"{codes.meaning_of(it.code)}. {codes.mending_of(it.code, self.file.spot_of(it))}"
-            name = f'<b class="{it.kind}">{html.escape(name_of(it))}</b>'
+            name = f'<b class="{it.kind}">{escaped(name_of(it))}</b>'
             yield f'<li id="{self.name}-n{at}">{link} {name}{flow}{known}: {worded(words)}</li>'
 
     def section(self) -> Iterator[str]:
         """The module with its findings; one without findings is folded."""
-        yield f'<section id="{self.name}"><h2>{html.escape(shown(self.file.path))}</h2>'
+        yield f'<section id="{self.name}"><h2>{escaped(plain(self.file.path))}</h2>'
         if self.file.failure:
             yield f'<p class="failed">not checked: {escaped(self.file.failure)}</p></section>'
             return
         yield from ["<ul>", *self.list(), "</ul>"] if self.file.findings else []
+        if self.file.suspended:
+            yield f'<p class="error">{self.file.suspended.capitalize()}.</p>'
         if self.file.unlisted:
             yield f'<p class="refused">There may be more refusals: {escaped(self.file.unlisted)}.</p>'
         opened = " open" if self.file.findings else ""
@@ -190,7 +193,7 @@ def share(free: int, lines: int) -> str:
 def row(module: Module) -> str:
     """The row of a file."""
     file = module.file
-    name = f'<td><a href="#{module.name}">{html.escape(shown(file.path))}</a></td>'
+    name = f'<td><a href="#{module.name}">{escaped(plain(file.path))}</a></td>'
     if file.failure:
         return f'<tr>{name}<td colspan="3" class="said failed">not checked: {escaped(file.failure)}</td></tr>'
     refusal = next((it for it in file.findings if it.kind == REFUSED), None)
@@ -198,7 +201,7 @@ def row(module: Module) -> str:
         guides = sum(it.kind == GUIDE for it in file.findings)
         more = f", and {guides} more as a guide" if guides else ""
         said = f"{name_of(refusal)}{more}{' (known)' if refusal.known else ''}"
-        return f'<tr>{name}<td colspan="3" class="said refused">{html.escape(said)}</td></tr>'
+        return f'<tr>{name}<td colspan="3" class="said refused">{escaped(said)}</td></tr>'
     cells = ""
     for kind in (ERROR, DYNAMIC):
         number = sum(it.kind == kind for it in file.findings)
@@ -220,7 +223,7 @@ def gone_list(project: Project) -> Iterator[str]:
     if project.gone:
         yield "<h2>Known but gone</h2>\n<ul>"
         for it in project.gone:
-            words = f"{html.escape(shown(it.path))}: {html.escape(it.code)}: <code>{escaped(it.line)}</code>"
+            words = f"{escaped(plain(it.path))}: {escaped(it.code)}: <code>{escaped(it.line)}</code>"
             yield f"<li>{words}{f' ({it.times} times)' if it.times > 1 else ''}</li>"
         yield "</ul>"
 

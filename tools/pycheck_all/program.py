@@ -9,6 +9,7 @@ import subprocess
 import sys
 import sysconfig
 import threading
+import time
 from pathlib import Path
 from typing import Dict, List, NamedTuple, Sequence, Set
 
@@ -16,6 +17,7 @@ NAME = "pycheck"
 FINDER = Path(__file__).resolve().parent.parent / "program"
 # The exit status of the finder where no program serves
 NO_PROGRAM = 1
+VERSION_SECONDS = 60
 
 
 class NoProgram(Exception):
@@ -24,6 +26,10 @@ class NoProgram(Exception):
 
 class Broken(NoProgram):
     """The program of a checkout is broken, and no other one is to be asked in its place."""
+
+
+class TooLong(Exception):
+    """The program did not end in time."""
 
 
 class Answer(NamedTuple):
@@ -48,9 +54,16 @@ class Answer(NamedTuple):
         return f"{NAME} ended with status {self.status} and without a report"
 
 
+def search_path() -> str:
+    """The folders of PATH. Those that depend on the folder in which the command runs are left out: what is checked may
+    stand there, and nothing of it is run."""
+    folders = os.environ.get("PATH", os.defpath).split(os.pathsep)
+    return os.pathsep.join(it for it in folders if os.path.isabs(it))
+
+
 def found(name: str) -> str:
     """The path of a program that is named, or NoProgram."""
-    path = shutil.which(name)
+    path = shutil.which(name, path=search_path())
     if path is None:
         raise NoProgram(f"{name}: no such program")
     return os.path.abspath(path)
@@ -61,7 +74,8 @@ def in_checkout() -> str:
     if FINDER.parent.name != "tools" or not os.access(FINDER, os.X_OK):
         return ""
     try:
-        done = subprocess.run([str(FINDER), NAME], stdin=subprocess.DEVNULL, capture_output=True)
+        settings = {**os.environ, "PATH": search_path()}
+        done = subprocess.run([str(FINDER), NAME], stdin=subprocess.DEVNULL, capture_output=True, env=settings)
     except OSError as fault:
         raise NoProgram(f"{FINDER}: {fault.strerror}") from None
     lines = os.fsdecode(done.stdout).splitlines()
@@ -74,7 +88,9 @@ def in_checkout() -> str:
 
 def beside() -> str:
     """The program in the folder of the interpreter's scripts, or beside this command; empty where there is none."""
-    for folder in (sysconfig.get_path("scripts"), os.path.dirname(os.path.abspath(sys.argv[0]))):
+    # A command of one line has no folder
+    own = os.path.dirname(os.path.abspath(sys.argv[0])) if os.path.basename(sys.argv[0]) not in ("", "-c", "-m") else ""
+    for folder in (sysconfig.get_path("scripts"), own):
         path = shutil.which(os.path.join(folder, NAME)) if folder else None
         if path:
             return os.path.abspath(path)
@@ -94,7 +110,7 @@ def chosen(named: str) -> str:
         raise
     except NoProgram as fault:
         path, why = "", str(fault)
-    path = path or beside() or os.path.abspath(shutil.which(NAME) or "")
+    path = path or beside() or os.path.abspath(shutil.which(NAME, path=search_path()) or "")
     if path == os.path.abspath(""):
         raise NoProgram(why)
     return path
@@ -111,8 +127,9 @@ class Program:
         self._nothing = os.open(os.devnull, os.O_RDONLY)
         self._variables = dict(os.environ)
 
-    def ask(self, *words: str) -> Answer:
-        """Runs the program with these words. OSError says that it could not be run."""
+    def ask(self, until: float, *words: str) -> Answer:
+        """Runs the program with these words, until a time of the clock `time.monotonic`; then it is ended, and that is
+        TooLong. OSError says that it could not be run."""
         reads, writes = zip(os.pipe(), os.pipe())
         try:
             process = self._start(words, writes)
@@ -123,7 +140,14 @@ class Program:
         finally:
             for write in writes:
                 os.close(write)
-        output, error = read_all(reads)
+        output, error = b"", b""
+        try:
+            output, error = read_all(reads, until)
+            self._await_end(process, until)
+        except BaseException:
+            os.kill(process, signal.SIGKILL)
+            self._wait(process)
+            raise
         return Answer(self._wait(process), output, error)
 
     def _start(self, words: Sequence[str], writes: Sequence[int]) -> int:
@@ -134,6 +158,14 @@ class Program:
             process = os.posix_spawn(self.path, [self.path, *words], self._variables, file_actions=actions)
             self._running.add(process)
         return process
+
+    def _await_end(self, process: int, until: float) -> None:
+        pause = 0.0005
+        while os.waitid(os.P_PID, process, os.WEXITED | os.WNOHANG | os.WNOWAIT) is None:
+            if time.monotonic() > until:
+                raise TooLong
+            time.sleep(pause)
+            pause = min(0.05, 2 * pause)
 
     def _wait(self, process: int) -> int:
         _, ended = os.waitpid(process, 0)
@@ -153,24 +185,34 @@ class Program:
 
     def version(self) -> str:
         """What the program says of its version, a line."""
-        answer = self.ask("--version")
+        try:
+            answer = self.ask(time.monotonic() + VERSION_SECONDS, "--version")
+        except TooLong:
+            return ""
         said = answer.output.decode("utf-8", "replace").strip().splitlines()
         return said[0] if answer.status == 0 and said else ""
 
 
-def read_all(files: Sequence[int]) -> List[bytes]:
-    """What comes from some open files until their ends, read side by side; they are closed."""
+def read_all(files: Sequence[int], until: float) -> List[bytes]:
+    """What comes from some open files until their ends, read side by side; they are closed. TooLong where the ends do
+    not come until a time."""
     parts: Dict[int, List[bytes]] = {file: [] for file in files}
     poll = select.poll()
     for file in files:
         poll.register(file, select.POLLIN)
-    left = len(files)
-    while left:
-        for file, _ in poll.poll():
-            part = os.read(file, 65536)
-            parts[file].append(part)
-            if not part:
-                poll.unregister(file)
-                os.close(file)
-                left -= 1
+    left = set(files)
+    try:
+        while left:
+            if time.monotonic() > until:
+                raise TooLong
+            for file, _ in poll.poll(1000 * max(0.0, until - time.monotonic())):
+                part = os.read(file, 65536)
+                parts[file].append(part)
+                if not part:
+                    poll.unregister(file)
+                    left.discard(file)
+                    os.close(file)
+    finally:
+        for file in left:
+            os.close(file)
     return [b"".join(parts[file]) for file in files]

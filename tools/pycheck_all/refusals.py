@@ -24,6 +24,8 @@ HEADER = b"from __future__ import annotations"
 MODULE, CLASS, FUNCTION = "module", "class", "function"
 OPENERS = b"if elif else for while try except finally with def class async match case".split()
 UNCLOSED_TRIES = 20
+# How much is read, at most twice this, for brackets that are never closed
+UNCLOSED_BYTES = 1 << 20
 # How often a statement is replaced at most, one more than this
 MOST_TRIES = 2
 PIECE = re.compile(
@@ -31,6 +33,7 @@ PIECE = re.compile(
     rb"""|["'][^\n]*|\\\r?\n|[^#"'()\[\]{}\\\n:]+|.""",
     re.DOTALL,
 )
+BLANK = re.compile(rb"[ \t]*(?:#[^\n]*)?\r?\n")
 NAME = re.compile(rb"(?:async\s+)?(?:def|class)\s+(\w+)")
 Refusal = Callable[[str], Optional[Tuple[str, int]]]
 
@@ -71,7 +74,7 @@ class Statement:
         """The byte of its first word."""
         at = 0
         while True:
-            found = re.compile(rb"[ \t]*(?:#[^\n]*)?\r?\n").match(self.text, at)
+            found = BLANK.match(self.text, at)
             if not found:
                 break
             at = found.end()
@@ -105,19 +108,27 @@ class Statement:
 def statements(data: bytes) -> Iterator[Statement]:
     """The statements of a text. Of a bracket that is never closed, the line in which its statement begins is one; after
     some of those, each line is one."""
-    at, tries = 0, 0
+    at, tries, read = 0, 0, 0
     while at < len(data):
-        found, closed = statement_at(data, at)
-        if not closed or tries > UNCLOSED_TRIES:
-            tries += 1
-            end = data.find(b"\n", at + found.lead) + 1 or len(data)
-            found = Statement(data[at:end], at, unclosed=True)
+        found = statement_at(data, at) if tries <= UNCLOSED_TRIES and read <= UNCLOSED_BYTES else None
+        if found is None:
+            tries, read = tries + 1, read + len(data) - at
+            found = Statement(data[at : line_end(data, at)], at, unclosed=True)
         yield found
         at += len(found.text)
 
 
-def statement_at(data: bytes, at: int) -> Tuple[Statement, bool]:
-    """The statement at a byte, and whether its brackets are closed."""
+def line_end(data: bytes, at: int) -> int:
+    """The end of the line with the next word after a byte."""
+    while True:
+        blank = BLANK.match(data, at)
+        if not blank:
+            return data.find(b"\n", at) + 1 or len(data)
+        at = blank.end()
+
+
+def statement_at(data: bytes, at: int) -> Optional[Statement]:
+    """The statement at a byte; none where its brackets are not closed."""
     depth, colon, begun, end = 0, 0, False, at
     for piece in PIECE.finditer(data, at):
         sign, end = piece[0], piece.end()
@@ -130,7 +141,7 @@ def statement_at(data: bytes, at: int) -> Tuple[Statement, bool]:
         elif sign == b"\n" and depth == 0 and begun:
             break
         begun = begun or not (sign.isspace() or sign.startswith(b"#"))
-    return Statement(data[at:end], at, colon=colon), depth == 0
+    return Statement(data[at:end], at, colon=colon) if depth == 0 else None
 
 
 class Draft:

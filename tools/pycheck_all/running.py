@@ -2,6 +2,7 @@
 from __future__ import annotations
 
 import concurrent.futures
+import functools
 import json
 import os
 import re
@@ -11,7 +12,7 @@ from typing import Any, Callable, Dict, List, Optional, Sequence, Tuple
 
 from . import files, refusals
 from .findings import DYNAMIC, ERROR, REFUSED, Checked, Finding
-from .program import Program
+from .program import Program, TooLong
 from .source import Text
 
 REFUSAL = re.compile(rb"refused ([A-Z]\d+) at byte (\d+)\n")
@@ -29,7 +30,7 @@ def read_findings(output: bytes, text: Callable[[], Text]) -> List[Finding]:
         report = json.loads(output)
         found = [finding_of(row, text()) for row in report["findings"]]
         counts = (report["errors"], report["dynamic"])
-    except (ValueError, KeyError, TypeError, IndexError, OverflowError) as fault:
+    except (ValueError, KeyError, TypeError, IndexError, OverflowError, RecursionError) as fault:
         raise NotUnderstood(f"the report of pycheck cannot be read: {fault}") from None
     if counts != (sum(it.kind == ERROR for it in found), sum(it.kind == DYNAMIC for it in found)):
         raise NotUnderstood("the report of pycheck does not agree with its counts")
@@ -52,10 +53,12 @@ def finding_of(row: Dict[str, Any], text: Text) -> Finding:
 
 
 class Run:
-    """A run of the program over files. `all_refusals` asks for each refusal of a file, `texts` for the text of each."""
+    """A run of the program over files, of which each has so many seconds. `all_refusals` asks for each refusal of a
+    file, `texts` for the text of each."""
 
-    def __init__(self, program: Program, all_refusals: bool, texts: bool) -> None:
+    def __init__(self, program: Program, seconds: float, all_refusals: bool, texts: bool) -> None:
         self.program = program
+        self.seconds = seconds
         self.all_refusals = all_refusals
         self.texts = texts
 
@@ -68,6 +71,8 @@ class Run:
             self.fill(checked, source.path)
         except NotUnderstood as fault:
             checked.findings, checked.failure = [], str(fault)
+        except TooLong:
+            checked.findings, checked.failure = [], self.late
         except OSError as fault:
             checked.findings, checked.failure = [], f"{self.program.path}: {fault.strerror or fault}"
         except MemoryError:
@@ -83,12 +88,14 @@ class Run:
                 checked.text = Text(content(path))
             return checked.text
 
-        answer = self.program.ask("--json", "--", path)
+        until = time.monotonic() + self.seconds
+        answer = self.program.ask(until, "--json", "--", path)
         refusal = REFUSAL.fullmatch(answer.error)
         if answer.status == 2 and refusal and not answer.output:
             checked.findings = [refusal_of(refusal[1].decode(), int(refusal[2]), text())]
             if self.all_refusals:
-                rest = refusals.rest_of(text(), checked.findings[0], self.refusal)
+                asking = functools.partial(self.refusal, until)
+                rest = refusals.rest_of(text(), checked.findings[0], asking)
                 checked.findings += rest.findings
                 checked.findings.sort(key=lambda it: it.place)
                 checked.complete, checked.unlisted = not rest.unlisted, rest.unlisted
@@ -111,9 +118,17 @@ class Run:
             return str(fault)
         return reason
 
-    def refusal(self, path: str) -> Optional[Tuple[str, int]]:
+    @property
+    def late(self) -> str:
+        """What is said where the program did not end in time."""
+        return f"pycheck did not end within {self.seconds:g} seconds"
+
+    def refusal(self, until: float, path: str) -> Optional[Tuple[str, int]]:
         """The code and the byte of the refusal of a file, or none; Unanswered where there is no report either."""
-        answer = self.program.ask("--json", "--", path)
+        try:
+            answer = self.program.ask(until, "--json", "--", path)
+        except TooLong:
+            raise refusals.Unanswered(self.late) from None
         refusal = REFUSAL.fullmatch(answer.error)
         if answer.status == 2 and refusal:
             return refusal[1].decode(), int(refusal[2])

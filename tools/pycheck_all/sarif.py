@@ -1,14 +1,14 @@
 """The form `sarif`: a log of SARIF 2.1.0, which systems for code scanning read."""
 from __future__ import annotations
 
-import json
 import os
 import urllib.parse
 from typing import Any, Dict, List
 
 from . import codes
-from .findings import DYNAMIC, GUIDE, Checked, Finding, Project, shown
+from .findings import DYNAMIC, GUIDE, Checked, Finding, Project
 from .messages import fingerprints, message_of, name_of
+from .texts import json_of, plain
 
 SCHEMA = "https://json.schemastore.org/sarif-2.1.0.json"
 
@@ -86,7 +86,7 @@ def notifications(project: Project) -> List[Dict[str, Any]]:
             text = f"there may be more refusals: {file.unlisted}"
             found.append({"level": "note", "message": {"text": text}, "locations": [location]})
     for entry in project.gone:
-        text = f"known but gone: {shown(entry.path)}: {entry.code}: {entry.line}"
+        text = f"known but gone: {plain(entry.path)}: {entry.code}: {entry.line}"
         found.append({"level": "note", "message": {"text": text}})
     return found
 
@@ -111,4 +111,4 @@ def document(project: Project) -> str:
         ],
         "results": [result for file in project.files for result in results_of(file, rules, project)],
     }
-    return json.dumps({"$schema": SCHEMA, "version": "2.1.0", "runs": [run]}, indent=1)
+    return json_of({"$schema": SCHEMA, "version": "2.1.0", "runs": [run]})

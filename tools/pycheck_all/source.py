@@ -3,7 +3,7 @@ from __future__ import annotations
 
 import bisect
 import re
-from typing import List, NamedTuple, Optional
+from typing import List, NamedTuple, Optional, Tuple
 
 TOKEN = re.compile(r"\w+|\*\*=?|//=?|<<=?|>>=?|\.\.\.|:=|->|[-+*/%@&|^<>=!]=|\S")
 
@@ -45,6 +45,8 @@ class Text:
     def __init__(self, data: bytes) -> None:
         self.data = data
         self._starts: Optional[List[int]] = None
+        # The line that was asked for last, which many findings may share
+        self._kept: Tuple[int, str] = (0, "")
 
     @property
     def starts(self) -> List[int]:
@@ -94,7 +96,9 @@ class Text:
 
     def line(self, number: int) -> str:
         """A line, without its end. What is not UTF-8 has a replacement character."""
-        return self.raw_line(number).decode("utf-8", "replace")
+        if self._kept[0] != number:
+            self._kept = (number, self.raw_line(number).decode("utf-8", "replace"))
+        return self._kept[1]
 
     @property
     def lines(self) -> int:

@@ -3,12 +3,15 @@ from __future__ import annotations
 
 import re
 import unicodedata
-from typing import List, NamedTuple
+from typing import List, NamedTuple, Tuple
+
+from .texts import CONTROLS
 
 TAB = 4
+NEAR = 8
 REPLACEMENT = "\ufffd"
 # What steers a terminal, what is no character, and what turns the direction of a line; a tab is none of them
-UNFIT = re.compile("[\x00-\x08\x0a-\x1f\x7f-\x9f\ud800-\udfff\u202a-\u202e\u2066-\u2069]")
+UNFIT = re.compile(f"(?!\t)[{CONTROLS}]")
 
 
 def drawn(character: str) -> str:
@@ -41,16 +44,25 @@ class Cut(NamedTuple):
 def cut(line: str, start: int, end: int, width: int) -> Cut:
     """A line cut to a width, so that the marked characters, from `start` to before `end`, can be seen; a mark has at
     least one column."""
-    pieces = [drawn(it) for it in line]
+    left_out, kept_end = kept(len(line), start, end, width)
+    pieces = [drawn(it) for it in line[left_out:kept_end]]
+    start, end = start - left_out, min(end, kept_end) - left_out
     first, last = 0, len(pieces)
-    if width_of("".join(pieces)) > width:
+    if left_out or kept_end < len(line) or width_of("".join(pieces)) > width:
         first = first_shown(pieces, start, end, width)
-        last = last_shown(pieces, first, width)
-    before = "…" if first else ""
-    after = "…" if last < len(pieces) else ""
+        last = last_shown(pieces, first, width - bool(left_out and not first))
+    before = "…" if first or left_out else ""
+    after = "…" if last < len(pieces) or kept_end < len(line) else ""
     left = width_of(before + "".join(pieces[first : max(first, start)]))
     marked = width_of("".join(pieces[max(first, start) : max(first, min(last, end))]))
     return Cut(before + "".join(pieces[first:last]) + after, left, left + max(1, marked))
+
+
+def kept(length: int, start: int, end: int, width: int) -> Tuple[int, int]:
+    """The part of a line of so many characters that is looked at: some widths on both sides of where the marked
+    characters start. A line may have a million characters, and as many marks."""
+    near = NEAR * width
+    return max(0, start - near), min(length, max(start, min(end, start + near)) + near)
 
 
 def first_shown(pieces: List[str], start: int, end: int, width: int) -> int:

@@ -2,14 +2,17 @@
 from __future__ import annotations
 
 import argparse
+import re
 import sys
 from typing import List, NamedTuple, NoReturn, Optional, Sequence
 
-from . import codes
+from . import codes, texts
 from .files import STANDARD_INPUT
 
 FORMS = ("concise", "full", "json", "github", "gitlab", "sarif", "junit")
 USAGE = 3
+MOST_SECONDS = 86_400
+NUMBER = re.compile(r"[0-9]{1,9}(?:\.[0-9]{1,9})?")
 EPILOG = """exit status: 0 no error, 1 errors (with --strict also dynamic places), 2 a refused file, 3 usage, memory or
 input/output error; the worst of all files"""
 
@@ -23,6 +26,7 @@ class Words(NamedTuple):
     stdin_name: str
     output: str
     color: str
+    timeout: float
     strict: bool
     statistics: bool
     baseline: str
@@ -33,12 +37,19 @@ class Words(NamedTuple):
     version: bool
 
 
+def seconds_of(word: str) -> float:
+    """A number of seconds, or the error of argparse."""
+    if not NUMBER.fullmatch(word) or not 0 < float(word) <= MOST_SECONDS:
+        raise argparse.ArgumentTypeError(f"no number of seconds up to {MOST_SECONDS}: {word!r}")
+    return float(word)
+
+
 class Parser(argparse.ArgumentParser):
     """A parser whose errors of usage have the exit status of the program."""
 
     def error(self, message: str) -> NoReturn:
         self.print_usage(sys.stderr)
-        self.exit(USAGE, f"{self.prog}: error: {message}\n")
+        self.exit(USAGE, texts.line(f"{self.prog}: error: {message}") + "\n")
 
 
 def parser_of(name: str) -> Parser:
@@ -62,6 +73,13 @@ def parser_of(name: str) -> Parser:
     add("--stdin-name", default="<stdin>", metavar="NAME", help="the path that reports show for standard input")
     add("--output", default="", choices=FORMS, help="the form; full on a terminal, else concise")
     add("--color", default="auto", choices=("auto", "always", "never"), help="colours in the form full")
+    add(
+        "--timeout",
+        default=60.0,
+        type=seconds_of,
+        metavar="SECONDS",
+        help="the time that a file may take; then it counts as not checked (default: 60)",
+    )
     add("--strict", action="store_true", help="fail on dynamic places too")
     add("--statistics", action="store_true", help="say how often each code stands")
     add("--baseline", default="", metavar="FILE", help="do not fail on what this file has as known")
