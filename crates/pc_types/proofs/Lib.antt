@@ -1,3 +1,4 @@
+pub mod Absorbing
 pub mod Agree
 pub mod Ancestors
 pub mod Complete

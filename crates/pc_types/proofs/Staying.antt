@@ -1,7 +1,7 @@
 -- Two types whose members put together are those of the first.
 use Rattle.std.proofs.Common.{◌≡◌, ◌≤◌, Bool as Test, true, false, List, [], ◌∷◌, Option, Some, None, refl, sym, ap}
-use Rattle.std.proofs.Common.{◌∙◌}
-use Rattle.std.proofs.Common.{◌⊎◌, inl, inr, arith}
+use Rattle.std.proofs.Common.{◌∙◌, ◌⊎◌, inl, inr, arith, ◌++◌, ◌+◌, ◌<◌, ℕ, length, get_or, take, subst}
+use Rattle.std.proofs.lemmas.List.{take_more, take_all}
 use Rattle.std.specs.Prelude.{if◌then◌else◌}
 use Rattle.std.specs.Option.{option_map}
 use Rattle.pc_types.specs.Tree.{Tree, Trees, Any, Object, Never, Int, ListOf, TupleOf, Union, end, more}
@@ -12,7 +12,9 @@ use Rattle.pc_types.specs.Join.{same_tree, same_trees, is_absorbed, unabsorbed_m
 use Rattle.pc_types.specs.Join.{equal_one, parts_of, join_each, kept_with, ahead_of, one_with, IsSplit, by_rule, join}
 use Rattle.pc_types.specs.Join.{join_of, within_limit}
 use Rattle.pc_types.proofs.Together.{Behind, together, first_left, first_right, first_both}
-use Rattle.pc_types.proofs.Joined.{same_join}
+use Rattle.pc_types.specs.Boxed.{tree_of, trees_in}
+use Rattle.pc_types.specs.declared.boxed.BoxType.{BoxType}
+use Rattle.pc_types.proofs.Joined.{same_join, JoinsTo, joins_more, joins_all, one_tuple}
 use Rattle.pc_types.proofs.JoinNormal.{within_is}
 
 -- a member ahead of those that stand after it
@@ -29,7 +31,7 @@ split_ahead Object a rest e n = absurd n
 split_ahead t a rest e n = (λ i. ahead (e.0 i) (e.1 i))
 
 -- equal members of one head are one
-one_equal : (bases : Bases) (a b : Tree) → same_tree a b ≡ true → one_of bases a b ≡ Some a
+pub one_equal : (bases : Bases) (a b : Tree) → same_tree a b ≡ true → one_of bases a b ≡ Some a
 one_equal bases (TupleOf ss) (TupleOf ts) e = ap (option_map TupleOf) (same_join bases ss ts e)
 one_equal bases (TupleOf ss) _ e = cc
 one_equal bases a b e = ap (λ x. if x then Some a else None) e
@@ -69,17 +71,12 @@ module _ (bases : Bases) (left right : Tree) where
   both_kept false y s a b rest o p (inr d) e f g = rw (e, d, f) (ap Some g)
 
   pub kept_both : (s t a as' b bs : Tree) → IsSplit s a as' → IsOfMembers s → IsSplit t b bs → IsOfMembers t
-      → is_before a b ≡ false → is_before b a ≡ false → (is_absorbed bases b left ≡ true) ⊎ (same_tree a b ≡ true)
+      → is_before a b ≡ false → is_before b a ≡ false → (is_absorbed bases b left ≡ true) ⊎ (one_of bases a b ≡ Some a)
       → is_absorbed bases a right ≡ false → Stays as' bs → Stays s t
   kept_both s t a as' b bs e n f m h k d g j =
       first_both bases left right s t a as' b bs e n f m h k
       ∙ both_kept (is_absorbed bases b left) (is_absorbed bases a right) s a b as'
-      (option_map union (together bases left right as' bs)) (one_of bases a b) (either d) g j (split_ahead s a as' e n)
-    where
-      either : (is_absorbed bases b left ≡ true) ⊎ (same_tree a b ≡ true)
-          → (is_absorbed bases b left ≡ true) ⊎ (one_of bases a b ≡ Some a)
-      either (inl x) = inl x
-      either (inr x) = inr (one_equal bases a b x)
+      (option_map union (together bases left right as' bs)) (one_of bases a b) d g j (split_ahead s a as' e n)
 
   pub nothing_stays : (s t : Tree) → s ≡ Never → t ≡ Never → Stays s t
   nothing_stays s t e f = rw (e, f) refl
@@ -99,9 +96,39 @@ same_either : (x : Test) (s : Tree) (o : Option Tree) → o ≡ Some s → (if x
 same_either true s o e = refl
 same_either false s o e = e
 
--- the join of two types whose members together are those of the first is the first
+-- the join of two types whose members together are those of the first is the first, whatever its size
+pub join_of_stays : (bases : Bases) (s t : Tree) → IsOfMembers s → (s ≡ Never → ⊥) → IsOfMembers t → (t ≡ Never → ⊥)
+    → Stays bases s t s t → join_of bases s t ≡ Some s
+join_of_stays bases s t n a m b h =
+    let o = option_map union (put_all bases t s (unabsorbed_members bases t s)) in
+    same_either (same_tree s t) s (by_rule s t o) (members_rule s t o n a m b ∙ h)
+
 pub join_stays : (bases : Bases) (s t : Tree) → IsOfMembers s → (s ≡ Never → ⊥) → IsOfMembers t → (t ≡ Never → ⊥)
     → nodes s ≤ node_limit → Stays bases s t s t → join bases s t ≡ Some s
-join_stays bases s t n a m b l h =
-    let o = option_map union (put_all bases t s (unabsorbed_members bases t s)) in
-    ap within_limit (same_either (same_tree s t) s (by_rule s t o) (members_rule s t o n a m b ∙ h)) ∙ within_is s l
+join_stays bases s t n a m b l h = ap within_limit (join_of_stays bases s t n a m b h) ∙ within_is s l
+
+-- the join of equal types is the first
+pub join_of_same : (bases : Bases) (s t : Tree) → same_tree s t ≡ true → join_of bases s t ≡ Some s
+join_of_same bases s t e = ap (λ b. if b then Some s
+    else by_rule s t (option_map union (put_all bases t s (unabsorbed_members bases t s)))) e
+
+module _ (bases : Bases) (ss ts : List BoxType) where
+  -- one more part of a tuple stays
+  pub stays_more : (i : ℕ) (s t : BoxType) → JoinsTo bases ss ts i (take i ss) → i < length ss → i < length ts
+      → s ≡ get_or ss i s → t ≡ get_or ts i t → join_of bases (tree_of s) (tree_of t) ≡ Some (tree_of s)
+      → JoinsTo bases ss ts (i + 1) (take (i + 1) ss)
+  stays_more i s t j h k e f g =
+      let m : take i ss ++ s ∷ [] ≡ take (i + 1) ss = ap (λ x. take i ss ++ x ∷ []) e ∙ sym (take_more ss i s h) in
+      subst (JoinsTo bases ss ts (i + 1)) m (joins_more bases ss ts (take i ss) i s t s j h k e f (sym g))
+
+  -- all parts of a tuple stay
+  pub stays_all : (i : ℕ) → JoinsTo bases ss ts i (take i ss) → length ss ≤ i → length ts ≤ i
+      → join_each bases (trees_in ss) (trees_in ts) ≡ Some (trees_in ss)
+  stays_all i j h k =
+      sym (joins_all bases ss ts (take i ss) i j h k) ∙ ap (λ l. Some (trees_in l)) (take_all i ss h)
+
+-- a tuple whose parts stay is the two as one
+pub tuple_stays : (bases : Bases) (a : Tree) (ss : Trees) (b : Tree) (p q : Trees) → a ≡ TupleOf ss → p ≡ ss
+    → q ≡ parts_of b → join_each bases p q ≡ Some p → one_of bases a b ≡ Some a
+tuple_stays bases a ss b p q e f g h =
+    one_tuple bases a ss b p q e f g ∙ ap (option_map TupleOf) h ∙ ap (λ x. Some (TupleOf x)) f ∙ ap Some (sym e)

@@ -3,13 +3,13 @@
 ghost use Rattle.std.specs.Prelude.{◌≡◌, ◌↔◌, ◌⊎◌, IsTrue, Some, false, true};
 ghost use Rattle.std.specs.Option.{option_map};
 ghost use Rattle.pc_types.specs.Tree.{Never};
-ghost use Rattle.pc_types.specs.Normal.{IsNormal, IsOfMembers};
+ghost use Rattle.pc_types.specs.Normal.{AreNormal, IsNormal, IsOfMembers};
 ghost use Rattle.pc_types.specs.Shape.{union};
-ghost use Rattle.pc_types.specs.Join.{is_absorbed, join, put_all, same_tree, unabsorbed_members};
-ghost use Rattle.pc_types.specs.Boxed.{tree_of, IsGiven};
+ghost use Rattle.pc_types.specs.Join.{is_absorbed, join, join_each, join_of, one_of, put_all, unabsorbed_members};
+ghost use Rattle.pc_types.specs.Boxed.{tree_of, trees_in, IsGiven};
 
 use crate::compare::{is_member_absorbed, is_same, stands_before};
-use crate::join::{Sides, split};
+use crate::join::{Sides, parts_of, split};
 use crate::{BoxType, Parents};
 
 /// Whether a type stays as it is where another one is joined to it. True tells that it does; false tells nothing.
@@ -38,6 +38,7 @@ fn has_members(t: &BoxType) -> bool
 }
 
 /// Whether the members of two types put together are those of the first.
+#[cycle(stays)]
 fn stays(parents: &Parents, sides: &Sides, s: &BoxType, t: &BoxType) -> bool
     requires empty { tree_of sides.now.never.now ≡ Never }
     requires left { IsOfMembers (tree_of s.now) }
@@ -79,11 +80,63 @@ fn is_dropped(parents: &Parents, sides: &Sides, m: &BoxType) -> bool
     is_member_absorbed(parents, m, sides.left)
 }
 
-/// Whether of two members of one head the first is left: it is kept, and the second is equal or dropped.
+/// Whether of two members of one head the first is left: it is kept, and the second adds nothing to it or is dropped.
+#[cycle(stays)]
 fn is_one(parents: &Parents, sides: &Sides, a: &BoxType, b: &BoxType) -> bool
+    requires left { IsNormal (tree_of a.now) }
+    requires right { IsNormal (tree_of b.now) }
     ensures kept { IsTrue result → is_absorbed parents.now (tree_of a.now) (tree_of sides.now.right.now) ≡ false }
     ensures one { IsTrue result → (is_absorbed parents.now (tree_of b.now) (tree_of sides.now.left.now) ≡ true)
-        ⊎ (same_tree (tree_of a.now) (tree_of b.now) ≡ true) }
+        ⊎ (one_of parents.now (tree_of a.now) (tree_of b.now) ≡ Some (tree_of a.now)) }
 {
-    is_kept(parents, sides, a) && (is_same(a, b) || is_dropped(parents, sides, b))
+    is_kept(parents, sides, a) && (one_stays(parents, a, b) || is_dropped(parents, sides, b))
+}
+
+/// Whether two types of one head are the first as one: tuples part by part, others where they are equal.
+#[cycle(stays)]
+fn one_stays(parents: &Parents, a: &BoxType, b: &BoxType) -> bool
+    requires left { IsNormal (tree_of a.now) }
+    requires right { IsNormal (tree_of b.now) }
+    ensures { IsTrue result → one_of parents.now (tree_of a.now) (tree_of b.now) ≡ Some (tree_of a.now) }
+{
+    match a {
+        BoxType::Tuple(ss) => parts_stay(parents, ss, parts_of(b)),
+        _ => is_same(a, b),
+    }
+}
+
+/// Whether the parts of a tuple stay as they are where those of another one are joined to them, one by one.
+#[cycle(stays)]
+fn parts_stay(parents: &Parents, ss: &[BoxType], ts: &[BoxType]) -> bool
+    requires left { AreNormal (trees_in ss.now) }
+    requires right { AreNormal (trees_in ts.now) }
+    ensures { IsTrue result → join_each parents.now (trees_in ss.now) (trees_in ts.now) ≡ Some (trees_in ss.now) }
+{
+    if ss.len() != ts.len() {
+        return false;
+    }
+    for i in 0..ss.len() {
+        if !part_stays(parents, &ss[i], &ts[i]) {
+            return false;
+        }
+    }
+    true
+}
+
+/// Whether a part of a tuple stays as it is where another one is joined to it.
+#[cycle(stays)]
+fn part_stays(parents: &Parents, s: &BoxType, t: &BoxType) -> bool
+    requires left { IsNormal (tree_of s.now) }
+    requires right { IsNormal (tree_of t.now) }
+    ensures { IsTrue result → join_of parents.now (tree_of s.now) (tree_of t.now) ≡ Some (tree_of s.now) }
+{
+    if !has_members(s) || !has_members(t) {
+        return is_same(s, t);
+    }
+    let sides = Sides {
+        left: s,
+        right: t,
+        never: &BoxType::Never,
+    };
+    stays(parents, &sides, s, t)
 }

@@ -4,6 +4,7 @@ ghost use Rattle.std.specs.Prelude.{◌≡◌};
 ghost use Rattle.pc_types.specs.Normal.{member_rank};
 ghost use Rattle.pc_types.specs.Join.{same_tree, same_trees, absorbs, is_absorbed, is_before};
 ghost use Rattle.pc_types.specs.Boxed.{tree_of, trees_in};
+ghost use Rattle.pc_types.specs.Internal.Absorbing.{may_be_absorbed};
 
 use crate::{BoxType, Parents};
 
@@ -73,17 +74,37 @@ fn does_absorb(parents: &Parents, a: &BoxType, m: &BoxType) -> bool
     }
 }
 
-/// Whether some member of a type absorbs a member.
-pub(crate) fn is_member_absorbed(parents: &Parents, m: &BoxType, t: &BoxType) -> bool
+/// Whether there is a type that absorbs a member: only `bool` and a class with a base have one.
+fn may_be_absorbed(parents: &Parents, m: &BoxType) -> bool
+    ensures { result ≡ may_be_absorbed parents.now (tree_of m.now) }
+{
+    match m {
+        BoxType::Bool => true,
+        BoxType::Class(c) => parents.base(*c).is_some(),
+        _ => false,
+    }
+}
+
+/// Whether one of the members of a type absorbs a member, each asked in turn.
+fn does_one_absorb(parents: &Parents, m: &BoxType, t: &BoxType) -> bool
     ensures { result ≡ is_absorbed parents.now (tree_of m.now) (tree_of t.now) }
 {
     match t {
         BoxType::Never => false,
         BoxType::Union(first, others) => {
-            does_absorb(parents, first, m) || is_member_absorbed(parents, m, others)
+            does_absorb(parents, first, m) || does_one_absorb(parents, m, others)
         }
         _ => does_absorb(parents, t, m),
     }
+}
+
+/// Whether some member of a type absorbs a member.
+#[tactic(auto, using(crate::proofs::Absorbing::absorbed_where_may))]
+pub(crate) fn is_member_absorbed(parents: &Parents, m: &BoxType, t: &BoxType) -> bool
+    ensures { result ≡ is_absorbed parents.now (tree_of m.now) (tree_of t.now) }
+{
+    // The members of most large unions have no base, and each of them is asked for here.
+    may_be_absorbed(parents, m) && does_one_absorb(parents, m, t)
 }
 
 /// Whether the first member has its place before the second's.

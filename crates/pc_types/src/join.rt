@@ -65,7 +65,7 @@ fn kept_ahead(
 }
 
 /// The parts of a tuple, none of another type.
-fn parts_of(t: &BoxType) -> &[BoxType]
+pub(crate) fn parts_of(t: &BoxType) -> &[BoxType]
     ensures { trees_in result.now ≡ parts_of (tree_of t.now) }
 {
     match t {
