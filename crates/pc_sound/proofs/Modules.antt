@@ -1,5 +1,6 @@
 -- A module: its classes, its items in order, and `main`.
 pub mod ModuleNames
+pub mod PlacesInModules
 pub mod ModuleOrder
 pub mod ModuleItems
 pub mod MainWorld

@@ -6,9 +6,12 @@ pub mod SettledOperations
 pub mod SettledCalls
 pub mod SettledDisplays
 pub mod SettledLabels
+pub mod OwnTypes
+pub mod OwnCodes
 pub mod SettledStatements
 pub mod SettledModules
 pub mod SettledBindings
+pub mod QuietReturns
 pub mod SettledSuites
 pub mod SettledFunctions
 pub mod SettledInitializers

@@ -6,6 +6,7 @@ pub mod LoopExample
 pub mod NarrowingExample
 pub mod Needed
 pub mod OrderExample
+pub mod Silent
 pub mod Sound
 pub mod Values
 pub mod KeptHeaps

@@ -7,6 +7,7 @@ use Rattle.pc_tree.specs.Code.{IsError}
 use Rattle.pc_tree.specs.Tree.{Module}
 use Rattle.pc_module_rules.specs.Modules.{IsFinding}
 use Rattle.pc_machine.specs.Runs.{Run, End, IsFaultyEnd}
+use Rattle.pc_sound.specs.Silent.{HasNoSilentError}
 
 -- no finding is an error
 abbrev pub HasNoError : Module → Type 0
@@ -24,3 +25,14 @@ pub record HasEvaluated (m : Module) (events : List Place) : Type 0 where
 abbrev pub Sound : Type 0
 Sound = (m : Module) → HasNoError m → (events : List Place) (end : End) → Run m events end → IsFaultyEnd end
     → HasEvaluated m events
+
+-- the place of a finding is among the events
+pub record HasEvaluatedListed (m : Module) (events : List Place) : Type 0 where
+  pub finding : Finding
+  pub found : IsFinding m finding
+  pub event : Contains events finding.place
+
+-- where no finding of a module is silent, each run of it that ends in a fault has by then evaluated a listed place
+abbrev pub SoundBesideErrors : Type 0
+SoundBesideErrors = (m : Module) → HasNoSilentError m → (events : List Place) (end : End) → Run m events end
+    → IsFaultyEnd end → HasEvaluatedListed m events

@@ -20,7 +20,7 @@ ghost use Rattle.pc_value.specs.Value.{Heap, Value, seen};
 ghost use Rattle.pc_value.specs.Containers.{append_outcome, store_outcome};
 ghost use Rattle.pc_sound.specs.Values.{HeapTyping, HasType, IsWell};
 ghost use Rattle.pc_sound.specs.Needed.{FieldsHaveNoNever, HasNoNever, IsNeeded, IsNeededWithin};
-ghost use Rattle.pc_sound.specs.Sound.{Sound};
+ghost use Rattle.pc_sound.specs.Sound.{Sound, SoundBesideErrors};
 ghost use Rattle.pc_sound.specs.KeptHeaps.{ActsWell, CanFollowAll, Passes};
 
 /// The law that a value of a type is one of each type that the first is static to.
@@ -85,4 +85,10 @@ pub fn annotations_have_no_never()
 /// dynamic place.
 pub fn soundness()
     ensures { Sound }
+{}
+
+/// The law that a run of a module none of whose findings is silent, if it ends in a fault, has by then evaluated the
+/// place of a finding, an error or a dynamic place.
+pub fn soundness_beside_errors()
+    ensures { SoundBesideErrors }
 {}

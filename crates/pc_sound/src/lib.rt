@@ -14,7 +14,7 @@ pub use assignment_example::example_of_assignment;
 pub use dispatch_example::example_of_dispatch;
 pub use laws::{
     aliases_keep_heaps, annotations_have_no_never, dynamic_flows_are_needed, joins_keep_values,
-    narrowing_keeps_values, soundness, values_flow_statically,
+    narrowing_keeps_values, soundness, soundness_beside_errors, values_flow_statically,
 };
 pub use loop_example::example_of_loops;
 pub use narrowing_example::example_of_narrowing;

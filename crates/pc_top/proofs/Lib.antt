@@ -1,3 +1,4 @@
+pub mod BesideErrors
 pub mod ExplainedRows
 pub mod Main
 pub mod ModuleFindings

@@ -19,6 +19,7 @@ use Rattle.pc_report.specs.declared.report.Row.{Row}
 use Rattle.pc_report.specs.Report.{Lists, row_findings}
 use Rattle.pc_top.specs.Headline.{HasNoErrorRow, HasEvaluatedRow, Headline, IsExplainedRow, OnCheckFault}
 use Rattle.pc_top.specs.Headline.{check_fault_of}
+use Rattle.pc_top.proofs.BesideErrors.{beside_errors}
 use Rattle.pc_top.specs.declared.fault.CheckFault.{CheckFault}
 use Rattle.pc_top.specs.declared.fault.CheckFault.TheVariants as check_fault
 use Rattle.pc_front.proofs.BytesLaws.{one_module}
@@ -55,6 +56,7 @@ module _ (bytes : List ℕ) (whole : Module) where
         explained = explained (λ f h. (exact f).0 h);
         sound =
             sound_here rows listed;
+        sound_beside_errors = beside_errors whole (row_findings rows) exact;
       }
 
 -- a refusal of the bytes

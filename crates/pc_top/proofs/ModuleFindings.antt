@@ -3,7 +3,7 @@
 use Rattle.std.proofs.Common.{◌≡◌, List, [], ◌∷◌, ◌++◌, map, refl, ap, ◌∙◌, sym, subst, inl, inr, Contains, ◌↔◌, Option}
 use Rattle.std.proofs.Common.{None}
 use Rattle.std.specs.Prelude.{◌⊎◌, Bool, true, false, if◌then◌else◌}
-use Rattle.std.proofs.lemmas.List.{map-append}
+use Rattle.std.proofs.lemmas.Grind.{flat_map-append}
 use Rattle.std.proofs.lemmas.List.Elements.{Contains-append_left, Contains-append_right, Contains-append_cases}
 use Rattle.pc_source.specs.declared.place.Place.{Place}
 use Rattle.pc_tree.specs.declared.code.Finding.{Finding}
@@ -15,7 +15,7 @@ use Rattle.pc_class.specs.Built.{class_findings}
 use Rattle.pc_class.specs.Findings.{ClassFinds}
 use Rattle.pc_class.specs.OverrideFindings.{override_findings}
 use Rattle.pc_class.proofs.FoundClashes.{just_their_lists}
-use Rattle.pc_notes.specs.Notes.{Note, plain_note, findings_of, is_same_place, flow_or, flow_noted}
+use Rattle.pc_notes.specs.Notes.{Note, plain_note, finding_in, findings_of, is_same_place, flow_or, flow_noted}
 use Rattle.pc_module_rules.specs.Computed.DynamicFlows.{dynamic_flow}
 use Rattle.pc_module_rules.specs.Modules.{IsFinding}
 use Rattle.pc_module_rules.specs.Computed.Modules.{module_finds}
@@ -33,7 +33,7 @@ plain_findings (f ∷ fs) = ap (λ (l : List Finding). f ∷ l) (plain_findings 
 -- the findings of notes with others after them that tell of no flow
 with_plain : (notes : List Note) (fs : List Finding) → findings_of (notes ++ map plain_note fs) ≡ findings_of notes
     ++ fs
-with_plain notes fs = map-append (λ (n : Note). n.finding) notes (map plain_note fs)
+with_plain notes fs = flat_map-append finding_in notes (map plain_note fs)
     ∙ ap (λ (l : List Finding). findings_of notes ++ l) (plain_findings fs)
 
 module _ (m : Module) (of_scopes : List Finding) (scopes_found : (f : Finding) → Contains of_scopes f

@@ -17,6 +17,7 @@ use Rattle.pc_machine.specs.Runs.{Run, End, IsFaultyEnd}
 use Rattle.pc_front.specs.Bytes.{IsModuleOf}
 use Rattle.pc_report.specs.declared.flow.FlowTexts.{FlowTexts}
 use Rattle.pc_report.specs.declared.report.Row.{Row}
+use Rattle.pc_top.specs.BesideErrors.{HasNoSilentOf, HasEvaluatedOneOf}
 use Rattle.pc_top.specs.declared.fault.CheckFault.{CheckFault}
 use Rattle.pc_top.specs.declared.fault.CheckFault.TheVariants as check_fault
 use Rattle.pc_report.specs.Report.{Lists, row_findings, row_flow}
@@ -31,6 +32,14 @@ pub record HasEvaluatedRow (rows : List Row) (events : List Place) : Type 0 wher
   pub listed : Contains (row_findings rows) finding
   pub dynamic : ¬ (IsError finding.code)
   pub event : Contains events finding.place
+
+-- no row is a silent finding of the module
+abbrev pub HasNoSilentRow : Module → List Row → Type 0
+HasNoSilentRow m rows = HasNoSilentOf m (row_findings rows)
+
+-- the place of a row is among the events
+abbrev pub HasEvaluatedListedRow : List Row → List Place → Type 0
+HasEvaluatedListedRow rows = HasEvaluatedOneOf (row_findings rows)
 
 -- the texts are those of two types of which the first flows dynamically into the second at this place, under every
 -- lawful labelling of the module
@@ -48,8 +57,8 @@ IsExplainedRow m row =
     (λ texts. (row.finding.code ≡ A1) × AreTextsOfFlow m row.finding.place texts)
 
 -- What a report says. The bytes spell exactly one module; the rows list exactly the findings of its typing, each
--- dynamic flow with its two types; and where no row is an error, each run of the module that ends in a fault has by
--- then evaluated a listed dynamic place.
+-- dynamic flow with its two types; where no row is an error, each run of the module that ends in a fault has by then
+-- evaluated a listed dynamic place; and where no row is silent, each such run has by then evaluated the place of a row.
 pub record Headline (bytes : List ℕ) (rows : List Row) : Type 0 where
   pub whole : Module
   pub spelled : IsModuleOf bytes whole
@@ -61,6 +70,8 @@ pub record Headline (bytes : List ℕ) (rows : List Row) : Type 0 where
   pub explained : AllByRecursion (IsExplainedRow whole) rows
   pub sound : HasNoErrorRow rows → (events : List Place) (end : End) → Run whole events end → IsFaultyEnd end
       → HasEvaluatedRow rows events
+  pub sound_beside_errors : HasNoSilentRow whole rows → (events : List Place) (end : End) → Run whole events end
+      → IsFaultyEnd end → HasEvaluatedListedRow rows events
 
 -- of a fault: where it is a refusal, P holds of it; an allocation may fail at any time, and no device is used
 abbrev pub OnCheckFault : (Refusal → Type 0) → CheckFault → Type 0

@@ -1,3 +1,4 @@
+pub mod BesideErrors
 pub mod Headline
 pub mod NoNeedlessFlow
 pub mod Streaming

@@ -12,6 +12,7 @@ ghost use Rattle.pc_class.specs.Tables.{HasEntries, classes_with};
 ghost use Rattle.pc_notes.specs.Notes.{findings_of, notes_of, plain_note};
 ghost use Rattle.pc_module_rules.specs.Modules.{IsFinding};
 ghost use Rattle.pc_module_rules.specs.Laws.Flows.{TellsFlows};
+ghost use Rattle.pc_top.specs.BesideErrors.{AreSoundBesideErrors};
 
 use pc_ann::parents_of;
 use pc_check::check_module;
@@ -57,19 +58,22 @@ fn findings_with<S: TypeStore>(
     ensures found { IfOk result
         (λ v. (f : FindingOf) → Contains (findings_of (notes_of v)) f ↔ IsFinding (module_of «module».now) f) }
     ensures flows { IfOk result (λ v. TellsFlows (module_of «module».now) (notes_of v)) }
+    ensures sound_beside_errors { IfOk result
+        (λ v. AreSoundBesideErrors (module_of «module».now) (findings_of (notes_of v))) }
     ensures kept { KeepsTypes S.has store.old store.new }
 {
     override_findings(store, module, classes, of_classes)?;
     let of_scopes = scope_findings(alloc, module, scopes)?;
     let mut found = Notes::new(alloc);
-    check_module(store, alloc, module, scopes, classes, &mut found)?;
+    check_module(store, alloc, module, scopes, classes, false, &mut found)?;
     note_others(&mut found, &of_scopes, of_classes)?;
     Ok(found)
 }
 
 /// What is found in a module, over any store of types: in its signatures, constants and bodies, each dynamic flow with
 /// its types, which are those under the module's lawful labelling; of its names; of its classes. It is the same over
-/// each store, since the contract names none. Own rule of the profile.
+/// each store, since the contract names none. Where none of these findings is silent, each run of the module that ends
+/// in a fault has by then evaluated the place of one of them. Own rule of the profile.
 ///
 /// # Errors
 ///
@@ -84,6 +88,8 @@ pub fn findings_by<S: TypeStore>(
     ensures found { IfOk result
         (λ v. (f : FindingOf) → Contains (findings_of (notes_of v)) f ↔ IsFinding (module_of «module».now) f) }
     ensures flows { IfOk result (λ v. TellsFlows (module_of «module».now) (notes_of v)) }
+    ensures sound_beside_errors { IfOk result
+        (λ v. AreSoundBesideErrors (module_of «module».now) (findings_of (notes_of v))) }
     ensures kept { KeepsTypes S.has store.old store.new }
 {
     let mut of_classes = Vec::new(alloc);

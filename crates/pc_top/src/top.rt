@@ -34,7 +34,8 @@ pub(crate) fn report_of(alloc: Global, bytes: &[u8], memory: Memory) -> Result<R
 /// Where a report is answered, the bytes spell exactly one module and the report lists exactly the
 /// findings of its typing, each dynamic flow with its two types. Where it lists no error, each run of that module that
 /// raises `TypeError`, `AttributeError`, `NameError` or `UnboundLocalError`, or leaves the profile, has by then
-/// evaluated a listed dynamic place.
+/// evaluated a listed dynamic place. Where it lists errors, but no silent one, each such run has by then evaluated the
+/// place of a row.
 ///
 /// # Errors
 ///

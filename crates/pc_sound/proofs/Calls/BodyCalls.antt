@@ -43,7 +43,7 @@ use Rattle.pc_sound.proofs.Settled.KeyedLabels.{Keyed}
 use Rattle.pc_sound.proofs.Expressions.SimpleExpressions.{Covered, GoodEval}
 use Rattle.pc_sound.proofs.Values.Flows.{Evaluates}
 use Rattle.pc_sound.proofs.Heap.Fields.{Inherits}
-use Rattle.pc_sound.proofs.Expressions.NameReads.{KnowsNames, meaning_outside, means_a_class, no_error_at}
+use Rattle.pc_sound.proofs.Expressions.NameReads.{KnowsNames, meaning_outside, means_a_class}
 use Rattle.pc_sound.proofs.Expressions.Forms.{NotReserved, OtherCalls}
 use Rattle.pc_sound.proofs.Calls.OverridesFit.{IsIn, Dispatched}
 use Rattle.pc_sound.proofs.Statements.WaysOut.{GoodExec}
@@ -53,6 +53,7 @@ use Rattle.pc_sound.proofs.Calls.FilledParameters.{Distinct}
 use Rattle.pc_sound.proofs.Modules.ModuleNames.{function_named, outside_class, class_named}
 use Rattle.pc_sound.proofs.Calls.CallNodes.{function_node_safe, class_node_safe}
 use Rattle.pc_sound.proofs.Calls.MethodNodes.{method_node_safe}
+use Rattle.pc_sound.proofs.Calls.BuiltIns.{callee_found_call_safe}
 use Rattle.pc_sound.proofs.Calls.CallRules.{ordinary_label}
 use Rattle.pc_sound.proofs.Calls.ValueCalls.{with_own, ordinary_call, values_quiet, fails_safe, value_callee_safe}
 use Rattle.pc_sound.proofs.Calls.ValueCalls.{named_value_safe, arguments_covered}
@@ -68,7 +69,7 @@ signature_at : (m : Module) (i : ℕ) (d : FuncDef) → slice_get (functions_in 
 unfolding signatures_of
 signature_at m i d e = slice_get-map (signature_of m) (functions_in m.items) i ∙ ap (option_map (signature_of m)) e
 
--- what is known of a module whose labels are lawful and without errors, as calls need it
+-- what is known of a module whose labels are lawful and without silent errors, as calls need it
 pub record Facts (m : Module) (constants : List Tree) (listed : Place → Type 0) : Type 0 where
   pub inherits : Inherits (bases_of m) (classes_of m)
   pub dispatched : (d c : ℕ) → Below (bases_of m) (tree.Class d) (tree.Class c) → (word : List ℕ) (old : Method)
@@ -233,8 +234,8 @@ module _ (m : Module) (constants : List Tree) (listed : Place → Type 0) (facts
               (in_error E03) = ap (name_callee Ctx env (arguments_given args kws)) e
               ∙ ap (λ x. if x then good_callee (signature_offer (arguments_given args kws)
               (class_signature (classes_of m) c) ∷ []) else value_callee (in_error E03)) t in
-              absurd (no_error_at Here Ctx Fit knows env n.place k.callee E03 []
-              (ap (λ x. x.codes) (law.callee ∙ ap (λ x. x.label) is)) refl (λ f h. covered f (inr (inl h))))
+              callee_found_call_safe Here Ctx Fit knows parts good evaluates env p n args kws k no_test covered E03 []
+              (ap (λ x. x.codes) (law.callee ∙ ap (λ x. x.label) is))
           go true t =
               let is : name_callee Ctx env (arguments_given args kws) (Ctx.resolve n.text) ≡ good_callee
               (signature_offer (arguments_given args kws) (class_signature (classes_of m) c) ∷ []) =

@@ -1,11 +1,11 @@
 -- Calls of `print`, `str` and `len` are safe where their arguments are.
+use Rattle.std.proofs.Math.Bool.{and-true}
 use Rattle.std.proofs.Common.{◌≡◌, ℕ, suc, List, [], ◌∷◌, map, refl, sym, ap, ◌∙◌, subst, inl, inr, arith}
 use Rattle.std.specs.Prelude.{Bool as Test, true, false, nat_eq, ◌&&◌, if◌then◌else◌, Option, codes, bytes_eq}
 use Rattle.std.proofs.lemmas.Bool.Decides.{nat_tests}
 use Rattle.pc_source.specs.declared.place.Place.{Place}
 use Rattle.pc_tree.specs.declared.code.Code.{Code}
 use Rattle.pc_tree.specs.declared.code.Code.TheVariants.{E14, E20, E27}
-use Rattle.pc_tree.specs.Code.{IsError}
 use Rattle.pc_tree.specs.Tree.{Expr, Exprs, Keywords, Name, name, call, no_exprs, more_exprs, no_keywords}
 use Rattle.pc_tree.specs.Tree.{more_keywords}
 use Rattle.pc_tree.specs.Depth.{place_of}
@@ -43,7 +43,7 @@ use Rattle.pc_machine.specs.Evaluation.{call_callee, do_reserved}
 use Rattle.pc_machine.specs.Free.{Step, free}
 use Rattle.pc_sound.specs.Values.{HeapTyping, HasType, IsWell}
 use Rattle.pc_sound.proofs.Steps.Judgment.{Around, EndsWell, IsSafe, IsContextOf}
-use Rattle.pc_sound.proofs.Lists.{not_empty}
+use Rattle.pc_sound.proofs.Lists.{not_empty, same_text_back}
 use Rattle.pc_sound.proofs.Steps.SafeSteps.{Stays, bind_safe, comes_safe, looks_safe, act_safe, may_stop_safe}
 use Rattle.pc_sound.proofs.Steps.SafeSteps.{emits_safe, weaken}
 use Rattle.pc_sound.proofs.Settled.KeyedLabels.{Keyed}
@@ -54,7 +54,7 @@ use Rattle.pc_sound.proofs.Heap.SeenValues.{sees_list, sees_dict}
 use Rattle.pc_sound.proofs.Values.UnionMembers.{ends_more, offers_end}
 use Rattle.pc_sound.proofs.Calls.Arguments.{ArgumentsHave, KeywordsHave, arguments_later, keywords_later}
 use Rattle.pc_sound.proofs.Calls.CallRules.{two_are_two}
-use Rattle.pc_sound.proofs.Expressions.NameReads.{KnowsNames, builtin_text, means_a_builtin, reserved_is, no_error_at}
+use Rattle.pc_sound.proofs.Expressions.NameReads.{KnowsNames, builtin_text, means_a_builtin, reserved_is}
 use Rattle.pc_sound.proofs.Calls.OrdinaryCalls.{equal_safe, impossible_safe, ordinary_safe}
 
 -- ---- lengths and texts
@@ -94,6 +94,17 @@ ordinary_form n (more_exprs a (more_exprs b no_exprs)) no_keywords e =
     ap (λ x. if x then instance_test n a b else ordinary) e
 ordinary_form n (more_exprs a (more_exprs b no_exprs)) (more_keywords w c rest) e = refl
 ordinary_form n (more_exprs a (more_exprs b (more_exprs c rest))) kws e = refl
+
+-- a call that is no test of an instance is ordinary
+pub ordinary_named : (n : Name) (args : Exprs) (kws : Keywords) → is_instance_test (name n) args kws ≡ false
+    → call_form (name n) args kws ≡ ordinary
+ordinary_named n no_exprs kws e = refl
+ordinary_named n (more_exprs a no_exprs) kws e = refl
+ordinary_named n (more_exprs a (more_exprs b (more_exprs c rest))) kws e = refl
+ordinary_named n (more_exprs a (more_exprs b no_exprs)) (more_keywords w x rest) e = refl
+ordinary_named n (more_exprs a (more_exprs b no_exprs)) no_keywords e =
+    ap (λ t. if t then instance_test n a b else ordinary) (same_text_back n.text (codes "isinstance")
+    ∙ (sym (and-true (bytes_eq (codes "isinstance") n.text)) ∙ e))
 
 -- two arguments or more are not one
 two_are_not_one : (a b : Expr) (rest : Exprs) (kws : Keywords)
@@ -206,12 +217,40 @@ module _ (around : Around) (ctx : Context) (fits : IsContextOf around ctx) (know
         (λ k v. HasType around.bases k m.here.type v) (λ k h. ((h.0.0.1, h.0.1), h.1)) (λ k v h. h)
         (calls values more)))
 
-  -- ---- labels of calls
+    -- a call at which a code stands is listed, and evaluated before the name acts
+    pub found_safe : (want : Option Tree) (args : Exprs) (kws : Keywords) (m : Labels (call p (name n) args kws))
+        → Lawful ctx around.declared env want (call p (name n) args kws) m
+        → Covered around (Finds (call p (name n) args kws) m) → Keyed (call p (name n) args kws) m
+        → (code : Code) (rest : List Code) → m.here.codes ≡ code ∷ rest
+        → IsSafe around env (λ k. Unit {0}) (eval_node Step free parts (call p (name n) args kws))
+        (λ k v. HasType around.bases k m.here.type v)
+    found_safe want args kws m law covered keyed code rest found = reserved_safe want args kws m law covered keyed
+        λ values more. impossible_safe around env _ _ _ λ k h. not_empty (sym found ∙ h.1)
 
-  pub wrong_call : (p : Place) (here : Label) (code : Code) → here ≡ call_label around.bases (fails_at_call code ∷ [])
-      → IsError code → Covered around (IsFoundAt p here.codes) → ⊥
-  wrong_call p here code e err covered = no_error_at around ctx fits knows env p here code [] (ap (λ x. x.codes) e) err
-      covered
+  -- a name at which a code stands as a callee is listed, and evaluated
+  pub callee_found_safe : (n : Name) (callee : Label) (code : Code) (rest : List Code) → callee.codes ≡ code ∷ rest
+      → Covered around (IsFoundAt n.place callee.codes) → IsSafe around env (λ k. Unit {0})
+      (eval_callee Step free parts (name n)) (λ k c. ⊥)
+  callee_found_safe n callee code rest found covered =
+      bind_safe around env _ _ _ (λ k u. Unit {0}) _ (λ k k' x h. tt) (may_stop_safe around env _)
+      λ u. bind_safe around env _ _ _ (λ k w. callee.codes ≡ []) _ (λ k k' x h. (tt, tt))
+      (emits_safe around env _ n.place callee.codes (allowed around n.place callee.codes covered))
+      λ w. impossible_safe around env _ _ _ λ k h. not_empty (sym found ∙ h.1)
+
+  -- so is a call of it, whatever its arguments are
+  pub callee_found_call_safe : (p : Place) (n : Name) (args : Exprs) (kws : Keywords)
+      (m : Labels (call p (name n) args kws)) → is_instance_test (name n) args kws ≡ false
+      → Covered around (Finds (call p (name n) args kws) m) → (code : Code) (rest : List Code)
+      → m.callee.codes ≡ code ∷ rest → IsSafe around env (λ k. Unit {0})
+      (eval_node Step free parts (call p (name n) args kws)) (λ k v. HasType around.bases k m.here.type v)
+  callee_found_call_safe p n args kws m no_test covered code rest found =
+      subst (λ form. IsSafe around env (λ k. Unit {0}) (eval_call Step free parts p (name n) args kws form)
+      (λ k v. HasType around.bases k m.here.type v)) (sym (ordinary_named n args kws no_test))
+      (bind_safe around env _ _ _ (λ k c. ⊥) _ (λ k k' x h. tt)
+      (callee_found_safe n m.callee code rest found (λ f h. covered f (inr (inl h))))
+      λ c. impossible_safe around env _ _ _ λ k h. h.1)
+
+  -- ---- labels of calls
 
   of_plain : (k : HeapTyping) (here : Label) (t : Tree) → here ≡ call_label around.bases (plain_call t ∷ [])
       → (w : Value) → HasType around.bases k t w → HasType around.bases k here.type w
@@ -257,8 +296,9 @@ module _ (around : Around) (ctx : Context) (fits : IsContextOf around ctx) (know
       → IsSafe around env (λ k. Unit {0}) (eval_node Step free parts (call p (name n) args kws))
       (λ k v. HasType around.bases k m.here.type v)
   print_safe want p n is args (more_keywords w e rest) m law covered keyed =
-      absurd (wrong_call p m.here E14 (plain_label p n builtin.Print is tt args (more_keywords w e rest)
-      (item_types args m.arguments) m.here (fails_at_call E14 ∷ []) refl law.here) refl (λ f h. covered f (inl h)))
+      found_safe p n builtin.Print is tt want args (more_keywords w e rest) m law covered keyed E14 []
+      (ap (λ x. x.codes) (plain_label p n builtin.Print is tt args (more_keywords w e rest)
+      (item_types args m.arguments) m.here (fails_at_call E14 ∷ []) refl law.here))
   print_safe want p n is args no_keywords m law covered keyed = reserved_safe p n builtin.Print is tt want args
       no_keywords m law covered keyed each
     where
@@ -290,17 +330,20 @@ module _ (around : Around) (ctx : Context) (fits : IsContextOf around ctx) (know
       → IsSafe around env (λ k. Unit {0}) (eval_node Step free parts (call p (name n) args kws))
       (λ k v. HasType around.bases k m.here.type v)
   str_safe want p n is no_exprs kws m law covered keyed =
-      absurd (wrong_call p m.here E14 (plain_label p n builtin.Str is tt no_exprs kws (item_types no_exprs m.arguments)
-      m.here (fails_at_call E14 ∷ []) refl law.here) refl (λ f h. covered f (inl h)))
+      found_safe p n builtin.Str is tt want no_exprs kws m law covered keyed E14 []
+      (ap (λ x. x.codes) (plain_label p n builtin.Str is tt no_exprs kws (item_types no_exprs m.arguments)
+      m.here (fails_at_call E14 ∷ []) refl law.here))
   str_safe want p n is (more_exprs a (more_exprs c rest)) kws m law covered keyed =
-      absurd (wrong_call p m.here E14 (plain_label p n builtin.Str is tt (more_exprs a (more_exprs c rest)) kws
+      found_safe p n builtin.Str is tt want (more_exprs a (more_exprs c rest)) kws m law covered keyed E14 []
+      (ap (λ x. x.codes) (plain_label p n builtin.Str is tt (more_exprs a (more_exprs c rest)) kws
       (item_types (more_exprs a (more_exprs c rest)) m.arguments) m.here (fails_at_call E14 ∷ [])
       (ap (λ x. good_callee ((if x then plain_call Str else fails_at_call E14) ∷ []))
-      (two_are_not_one a c rest kws)) law.here) refl (λ f h. covered f (inl h)))
+      (two_are_not_one a c rest kws)) law.here))
   str_safe want p n is (more_exprs a no_exprs) (more_keywords w e rest) m law covered keyed =
-      absurd (wrong_call p m.here E14 (plain_label p n builtin.Str is tt (more_exprs a no_exprs)
+      found_safe p n builtin.Str is tt want (more_exprs a no_exprs) (more_keywords w e rest) m law covered keyed E14 []
+      (ap (λ x. x.codes) (plain_label p n builtin.Str is tt (more_exprs a no_exprs)
       (more_keywords w e rest) (item_types (more_exprs a no_exprs) m.arguments) m.here (fails_at_call E14 ∷ []) refl
-      law.here) refl (λ f h. covered f (inl h)))
+      law.here))
   str_safe want p n is (more_exprs a no_exprs) no_keywords m law covered keyed = reserved_safe p n builtin.Str is tt
       want (more_exprs a no_exprs) no_keywords m law covered keyed each
     where
@@ -341,17 +384,20 @@ module _ (around : Around) (ctx : Context) (fits : IsContextOf around ctx) (know
       → IsSafe around env (λ k. Unit {0}) (eval_node Step free parts (call p (name n) args kws))
       (λ k v. HasType around.bases k m.here.type v)
   len_safe want p n is no_exprs kws m law covered keyed =
-      absurd (wrong_call p m.here E14 (plain_label p n builtin.Len is tt no_exprs kws (item_types no_exprs m.arguments)
-      m.here (fails_at_call E14 ∷ []) refl law.here) refl (λ f h. covered f (inl h)))
+      found_safe p n builtin.Len is tt want no_exprs kws m law covered keyed E14 []
+      (ap (λ x. x.codes) (plain_label p n builtin.Len is tt no_exprs kws (item_types no_exprs m.arguments)
+      m.here (fails_at_call E14 ∷ []) refl law.here))
   len_safe want p n is (more_exprs a (more_exprs c rest)) kws m law covered keyed =
-      absurd (wrong_call p m.here E14 (plain_label p n builtin.Len is tt (more_exprs a (more_exprs c rest)) kws
+      found_safe p n builtin.Len is tt want (more_exprs a (more_exprs c rest)) kws m law covered keyed E14 []
+      (ap (λ x. x.codes) (plain_label p n builtin.Len is tt (more_exprs a (more_exprs c rest)) kws
       (item_types (more_exprs a (more_exprs c rest)) m.arguments) m.here (fails_at_call E14 ∷ [])
       (ap (λ x. if x then own_callee length_rule else good_callee (fails_at_call E14 ∷ []))
-      (two_are_not_one a c rest kws)) law.here) refl (λ f h. covered f (inl h)))
+      (two_are_not_one a c rest kws)) law.here))
   len_safe want p n is (more_exprs a no_exprs) (more_keywords w e rest) m law covered keyed =
-      absurd (wrong_call p m.here E14 (plain_label p n builtin.Len is tt (more_exprs a no_exprs)
+      found_safe p n builtin.Len is tt want (more_exprs a no_exprs) (more_keywords w e rest) m law covered keyed E14 []
+      (ap (λ x. x.codes) (plain_label p n builtin.Len is tt (more_exprs a no_exprs)
       (more_keywords w e rest) (item_types (more_exprs a no_exprs) m.arguments) m.here (fails_at_call E14 ∷ []) refl
-      law.here) refl (λ f h. covered f (inl h)))
+      law.here))
   len_safe want p n is (more_exprs a no_exprs) no_keywords m law covered keyed = reserved_safe p n builtin.Len is tt
       want (more_exprs a no_exprs) no_keywords m law covered keyed each
     where
@@ -391,40 +437,59 @@ module _ (around : Around) (ctx : Context) (fits : IsContextOf around ctx) (know
   pub range_error : (p : Place) (n : Name) → ctx.resolve n.text ≡ res.Builtin builtin.Range
       → (want : Option Tree) (args : Exprs) (kws : Keywords) (m : Labels (call p (name n) args kws))
       → Lawful ctx around.declared env want (call p (name n) args kws) m
-      → Covered around (Finds (call p (name n) args kws) m) → ⊥
-  range_error p n is want args kws m law covered = go (is_one (arguments_given args kws))
+      → Covered around (Finds (call p (name n) args kws) m) → Keyed (call p (name n) args kws) m
+      → IsSafe around env (λ k. Unit {0}) (eval_node Step free parts (call p (name n) args kws))
+      (λ k v. HasType around.bases k m.here.type v)
+  range_error p n is want args kws m law covered keyed = go (is_one (arguments_given args kws))
       (plain_label p n builtin.Range is tt args kws (item_types args m.arguments) m.here _ refl law.here)
     where
-      go : (x : Test) → m.here ≡ call_label around.bases ((if x then fails_at_call E27 else fails_at_call E14) ∷ []) → ⊥
-      go true e = wrong_call p m.here E27 e refl (λ f h. covered f (inl h))
-      go false e = wrong_call p m.here E14 e refl (λ f h. covered f (inl h))
+      go : (x : Test) → m.here ≡ call_label around.bases ((if x then fails_at_call E27 else fails_at_call E14) ∷ [])
+          → IsSafe around env (λ k. Unit {0}) (eval_node Step free parts (call p (name n) args kws))
+          (λ k v. HasType around.bases k m.here.type v)
+      go true e = found_safe p n builtin.Range is tt want args kws m law covered keyed E27 [] (ap (λ x. x.codes) e)
+      go false e = found_safe p n builtin.Range is tt want args kws m law covered keyed E14 [] (ap (λ x. x.codes) e)
 
   pub not_callable : (b : Builtin) → ((g : GivenArguments) → builtin_callee g b ≡ value_callee (in_error E20))
       → (p : Place) (n : Name) → ctx.resolve n.text ≡ res.Builtin b
       → (want : Option Tree) (args : Exprs) (kws : Keywords) (m : Labels (call p (name n) args kws))
-      → Lawful ctx around.declared env want (call p (name n) args kws) m
-      → Covered around (Finds (call p (name n) args kws) m) → ⊥
-  not_callable b other p n is want args kws m law covered =
-      no_error_at around ctx fits knows env n.place m.callee E20 []
+      → is_instance_test (name n) args kws ≡ false → Lawful ctx around.declared env want (call p (name n) args kws) m
+      → Covered around (Finds (call p (name n) args kws) m)
+      → IsSafe around env (λ k. Unit {0}) (eval_node Step free parts (call p (name n) args kws))
+      (λ k v. HasType around.bases k m.here.type v)
+  not_callable b other p n is want args kws m no_test law covered =
+      callee_found_call_safe p n args kws m no_test covered E20 []
       (ap (λ x. x.codes) (law.callee ∙ ap (λ r. (name_callee ctx env (arguments_given args kws) r).label) is
       ∙ ap (λ x. x.label) (other (arguments_given args kws))))
-      refl (λ f h. covered f (inr (inl h)))
 
   -- `isinstance` on other arguments than two by position
   pub test_error : (p : Place) (n : Name) → ctx.resolve n.text ≡ res.Builtin builtin.IsInstance
       → (want : Option Tree) (args : Exprs) (kws : Keywords) (m : Labels (call p (name n) args kws))
       → is_instance_test (name n) args kws ≡ false → Lawful ctx around.declared env want (call p (name n) args kws) m
-      → Covered around (Finds (call p (name n) args kws) m) → ⊥
-  test_error p n is want args kws m no_test_here law covered =
+      → Covered around (Finds (call p (name n) args kws) m) → Keyed (call p (name n) args kws) m
+      → IsSafe around env (λ k. Unit {0}) (eval_node Step free parts (call p (name n) args kws))
+      (λ k v. HasType around.bases k m.here.type v)
+  test_error p n is want args kws m no_test_here law covered keyed =
       let g = arguments_given args kws in
+      let offers = (callee_of ctx env (arguments_given args kws) (name n) law.value).offers in
       let named : is_instance_test (name n) args kws ≡ are_two args kws =
       ap (λ w. bytes_eq (codes "isinstance") w && are_two args kws)
       (reserved_is around ctx fits knows env n.text builtin.IsInstance is) in
       let other : is_two g ≡ false = two_are_two args kws ∙ sym named ∙ no_test_here in
-      wrong_call p m.here E14 (
+      let here : m.here ≡ call_label around.bases (fails_at_call E14 ∷ []) =
       law.here
       ∙ ap (λ c. whole_call_label ctx env c.rule c.offers args (item_types args m.arguments))
       (ap (name_callee ctx env g) is ∙ ap (λ x. if x then own_callee test_rule else good_callee
       (fails_at_call E14 ∷ [])) other)
-      ∙ ap (λ x. call_label x (fails_at_call E14 ∷ [])) (sym fits.bases)
-      ) refl (λ f h. covered f (inl h))
+      ∙ ap (λ x. call_label x (fails_at_call E14 ∷ [])) (sym fits.bases) in
+      let found : Covered around (ItemsFind args m.arguments) =
+      λ f h. covered f (inr (inr (inr (inl (subst (λ x. ArgumentsFind x args m.arguments f) (sym no_test_here)
+      (as_arguments args m.arguments f h)))))) in
+      subst (λ form. IsSafe around env (λ k. Unit {0}) (eval_call Step free parts p (name n) args kws form)
+      (λ k v. HasType around.bases k m.here.type v)) (sym (ordinary_named n args kws no_test_here))
+      (ordinary_safe around ctx fits parts good evaluates env p (eval_callee Step free parts (name n))
+      (λ k c. c ≡ calls_reserved n.text) (λ c k k' x h. h)
+      (reserved_callee_safe n builtin.IsInstance is m.callee (λ f h. covered f (inr (inl h))))
+      (positional_seat offers) (named_seat offers) args m.arguments kws m.keywords m.here law.arguments law.keywords
+      found (λ f h. covered f (inr (inr (inr (inr h))))) (λ f h. covered f (inl h)) keyed.1.1.0 keyed.1.1.1
+      (λ k v. HasType around.bases k m.here.type v)
+      λ c values more. impossible_safe around env _ _ _ λ k h. not_empty (sym (ap (λ x. x.codes) here) ∙ h.1))

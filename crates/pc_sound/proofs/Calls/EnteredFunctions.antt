@@ -8,7 +8,7 @@ use Rattle.std.proofs.lemmas.Bool.{or_right}
 use Rattle.pc_source.specs.declared.place.Place.{Place}
 use Rattle.pc_tree.specs.declared.code.Code.{Code}
 use Rattle.pc_tree.specs.declared.code.Code.TheVariants.{E21}
-use Rattle.pc_tree.specs.Code.{finding, IsError}
+use Rattle.pc_tree.specs.Code.{finding}
 use Rattle.pc_tree.specs.Tree.{Name, FuncDef, Item, constant_item, class_item, def_item, Stmts, Module}
 use Rattle.pc_tree.specs.Stopping.{bound_by, loose_in}
 use Rattle.pc_scope.specs.declared.resolution.Owner.{Owner}
@@ -220,20 +220,21 @@ module _ (m : Module) (constants : List Tree) (listed : Place → Type 0) where
         none tt
     completes_well k _ env _ (may_not n) e clean = absurd (clean E21 refl refl)
 
-    -- a call gives a value of the return type
-    pub gives_returned : (k : HeapTyping) (s : State) (flow : StatementEnd)
-        → FlowEnds (around_of m constants listed owner d lab) body_ways k flow s
-        → HasType (bases_of m) k (return_type m d) (value_of_flow flow)
-    gives_returned k s next h = completes_well k lab.labels.out h.env lab.labels.completing lab.lawful.completing h.is
-        clean
+    -- the code at the name, where there is one, is listed
+    pub completing_listed : (c : Code) → lab.labels.completing ≡ Some c → listed d.name.place
+    completing_listed c e = (lab.covered (finding d.name.place c) (inr (inr (inl (at_name lab.labels.completing c
+        e))))).0
       where
         at_name : (code : Option Code) (c : Code) → code ≡ Some c → IsCodeAt d.name.place code (finding d.name.place c)
         at_name None c e = absurd (grind (arith, e))
         at_name (Some x) c e = ap (finding d.name.place) (sym (same_Some _ _ e))
 
-        clean : (c : Code) → lab.labels.completing ≡ Some c → c ≡ E21 → ⊥
-        clean c e is = (lab.covered (finding d.name.place c) (inr (inr (inl (at_name lab.labels.completing c e))))).1
-            (subst (λ x. IsError x) (sym is) refl)
-    gives_returned k s breaking h = absurd (lab.in_loops h.1.place h.1.is)
-    gives_returned k s continuing h = absurd (lab.in_loops h.1.place h.1.is)
-    gives_returned k s (leaves v) h = h
+    -- a call gives a value of the return type, where no E21 stands at the name
+    pub gives_returned : ((c : Code) → lab.labels.completing ≡ Some c → c ≡ E21 → ⊥) → (k : HeapTyping) (s : State)
+        (flow : StatementEnd) → FlowEnds (around_of m constants listed owner d lab) body_ways k flow s
+        → HasType (bases_of m) k (return_type m d) (value_of_flow flow)
+    gives_returned quiet k s next h = completes_well k lab.labels.out h.env lab.labels.completing lab.lawful.completing
+        h.is quiet
+    gives_returned quiet k s breaking h = absurd (lab.in_loops h.1.place h.1.is)
+    gives_returned quiet k s continuing h = absurd (lab.in_loops h.1.place h.1.is)
+    gives_returned quiet k s (leaves v) h = h

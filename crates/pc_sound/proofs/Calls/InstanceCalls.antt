@@ -160,7 +160,7 @@ module _ (around : Around) (ctx : Context) (fits : IsContextOf around ctx) (know
                 absurd
                 ((covered (finding (place_of t) E25)
                 (inr (inr (inl (subst (λ c. IsCodeAt (place_of t) c (finding (place_of t) E25)) (sym e) refl))))).1
-                refl)
+                tt)
             go (Some test) is e = second_tests _ t m.arguments.rest.first test is law.arguments.rest.first early k s st
 
     -- a test of an instance is safe

@@ -22,7 +22,7 @@ use Rattle.pc_class.specs.Bases.{bases_of, base_named}
 use Rattle.pc_class.specs.Facts.{TypedParameter, Method, ClassFacts, class_in, class_facts_at, base_facts, classes_of}
 use Rattle.pc_class.specs.Facts.{method_by_name, binds_method, own_methods, method_made}
 use Rattle.pc_class.specs.Findings.{base_class}
-use Rattle.pc_class.specs.Overrides.{has_shape_of, TypeFlow, parameter_flows, IsGood, IsStatic, Judges, static, dynamic}
+use Rattle.pc_class.specs.Overrides.{has_shape_of, TypeFlow, parameter_flows, IsStatic, Judges, static, dynamic}
 use Rattle.pc_class.specs.Overrides.{wrong, overridden}
 use Rattle.pc_class.proofs.ClassesBuilt.{HasBase, has_base, base_known, below_class, class_over, class_is}
 use Rattle.pc_class.proofs.ClassesBuilt.{no_class_past}
@@ -105,16 +105,33 @@ module _ (bases : Bases) where
 
 -- ---- what is judged of overrides
 
--- a code at a method's name: none, or A8 where the place is listed
-abbrev pub IsAllowedOverride : (Place → Type 0) → Place → Option Code → Type 0
-IsAllowedOverride listed p code = (code ≡ None) ⊎ ((code ≡ Some A8) × listed p)
+-- a method has the shape of each of these
+abbrev pub HasShapes : Method → List Method → Type 0
+HasShapes new olds = All (λ old. IsTrue (has_shape_of old.parameters new.parameters)) olds
+
+-- a code at a method's name: none, or the place is listed and the method has the shape of those that it overrides
+abbrev pub IsAllowedOverride : (Place → Type 0) → Place → List Method → Method → Option Code → Type 0
+IsAllowedOverride listed p olds new code = (code ≡ None) ⊎ (listed p × HasShapes new olds)
+
+-- each has the shape, or not each
+pub shapes_or_not : (new : Method) (olds : List Method) → HasShapes new olds ⊎ (¬ (HasShapes new olds))
+shapes_or_not new [] = inl (λ k d h. absurd (omega arith))
+shapes_or_not new (p ∷ ps) = go (has_shape_of p.parameters new.parameters) refl (shapes_or_not new ps)
+  where
+    go : (b : Test) → has_shape_of p.parameters new.parameters ≡ b → HasShapes new ps ⊎ (¬ (HasShapes new ps))
+        → HasShapes new (p ∷ ps) ⊎ (¬ (HasShapes new (p ∷ ps)))
+    go true e (inl a) = inl (All-cons (λ old. IsTrue (has_shape_of old.parameters new.parameters)) p ps e a)
+    go true e (inr n) = inr (λ a. n (all_rest (λ old. IsTrue (has_shape_of old.parameters new.parameters)) p ps a))
+    go false e rest = inr (λ a. absurd (false≢true (sym e ∙ all_first (λ old. IsTrue (has_shape_of old.parameters
+        new.parameters)) p ps a)))
 
 module _ (m : Module) (listed : Place → Type 0) where
   -- each method of a class is judged, and what is found is allowed where it binds its name
   pub record IsJudged (base : ClassFacts) (c : ℕ) (before : List (List ℕ)) (number : ℕ) (f : FuncDef) : Type 0 where
     pub code : Option Code
     pub judged : Judges (bases_of m) (overridden base.methods f.name.text) (method_made m c number f) code
-    pub allowed : binds_method base before f.name.text ≡ true → IsAllowedOverride listed f.name.place code
+    pub allowed : binds_method base before f.name.text ≡ true → IsAllowedOverride listed f.name.place
+        (overridden base.methods f.name.text) (method_made m c number f) code
 
   abbrev pub AreJudged : ClassFacts → ℕ → ℕ → List (List ℕ) → List Member → Type 0
   AreJudged base c number before [] = Unit {0}
@@ -126,7 +143,7 @@ module _ (m : Module) (listed : Place → Type 0) where
   record OwnJudged (base : ClassFacts) (q : Method) : Type 0 where
     code : Option Code
     judged : Judges (bases_of m) (overridden base.methods q.name) q code
-    allowed : IsAllowedOverride listed q.place code
+    allowed : IsAllowedOverride listed q.place (overridden base.methods q.name) q code
 
   own_judged : (base : ClassFacts) (c number : ℕ) (before : List (List ℕ)) (ms : List Member)
       → AreJudged base c number before ms → (q : Method) → IsIn (own_methods m base c number before ms) q
@@ -183,22 +200,27 @@ module _ (m : Module) (listed : Place → Type 0) where
     pub fits : IsStatic (bases_of m) new old ⊎ (IsTrue (has_shape_of old.parameters new.parameters) × listed new.place)
 
   fits_of : (olds : List Method) (q old : Method) → IsIn olds old → (code : Option Code)
-      → Judges (bases_of m) (overridden olds q.name) q code → IsAllowedOverride listed q.place code
-      → bytes_eq q.name old.name ≡ true → IsStatic (bases_of m) q old
+      → Judges (bases_of m) (overridden olds q.name) q code
+      → IsAllowedOverride listed q.place (overridden olds q.name) q code → bytes_eq q.name old.name ≡ true
+      → IsStatic (bases_of m) q old
       ⊎ (IsTrue (has_shape_of old.parameters q.parameters) × listed q.place)
   fits_of olds q old among _ (static all) allowed name = inl (all_passing (IsStatic (bases_of m) q)
       (λ f. bytes_eq q.name f.name) olds old all among name)
   fits_of olds q old among _ (dynamic all n) allowed name = elim allowed [
     | inl e ↦ absurd (grind (arith, e))
     | inr a ↦ inr (
-      (all_passing (IsGood (bases_of m) q) (λ f. bytes_eq q.name f.name) olds old all among name).shape,
-      a.1,
+      all_passing (λ x. IsTrue (has_shape_of x.parameters q.parameters)) (λ f. bytes_eq q.name f.name) olds
+          old a.1 among name,
+      a.0,
     )
   ]
   fits_of olds q old among _ (wrong n) allowed name = elim allowed [
     | inl e ↦ absurd (grind (arith, e))
-    | inr a ↦
-        absurd (grind (arith, a.0))
+    | inr a ↦ inr (
+      all_passing (λ x. IsTrue (has_shape_of x.parameters q.parameters)) (λ f. bytes_eq q.name f.name) olds
+          old a.1 among name,
+      a.0,
+    )
   ]
 
   module _ (judged : (c : ℕ) (class : ClassDef) → slice_get (classes_in m.items) c ≡ Some class

@@ -175,7 +175,7 @@ module _ (m : Module) where
         (record { from = new.returns; into = old.returns }) (parameter_flows old.parameters new.parameters)
         fits.flows) w (subst (λ t. HasType (bases_of m) k t w) (sym returns) x))
         (method_call_safe m inherits listed names declared outside outside_stays parts env known stays constants world
-        new.owner new.number d lab good v f values more body
+        new.owner new.number d lab good v f values more same_name body
         λ k x. (
           (h k x).0,
           subst (λ ps. Filled (bases_of m) k ps (bound_arguments f.parameters values more)) params

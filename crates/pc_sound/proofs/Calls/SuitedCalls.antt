@@ -1,9 +1,10 @@
 -- Calls of functions, methods and classes, where the arguments suit them.
-use Rattle.std.proofs.Common.{◌≡◌, ℕ, List, [], ◌∷◌, ◌++◌, map, refl, sym, ap, subst, inl, inr, arith, Contains}
+use Rattle.std.proofs.Common.{◌≡◌, ℕ, List, [], ◌∷◌, ◌++◌, map, refl, sym, ap, ◌∙◌, subst, inl, inr, arith, Contains}
 use Rattle.std.specs.Prelude.{◌⊎◌, Option, Some, None}
 use Rattle.std.proofs.lemmas.List.Elements.{Contains-append_left}
-use Rattle.std.proofs.lemmas.Option.{same_Some}
+use Rattle.std.proofs.lemmas.Option.{same_Some, none-some}
 use Rattle.pc_source.specs.declared.place.Place.{Place}
+use Rattle.pc_tree.specs.declared.code.Code.{Code}
 use Rattle.pc_tree.specs.Tree.{Param, FuncDef, Module}
 use Rattle.pc_scope.specs.declared.resolution.Owner.TheVariants as owners
 use Rattle.pc_scope.specs.Bindings.{texts, param_names}
@@ -38,7 +39,7 @@ use Rattle.pc_sound.proofs.Modules.MainWorld.{context_of}
 use Rattle.pc_sound.proofs.Calls.FilledParameters.{Filled}
 use Rattle.pc_sound.proofs.Calls.LabelledArguments.{Suits, suited_bound}
 use Rattle.pc_sound.proofs.Calls.EnteredFunctions.{enter_safe, entry, body_ways, entry_stands, body_leads}
-use Rattle.pc_sound.proofs.Calls.EnteredFunctions.{gives_returned}
+use Rattle.pc_sound.proofs.Calls.EnteredFunctions.{gives_returned, completing_listed}
 
 -- ---- arguments that are bound
 
@@ -146,6 +147,21 @@ module _ (m : Module) (inherits : Inherits (bases_of m) (classes_of m)) (listed 
         (bases_of m) (classes_of m) inherits k s.heap st.well c (slots_of ls)
         (slots_have (bases_of m) k (class_facts_at (classes_of m) c).fields ls h.1)
 
+    -- a method whose name's place is listed
+    pub listed_call_safe : (object : Value) (f : Function) (values : List Value) (named : List NamedValue)
+        (ps : List TypedParameter) (P : HeapTyping → Value → Type 0) → listed f.name.place
+        → ((k : HeapTyping) → known k → Filled (bases_of m) k ps (bound_arguments f.parameters values named))
+        → IsSafe Caller env known (call_method Step free parts object f values named) P
+    listed_call_safe object f values named ps P here fill =
+        bind_safe Caller env known _ _ (λ k ls. ParametersHave (bases_of m) k ps ls) _ stays
+        (looks_safe Caller env known (λ s. or_type_error (bound_arguments f.parameters values named)) _ λ k s h st.
+        suited_ends (bases_of m) k ps (bound_arguments f.parameters values named) (fill k h))
+        λ ls. bind_safe Caller env _ _ _ (λ k flow. ⊥) _ (λ k k' x h.
+        (stays k k' x h.0, parameters_later (bases_of m) k k' ps ls x h.1))
+        (enter_listed Caller env _ (frame_of f (self_local object ∷ ls)) f.name.place (parts.exec f.body) (λ k flow. ⊥)
+        here)
+        λ flow. comes_safe Caller env _ (Gives (value_of_flow flow)) _ λ k h. absurd h.1
+
     -- ---- functions
 
     module _ (constants : List Tree) (world : (k : HeapTyping) (made : List Class) (globals : Globals)
@@ -176,57 +192,52 @@ module _ (m : Module) (inherits : Inherits (bases_of m) (classes_of m)) (listed 
           (λ k flow s. FlowEnds (around_of m constants listed (owners.Func i) d lab)
           (body_ways m constants listed (owners.Func i) d lab) k flow s)) (sym body)
           (body_leads m constants listed (owners.Func i) d lab parts.exec good))
-          (gives_returned m constants listed (owners.Func i) d lab))
+          (gives_returned m constants listed (owners.Func i) d lab (lab.returned i refl)))
           λ flow. comes_safe Caller env _ (Gives (value_of_flow flow)) _ λ k h. h.1
 
       -- so does a method, with its object as `self`; its name's place is evaluated as it is entered
       pub method_call_safe : (c i : ℕ) (d : FuncDef) (lab : Labelled m constants listed (owners.Method c i) d)
           → GoodExec (around_of m constants listed (owners.Method c i) d lab)
           (context_of m constants listed (owners.Method c i) d) m (return_type m d) parts.exec
-          → (object : Value) (f : Function) (values : List Value) (named : List NamedValue) → f.body ≡ d.body
-          → ((k : HeapTyping) → known k → HasType (bases_of m) k (tree.Class c) object
+          → (object : Value) (f : Function) (values : List Value) (named : List NamedValue) → f.name ≡ d.name
+          → f.body ≡ d.body → ((k : HeapTyping) → known k → HasType (bases_of m) k (tree.Class c) object
           × Filled (bases_of m) k (parameters_of m d.params) (bound_arguments f.parameters values named))
           → IsSafe Caller env known (call_method Step free parts object f values named)
           (λ k v. HasType (bases_of m) k (return_type m d) v)
-      method_call_safe c i d lab good object f values named body fill =
-          bind_safe Caller env known _ _ (λ k ls. ParametersHave (bases_of m) k (parameters_of m d.params) ls) _ stays
-          (looks_safe Caller env known (λ s. or_type_error (bound_arguments f.parameters values named)) _ λ k s h st.
-          suited_ends (bases_of m) k (parameters_of m d.params) (bound_arguments f.parameters values named)
-          (fill k h).1)
-          λ ls. bind_safe Caller env _ _ _ (λ k flow. HasType (bases_of m) k (return_type m d) (value_of_flow flow)) _
-          (λ k k' x h. (stays k k' x h.0, parameters_later (bases_of m) k k' (parameters_of m d.params) ls x h.1))
-          (enter_safe Caller (around_of m constants listed (owners.Method c i) d lab) env
-          (entry m constants listed (owners.Method c i) d lab) _ (frame_of f (self_local object ∷ ls))
-          (Emits f.name.place >>= λ u. parts.exec f.body) (body_ways m constants listed (owners.Method c i) d lab) _
-          refl refl refl
-          (λ k s h st. entry_stands m constants listed (owners.Method c i) d lab k s f (self_local object ∷ ls) body
-          (record { value = object; is = refl; same = refl; has = (fill k h.0).0 }, h.1)
-          (ap (λ ts. receiver (owners.Method c i) ++ ts) (parameter_texts m d.params)) st.well
-          (world k s.classes s.globals st.outside))
-          (leads_bind (around_of m constants listed (owners.Method c i) d lab) _ _ _
-          (λ k u s. IsWellTyped (around_of m constants listed (owners.Method c i) d lab)
-          (entry m constants listed (owners.Method c i) d lab) k s) _
-          (leads_emits (around_of m constants listed (owners.Method c i) d lab) _ f.name.place)
-          λ u. subst (λ b. Leads (around_of m constants listed (owners.Method c i) d lab)
-          (λ k s. IsWellTyped (around_of m constants listed (owners.Method c i) d lab)
-          (entry m constants listed (owners.Method c i) d lab) k s) (parts.exec b)
-          (λ k flow s. FlowEnds (around_of m constants listed (owners.Method c i) d lab)
-          (body_ways m constants listed (owners.Method c i) d lab) k flow s)) (sym body)
-          (body_leads m constants listed (owners.Method c i) d lab parts.exec good))
-          (gives_returned m constants listed (owners.Method c i) d lab))
-          λ flow. comes_safe Caller env _ (Gives (value_of_flow flow)) _ λ k h. h.1
-
-    -- a method whose name's place is listed
-    pub listed_call_safe : (object : Value) (f : Function) (values : List Value) (named : List NamedValue)
-        (ps : List TypedParameter) (P : HeapTyping → Value → Type 0) → listed f.name.place
-        → ((k : HeapTyping) → known k → Filled (bases_of m) k ps (bound_arguments f.parameters values named))
-        → IsSafe Caller env known (call_method Step free parts object f values named) P
-    listed_call_safe object f values named ps P here fill =
-        bind_safe Caller env known _ _ (λ k ls. ParametersHave (bases_of m) k ps ls) _ stays
-        (looks_safe Caller env known (λ s. or_type_error (bound_arguments f.parameters values named)) _ λ k s h st.
-        suited_ends (bases_of m) k ps (bound_arguments f.parameters values named) (fill k h))
-        λ ls. bind_safe Caller env _ _ _ (λ k flow. ⊥) _ (λ k k' x h.
-        (stays k k' x h.0, parameters_later (bases_of m) k k' ps ls x h.1))
-        (enter_listed Caller env _ (frame_of f (self_local object ∷ ls)) f.name.place (parts.exec f.body) (λ k flow. ⊥)
-        here)
-        λ flow. comes_safe Caller env _ (Gives (value_of_flow flow)) _ λ k h. absurd h.1
+      method_call_safe c i d lab good object f values named same_name body fill = by_code lab.labels.completing refl
+        where
+          by_code : (o : Option Code) → lab.labels.completing ≡ o → IsSafe Caller env known
+              (call_method Step free parts object f values named) (λ k v. HasType (bases_of m) k (return_type m d) v)
+          by_code (Some code) e = listed_call_safe object f values named (parameters_of m d.params) _
+              (subst (λ n. listed n.place) (sym same_name)
+              (completing_listed m constants listed (owners.Method c i) d lab code e)) λ k h. (fill k h).1
+          by_code None e =
+              bind_safe Caller env known _ _ (λ k ls. ParametersHave (bases_of m) k (parameters_of m d.params) ls) _
+              stays
+              (looks_safe Caller env known (λ s. or_type_error (bound_arguments f.parameters values named)) _
+              λ k s h st. suited_ends (bases_of m) k (parameters_of m d.params) (bound_arguments f.parameters values named)
+              (fill k h).1)
+              λ ls. bind_safe Caller env _ _ _
+              (λ k flow. HasType (bases_of m) k (return_type m d) (value_of_flow flow)) _
+              (λ k k' x h. (stays k k' x h.0, parameters_later (bases_of m) k k' (parameters_of m d.params) ls x h.1))
+              (enter_safe Caller (around_of m constants listed (owners.Method c i) d lab) env
+              (entry m constants listed (owners.Method c i) d lab) _ (frame_of f (self_local object ∷ ls))
+              (Emits f.name.place >>= λ u. parts.exec f.body) (body_ways m constants listed (owners.Method c i) d lab) _
+              refl refl refl
+              (λ k s h st. entry_stands m constants listed (owners.Method c i) d lab k s f (self_local object ∷ ls) body
+              (record { value = object; is = refl; same = refl; has = (fill k h.0).0 }, h.1)
+              (ap (λ ts. receiver (owners.Method c i) ++ ts) (parameter_texts m d.params)) st.well
+              (world k s.classes s.globals st.outside))
+              (leads_bind (around_of m constants listed (owners.Method c i) d lab) _ _ _
+              (λ k u s. IsWellTyped (around_of m constants listed (owners.Method c i) d lab)
+              (entry m constants listed (owners.Method c i) d lab) k s) _
+              (leads_emits (around_of m constants listed (owners.Method c i) d lab) _ f.name.place)
+              λ u. subst (λ b. Leads (around_of m constants listed (owners.Method c i) d lab)
+              (λ k s. IsWellTyped (around_of m constants listed (owners.Method c i) d lab)
+              (entry m constants listed (owners.Method c i) d lab) k s) (parts.exec b)
+              (λ k flow s. FlowEnds (around_of m constants listed (owners.Method c i) d lab)
+              (body_ways m constants listed (owners.Method c i) d lab) k flow s)) (sym body)
+              (body_leads m constants listed (owners.Method c i) d lab parts.exec good))
+              (gives_returned m constants listed (owners.Method c i) d lab
+              (λ code x is. absurd (none-some _ (sym e ∙ x)))))
+              λ flow. comes_safe Caller env _ (Gives (value_of_flow flow)) _ λ k h. h.1

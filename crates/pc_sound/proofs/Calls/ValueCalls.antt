@@ -4,6 +4,7 @@ use Rattle.std.proofs.Common.{◌≡◌, ℕ, List, [], ◌∷◌, ◌++◌, map
 use Rattle.std.specs.Prelude.{◌⊎◌, false, if◌then◌else◌, codes, None, bytes_eq}
 use Rattle.std.proofs.Math.Bool.{and-true}
 use Rattle.pc_source.specs.declared.place.Place.{Place}
+use Rattle.pc_tree.specs.declared.code.Finding.{Finding}
 use Rattle.pc_tree.specs.Tree.{Name, Expr, name, number, text, truth, nothing, tuple, list, dict, negative, negation}
 use Rattle.pc_tree.specs.Tree.{binary, compare, is_none, is_not_none, conjunction, disjunction, attribute, index, call}
 use Rattle.pc_tree.specs.Tree.{Exprs, no_exprs, more_exprs, Keywords, no_keywords, more_keywords}
@@ -236,3 +237,27 @@ pub arguments_covered : (around : Around) (c : Expr) (args : Exprs) (kws : Keywo
     → Covered around (ItemsFind args labels)
 arguments_covered around c args kws labels no_test covered f h =
     covered f (subst (λ t. ArgumentsFind t args labels f) (sym no_test) (as_arguments args labels f h))
+
+-- what stands under labels stands there for themselves, or under other labels for the expression itself
+pub finds_under : (P : Finding → Type 0) (e : Expr) (m : Labels e) (own : Label)
+    → ((f : Finding) → IsFoundAt (place_of e) (whole_label e m).codes f → P f)
+    → ((f : Finding) → Finds e (with_label e m own) f → P f) → (f : Finding) → Finds e m f → P f
+finds_under P (name n) m own here others f h = here f h
+finds_under P (number p x) m own here others f h = here f h
+finds_under P (text p x) m own here others f h = here f h
+finds_under P (truth p x) m own here others f h = here f h
+finds_under P (nothing p) m own here others f h = here f h
+finds_under P (tuple p es) m own here others f h = elim h [ inl a ↦ here f a | inr b ↦ others f (inr b) ]
+finds_under P (list p es) m own here others f h = elim h [ inl a ↦ here f a | inr b ↦ others f (inr b) ]
+finds_under P (dict p es) m own here others f h = elim h [ inl a ↦ here f a | inr b ↦ others f (inr b) ]
+finds_under P (negative p e) m own here others f h = elim h [ inl a ↦ here f a | inr b ↦ others f (inr b) ]
+finds_under P (negation p e) m own here others f h = elim h [ inl a ↦ here f a | inr b ↦ others f (inr b) ]
+finds_under P (binary p o a b) m own here others f h = elim h [ inl a ↦ here f a | inr b ↦ others f (inr b) ]
+finds_under P (compare p o a b) m own here others f h = elim h [ inl a ↦ here f a | inr b ↦ others f (inr b) ]
+finds_under P (is_none p e) m own here others f h = elim h [ inl a ↦ here f a | inr b ↦ others f (inr b) ]
+finds_under P (is_not_none p e) m own here others f h = elim h [ inl a ↦ here f a | inr b ↦ others f (inr b) ]
+finds_under P (conjunction p a b) m own here others f h = elim h [ inl a ↦ here f a | inr b ↦ others f (inr b) ]
+finds_under P (disjunction p a b) m own here others f h = elim h [ inl a ↦ here f a | inr b ↦ others f (inr b) ]
+finds_under P (attribute p e x) m own here others f h = elim h [ inl a ↦ here f a | inr b ↦ others f (inr b) ]
+finds_under P (index p a b) m own here others f h = elim h [ inl a ↦ here f a | inr b ↦ others f (inr b) ]
+finds_under P (call p c args kws) m own here others f h = elim h [ inl a ↦ here f a | inr b ↦ others f (inr b) ]

@@ -76,8 +76,8 @@ module _
           not_callable_error : (b : Builtin) → ctx.resolve n.text ≡ res.Builtin b
               → ((g : GivenArguments) → builtin_callee g b ≡ value_callee (in_error E20))
               → SafeCall env p (name n) args kws m
-          not_callable_error b is uncalled = absurd (not_callable around ctx fits knows parts good evaluates env b
-              uncalled p n is want args kws m law covered)
+          not_callable_error b is uncalled = not_callable around ctx fits knows parts good evaluates env b
+              uncalled p n is want args kws m no_test law covered
 
           by_builtin : (b : Builtin) → ctx.resolve n.text ≡ res.Builtin b → SafeCall env p (name n) args kws m
           by_builtin builtin.Print is = print_safe around ctx fits knows parts good evaluates env want p n is args kws m
@@ -86,10 +86,10 @@ module _
               covered keyed
           by_builtin builtin.Len is = len_safe around ctx fits knows parts good evaluates env want p n is args kws m law
               covered keyed
-          by_builtin builtin.Range is = absurd (range_error around ctx fits knows parts good evaluates env p n is want
-              args kws m law covered)
-          by_builtin builtin.IsInstance is = absurd (test_error around ctx fits knows parts good evaluates env p n is
-              want args kws m no_test law covered)
+          by_builtin builtin.Range is = range_error around ctx fits knows parts good evaluates env p n is want
+              args kws m law covered keyed
+          by_builtin builtin.IsInstance is = test_error around ctx fits knows parts good evaluates env p n is
+              want args kws m no_test law covered keyed
           by_builtin b is = not_callable_error b is (λ g. refl)
 
           by_name : (r : Res) → ctx.resolve n.text ≡ r → SafeCall env p (name n) args kws m

@@ -1,15 +1,13 @@
 -- Names as values: locals, and constants of the module; a function, a class, a reserved name and an unknown one is an
 -- error.
-use Rattle.std.proofs.Common.{◌≡◌, ℕ, List, [], ◌∷◌, refl, sym, ap, ◌∙◌, subst, arith, Contains}
+use Rattle.std.proofs.Common.{◌≡◌, ℕ, List, [], ◌∷◌, refl, sym, ap, ◌∙◌, subst, arith}
 use Rattle.std.specs.Prelude.{Bool as Test, true, false, if◌then◌else◌, nat_lt, Option, Some, None, slice_get, codes}
 use Rattle.std.specs.Prelude.{bytes_eq}
 use Rattle.std.proofs.lemmas.Slice.Eq.{bytes_eq-Decides}
 use Rattle.std.proofs.lemmas.Option.{same_Some}
-use Rattle.pc_source.specs.declared.place.Place.{Place}
 use Rattle.pc_source.specs.ReservedNames.{is_reserved}
 use Rattle.pc_tree.specs.declared.code.Code.{Code}
 use Rattle.pc_tree.specs.declared.code.Code.TheVariants.{E02, E03, E20}
-use Rattle.pc_tree.specs.Code.{finding, IsError}
 use Rattle.pc_tree.specs.Tree.{Name, name}
 use Rattle.pc_scope.specs.declared.resolution.Builtin.{Builtin}
 use Rattle.pc_scope.specs.declared.resolution.Builtin.TheVariants as builtin
@@ -32,6 +30,7 @@ use Rattle.pc_machine.specs.Steps.{Parts}
 use Rattle.pc_machine.specs.Evaluation.{eval_node}
 use Rattle.pc_machine.specs.Free.{Step, free}
 use Rattle.pc_sound.specs.Values.{HeapTyping, HasType}
+use Rattle.pc_sound.proofs.Lists.{not_empty}
 use Rattle.pc_sound.proofs.Steps.Judgment.{Around, IsWellTyped, EndsWell, IsSafe, IsContextOf}
 use Rattle.pc_sound.proofs.Steps.SafeSteps.{bind_safe, emits_safe, looks_safe}
 use Rattle.pc_sound.proofs.Expressions.SimpleExpressions.{Covered, allowed}
@@ -172,23 +171,22 @@ module _ (around : Around) (ctx : Context) (fits : IsContextOf around ctx) where
 
     -- ---- reads of names
 
-    -- an error at a place is not allowed
-    pub no_error_at : (p : Place) (m : Label) (code : Code) (rest : List Code) → m.codes ≡ code ∷ rest → IsError code
-        → Covered around (IsFoundAt p m.codes) → ⊥
-    no_error_at p m code rest is err covered =
-        (covered (finding p code) (record {
-          code = code;
-          among = subst (λ l. Contains l code) (sym is)
-              (0, omega arith, refl);
-          is = refl;
-        })).1 err
+    -- a name at which a code stands is listed, and evaluated
+    pub name_found_safe : (parts : Parts Step) (n : Name) (m : Label) (code : Code) (rest : List Code)
+        → m.codes ≡ code ∷ rest → Covered around (IsFoundAt n.place m.codes) → IsSafe around env (λ k. Unit {0})
+        (eval_node Step free parts (name n)) (λ k v. HasType around.bases k m.type v)
+    name_found_safe parts n m code rest is covered = bind_safe around env _ _ _ (λ k u. m.codes ≡ []) _
+        (λ k k' grows h. tt)
+        (emits_safe around env _ n.place m.codes (allowed around n.place m.codes covered))
+        λ u. looks_safe around env _ (λ s. value_of_meaning (meaning_in_run n.text s)) _ λ k s h st.
+        absurd (not_empty (sym is ∙ h.1))
 
     constant_safe : (parts : Parts Step) (n : Name) (i : ℕ) (m : Label) (o : Option Tree)
         → ctx.resolve n.text ≡ res.Const i → slice_get ctx.constants i ≡ o → m ≡ constant_label o
         → Covered around (IsFoundAt n.place m.codes) → IsSafe around env (λ k. Unit {0})
         (eval_node Step free parts (name n)) (λ k v. HasType around.bases k m.type v)
-    constant_safe parts n i m None is known law covered = absurd
-        (no_error_at n.place m E03 [] (ap (λ x. x.codes) law) refl covered)
+    constant_safe parts n i m None is known law covered = name_found_safe parts n m E03 [] (ap (λ x. x.codes) law)
+        covered
     constant_safe parts n i m (Some t) is known law covered = bind_safe around env _ _ _ (λ k u. m.codes ≡ []) _
         (λ k k' grows h. tt)
         (emits_safe around env _ n.place m.codes (allowed around n.place m.codes covered))
@@ -201,9 +199,11 @@ module _ (around : Around) (ctx : Context) (fits : IsContextOf around ctx) where
         (eval_node Step free parts (name n)) (λ k v. HasType around.bases k m.type v)
     name_safe parts n m law covered = go (ctx.resolve n.text) refl law
       where
-        late_or : (b : Test) (code : Code) → IsError code → m ≡ (if b then in_error code else in_error E03) → ⊥
-        late_or true code err is = no_error_at n.place m code [] (ap (λ x. x.codes) is) err covered
-        late_or false code err is = no_error_at n.place m E03 [] (ap (λ x. x.codes) is) refl covered
+        late_or : (b : Test) (code : Code) → m ≡ (if b then in_error code else in_error E03)
+            → IsSafe around env (λ k. Unit {0}) (eval_node Step free parts (name n))
+            (λ k v. HasType around.bases k m.type v)
+        late_or true code is = name_found_safe parts n m code [] (ap (λ x. x.codes) is) covered
+        late_or false code is = name_found_safe parts n m E03 [] (ap (λ x. x.codes) is) covered
 
         go : (r : Res) → ctx.resolve n.text ≡ r → m ≡ name_label ctx env r
             → IsSafe around env (λ k. Unit {0}) (eval_node Step free parts (name n))
@@ -211,7 +211,7 @@ module _ (around : Around) (ctx : Context) (fits : IsContextOf around ctx) where
         go (res.Local x) is law' = local_safe around ctx parts env n x m is (fits.local n.text x is) law
             (allowed around n.place m.codes covered)
         go (res.Const i) is law' = constant_safe parts n i m (slice_get ctx.constants i) is refl law' covered
-        go (res.Func i) is law' = absurd (late_or ctx.in_body E20 refl law')
-        go (res.Class c) is law' = absurd (late_or (nat_lt c ctx.known) E20 refl law')
-        go (res.Builtin b) is law' = absurd (no_error_at n.place m E20 [] (ap (λ x. x.codes) law') refl covered)
-        go res.None is law' = absurd (no_error_at n.place m E02 [] (ap (λ x. x.codes) law') refl covered)
+        go (res.Func i) is law' = late_or ctx.in_body E20 law'
+        go (res.Class c) is law' = late_or (nat_lt c ctx.known) E20 law'
+        go (res.Builtin b) is law' = name_found_safe parts n m E20 [] (ap (λ x. x.codes) law') covered
+        go res.None is law' = name_found_safe parts n m E02 [] (ap (λ x. x.codes) law') covered

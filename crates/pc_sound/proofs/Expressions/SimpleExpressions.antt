@@ -4,7 +4,7 @@ use Rattle.std.specs.Prelude.{Bool as Test, not, Option, None, chars}
 use Rattle.pc_source.specs.declared.place.Place.{Place}
 use Rattle.pc_tree.specs.declared.code.Code.{Code}
 use Rattle.pc_tree.specs.declared.code.Finding.{Finding}
-use Rattle.pc_tree.specs.Code.{finding, IsError}
+use Rattle.pc_tree.specs.Code.{finding}
 use Rattle.pc_tree.specs.Tree.{Expr, number, text, truth, nothing, negation, is_none, is_not_none}
 use Rattle.pc_types.specs.Tree.{Tree, Int, Bool, Str, NoneType}
 use Rattle.pc_flow.specs.Environment.{Env}
@@ -13,20 +13,21 @@ use Rattle.pc_rules.specs.Context.{Context}
 use Rattle.pc_rules.specs.Labels.{Labels, type_of, Finds, IsFoundAt}
 use Rattle.pc_rules.specs.Lawful.{Lawful}
 use Rattle.pc_value.specs.Value as value
-use Rattle.pc_value.specs.Value.{Value, Out, Gives, Stops, boolean, string, is_true}
+use Rattle.pc_value.specs.Value.{Value, Gives, boolean, string, is_true}
 use Rattle.pc_value.specs.Actions as action
 use Rattle.pc_value.specs.Numbers.{number_of_digits}
 use Rattle.pc_machine.specs.Steps.{Parts, value_out}
 use Rattle.pc_machine.specs.Evaluation.{eval_node, is_none_value}
 use Rattle.pc_machine.specs.Free.{Step, free}
 use Rattle.pc_sound.specs.Values.{HeapTyping, HasType}
+use Rattle.pc_sound.specs.Silent.{IsSilentCode}
 use Rattle.pc_sound.proofs.Steps.Judgment.{AreListedCodes, Around, IsSafe}
 use Rattle.pc_sound.proofs.Settled.KeyedLabels.{Keyed}
 use Rattle.pc_sound.proofs.Steps.SafeSteps.{bind_safe, comes_safe, emits_safe, act_safe, weaken}
 
--- each finding is a listed dynamic place
+-- each finding is a listed place, and its code is not silent everywhere
 abbrev pub Covered : Around → (Finding → Type 0) → Type 0
-Covered around finds = (f : Finding) → finds f → around.listed f.place × (¬ (IsError f.code))
+Covered around finds = (f : Finding) → finds f → around.listed f.place × (¬ (IsSilentCode f.code))
 
 -- the evaluation of lawfully labelled expressions is safe
 pub record GoodEval (around : Around) (ctx : Context) (eval : Expr → Step Value) : Type 0 where

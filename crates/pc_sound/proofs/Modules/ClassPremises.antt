@@ -1,6 +1,5 @@
--- In a module without errors `@dataclass` is known where a class stands, each base is an earlier class, and no field
--- without default
--- stands after one with default.
+-- In a module without silent errors `@dataclass` is known where a class stands, each base is an earlier class, and no
+-- field without default stands after one with default.
 use Rattle.std.proofs.Common.{◌≡◌, ℕ, zero, suc, ◌<◌, List, [], ◌∷◌, ◌++◌, length, take, append_assoc, refl, sym, ap}
 use Rattle.std.proofs.Common.{◌∙◌, subst, inl, inr, arith, Contains, append-nil}
 use Rattle.std.specs.Prelude.{Bool as Test, true, false, ◌||◌, ◌&&◌, not, codes, if◌then◌else◌, is_some, Option, Some}
@@ -30,7 +29,7 @@ use Rattle.pc_class.specs.Findings as findings
 use Rattle.pc_class.specs.Findings.{base_class, member_texts, has_default_before}
 use Rattle.pc_class.proofs.ClassesBuilt.{below_class, class_is, no_class_past}
 use Rattle.pc_module_rules.specs.Modules.{Labelling, IsLawful}
-use Rattle.pc_sound.specs.Sound.{HasNoError}
+use Rattle.pc_sound.specs.Silent.{HasNoSilentError, by_code, decorator}
 use Rattle.pc_sound.proofs.Lists.{get_at_end}
 use Rattle.pc_sound.proofs.Modules.MadeClasses.{all_default, fields_last, BaseFound}
 use Rattle.pc_sound.proofs.Modules.MembersBind.{BindAll, members_bind}
@@ -166,8 +165,8 @@ defaults_field m base done f binds =
     group false true d = refl
     group false false d = or-false d
 
-module _ (m : Module) (labels : Labelling m) (lawful : IsLawful m labels) (clean : HasNoError m) (constants : List Tree)
-    (listed : Place → Type 0) where
+module _ (m : Module) (labels : Labelling m) (lawful : IsLawful m labels) (clean : HasNoSilentError m)
+    (constants : List Tree) (listed : Place → Type 0) where
   -- `@dataclass` stands after its header
   pub imported : (c : ℕ) (class : ClassDef) → slice_get (classes_in m.items) c ≡ Some class → m.imports_dataclass ≡ true
   imported c class is = go m.imports_dataclass refl
@@ -180,7 +179,7 @@ module _ (m : Module) (labels : Labelling m) (lawful : IsLawful m labels) (clean
             lawful = lawful;
             found =
                 inl (scope.unknown (scope.decorator class e (contains_at (classes_in m.items) c class is) refl));
-          }) refl)
+          }) (decorator class (contains_at (classes_in m.items) c class is) refl))
 
   -- a base is an earlier class
   pub based : (c : ℕ) (class : ClassDef) (n : Name) → slice_get (classes_in m.items) c ≡ Some class
@@ -202,7 +201,7 @@ module _ (m : Module) (labels : Labelling m) (lawful : IsLawful m labels) (clean
                   is =
                       refl;
                 })));
-          }) refl)
+          }) (by_code tt))
 
   -- ---- no field without default after one with default
 
@@ -223,7 +222,7 @@ module _ (m : Module) (labels : Labelling m) (lawful : IsLawful m labels) (clean
         behind = subst (λ l. has_default_before m (base_class m c class) l ≡ true) (sym taken) behind;
         is = refl;
       })));
-    }) refl
+    }) (by_code tt)
       where
         taken : take (length done) class.members ≡ done
         taken = ap (take (length done)) all ∙ take-append_seam done (field_member f ∷ rest)

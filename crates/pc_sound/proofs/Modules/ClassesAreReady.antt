@@ -1,4 +1,4 @@
--- In a module without errors each class can be made as its facts say.
+-- In a module without silent errors each class can be made as its facts say.
 use Rattle.std.proofs.Common.{◌≡◌, ℕ, suc, ◌+◌, List, [], ◌∷◌, refl, ap, ◌∙◌, arith}
 use Rattle.std.specs.Prelude.{codes, Some, slice_get}
 use Rattle.pc_source.specs.declared.place.Place.{Place}
@@ -10,14 +10,14 @@ use Rattle.pc_types.specs.Tree.{Tree}
 use Rattle.pc_class.specs.Facts as facts
 use Rattle.pc_class.specs.Findings.{base_class}
 use Rattle.pc_module_rules.specs.Modules.{Labelling, IsLawful}
-use Rattle.pc_sound.specs.Sound.{HasNoError}
+use Rattle.pc_sound.specs.Silent.{HasNoSilentError}
 use Rattle.pc_sound.proofs.Modules.MadeClasses.{MembersReady, ClassesReady}
 use Rattle.pc_sound.proofs.Modules.MembersBind.{BindAll, members_bind}
 use Rattle.pc_sound.proofs.Modules.ClassPremises.{imported, based, ordered}
 use Rattle.pc_sound.proofs.Modules.UniqueNames.{parameters_bind, function_binds}
 
-module _ (m : Module) (labels : Labelling m) (lawful : IsLawful m labels) (clean : HasNoError m) (constants : List Tree)
-    (listed : Place → Type 0) where
+module _ (m : Module) (labels : Labelling m) (lawful : IsLawful m labels) (clean : HasNoSilentError m)
+    (constants : List Tree) (listed : Place → Type 0) where
   -- each member binds its name, and each parameter of a method its own
   members_ready : (base : facts.ClassFacts) (c number : ℕ) (before : List (List ℕ)) (ms : List Member)
       → BindAll m base before ms → ((i : ℕ) (d : FuncDef) → slice_get (methods_in ms) i ≡ Some d

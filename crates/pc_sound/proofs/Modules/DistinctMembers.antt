@@ -1,4 +1,4 @@
--- In a module without errors no two fields of a class, and no two parameters of a method, have one name.
+-- In a module without silent errors no two fields of a class, and no two parameters of a method, have one name.
 use Rattle.std.proofs.Common.{◌≡◌, ℕ, zero, suc, ◌<◌, List, [], ◌∷◌, ◌++◌, refl, sym, ap, ◌∙◌, subst, inl, inr, arith}
 use Rattle.std.specs.Prelude.{Bool as Test, true, false, ◌&&◌, ◌||◌, not, is_some, if◌then◌else◌, Option, Some, None}
 use Rattle.std.specs.Prelude.{slice_get, bytes_eq, codes}
@@ -16,7 +16,7 @@ use Rattle.pc_class.specs.Facts.{base_facts, classes_of, parameters_of, binds_fi
 use Rattle.pc_class.specs.Facts.{own_methods, method_made}
 use Rattle.pc_class.proofs.ClassesBuilt.{no_class_past, class_is, class_over, below_class}
 use Rattle.pc_module_rules.specs.Modules.{Labelling, IsLawful}
-use Rattle.pc_sound.specs.Sound.{HasNoError}
+use Rattle.pc_sound.specs.Silent.{HasNoSilentError}
 use Rattle.pc_sound.proofs.Calls.OverridesFit.{IsIn, found_in, in_either}
 use Rattle.pc_sound.proofs.Calls.FilledParameters.{Distinct}
 use Rattle.pc_sound.proofs.Modules.MembersBind.{BindAll, members_bind}
@@ -121,7 +121,7 @@ module _ (m : Module) where
       ]
       go false h others = next (others h)
 
-  module _ (labels : Labelling m) (lawful : IsLawful m labels) (clean : HasNoError m) where
+  module _ (labels : Labelling m) (lawful : IsLawful m labels) (clean : HasNoSilentError m) where
     abbrev FieldsDistinct : ℕ → Type 0
     FieldsDistinct c = Distinct [] (class_facts_at (classes_of m) c).fields
 

@@ -1,11 +1,12 @@
--- In a module without errors no test of an instance in an initializer names too early.
-use Rattle.std.proofs.Common.{◌≡◌, ℕ, zero, suc, ◌≤◌, List, [], ◌∷◌, ◌++◌, length, refl, sym, ap, ◌∙◌, subst, inl}
+-- In a module without silent errors no test of an instance in an initializer names too early.
+use Rattle.std.proofs.Common.{◌≡◌, ℕ, zero, suc, ◌≤◌, List, [], ◌∷◌, ◌++◌, length, refl, sym, ap, ◌∙◌, subst, inl, inr}
 use Rattle.std.proofs.Common.{arith, Contains, append-nil, append_assoc}
 use Rattle.std.specs.Prelude.{Bool as Test, true, false, if◌then◌else◌, nat_lt, take, filter_map, Option, Some, None}
 use Rattle.std.specs.Prelude.{slice_get}
 use Rattle.std.specs.List.{cons_option}
 use Rattle.std.proofs.lemmas.List.Elements.{Contains-append_left, Contains-append_right}
 use Rattle.std.proofs.lemmas.Bool.Decides.{nat_tests}
+use Rattle.std.proofs.lemmas.Bool.{false≢true, and_parts}
 use Rattle.std.proofs.lemmas.Option.{none-some}
 use Rattle.std.proofs.Math.Seq.{take-append_seam}
 use Rattle.pc_source.specs.declared.place.Place.{Place}
@@ -18,7 +19,7 @@ use Rattle.pc_tree.specs.Tree.{no_keywords, more_keywords, Item, constant_item, 
 use Rattle.pc_tree.specs.NamesAlone.{name_of_tree}
 use Rattle.pc_scope.specs.declared.resolution.Res.{Res}
 use Rattle.pc_scope.specs.declared.resolution.Res.TheVariants as res
-use Rattle.pc_scope.specs.Expressions.{parts_in, parts_in_all, parts_in_entries, parts_in_keywords}
+use Rattle.pc_scope.specs.Expressions.{is_instance_test, parts_in, parts_in_all, parts_in_entries, parts_in_keywords}
 use Rattle.pc_scope.specs.Bindings.{constants_in, classes_in}
 use Rattle.pc_scope.specs.Resolution.{resolve_in_module}
 use Rattle.pc_scope_findings.specs.Findings as scope
@@ -29,7 +30,8 @@ use Rattle.pc_rules.specs.Operations.{in_error}
 use Rattle.pc_rules.specs.Context.{Context, local_label, name_label, constant_label, is_early}
 use Rattle.pc_rules.specs.Signatures.{initializer_context}
 use Rattle.pc_module_rules.specs.Modules.{Labelling, IsLawful, ItemsLabels, BeforeItem, before_next, nothing_before}
-use Rattle.pc_sound.specs.Sound.{HasNoError}
+use Rattle.pc_rules.proofs.Saying.{none_among, among_first}
+use Rattle.pc_sound.specs.Silent.{HasNoSilentError, tested}
 use Rattle.pc_sound.proofs.Lists.{get_at_end, one_longer}
 use Rattle.pc_sound.proofs.Settled.SettledParts.{tests_in_time}
 use Rattle.pc_sound.proofs.Settled.SettledLabels.{SecondTimely, Timely, ItemsTimely, EntriesTimely, KeywordsTimely}
@@ -39,85 +41,116 @@ use Rattle.pc_sound.proofs.Modules.ModuleNames.{constants_append, classes_append
 
 -- ---- names among expressions
 
-cons_both : (o : Option Name) (us vs : List Name) → cons_option o (us ++ vs) ≡ cons_option o us ++ vs
-cons_both None us vs = refl
-cons_both (Some n) us vs = refl
+behind_option : (o : Option Name) (ns : List Name) (n : Name) → Contains ns n → Contains (cons_option o ns) n
+behind_option None ns n c = c
+behind_option (Some x) ns n c = Contains-append_right (x ∷ []) ns n c
 
-names_both : (xs ys : List Expr) → filter_map name_of_tree (xs ++ ys) ≡ filter_map name_of_tree xs
-    ++ filter_map name_of_tree ys
-names_both [] ys = refl
-names_both (x ∷ xs) ys = ap (cons_option (name_of_tree x)) (names_both xs ys)
-    ∙ cons_both (name_of_tree x) (filter_map name_of_tree xs) (filter_map name_of_tree ys)
+names_among : (xs : List Expr) (n : Name) → Contains xs (name n) → Contains (filter_map name_of_tree xs) n
+names_among [] n c = absurd (none_among (name n) c)
+names_among (x ∷ xs) n c = elim (among_first x xs (name n) c) [
+  | inl e ↦ subst (λ y. Contains (cons_option (name_of_tree y) (filter_map name_of_tree xs)) n) (sym e)
+      (0, omega arith, refl)
+  | inr r ↦ behind_option (name_of_tree x) (filter_map name_of_tree xs) n (names_among xs n r)
+]
 
 module _ (ctx : Context) (declared : List Tree) where
   -- a name reads in time in each environment
   abbrev pub InTime : Name → Type 0
   InTime n = (env : Env) → is_early (name_label ctx env (ctx.resolve n.text)).codes ≡ false
 
-  -- so does each name among expressions
-  abbrev pub NamesInTime : List Expr → Type 0
-  NamesInTime xs = (n : Name) → Contains (filter_map name_of_tree xs) n → InTime n
+  -- so does each name that a test of an instance among expressions tests for
+  abbrev pub TestsInTime : List Expr → Type 0
+  TestsInTime xs = (p : Place) (c e : Expr) (n : Name)
+      → Contains xs (call p c (more_exprs e (more_exprs (name n) no_exprs)) no_keywords)
+      → Contains xs (name n) → is_instance_test c (more_exprs e (more_exprs (name n) no_exprs)) no_keywords ≡ true
+      → InTime n
 
-  left_of : (xs ys : List Expr) → NamesInTime (xs ++ ys) → NamesInTime xs
-  left_of xs ys h n c = h n (subst (λ l. Contains l n) (sym (names_both xs ys))
-      (Contains-append_left (filter_map name_of_tree xs) (filter_map name_of_tree ys) n c))
+  left_of : (xs ys : List Expr) → TestsInTime (xs ++ ys) → TestsInTime xs
+  left_of xs ys h p c e n among named is = h p c e n (Contains-append_left xs ys _ among)
+      (Contains-append_left xs ys _ named) is
 
-  right_of : (xs ys : List Expr) → NamesInTime (xs ++ ys) → NamesInTime ys
-  right_of xs ys h n c = h n (subst (λ l. Contains l n) (sym (names_both xs ys))
-      (Contains-append_right (filter_map name_of_tree xs) (filter_map name_of_tree ys) n c))
+  right_of : (xs ys : List Expr) → TestsInTime (xs ++ ys) → TestsInTime ys
+  right_of xs ys h p c e n among named is = h p c e n (Contains-append_right xs ys _ among)
+      (Contains-append_right xs ys _ named) is
 
-  own : (e : Expr) → NamesInTime (parts_in false e) → (n : Name) → e ≡ name n → InTime n
-  own e h n is = h n (subst (λ x. Contains (filter_map name_of_tree (parts_in false x)) n) (sym is)
-      (0, omega arith, refl))
+  under : (x : Expr) (xs : List Expr) → TestsInTime (x ∷ xs) → TestsInTime xs
+  under x xs h = right_of (x ∷ []) xs h
 
-  second : (args : Exprs) → NamesInTime (parts_in_all false args) → SecondTimely tests_in_time ctx declared args
-  second no_exprs h = tt
-  second (more_exprs e no_exprs) h = tt
-  second (more_exprs e (more_exprs f rest)) h = λ env want m law. own_timely ctx declared f
-      (own f (left_of (parts_in false f) (parts_in_all false rest)
-      (right_of (parts_in false e) (parts_in_all false (more_exprs f rest)) h))) env want m law
+  second_name : (p : Place) (c e f : Expr) (n : Name) → f ≡ name n
+      → Contains (parts_in false (call p c (more_exprs e (more_exprs f no_exprs)) no_keywords)) (name n)
+  second_name p c e f n is =
+      let args = more_exprs e (more_exprs f no_exprs) in
+      let here : Contains (parts_in false f) (name n) = subst (λ x. Contains (parts_in false x) (name n)) (sym is)
+      (0, omega arith, refl) in
+      Contains-append_right (call p c args no_keywords ∷ []) (parts_in false c ++ (parts_in_all false args ++ [])) _
+      (Contains-append_right (parts_in false c) (parts_in_all false args ++ []) _
+      (Contains-append_left (parts_in_all false args) [] _
+      (Contains-append_right (parts_in false e) (parts_in false f ++ []) _
+      (Contains-append_left (parts_in false f) [] _ here))))
+
+  second : (p : Place) (c : Expr) (args : Exprs) (kws : Keywords) → TestsInTime (parts_in false (call p c args kws))
+      → is_instance_test c args kws ≡ true → SecondTimely tests_in_time ctx declared args
+  second p c no_exprs kws h is = tt
+  second p c (more_exprs e no_exprs) kws h is = tt
+  second p c (more_exprs e (more_exprs f no_exprs)) no_keywords h is = λ env want m law. own_timely ctx declared f
+      (λ n named. h p c e n (
+        0,
+        omega arith,
+        ap (λ x. call p c (more_exprs e (more_exprs x no_exprs)) no_keywords)
+            named,
+      ) (second_name p c e f n named) is) env want m law
+  second p c (more_exprs e (more_exprs f no_exprs)) (more_keywords w x rest) h is =
+      absurd (false≢true (and_parts _ _ is).1)
+  second p c (more_exprs e (more_exprs f (more_exprs g rest))) kws h is = absurd (false≢true (and_parts _ _ is).1)
 
   mutual
-    pub timely_of : (e : Expr) → NamesInTime (parts_in false e) → Timely tests_in_time ctx declared e
+    pub timely_of : (e : Expr) → TestsInTime (parts_in false e) → Timely tests_in_time ctx declared e
     timely_of (name n) h = tt
     timely_of (number p d) h = tt
     timely_of (text p d) h = tt
     timely_of (truth p b) h = tt
     timely_of (nothing p) h = tt
-    timely_of (tuple p es) h = items_of es h
-    timely_of (list p es) h = items_of es h
-    timely_of (dict p es) h = entries_of es h
-    timely_of (negative p e) h = timely_of e h
-    timely_of (negation p e) h = timely_of e h
-    timely_of (binary p o l r) h = (
-      timely_of l (left_of (parts_in false l) (parts_in false r) h),
-      timely_of r (right_of (parts_in false l) (parts_in false r) h),
-    )
-    timely_of (compare p o l r) h = (
-      timely_of l (left_of (parts_in false l) (parts_in false r) h),
-      timely_of r (right_of (parts_in false l) (parts_in false r) h),
-    )
-    timely_of (is_none p e) h = timely_of e h
-    timely_of (is_not_none p e) h = timely_of e h
-    timely_of (conjunction p l r) h = (
-      timely_of l (left_of (parts_in false l) (parts_in false r) h),
-      timely_of r (right_of (parts_in false l) (parts_in false r) h),
-    )
-    timely_of (disjunction p l r) h = (
-      timely_of l (left_of (parts_in false l) (parts_in false r) h),
-      timely_of r (right_of (parts_in false l) (parts_in false r) h),
-    )
-    timely_of (attribute p e n) h = timely_of e h
-    timely_of (index p e i) h = (
-      timely_of e (left_of (parts_in false e) (parts_in false i) h),
-      timely_of i (right_of (parts_in false e) (parts_in false i) h),
-    )
+    timely_of (tuple p es) h = items_of es (under (tuple p es) (parts_in_all false es) h)
+    timely_of (list p es) h = items_of es (under (list p es) (parts_in_all false es) h)
+    timely_of (dict p es) h = entries_of es (under (dict p es) (parts_in_entries false es) h)
+    timely_of (negative p e) h = timely_of e (under (negative p e) (parts_in false e) h)
+    timely_of (negation p e) h = timely_of e (under (negation p e) (parts_in false e) h)
+    timely_of (binary p o l r) h =
+        let parts = under (binary p o l r) (parts_in false l ++ parts_in false r) h in (
+          timely_of l (left_of (parts_in false l) (parts_in false r) parts),
+          timely_of r (right_of (parts_in false l) (parts_in false r) parts),
+        )
+    timely_of (compare p o l r) h =
+        let parts = under (compare p o l r) (parts_in false l ++ parts_in false r) h in (
+          timely_of l (left_of (parts_in false l) (parts_in false r) parts),
+          timely_of r (right_of (parts_in false l) (parts_in false r) parts),
+        )
+    timely_of (is_none p e) h = timely_of e (under (is_none p e) (parts_in false e) h)
+    timely_of (is_not_none p e) h = timely_of e (under (is_not_none p e) (parts_in false e) h)
+    timely_of (conjunction p l r) h =
+        let parts = under (conjunction p l r) (parts_in false l ++ parts_in false r) h in (
+          timely_of l (left_of (parts_in false l) (parts_in false r) parts),
+          timely_of r (right_of (parts_in false l) (parts_in false r) parts),
+        )
+    timely_of (disjunction p l r) h =
+        let parts = under (disjunction p l r) (parts_in false l ++ parts_in false r) h in (
+          timely_of l (left_of (parts_in false l) (parts_in false r) parts),
+          timely_of r (right_of (parts_in false l) (parts_in false r) parts),
+        )
+    timely_of (attribute p e n) h = timely_of e (under (attribute p e n) (parts_in false e) h)
+    timely_of (index p e i) h =
+        let parts = under (index p e i) (parts_in false e ++ parts_in false i) h in (
+          timely_of e (left_of (parts_in false e) (parts_in false i) parts),
+          timely_of i (right_of (parts_in false e) (parts_in false i) parts),
+        )
     timely_of (call p c args kws) h =
-        let others = right_of (parts_in false c) (parts_in_all false args ++ parts_in_keywords false kws) h in
+        let parts = under (call p c args kws) (parts_in false c ++ (parts_in_all false args
+        ++ parts_in_keywords false kws)) h in
+        let others = right_of (parts_in false c) (parts_in_all false args ++ parts_in_keywords false kws) parts in
         let among = left_of (parts_in_all false args) (parts_in_keywords false kws) others in (
-          (λ is. second args among),
+          (λ is. second p c args kws h is),
           (
-            timely_of c (left_of (parts_in false c) (parts_in_all false args ++ parts_in_keywords false kws) h),
+            timely_of c (left_of (parts_in false c) (parts_in_all false args ++ parts_in_keywords false kws) parts),
             (
               items_of args among,
               keywords_of kws (right_of (parts_in_all false args) (parts_in_keywords false kws)
@@ -126,14 +159,14 @@ module _ (ctx : Context) (declared : List Tree) where
           ),
         )
 
-    items_of : (es : Exprs) → NamesInTime (parts_in_all false es) → ItemsTimely tests_in_time ctx declared es
+    items_of : (es : Exprs) → TestsInTime (parts_in_all false es) → ItemsTimely tests_in_time ctx declared es
     items_of no_exprs h = tt
     items_of (more_exprs e rest) h = (
       timely_of e (left_of (parts_in false e) (parts_in_all false rest) h),
       items_of rest (right_of (parts_in false e) (parts_in_all false rest) h),
     )
 
-    entries_of : (es : Entries) → NamesInTime (parts_in_entries false es) → EntriesTimely tests_in_time ctx declared es
+    entries_of : (es : Entries) → TestsInTime (parts_in_entries false es) → EntriesTimely tests_in_time ctx declared es
     entries_of no_entries h = tt
     entries_of (more_entries a b rest) h =
         let others = right_of (parts_in false a) (parts_in false b ++ parts_in_entries false rest) h in (
@@ -144,7 +177,7 @@ module _ (ctx : Context) (declared : List Tree) where
           ),
         )
 
-    keywords_of : (es : Keywords) → NamesInTime (parts_in_keywords false es) → KeywordsTimely tests_in_time ctx declared
+    keywords_of : (es : Keywords) → TestsInTime (parts_in_keywords false es) → KeywordsTimely tests_in_time ctx declared
         es
     keywords_of no_keywords h = tt
     keywords_of (more_keywords w e rest) h = (
@@ -152,7 +185,7 @@ module _ (ctx : Context) (declared : List Tree) where
       keywords_of rest (right_of (parts_in false e) (parts_in_keywords false rest) h),
     )
 
--- ---- no initializer of a module without errors names too early
+-- ---- no test in an initializer of a module without silent errors names too early
 
 past_end : {A : Type 0} (xs : List A) (i : ℕ) → slice_get xs i ≡ None → length xs ≤ i
 past_end [] i e = omega arith
@@ -181,11 +214,14 @@ in_time m constants known (res.Class c) h env = go (nat_lt c known) refl
 in_time m constants known (res.Builtin b) h env = refl
 in_time m constants known res.None h env = refl
 
-module _ (m : Module) (labels : Labelling m) (lawful : IsLawful m labels) (clean : HasNoError m) where
+module _ (m : Module) (labels : Labelling m) (lawful : IsLawful m labels) (clean : HasNoSilentError m) where
   none_early : (done : List Item) (p : Place) (c : Constant) (rest : List Item) → done ++ constant_item p c ∷ rest
-      ≡ m.items → (n : Name) → Contains (filter_map name_of_tree (parts_in false c.value)) n
+      ≡ m.items → (q : Place) (callee e : Expr) (n : Name) → Contains (parts_in false c.value)
+      (call q callee (more_exprs e (more_exprs (name n) no_exprs)) no_keywords)
+      → Contains (parts_in false c.value) (name n)
+      → is_instance_test callee (more_exprs e (more_exprs (name n) no_exprs)) no_keywords ≡ true
       → IsEarlyMeaning (length (constants_in done)) (length (classes_in done)) (resolve_in_module m n.text) → ⊥
-  none_early done p c rest whole n named early =
+  none_early done p c rest whole q callee e n among named test early =
       clean (finding n.place E03) (record {
         labels = labels;
         lawful = lawful;
@@ -198,13 +234,25 @@ module _ (m : Module) (labels : Labelling m) (lawful : IsLawful m labels) (clean
           found =
               inl (record {
                 n = n;
-                named = named;
+                named = names_among (parts_in false c.value) n named;
                 early = subst (λ l. IsEarlyMeaning (length (constants_in l))
                     (length (classes_in l)) (resolve_in_module m n.text)) (sym taken) early;
                 is = refl;
               });
         }));
-      }) refl
+      }) (tested (record {
+        constant = c;
+        of = subst (λ l. Contains l c) (sym (ap constants_in (sym whole)
+            ∙ constants_append done (constant_item p c ∷ rest)))
+            (Contains-append_right (constants_in done) (c ∷ constants_in rest) c (0, omega arith, refl));
+        place = q;
+        callee = callee;
+        first = e;
+        n = n;
+        among = among;
+        test = test;
+        is = refl;
+      }))
     where
       taken : take (length done) m.items ≡ done
       taken = ap (take (length done)) (sym whole) ∙ take-append_seam done (constant_item p c ∷ rest)
@@ -215,8 +263,8 @@ module _ (m : Module) (labels : Labelling m) (lawful : IsLawful m labels) (clean
   timely_items done b [] labels whole constants classes = tt
   timely_items done b (constant_item p c ∷ rest) labels whole constants classes = (
     timely_of (initializer_context m b.constants b.classes) [] c.value
-        (λ n named. in_time m b.constants b.classes (resolve_in_module m n.text)
-        (λ early. none_early done p c rest whole n named
+        (λ q callee e n among named test. in_time m b.constants b.classes (resolve_in_module m n.text)
+        (λ early. none_early done p c rest whole q callee e n among named test
         (subst (λ k. IsEarlyMeaning k (length (classes_in done)) (resolve_in_module m n.text)) constants
         (subst (λ k. IsEarlyMeaning (length b.constants) k (resolve_in_module m n.text)) classes early)))),
     timely_items (done ++ constant_item p c ∷ []) (before_next m b (constant_item p c) labels.first) rest labels.rest

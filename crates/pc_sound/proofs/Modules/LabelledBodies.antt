@@ -1,10 +1,10 @@
 -- The functions and methods of a module have the lawful labels that the module's labelling gives them.
-use Rattle.std.proofs.Common.{◌≡◌, ℕ, zero, suc, ◌+◌, List, [], ◌∷◌, ◌++◌, length, map, refl, sym, ap, ◌∙◌, subst, inl}
+use Rattle.std.proofs.Common.{◌≡◌, ℕ, ◌+◌, List, [], ◌∷◌, ◌++◌, length, map, refl, sym, ap, ◌∙◌, subst, inl, inr}
 use Rattle.std.proofs.Common.{arith, Contains, append-nil, append_assoc}
 use Rattle.std.specs.Prelude.{Bool as Test, true, false, ◌||◌, not, if◌then◌else◌, Option, Some, None, is_some}
-use Rattle.std.specs.Prelude.{slice_get, bytes_eq, codes}
+use Rattle.std.specs.Prelude.{bytes_eq, codes}
 use Rattle.std.specs.List.{list_any}
-use Rattle.std.proofs.lemmas.List.Elements.{Contains-append_left, Contains-append_right}
+use Rattle.std.proofs.lemmas.List.Elements.{Contains-append_right}
 use Rattle.std.proofs.lemmas.Slice.Eq.{bytes_eq-Decides}
 use Rattle.std.proofs.lemmas.Option.{none-some, same_Some}
 use Rattle.pc_source.specs.declared.place.Place.{Place}
@@ -12,31 +12,35 @@ use Rattle.pc_source.specs.ReservedNames as keywords
 use Rattle.pc_tree.specs.declared.code.Code.{Code}
 use Rattle.pc_tree.specs.declared.code.Code.TheVariants.{E05, E28, E29}
 use Rattle.pc_tree.specs.declared.code.Finding.{Finding}
-use Rattle.pc_tree.specs.Code.{finding, IsError}
-use Rattle.pc_tree.specs.Tree.{Name, Param, FuncDef, Member, field_member, method_member, ClassDef, Item, constant_item}
+use Rattle.pc_tree.specs.Code.{finding}
+use Rattle.pc_sound.specs.Silent.{IsSilentCode, by_code, unreturned}
+use Rattle.pc_tree.specs.Tree.{Name, Param, FuncDef, Item, constant_item}
 use Rattle.pc_tree.specs.Tree.{class_item, def_item, Module}
 use Rattle.pc_tree.specs.Stopping as stopping
-use Rattle.pc_tree.specs.Stopping.{one_if, of_members, of_defs, name_of_param, bound_by, loose_in_def, reserved_among}
+use Rattle.pc_tree.specs.Stopping.{one_if, of_defs, name_of_param, bound_by, loose_in_def, reserved_among}
 use Rattle.pc_tree.specs.Stopping.{reserved_in_def, is_plain_def, stopping_places}
 use Rattle.pc_scope.specs.declared.resolution.Owner.{Owner}
 use Rattle.pc_scope.specs.declared.resolution.Owner.TheVariants as owners
 use Rattle.pc_scope.specs.Reserved.{reserved_builtins, beside, builtin_of, is_builtin_name}
-use Rattle.pc_scope.specs.Bindings.{texts, param_names, classes_in, functions_in, methods_in}
-use Rattle.pc_scope.specs.Resolution.{is_one_of, entry_texts, method_at, function_of}
+use Rattle.pc_scope.specs.Bindings.{texts, param_names, classes_in}
+use Rattle.pc_scope.specs.Resolution.{is_one_of, entry_texts, function_of}
 use Rattle.pc_scope_findings.specs.Findings as scope
 use Rattle.pc_scope_findings.specs.Findings.{IsScopeCode}
 use Rattle.pc_types.specs.Tree.{Tree}
-use Rattle.pc_module_rules.specs.Modules.{FunctionLabels, LawfulFunction, ItemsLabels, ItemsFind, BeforeItem}
+use Rattle.pc_module_rules.specs.Modules.{FunctionLabels, LawfulFunction, FunctionFinds, ItemsLabels, ItemsFind}
+use Rattle.pc_module_rules.specs.Modules.{BeforeItem, IsFinding}
 use Rattle.pc_module_rules.specs.Modules.{before_next, nothing_before, Labelling, IsLawful, constant_types}
 use Rattle.pc_module_rules.specs.Modules.{item_constants}
 use Rattle.pc_module_rules.proofs.Functions.{function_labels}
 use Rattle.pc_module_rules.proofs.Scopes.{said_is_found}
-use Rattle.pc_sound.specs.Sound.{HasNoError}
+use Rattle.pc_rules.specs.Labels.{IsCodeAt}
+use Rattle.pc_sound.specs.Silent.{HasNoSilentError}
 use Rattle.pc_sound.proofs.TruthValues.{not_both}
 use Rattle.pc_sound.proofs.Settled.KeyedLabels.{SuiteKeyed}
 use Rattle.pc_sound.proofs.Modules.MainWorld.{Labelled}
 use Rattle.pc_sound.proofs.Modules.ModuleItems.{last_of}
 use Rattle.pc_sound.proofs.Modules.WholeModule.{IsListedPlace}
+use Rattle.pc_sound.proofs.Modules.PlacesInModules.{function_places}
 use Rattle.pc_sound.proofs.Calls.EntryFrames.{texts_append}
 use Rattle.pc_sound.proofs.Lists.{same_text_back}
 
@@ -63,43 +67,6 @@ module _ (m : Module) (constants : List Tree) (listed : Place → Type 0) where
       (before_next m b (class_item p c) labels.first) rest labels.rest in h ∙ omega arith
   last_classes_are b (def_item p f ∷ rest) labels = last_classes_are (before_next m b (def_item p f) labels.first) rest
       labels.rest
-
--- ---- places of all functions and methods
-
-pub of_function_at : (function method : FuncDef → List Place) (items : List Item) (j : ℕ) (d : FuncDef) (p : Place)
-    → slice_get (functions_in items) j ≡ Some d → Contains (function d) p → Contains (of_defs function method items) p
-of_function_at function method [] j d p e c = absurd (none-some _ e)
-of_function_at function method (constant_item q x ∷ rest) j d p e c = of_function_at function method rest j d p e c
-of_function_at function method (class_item q x ∷ rest) j d p e c = Contains-append_right (of_members method x.members)
-    (of_defs function method rest) p (of_function_at function method rest j d p e c)
-of_function_at function method (def_item q x ∷ rest) zero d p e c = Contains-append_left (function x)
-    (of_defs function method rest) p (subst (λ f. Contains (function f) p) (sym (same_Some _ _ e)) c)
-of_function_at function method (def_item q x ∷ rest) (suc j) d p e c = Contains-append_right (function x)
-    (of_defs function method rest) p (of_function_at function method rest j d p e c)
-
-of_member_at : (method : FuncDef → List Place) (ms : List Member) (j : ℕ) (d : FuncDef) (p : Place)
-    → slice_get (methods_in ms) j ≡ Some d → Contains (method d) p → Contains (of_members method ms) p
-of_member_at method [] j d p e c = absurd (none-some _ e)
-of_member_at method (field_member x ∷ ms) j d p e c = of_member_at method ms j d p e c
-of_member_at method (method_member x ∷ ms) zero d p e c = Contains-append_left (method x) (of_members method ms) p
-    (subst (λ f. Contains (method f) p) (sym (same_Some _ _ e)) c)
-of_member_at method (method_member x ∷ ms) (suc j) d p e c = Contains-append_right (method x) (of_members method ms) p
-    (of_member_at method ms j d p e c)
-
-pub of_method_at : (function method : FuncDef → List Place) (items : List Item) (j : ℕ) (class : ClassDef) (i : ℕ)
-    (d : FuncDef) (p : Place) → slice_get (classes_in items) j ≡ Some class → slice_get (methods_in class.members) i
-    ≡ Some d → Contains (method d) p → Contains (of_defs function method items) p
-of_method_at function method [] j class i d p e is c = absurd (none-some _ e)
-of_method_at function method (constant_item q x ∷ rest) j class i d p e is c = of_method_at function method rest j class
-    i d p e is c
-of_method_at function method (def_item q x ∷ rest) j class i d p e is c = Contains-append_right (function x)
-    (of_defs function method rest) p (of_method_at function method rest j class i d p e is c)
-of_method_at function method (class_item q x ∷ rest) zero class i d p e is c =
-    Contains-append_left (of_members method x.members) (of_defs function method rest) p
-    (of_member_at method x.members i d p (ap (λ z. slice_get (methods_in z.members) i) (same_Some _ _ e) ∙ is) c)
-of_method_at function method (class_item q x ∷ rest) (suc j) class i d p e is c =
-    Contains-append_right (of_members method x.members) (of_defs function method rest) p
-    (of_method_at function method rest j class i d p e is c)
 
 -- ---- reserved names
 
@@ -144,22 +111,22 @@ reserved_found (n ∷ ns) word e r = go (bytes_eq word n.text) refl e (λ f. res
           (reserved_among ns) o.0 o.1,
     )
 
--- ---- a module without errors
+-- ---- a module without silent errors
 
 params_named : (ps : List Param) → map name_of_param ps ≡ param_names ps
 params_named [] = refl
 params_named (p ∷ ps) = ap (λ l. p.name ∷ l) (params_named ps)
 
-module _ (m : Module) (labels : Labelling m) (lawful : IsLawful m labels) (clean : HasNoError m) where
+module _ (m : Module) (labels : Labelling m) (lawful : IsLawful m labels) (clean : HasNoSilentError m) where
   -- no place has a code that stops a run
-  pub never_stops : (code : Code) → IsScopeCode code → IsError code → (p : Place) → Contains (stopping_places m code) p
-      → ⊥
+  pub never_stops : (code : Code) → IsScopeCode code → IsSilentCode code → (p : Place)
+      → Contains (stopping_places m code) p → ⊥
   never_stops code is error p stops = clean (finding p code) (record {
     labels = labels;
     lawful = lawful;
     found =
         inl (scope.stopping is stops);
-  }) error
+  }) (by_code error)
 
   -- `main` is a function without parameters
   pub main_plain : is_plain_def (codes "main") m.items ≡ true
@@ -167,20 +134,8 @@ module _ (m : Module) (labels : Labelling m) (lawful : IsLawful m labels) (clean
     where
       go : (b : Test) → is_plain_def (codes "main") m.items ≡ b → is_plain_def (codes "main") m.items ≡ true
       go true e = e
-      go false e = absurd (never_stops E28 tt refl m.main (subst (λ b. Contains (one_if (not b) m.main) m.main) (sym e)
+      go false e = absurd (never_stops E28 tt tt m.main (subst (λ b. Contains (one_if (not b) m.main) m.main) (sym e)
           (0, omega arith, refl)))
-
-  -- the places of E05 and E29 in a function or method
-  pub function_places : (places : FuncDef → List Place) (owner : Owner) (d : FuncDef) (p : Place)
-      → function_of m owner ≡ Some d → Contains (places d) p → Contains (of_defs places places m.items) p
-  function_places places owners.Module d p e c = absurd (none-some _ e)
-  function_places places (owners.Func i) d p e c = of_function_at places places m.items i d p e c
-  function_places places (owners.Method c i) d p e h = go (slice_get (classes_in m.items) c) refl e
-    where
-      go : (o : Option ClassDef) → slice_get (classes_in m.items) c ≡ o → method_at o i ≡ Some d
-          → Contains (of_defs places places m.items) p
-      go None is e = absurd (none-some _ e)
-      go (Some class) is e = of_method_at places places m.items c class i d p is e h
 
   -- no name that a function binds is reserved
   names_free : (owner : Owner) (d : FuncDef) → function_of m owner ≡ Some d → (word : List ℕ)
@@ -188,9 +143,9 @@ module _ (m : Module) (labels : Labelling m) (lawful : IsLawful m labels) (clean
   names_free owner d e word among = go (is_builtin_name word) refl
     where
       at_end : (p : Place) → Contains (reserved_in_def d) p → ⊥
-      at_end p c = never_stops E29 tt refl p (Contains-append_right (reserved_among (map stopping.name_of_item m.items))
+      at_end p c = never_stops E29 tt tt p (Contains-append_right (reserved_among (map stopping.name_of_item m.items))
           _ p (Contains-append_right (stopping.reserved_in_classes m.items)
-          (of_defs reserved_in_def reserved_in_def m.items) p (function_places reserved_in_def owner d p e c)))
+          (of_defs reserved_in_def reserved_in_def m.items) p (function_places m reserved_in_def owner d p e c)))
 
       own : texts (param_names d.params) ++ texts (bound_by d.body)
           ≡ texts (map name_of_param d.params ++ bound_by d.body)
@@ -217,14 +172,20 @@ module _ (m : Module) (labels : Labelling m) (lawful : IsLawful m labels) (clean
       go true r = let f = parts owner among r in absurd (at_end f.0 f.1)
       go false r = r
 
-  -- a finding of the items is a listed dynamic place
+  -- a finding of the items is a listed place, and its code is not silent everywhere
   pub listed_finding : (f : Finding) → ItemsFind m (constant_types m m.items labels) nothing_before m.items labels f
-      → IsListedPlace m f.place × (¬ (IsError f.code))
+      → IsListedPlace m f.place × (¬ (IsSilentCode f.code))
   listed_finding f h = let found = said_is_found m labels lawful f h in
-      (record { finding = f; found = found; dynamic = clean f found; at = refl }, clean f found)
+      (record { finding = f; found = found; at = refl }, λ s. clean f found (by_code s))
 
-  -- each function and method of the module has its lawful labels, in which each finding is a listed dynamic place
-  pub labelled_of : ((owner : Owner) (d : FuncDef) (fm : FunctionLabels d)
+  at_name : (d : FuncDef) (code : Option Code) (c : Code) → code ≡ Some c → IsCodeAt d.name.place code
+      (finding d.name.place c)
+  at_name d None c e = absurd (none-some _ e)
+  at_name d (Some x) c e = ap (finding d.name.place) (sym (same_Some _ _ e))
+
+  -- each function and method of the module has its lawful labels, in which each finding is a listed place
+  pub labelled_of : ((owner : Owner) (d : FuncDef) → function_of m owner ≡ Some d → (fm : FunctionLabels d)
+      → ((f : Finding) → FunctionFinds m (constant_types m m.items labels) owner d fm f → IsFinding m f)
       → LawfulFunction m (constant_types m m.items labels) owner d fm → SuiteKeyed d.body fm.body)
       → (owner : Owner) (d : FuncDef) → function_of m owner ≡ Some d → Labelled m (constant_types m m.items labels)
       (IsListedPlace m) owner d
@@ -234,7 +195,11 @@ module _ (m : Module) (labels : Labelling m) (lawful : IsLawful m labels) (clean
         labels = l.labels;
         lawful = l.lawful;
         covered = λ f h. listed_finding f (l.within f h);
-        keyed = keyed owner d l.labels l.lawful;
-        in_loops = λ p c. never_stops E05 tt refl p (function_places loose_in_def owner d p e c);
+        keyed = keyed owner d e l.labels (λ f h. said_is_found m labels lawful f (l.within f h)) l.lawful;
+        returned = λ i is c x at. clean (finding d.name.place c) (said_is_found m labels lawful
+            (finding d.name.place c) (l.within (finding d.name.place c)
+            (inr (inr (inl (at_name d l.labels.completing c x))))))
+            (unreturned i d (subst (λ o. function_of m o ≡ Some d) is e) (ap (finding d.name.place) at));
+        in_loops = λ p c. never_stops E05 tt tt p (function_places m loose_in_def owner d p e c);
         free = names_free owner d e;
       }

@@ -4,10 +4,12 @@ use Rattle.std.proofs.Common.{length-append, eq-eqb}
 use Rattle.std.specs.Prelude.{Bool as Test, true, false, if◌then◌else◌, is_some, nat_lt, nat_eq, codes, Option, Some}
 use Rattle.std.specs.Prelude.{None, slice_get}
 use Rattle.std.proofs.lemmas.Bool.Decides.{nat_tests}
+use Rattle.std.proofs.lemmas.List.Elements.{Contains-append_left, Contains-append_right}
 use Rattle.std.proofs.lemmas.Option.{same_Some}
 use Rattle.std.proofs.lemmas.Bool.{false≢true, or_cases, or_left, or_right}
 use Rattle.pc_source.specs.declared.place.Place.{Place}
 use Rattle.pc_source.specs.ReservedNames.{is_reserved}
+use Rattle.pc_tree.specs.Stopping.{of_defs}
 use Rattle.pc_tree.specs.Tree.{Name, FuncDef, Member, field_member, method_member, ClassDef, class_item, Module}
 use Rattle.pc_scope.specs.declared.resolution.Owner.TheVariants as owners
 use Rattle.pc_scope.specs.declared.resolution.Res.{Res}
@@ -44,6 +46,7 @@ use Rattle.pc_machine.specs.Evaluation as evaluation
 use Rattle.pc_machine.specs.Evaluation.{make_members, exec_item, dataclass_found, binds_class, Members, fields_of}
 use Rattle.pc_machine.specs.Evaluation.{methods_of, ancestors_of, class_behind, all_have_defaults, defaults_last}
 use Rattle.pc_sound.specs.Values.{HeapTyping}
+use Rattle.pc_sound.specs.Silent.{default_place, param_defaults_in, field_defaults, field_defaults_in}
 use Rattle.pc_sound.proofs.Steps.Judgment.{EndsWell}
 use Rattle.pc_sound.proofs.TruthValues.{neither}
 use Rattle.pc_sound.proofs.Lists.{get_at_end, get_left}
@@ -51,7 +54,8 @@ use Rattle.pc_sound.proofs.Steps.LeadingSteps.{Known}
 use Rattle.pc_sound.proofs.Steps.ModuleSteps.{Proceeds, proceeds_bind, proceeds_comes, proceeds_looks, proceeds_changes}
 use Rattle.pc_sound.proofs.Modules.ModuleNames.{class_named}
 use Rattle.pc_sound.proofs.Modules.ModuleOrder.{BoundSoFar, bound_class, Between, Listed, ParametersBind, default_made}
-use Rattle.pc_sound.proofs.Modules.ModuleOrder.{function_made}
+use Rattle.pc_sound.proofs.Modules.ModuleOrder.{function_made, OfDefaults}
+use Rattle.pc_sound.proofs.Modules.PlacesInModules.{function_places, field_places}
 use Rattle.pc_sound.proofs.Modules.ModuleItems.{ItemReady, GoodClasses}
 use Rattle.pc_sound.proofs.Modules.MainWorld.{AncestorsAre, DefaultHas, DefaultsHave, MadeOf, MethodsAre, ClassIs}
 
@@ -226,23 +230,25 @@ module _ (m : Module) (constants : List Tree) (listed : Place → Type 0) where
       → ((i : ℕ) (d : FuncDef) → slice_get (methods_in ms) i ≡ Some d → function_of m (owners.Method c (number + i))
       ≡ Some d)
       → MembersReady base before ms → LawfulMembers m constants base c number before ms labels
-      → Listed m listed (MembersFind m constants c number ms labels)
+      → Listed m listed (MembersFind m constants c number ms labels) → OfDefaults m listed (field_defaults ms)
       → Proceeds listed known (make_members Step free ms) (λ k own s. known k s
       × (DefaultsHave (bases_of m) k own.fields (own_fields m base before ms)
       × MethodsAre m k own.methods (own_methods m base c number before ms)))
-  members_made known base c number before [] labels at ready law clean =
+  members_made known base c number before [] labels at ready law clean stands =
       proceeds_comes listed known (Gives (record { fields = []; methods = [] })) _ λ k s b. (b, (tt, tt))
-  members_made known base c number before (field_member f ∷ rest) labels at ready law clean =
+  members_made known base c number before (field_member f ∷ rest) labels at ready law clean stands =
       let t = read_ann m (bases_of m) f.annotation in
       proceeds_bind listed known _ _ (λ k v s. known k s × DefaultHas (bases_of m) k t (is_some f.default) v) _
       (default_made m listed known f.default t labels.default
       (subst (λ b. LawfulDefault (bases_of m) b f.default t labels.default) ready.0 law.default)
-      (λ g h. clean g (inr (inl h))))
+      (λ g h. clean g (inr (inl h)))
+      (λ p h. stands p (Contains-append_left (default_place f.default) (field_defaults rest) p h)))
       λ v. proceeds_bind listed _ _ _ (λ k own s. (known k s × DefaultHas (bases_of m) k t (is_some f.default) v)
       × (DefaultsHave (bases_of m) k own.fields (own_fields m base (f.name.text ∷ before) rest)
       × MethodsAre m k own.methods (own_methods m base c number (f.name.text ∷ before) rest))) _
       (members_made (λ k s. known k s × DefaultHas (bases_of m) k t (is_some f.default) v) base c number
-      (f.name.text ∷ before) rest labels.rest at ready.1 law.others (λ g h. clean g (inr (inr h))))
+      (f.name.text ∷ before) rest labels.rest at ready.1 law.others (λ g h. clean g (inr (inr h)))
+      (λ p h. stands p (Contains-append_right (default_place f.default) (field_defaults rest) p h)))
       λ own. proceeds_comes listed _
       (Gives (record { fields = record { name = f.name.text; default = v } ∷ own.fields; methods = own.methods })) _
       λ k s b. (
@@ -254,16 +260,19 @@ module _ (m : Module) (constants : List Tree) (listed : Place → Type 0) where
           b.1.1,
         ),
       )
-  members_made known base c number before (method_member f ∷ rest) labels at ready law clean =
+  members_made known base c number before (method_member f ∷ rest) labels at ready law clean stands =
       proceeds_bind listed known _ _ (λ k g s. known k s × MadeOf m k g f) _
       (function_made m listed known (codes "self" ∷ []) f labels.method.params law.method.params ready.0.1
-      (λ g h. clean g (inl (inl h))))
+      (λ g h. clean g (inl (inl h)))
+      (λ p h. Contains-append_left (of_defs param_defaults_in param_defaults_in m.items) (field_defaults_in m.items) p
+      (function_places m param_defaults_in (owners.Method c number) f p
+      (ap (λ j. function_of m (owners.Method c j)) (omega arith) ∙ at 0 f refl) h)))
       λ g. proceeds_bind listed _ _ _ (λ k own s. (known k s × MadeOf m k g f)
       × (DefaultsHave (bases_of m) k own.fields (own_fields m base (f.name.text ∷ before) rest)
       × MethodsAre m k own.methods (own_methods m base c (suc number) (f.name.text ∷ before) rest))) _
       (members_made (λ k s. known k s × MadeOf m k g f) base c (suc number) (f.name.text ∷ before) rest labels.rest
       (λ i d e. ap (λ j. function_of m (owners.Method c j)) (omega arith) ∙ at (suc i) d e) ready.1 law.others
-      (λ h x. clean h (inr x)))
+      (λ h x. clean h (inr x)) stands)
       λ own. proceeds_comes listed _ (Gives (record { fields = own.fields; methods = g ∷ own.methods })) _ λ k s b. (
         b.0.0,
         (
@@ -323,7 +332,9 @@ module _ (m : Module) (constants : List Tree) (listed : Place → Type 0) where
           × MethodsAre m k own.methods (own_methods m (base_class m n c) n 0 [] c.members))) _
           (members_made (λ k s. Now k s × (o ≡ base_named m n c.base)) (base_class m n c) n 0 [] c.members labels
           (λ i d e. ap (λ x. function_of m (owners.Method n x)) (omega arith) ∙ ap (λ x. method_at x i) is ∙ e)
-          (ready.members n c is) law clean)
+          (ready.members n c is) law clean
+          (λ q h. Contains-append_right (of_defs param_defaults_in param_defaults_in m.items)
+          (field_defaults_in m.items) q (field_places m.items n c q is h)))
           λ own. proceeds_bind listed _ _ _ (λ k x s. Now k s × NewClass m k n x) _
           (proceeds_looks listed _ _ _ λ k s h. (h.0.0, made_now k s o own h.0.0 h.0.1 h.1.0 h.1.1))
           λ x. proceeds_bind listed _ _ _ (λ k u s. Now k s × NewClass m k n x) _

@@ -2,8 +2,10 @@
 use Rattle.std.proofs.Common.{◌≡◌, ℕ, List, [], ◌∷◌, ◌++◌, Contains}
 use Rattle.std.specs.Prelude.{Bool as Test, true, false, Option, Some, None, slice_get}
 use Rattle.pc_source.specs.declared.place.Place.{Place}
+use Rattle.pc_tree.specs.declared.code.Code.{Code}
+use Rattle.pc_tree.specs.declared.code.Code.TheVariants.{E21}
 use Rattle.pc_tree.specs.declared.code.Finding.{Finding}
-use Rattle.pc_tree.specs.Code.{IsError}
+use Rattle.pc_sound.specs.Silent.{IsSilentCode}
 use Rattle.pc_tree.specs.Tree.{FuncDef, ClassDef, Module}
 use Rattle.pc_tree.specs.Stopping.{bound_by, loose_in}
 use Rattle.pc_scope.specs.declared.resolution.Builtin.{Builtin}
@@ -170,12 +172,14 @@ module _ (m : Module) where
   }
 
   module _ (constants : List Tree) (listed : Place → Type 0) where
-    -- a function or method of the module with its lawful labels, in which each finding is a listed dynamic place
+    -- a function or method of the module with its lawful labels, in which each finding is a listed place
     pub record Labelled (owner : Owner) (d : FuncDef) : Type 0 where
       pub labels : FunctionLabels d
       pub lawful : LawfulFunction m constants owner d labels
-      pub covered : (f : Finding) → FunctionFinds m constants owner d labels f → listed f.place × (¬ (IsError f.code))
+      pub covered : (f : Finding) → FunctionFinds m constants owner d labels f → listed f.place
+          × (¬ (IsSilentCode f.code))
       pub keyed : SuiteKeyed d.body labels.body
+      pub returned : (i : ℕ) → owner ≡ owners.Func i → (c : Code) → labels.completing ≡ Some c → c ≡ E21 → ⊥
       pub in_loops : (p : Place) → Contains (loose_in d.body) p → ⊥
       pub free : (word : List ℕ) → is_one_of word (entry_texts owner d ++ texts (bound_by d.body)) ≡ true
           → is_builtin_name word ≡ false

@@ -1,5 +1,5 @@
--- In a module without errors each member of a class binds its name: none is reserved, stands twice or clashes with an
--- ancestor's.
+-- In a module without silent errors each member of a class binds its name: none is reserved, stands twice or clashes
+-- with an ancestor's.
 use Rattle.std.proofs.Common.{◌≡◌, ℕ, zero, suc, ◌+◌, ◌<◌, List, [], ◌∷◌, ◌++◌, map, refl, sym, ap, ◌∙◌, subst, inl}
 use Rattle.std.proofs.Common.{inr, arith, Contains, eq-or-lt_of_le, le_of_suc-le-suc}
 use Rattle.std.specs.Prelude.{◌⊎◌, Bool as Test, true, false, ◌||◌, ◌&&◌, not, cond, if◌then◌else◌, is_some, Option}
@@ -37,7 +37,7 @@ use Rattle.pc_class.specs.Findings as findings
 use Rattle.pc_class.specs.Findings.{base_class}
 use Rattle.pc_class.proofs.ClassesBuilt.{class_over, class_is, below_class}
 use Rattle.pc_module_rules.specs.Modules.{Labelling, IsLawful}
-use Rattle.pc_sound.specs.Sound.{HasNoError}
+use Rattle.pc_sound.specs.Silent.{HasNoSilentError, by_code}
 use Rattle.pc_sound.proofs.Lists.{front_empty, rest_empty, same_text_back}
 use Rattle.pc_sound.proofs.Expressions.NameReads.{builtin_text, text_of_builtin}
 use Rattle.pc_sound.proofs.Modules.ModuleNames.{class_named}
@@ -475,13 +475,13 @@ module _ (m : Module) where
       by_number (suc j) e others = subst (λ k. BindAll (base_class m k class) [] class.members) (omega arith)
           (others j e)
 
--- ---- a module without errors
+-- ---- a module without silent errors
 
 empty_of : (ps : List Place) → ((p : Place) → Contains ps p → ⊥) → ps ≡ []
 empty_of [] h = refl
 empty_of (p ∷ ps) h = absurd (h p (0, omega arith, refl))
 
-module _ (m : Module) (labels : Labelling m) (lawful : IsLawful m labels) (clean : HasNoError m) where
+module _ (m : Module) (labels : Labelling m) (lawful : IsLawful m labels) (clean : HasNoSilentError m) where
   pub none_clash : clashing_members m ≡ []
   none_clash = empty_of (clashing_members m) λ p h. clean (finding p E06)
       (record {
@@ -489,15 +489,15 @@ module _ (m : Module) (labels : Labelling m) (lawful : IsLawful m labels) (clean
         lawful = lawful;
         found =
             inr (inl (findings.member (record { code = refl; stops = h })));
-      }) refl
+      }) (by_code tt)
 
   pub none_reserved : reserved_bound m ≡ []
   none_reserved = empty_of (reserved_bound m) λ p h. clean (finding p E29)
-      (record { labels = labels; lawful = lawful; found = inl (scope.stopping tt h) }) refl
+      (record { labels = labels; lawful = lawful; found = inl (scope.stopping tt h) }) (by_code tt)
 
   pub none_twice : twice m ≡ []
   none_twice = empty_of (twice m) λ p h. clean (finding p E01)
-      (record { labels = labels; lawful = lawful; found = inl (scope.stopping tt h) }) refl
+      (record { labels = labels; lawful = lawful; found = inl (scope.stopping tt h) }) (by_code tt)
 
   -- each member of each class binds its name
   pub members_bind : (c : ℕ) (class : ClassDef) → slice_get (classes_in m.items) c ≡ Some class

@@ -3,12 +3,13 @@ use Rattle.std.proofs.Common.{◌≡◌, ℕ, zero, suc, ◌+◌, List, [], ◌�
 use Rattle.std.proofs.Common.{arith, append-nil, append_assoc}
 use Rattle.std.specs.Prelude.{Bool as Test, true, false, not, nat_lt, if◌then◌else◌, codes, Some, None, is_some}
 use Rattle.std.specs.Prelude.{slice_get, bytes_eq}
+use Rattle.std.proofs.lemmas.List.Elements.{Contains-append_left}
 use Rattle.std.proofs.lemmas.Option.{same_Some}
 use Rattle.std.proofs.lemmas.Bool.{and_parts, not-true}
 use Rattle.pc_source.specs.declared.place.Place.{Place}
 use Rattle.pc_source.specs.ReservedNames as keywords
 use Rattle.pc_tree.specs.Tree.{Name, Expr, ClassDef, FuncDef, Param, Item, constant_item, class_item, def_item, Module}
-use Rattle.pc_tree.specs.Stopping.{is_plain_def, has_none}
+use Rattle.pc_tree.specs.Stopping.{of_defs, is_plain_def, has_none}
 use Rattle.pc_tree.specs.Depth.{place_of}
 use Rattle.pc_scope.specs.declared.resolution.Owner.TheVariants as owners
 use Rattle.pc_scope.specs.declared.resolution.Res.TheVariants as res
@@ -33,6 +34,7 @@ use Rattle.pc_machine.specs.Steps.{Parts}
 use Rattle.pc_machine.specs.Free.{Step, free}
 use Rattle.pc_machine.specs.Evaluation.{exec_item, exec_items, enter_main, call_callee}
 use Rattle.pc_sound.specs.Values.{HeapTyping, HasType}
+use Rattle.pc_sound.specs.Silent.{param_defaults_in, field_defaults_in}
 use Rattle.pc_sound.proofs.Steps.Judgment.{EndsWell, Around, IsWellTyped, IsSafe}
 use Rattle.pc_sound.proofs.TruthValues.{neither}
 use Rattle.pc_sound.proofs.Lists.{get_at_end, one_longer, within}
@@ -50,6 +52,7 @@ use Rattle.pc_sound.proofs.Calls.SuitedCalls.{function_call_safe}
 use Rattle.pc_sound.proofs.Steps.ModuleSteps.{Proceeds, proceeds_bind, proceeds_comes}
 use Rattle.pc_sound.proofs.Modules.ModuleNames.{constants_append, classes_append, functions_append, constant_named}
 use Rattle.pc_sound.proofs.Modules.ModuleNames.{function_named, class_named}
+use Rattle.pc_sound.proofs.Modules.PlacesInModules.{of_function_at}
 use Rattle.pc_sound.proofs.Modules.ModuleOrder.{BoundSoFar, bound_later, around_items, Between, Listed, ParametersBind}
 use Rattle.pc_sound.proofs.Modules.ModuleOrder.{def_proceeds, constant_proceeds}
 
@@ -150,7 +153,10 @@ module _ (m : Module) (constants : List Tree) (listed : Place → Type 0) where
         proceeds_bind listed _ _ _ (λ k u s. Between m listed b.constants (defs ++ d ∷ []) b.classes
         (d.name.text ∷ b.names) k s) _
         (def_proceeds m listed parts m.imports_dataclass b.constants defs b.classes b.names p d labels.first.params
-        law.0.params ready.0.1 (λ f h. clean f (inl (inl h))) means parts_of.0 parts_of.1)
+        law.0.params ready.0.1 (λ f h. clean f (inl (inl h)))
+        (λ q h. Contains-append_left (of_defs param_defaults_in param_defaults_in m.items) (field_defaults_in m.items) q
+        (of_function_at param_defaults_in param_defaults_in m.items (length (functions_in done)) d q here h))
+        means parts_of.0 parts_of.1)
         λ u. items_proceed (done ++ def_item p d ∷ []) rest (before_next m b (def_item p d) labels.first)
         (defs ++ d ∷ []) labels.rest (all ∙ sym (append_assoc done (def_item p d ∷ []) rest))
         (cs ∙ ap length (sym (constants_append done (def_item p d ∷ []) ∙ append-nil (constants_in done))))
@@ -158,12 +164,13 @@ module _ (m : Module) (constants : List Tree) (listed : Place → Type 0) where
         (ap (λ l. l ++ d ∷ []) fs ∙ sym (functions_append done (def_item p d ∷ []))) law.1 (λ f h. clean f (inr h))
         ready.1
       where
+        here : slice_get (functions_in m.items) (length (functions_in done)) ≡ Some d
+        here = ap (λ l. slice_get l (length (functions_in done))) (ap functions_in all
+            ∙ functions_append done (def_item p d ∷ rest)) ∙ get_at_end (functions_in done) d (functions_in rest)
+
         means : (word : List ℕ) → resolve_in_module m word ≡ res.Func (length defs) → d.name.text ≡ word
         means word r =
             let n = function_named m word (length defs) r in
-            let here : slice_get (functions_in m.items) (length (functions_in done)) ≡ Some d =
-            ap (λ l. slice_get l (length (functions_in done))) (ap functions_in all
-            ∙ functions_append done (def_item p d ∷ rest)) ∙ get_at_end (functions_in done) d (functions_in rest) in
             let behind = n.behind in
             let at : n.at ≡ length defs = omega arith in
             let same : n.function ≡ d = same_Some _ _ (sym n.is ∙ ap (slice_get (functions_in m.items))

@@ -1,6 +1,7 @@
 -- The order of a module: each item finds bound what it may name, and binds its own name; `main` finds all.
 use Rattle.std.proofs.Common.{◌≡◌, ℕ, suc, List, [], ◌∷◌, ◌++◌, length, refl, sym, ap, ◌∙◌, subst, inl, inr, arith}
 use Rattle.std.proofs.Common.{Contains}
+use Rattle.std.proofs.lemmas.List.Elements.{Contains-append_left, Contains-append_right}
 use Rattle.std.specs.Prelude.{◌⊎◌, Bool as Test, true, false, ◌||◌, is_some, nat_lt, Option, Some, None, slice_get}
 use Rattle.std.specs.Prelude.{bytes_eq, chars}
 use Rattle.std.proofs.lemmas.Bool.Decides.{nat_tests}
@@ -10,7 +11,10 @@ use Rattle.std.proofs.lemmas.Bool.{or_parts}
 use Rattle.pc_source.specs.declared.place.Place.{Place}
 use Rattle.pc_tree.specs.declared.code.Code.{Code}
 use Rattle.pc_tree.specs.declared.code.Finding.{Finding}
-use Rattle.pc_tree.specs.Code.{finding, IsError}
+use Rattle.pc_tree.specs.declared.code.Code.TheVariants.{E12}
+use Rattle.pc_tree.specs.Code.{finding}
+use Rattle.pc_sound.specs.Silent.{IsSilent, by_code, default, default_place, param_defaults, param_defaults_in}
+use Rattle.pc_sound.specs.Silent.{default_places}
 use Rattle.pc_tree.specs.Tree.{Ann, Expr, Literal, number_literal, negative_literal, text_literal, truth_literal}
 use Rattle.pc_tree.specs.Tree.{none_literal, Param, Constant, ClassDef, FuncDef, constant_item, def_item, Module}
 use Rattle.pc_tree.specs.Depth.{place_of}
@@ -351,29 +355,32 @@ module _ (m : Module) where
     literal_atom (truth_literal p t) = tt
     literal_atom (none_literal p) = tt
 
-    -- each finding is a listed dynamic place
+    -- each finding is a listed place, and none is silent
     abbrev pub Listed : (Finding → Type 0) → Type 0
-    Listed finds = (f : Finding) → finds f → listed f.place × (¬ (IsError f.code))
+    Listed finds = (f : Finding) → finds f → listed f.place × (¬ (IsSilent m f))
+
+    -- these are places of defaults of the module
+    abbrev pub OfDefaults : List Place → Type 0
+    OfDefaults places = (p : Place) → Contains places p → Contains (default_places m) p
 
     module _ (before : Known) where
       -- a default is of the type that it flows into
       pub default_made : (l : Option Literal) (t : Tree) (flows : FlowLabels)
-          → LawfulDefault (bases_of m) true l t flows → Listed (DefaultFinds l flows)
+          → LawfulDefault (bases_of m) true l t flows → Listed (DefaultFinds l flows) → OfDefaults (default_place l)
           → Proceeds listed before (make_default Step free l) (λ k v s. before k s
           × DefaultHas (bases_of m) k t (is_some l) v)
-      default_made None t flows law clean = proceeds_comes listed before (Gives None) _ λ k s b. (b, tt)
-      default_made (Some l) t flows law clean =
+      default_made None t flows law clean here = proceeds_comes listed before (Gives None) _ λ k s b. (b, tt)
+      default_made (Some l) t flows law clean here =
           let one = one_flow (bases_of m) (record { type = literal_type l; codes = [] }) t flows law in
           let below = atom_flow (bases_of m) (literal_type l) t one.0.code (literal_atom l) one.2.code
-          (λ d e.
-          (clean (finding (literal_place l) d) (record {
+          (λ e. (clean (finding (literal_place l) E12) (record {
             flow = one.0;
             among = subst (λ fs. Contains fs one.0)
                 (sym one.1) (0, omega arith, refl);
-            code = d;
+            code = E12;
             found = e;
             is = refl;
-          })).1) in
+          })).1 (default refl (here (literal_place l) (0, omega arith, refl)))) in
           proceeds_bind listed before _ _ (λ k v s. before k s × HasType (bases_of m) k (literal_type l) v) _
           (literal_made before l)
           λ v. proceeds_comes listed _ (Gives (Some v)) _ λ k s b.
@@ -387,30 +394,34 @@ module _ (m : Module) where
     -- the parameters of a def, with their defaults
     parameters_made : (before : Known) (names : List (List ℕ)) (ps : List Param) (labels : ParamsLabels ps)
         → LawfulParams m names ps labels → ParametersBind names ps → Listed (ParamsFind m ps labels)
-        → Proceeds listed before (make_parameters Step free ps) (λ k qs s. before k s
+        → OfDefaults (param_defaults ps) → Proceeds listed before (make_parameters Step free ps) (λ k qs s. before k s
         × DefaultsHave (bases_of m) k qs (parameters_of m ps))
-    parameters_made before names [] labels law binds clean = proceeds_comes listed before (Gives []) _ λ k s b. (b, tt)
-    parameters_made before names (p ∷ ps) labels law binds clean =
+    parameters_made before names [] labels law binds clean here = proceeds_comes listed before (Gives []) _ λ k s b.
+        (b, tt)
+    parameters_made before names (p ∷ ps) labels law binds clean here =
         proceeds_bind listed before _ _ (λ k v s. before k s × DefaultHas (bases_of m) k
         (read_option m (bases_of m) p.annotation) (is_some p.default) v) _
         (default_made before p.default (read_option m (bases_of m) p.annotation) labels.default
         (subst (λ b. LawfulDefault (bases_of m) b p.default (read_option m (bases_of m) p.annotation)
-        labels.default) binds.0 law.default) (λ f h. clean f (inr (inl h))))
+        labels.default) binds.0 law.default) (λ f h. clean f (inr (inl h)))
+        (λ q c. here q (Contains-append_left (default_place p.default) (param_defaults ps) q c)))
         λ v. proceeds_bind listed _ _ _
         (λ k qs s. (before k s × DefaultHas (bases_of m) k (read_option m (bases_of m) p.annotation)
         (is_some p.default) v) × DefaultsHave (bases_of m) k qs (parameters_of m ps)) _
         (parameters_made (λ k s. before k s × DefaultHas (bases_of m) k (read_option m (bases_of m) p.annotation)
-        (is_some p.default) v) (p.name.text ∷ names) ps labels.rest law.rest binds.1 (λ f h. clean f (inr (inr h))))
+        (is_some p.default) v) (p.name.text ∷ names) ps labels.rest law.rest binds.1 (λ f h. clean f (inr (inr h)))
+        (λ q c. here q (Contains-append_right (default_place p.default) (param_defaults ps) q c)))
         λ qs. proceeds_comes listed _ (Gives (record { name = p.name.text; default = v } ∷ qs)) _ λ k s b.
         (b.0.0, (refl, (b.0.1, b.1)))
 
     -- a def makes its function
     pub function_made : (before : Known) (names : List (List ℕ)) (d : FuncDef) (labels : ParamsLabels d.params)
         → LawfulParams m names d.params labels → ParametersBind names d.params → Listed (ParamsFind m d.params labels)
-        → Proceeds listed before (make_function Step free d) (λ k f s. before k s × MadeOf m k f d)
-    function_made before names d labels law binds clean =
+        → OfDefaults (param_defaults_in d) → Proceeds listed before (make_function Step free d)
+        (λ k f s. before k s × MadeOf m k f d)
+    function_made before names d labels law binds clean here =
         proceeds_bind listed before _ _ (λ k qs s. before k s × DefaultsHave (bases_of m) k qs
-        (parameters_of m d.params)) _ (parameters_made before names d.params labels law binds clean)
+        (parameters_of m d.params)) _ (parameters_made before names d.params labels law binds clean here)
         λ qs. proceeds_comes listed _ (Gives (record { name = d.name; parameters = qs; body = d.body })) _ λ k s b.
         (b.0, record { name = refl; body = refl; parameters = b.1 })
 
@@ -420,14 +431,14 @@ module _ (m : Module) where
         (names : List (List ℕ)) where
       -- a def binds its name
       pub def_proceeds : (p : Place) (d : FuncDef) (labels : ParamsLabels d.params) → LawfulParams m [] d.params labels
-          → ParametersBind [] d.params → Listed (ParamsFind m d.params labels)
+          → ParametersBind [] d.params → Listed (ParamsFind m d.params labels) → OfDefaults (param_defaults_in d)
           → ((word : List ℕ) → resolve_in_module m word ≡ res.Func (length defs) → d.name.text ≡ word)
           → is_one_of d.name.text names ≡ false → is_builtin_name d.name.text ≡ false
           → Proceeds listed (λ k s. Between types defs n names k s) (exec_item Step free parts imports (def_item p d))
           (λ k u s. Between types (defs ++ d ∷ []) n (d.name.text ∷ names) k s)
-      def_proceeds p d labels law binds clean means new unreserved =
+      def_proceeds p d labels law binds clean here means new unreserved =
           proceeds_bind listed _ _ _ (λ k f s. Between types defs n names k s × MadeOf m k f d) _
-          (function_made (λ k s. Between types defs n names k s) [] d labels law binds clean)
+          (function_made (λ k s. Between types defs n names k s) [] d labels law binds clean here)
           λ f. proceeds_changes listed _ (binds_global d.name.text (a_function f)) _ λ k s b.
           record {
             well = b.0.well;
@@ -464,15 +475,19 @@ module _ (m : Module) where
                 b.0.bound;
           }
         where
+          covered : Covered (around_items types defs n names)
+              (λ f. IsFlowAt (place_of c.value) flows f ⊎ Finds c.value labels f)
+          covered f h = let g = clean f h in (g.0, λ s. g.1 (by_code s))
+
           typed : (a : Option Ann) → Lawful (initializer_context m types n) [] []
               (first_of_types (annotated_types m true a)) c.value labels
               → FlowsInto (bases_of m) (whole_label c.value labels) (annotated_types m true a) flows
               → IsSafe (around_items types defs n names) [] (λ k. Unit {0}) (parts.eval c.value)
               (λ k v. HasType (bases_of m) k (constant_type m a (type_of c.value labels)) v)
-          typed None l fl = good.safe [] None c.value labels l (λ f h. clean f (inr h)) keyed
+          typed None l fl = good.safe [] None c.value labels l (λ f h. covered f (inr h)) keyed
           typed (Some a) l fl =
               let one = one_flow (bases_of m) (whole_label c.value labels) (read_ann m (bases_of m) a) flows fl in
               flow_safe (around_items types defs n names) (initializer_context m types n) parts.eval good evaluates []
               (λ k. Unit {0}) (Some (read_ann m (bases_of m) a)) c.value labels (read_ann m (bases_of m) a) one.0 l
-              (λ f h. clean f (inr h)) one.2 (subst (λ x. Covered (around_items types defs n names)
-              (IsFlowAt (place_of c.value) x)) one.1 (λ f h. clean f (inl h))) keyed
+              (λ f h. covered f (inr h)) one.2 (subst (λ x. Covered (around_items types defs n names)
+              (IsFlowAt (place_of c.value) x)) one.1 (λ f h. covered f (inl h))) keyed

@@ -1,4 +1,4 @@
--- What a module without errors establishes of the premises of the law, and what of them is left.
+-- What a module without silent errors establishes of the premises of the law, and what of them is left.
 use Rattle.std.proofs.Common.{◌≡◌, ℕ, zero, suc, List, [], ◌∷◌, ◌++◌, length, map, refl, sym, ap, ◌∙◌, subst, inl, inr}
 use Rattle.std.proofs.Common.{arith, append_assoc, append-nil}
 use Rattle.std.specs.Prelude.{true, ◌&&◌, not, take, Option, Some, None, is_some, slice_get}
@@ -8,7 +8,8 @@ use Rattle.std.proofs.Math.Bool.{or-false}
 use Rattle.std.proofs.Math.Seq.{take-append_seam}
 use Rattle.pc_source.specs.declared.place.Place.{Place}
 use Rattle.pc_tree.specs.declared.code.Code.{Code}
-use Rattle.pc_tree.specs.Code.{finding, IsError}
+use Rattle.pc_tree.specs.declared.code.Finding.{Finding}
+use Rattle.pc_tree.specs.Code.{finding}
 use Rattle.pc_tree.specs.Tree.{FuncDef, Member, field_member, method_member, ClassDef, Item, constant_item, class_item}
 use Rattle.pc_tree.specs.Tree.{def_item, Constant, Module}
 use Rattle.pc_tree.specs.Stopping.{name_of_item}
@@ -29,20 +30,23 @@ use Rattle.pc_class.specs.Findings.{base_class, member_texts}
 use Rattle.pc_class.proofs.Judged.{judged_once}
 use Rattle.pc_class.specs.Overrides.{Judges, dynamic, wrong, overridden}
 use Rattle.pc_rules.specs.Signatures.{body_context}
-use Rattle.pc_module_rules.specs.Modules.{FunctionLabels, LawfulFunction, ItemsLabels, BeforeItem, before_next}
-use Rattle.pc_module_rules.specs.Modules.{nothing_before, constant_types, Labelling, IsLawful, IsFinding}
+use Rattle.pc_module_rules.specs.Modules.{FunctionLabels, LawfulFunction, FunctionFinds, ItemsLabels, BeforeItem}
+use Rattle.pc_module_rules.specs.Modules.{before_next, nothing_before, constant_types, Labelling, IsLawful, IsFinding}
 use Rattle.pc_machine.specs.Free.{Step, free}
 use Rattle.pc_machine.specs.Evaluation.{steps}
 use Rattle.pc_machine.specs.Runs.{Run, End, IsFaultyEnd}
-use Rattle.pc_sound.specs.Sound.{HasNoError, HasEvaluated}
+use Rattle.pc_sound.specs.Silent.{HasNoSilentError, IsSilent, shape, bare, bare_returns_in_def}
+use Rattle.pc_sound.specs.Sound.{HasEvaluatedListed}
 use Rattle.pc_sound.proofs.Lists.{get_at_end, one_longer, within}
 use Rattle.pc_sound.proofs.Modules.ClassPremises.{names_behind, names_last, among_behind}
 use Rattle.pc_sound.proofs.Settled.SettledParts.{tests_in_time}
 use Rattle.pc_sound.proofs.Settled.KeyedLabels.{IsKeyed, SuiteKeyed, InitializersKeyed}
 use Rattle.pc_sound.proofs.Modules.TimelyBodies.{NamesTimely}
 use Rattle.pc_sound.proofs.Settled.SettledFunctions.{OwnerAsked, function_settled}
+use Rattle.pc_sound.proofs.Modules.PlacesInModules.{function_places}
 use Rattle.pc_sound.proofs.Modules.Inheritance.{inherits}
-use Rattle.pc_sound.proofs.Calls.OverridesFit.{IsAllowedOverride, AreJudged, dispatched, owner_above}
+use Rattle.pc_sound.proofs.Calls.OverridesFit.{HasShapes, shapes_or_not, IsAllowedOverride, AreJudged, dispatched}
+use Rattle.pc_sound.proofs.Calls.OverridesFit.{owner_above}
 use Rattle.pc_sound.proofs.Calls.KnownTests.{right_tests}
 use Rattle.pc_sound.proofs.Modules.KnownNames.{initializer_names, initializer_ancestors, body_names, body_ancestors}
 use Rattle.pc_sound.proofs.Modules.MainWorld.{Labelled}
@@ -87,7 +91,7 @@ constant_at m (constant_item p x ∷ rest) labels (suc i) c e = constant_at m re
 constant_at m (class_item p x ∷ rest) labels i c e = constant_at m rest labels.rest i c e
 constant_at m (def_item p x ∷ rest) labels i c e = constant_at m rest labels.rest i c e
 
-module _ (m : Module) (labels : Labelling m) (lawful : IsLawful m labels) (clean : HasNoError m) where
+module _ (m : Module) (labels : Labelling m) (lawful : IsLawful m labels) (clean : HasNoSilentError m) where
   abbrev Constants : List Tree
   Constants = constant_types m m.items labels
 
@@ -111,11 +115,11 @@ module _ (m : Module) (labels : Labelling m) (lawful : IsLawful m labels) (clean
     abbrev Base : ClassFacts
     Base = base_class m c class
 
-    -- what is found of an override is a listed dynamic place
+    -- what is found of an override is a listed place, and not silent
     override_listed : (done rest : List Member) (d : FuncDef) (code : Code) → class.members ≡ done ++ method_member d
         ∷ rest → binds_method Base (names_behind [] done) d.name.text ≡ true
         → Judges (bases_of m) (overridden Base.methods d.name.text) (method_made m c (length (methods_in done)) d)
-        (Some code) → IsListedPlace m d.name.place × (¬ (IsError code))
+        (Some code) → IsListedPlace m d.name.place × (¬ (IsSilent m (finding d.name.place code)))
     override_listed done rest d code all binds judged =
         let taken : take (length done) class.members ≡ done = ap (take (length done)) all
         ∙ take-append_seam done (method_member d ∷ rest) in
@@ -137,7 +141,6 @@ module _ (m : Module) (labels : Labelling m) (lawful : IsLawful m labels) (clean
           record {
             finding = finding d.name.place code;
             found = found;
-            dynamic = clean (finding d.name.place code) found;
             at = refl;
           },
           clean (finding d.name.place code) found,
@@ -152,14 +155,34 @@ module _ (m : Module) (labels : Labelling m) (lawful : IsLawful m labels) (clean
     allowed_by : (done rest : List Member) (d : FuncDef) → class.members ≡ done ++ method_member d ∷ rest
         → (code : Option Code) → Judges (bases_of m) (overridden Base.methods d.name.text)
         (method_made m c (length (methods_in done)) d) code → binds_method Base (names_behind [] done) d.name.text
-        ≡ true → IsAllowedOverride (IsListedPlace m) d.name.place code
+        ≡ true → IsAllowedOverride (IsListedPlace m) d.name.place (overridden Base.methods d.name.text)
+        (method_made m c (length (methods_in done)) d) code
     allowed_by done rest d all None judged binds = inl refl
     allowed_by done rest d all (Some code) judged binds = go (override_listed done rest d code all binds judged) judged
       where
-        go : {olds : List Method} {new : Method} {code : Code} → IsListedPlace m d.name.place × (¬ (IsError code))
-            → Judges (bases_of m) olds new (Some code) → IsAllowedOverride (IsListedPlace m) d.name.place (Some code)
-        go ok (dynamic all n) = inr (refl, ok.0)
-        go ok (wrong n) = absurd (ok.1 refl)
+        taken : take (length done) class.members ≡ done
+        taken = ap (take (length done)) all ∙ take-append_seam done (method_member d ∷ rest)
+
+        go : {code : Code} → IsListedPlace m d.name.place × (¬ (IsSilent m (finding d.name.place code)))
+            → Judges (bases_of m) (overridden Base.methods d.name.text) (method_made m c (length (methods_in done)) d)
+            (Some code) → IsAllowedOverride (IsListedPlace m) d.name.place (overridden Base.methods d.name.text)
+            (method_made m c (length (methods_in done)) d) (Some code)
+        go ok (dynamic all_good n) = inr (ok.0, λ k x h. (all_good k x h).shape)
+        go ok (wrong n) = elim (shapes_or_not (method_made m c (length (methods_in done)) d)
+            (overridden Base.methods d.name.text)) [
+              | inl a ↦ inr (ok.0, a)
+              | inr other ↦ absurd (ok.1 (shape (record {
+                c = c;
+                class = class;
+                numbered = record { is = is };
+                at = length done;
+                method = d;
+                here = ap (λ l. slice_get l (length done)) all ∙ get_at_end done (method_member d) rest;
+                other = subst (λ l. ¬ (HasShapes (method_made m c (length (methods_in l)) d)
+                    (overridden Base.methods d.name.text))) (sym taken) other;
+                is = refl;
+              })))
+            ]
 
     judged_members : (done rest : List Member) → class.members ≡ done ++ rest
         → AreJudged m (IsListedPlace m) Base c (length (methods_in done)) (names_behind [] done) rest
@@ -186,7 +209,7 @@ module _ (m : Module) (labels : Labelling m) (lawful : IsLawful m labels) (clean
 
   -- ---- what is left
 
-  -- of a module without errors: its classes can be made, and the labels of its initializers have keyed dicts
+  -- of a module without silent errors: its classes can be made, and the labels of its initializers have keyed dicts
   pub record Left : Type 0 where
     pub classes : ClassesReady m (constant_types m m.items labels) (IsListedPlace m)
     pub distinct_fields : (c : ℕ) → Distinct [] (class_facts_at (classes_of m) c).fields
@@ -201,10 +224,13 @@ module _ (m : Module) (labels : Labelling m) (lawful : IsLawful m labels) (clean
     none_asked (owners.Func i) = tt
     none_asked (owners.Method c i) = tt
 
-    body_keyed : (owner : Owner) (d : FuncDef) (fm : FunctionLabels d)
+    body_keyed : (owner : Owner) (d : FuncDef) → function_of m owner ≡ Some d → (fm : FunctionLabels d)
+        → ((f : Finding) → FunctionFinds m (constant_types m m.items labels) owner d fm f → IsFinding m f)
         → LawfulFunction m (constant_types m m.items labels) owner d fm → SuiteKeyed d.body fm.body
-    body_keyed owner d fm law = function_settled tests_in_time m (λ word c e. tt) (constant_types m m.items labels)
-        left.constants_keyed owner (none_asked owner) d (names_timely owner d) fm law
+    body_keyed owner d e fm found law = function_settled tests_in_time m (λ word c e. tt)
+        (constant_types m m.items labels) left.constants_keyed owner (none_asked owner) d (names_timely owner d) fm
+        (λ f h wrong here. clean f (found f (inr (inr (inr h))))
+        (bare wrong (function_places m bare_returns_in_def owner d f.place e here))) law
 
     labelled : (owner : Owner) (d : FuncDef) → function_of m owner ≡ Some d
         → Labelled m (constant_types m m.items labels) (IsListedPlace m) owner d
@@ -282,6 +308,7 @@ module _ (m : Module) (labels : Labelling m) (lawful : IsLawful m labels) (clean
           labels ∙ omega arith;
     }
 
-    -- a run of the module that ends in a fault has evaluated a listed dynamic place
-    pub sound_but_for : (events : List Place) (end : End) → Run m events end → IsFaultyEnd end → HasEvaluated m events
+    -- a run of the module that ends in a fault has evaluated a listed place
+    pub sound_but_for : (events : List Place) (end : End) → Run m events end → IsFaultyEnd end
+        → HasEvaluatedListed m events
     sound_but_for events end run fault = sound_of m labels lawful clean premises events end run fault

@@ -1,5 +1,5 @@
--- In a module without errors each item, and each parameter of a function, binds its name: it is not reserved, and no
--- earlier one's.
+-- In a module without silent errors each item, and each parameter of a function, binds its name: it is not reserved, and
+-- no earlier one's.
 use Rattle.std.proofs.Common.{◌≡◌, ℕ, List, [], ◌∷◌, ◌++◌, map, refl, sym, ap, ◌∙◌, subst, arith, Contains}
 use Rattle.std.proofs.Common.{append_assoc}
 use Rattle.std.specs.Prelude.{Bool as Test, true, false, ◌&&◌, ◌||◌, not, Option, Some, None, slice_get, bytes_eq}
@@ -22,11 +22,12 @@ use Rattle.pc_scope.specs.Resolution.{is_one_of, receiver, method_at, function_o
 use Rattle.pc_class.specs.Facts.{parameters_of}
 use Rattle.pc_rules.specs.Signatures.{binds_name}
 use Rattle.pc_module_rules.specs.Modules.{Labelling, IsLawful}
-use Rattle.pc_sound.specs.Sound.{HasNoError}
+use Rattle.pc_sound.specs.Silent.{HasNoSilentError}
 use Rattle.pc_sound.proofs.TruthValues.{neither}
 use Rattle.pc_sound.proofs.Calls.FilledParameters.{Distinct}
 use Rattle.pc_sound.proofs.Modules.ModuleOrder.{ParametersBind}
-use Rattle.pc_sound.proofs.Modules.LabelledBodies.{never_stops, function_places, of_function_at, of_method_at}
+use Rattle.pc_sound.proofs.Modules.PlacesInModules.{function_places, of_function_at, of_method_at}
+use Rattle.pc_sound.proofs.Modules.LabelledBodies.{never_stops}
 use Rattle.pc_sound.proofs.Modules.LabelledBodies.{reserved_same}
 use Rattle.pc_sound.proofs.Modules.MembersBind.{among_same}
 
@@ -102,13 +103,13 @@ reserved_front xs ys p c = subst (λ l. Contains l p) (sym (split xs))
     split (x ∷ xs) = ap (λ l. one_if (keywords.is_reserved x.text) x.place ++ l) (split xs)
         ∙ sym (append_assoc (one_if (keywords.is_reserved x.text) x.place) (reserved_among xs) (reserved_among ys))
 
-module _ (m : Module) (labels : Labelling m) (lawful : IsLawful m labels) (clean : HasNoError m) where
+module _ (m : Module) (labels : Labelling m) (lawful : IsLawful m labels) (clean : HasNoSilentError m) where
   -- each item binds its name
   pub items_bind : AllBind [] (map name_of_item m.items)
   items_bind = all_bind [] (map name_of_item m.items)
-      (λ p c. never_stops m labels lawful clean E01 tt refl p (Contains-append_left
+      (λ p c. never_stops m labels lawful clean E01 tt tt p (Contains-append_left
       (bound_again [] (map name_of_item m.items)) _ p c))
-      (λ p c. never_stops m labels lawful clean E29 tt refl p (Contains-append_left
+      (λ p c. never_stops m labels lawful clean E29 tt tt p (Contains-append_left
       (reserved_among (map name_of_item m.items)) _ p c))
 
   again_places : (owner : Owner) (d : FuncDef) (p : Place) → function_of m owner ≡ Some d
@@ -129,12 +130,12 @@ module _ (m : Module) (labels : Labelling m) (lawful : IsLawful m labels) (clean
   pub function_binds : (owner : Owner) (d : FuncDef) → function_of m owner ≡ Some d
       → AllBind (receiver owner) (map name_of_param d.params)
   function_binds owner d e = all_bind (receiver owner) (map name_of_param d.params)
-      (λ p c. never_stops m labels lawful clean E01 tt refl p (Contains-append_right
+      (λ p c. never_stops m labels lawful clean E01 tt tt p (Contains-append_right
       (bound_again [] (map name_of_item m.items)) _ p
       (Contains-append_left (of_defs (params_again []) (params_again (codes "self" ∷ [])) m.items)
       (given_in_constants m.items ++ of_defs given_in_def given_in_def m.items) p (again_places owner d p e c))))
-      (λ p c. never_stops m labels lawful clean E29 tt refl p (Contains-append_right
+      (λ p c. never_stops m labels lawful clean E29 tt tt p (Contains-append_right
       (reserved_among (map name_of_item m.items)) _ p (Contains-append_right (reserved_in_classes m.items)
       (of_defs reserved_in_def reserved_in_def m.items) p
-      (function_places m labels lawful clean reserved_in_def owner d p e
+      (function_places m reserved_in_def owner d p e
       (reserved_front (map name_of_param d.params) (bound_by d.body) p c)))))

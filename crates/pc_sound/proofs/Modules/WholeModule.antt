@@ -1,12 +1,11 @@
 -- The whole: where each form is safe in each body, a run of a module that ends in a fault has evaluated a listed
--- dynamic place.
+-- place.
 use Rattle.std.proofs.Common.{◌≡◌, ℕ, List, [], length, refl, sym, subst, inl, inr, arith, Contains}
 use Rattle.std.specs.Prelude.{true, nat_lt, codes, Some}
 use Rattle.std.proofs.lemmas.Bool.Decides.{nat_tests}
 use Rattle.std.proofs.lemmas.Option.{none-some}
 use Rattle.pc_source.specs.declared.place.Place.{Place}
 use Rattle.pc_tree.specs.declared.code.Finding.{Finding}
-use Rattle.pc_tree.specs.Code.{IsError}
 use Rattle.pc_tree.specs.Tree.{FuncDef, Module}
 use Rattle.pc_tree.specs.Stopping.{is_plain_def}
 use Rattle.pc_scope.specs.declared.resolution.Owner.{Owner}
@@ -28,7 +27,8 @@ use Rattle.pc_machine.specs.Free.{Step, free}
 use Rattle.pc_machine.specs.Evaluation.{steps, exec_module, enter_main}
 use Rattle.pc_machine.specs.Runs.{Run, End, end_of, IsFaultyEnd}
 use Rattle.pc_sound.proofs.Steps.Judgment.{EndsWell, Around, IsContextOf}
-use Rattle.pc_sound.specs.Sound.{HasNoError, HasEvaluated}
+use Rattle.pc_sound.specs.Silent.{HasNoSilentError}
+use Rattle.pc_sound.specs.Sound.{HasEvaluatedListed}
 use Rattle.pc_sound.proofs.Heap.Fields.{Inherits}
 use Rattle.pc_sound.proofs.Steps.NestedSteps.{Bodies, FormsGood, AllGood, all_good}
 use Rattle.pc_sound.proofs.Steps.Places.{steps_evaluate}
@@ -40,11 +40,10 @@ use Rattle.pc_sound.proofs.Modules.ModuleOrder.{around_items, Between, Listed, p
 use Rattle.pc_sound.proofs.Modules.ModuleItems.{ItemsReady, last_of, GoodClasses, items_proceed, MainIs, main_is}
 use Rattle.pc_sound.proofs.Modules.ModuleItems.{main_safe}
 
--- the place of a finding that is no error
+-- the place of a finding
 pub record IsListedPlace (m : Module) (p : Place) : Type 0 where
   pub finding : Finding
   pub found : IsFinding m finding
-  pub dynamic : ¬ (IsError finding.code)
   pub at : finding.place ≡ p
 
 module _ (m : Module) (labels : Labelling m) where
@@ -86,8 +85,8 @@ module _ (m : Module) (labels : Labelling m) where
   abbrev pub Last : BeforeItem
   Last = last_of m (constant_types m m.items labels) (IsListedPlace m) nothing_before m.items labels
 
-  -- what is left to be shown of a module without errors: each form is safe in each body, classes are made as their
-  -- facts say, and its labels are as runs need them
+  -- what is left to be shown of a module without silent errors: each form is safe in each body, classes are made as
+  -- their facts say, and its labels are as runs need them
   pub record Premises : Type 1 where
     pub forms : FormsGood m bodies
     pub classes : (n : ℕ) → GoodClasses m (constant_types m m.items labels) (IsListedPlace m) (steps Step free n)
@@ -101,10 +100,10 @@ module _ (m : Module) (labels : Labelling m) where
     pub last_classes : (last_of m (constant_types m m.items labels) (IsListedPlace m) nothing_before m.items
         labels).classes ≡ length (classes_in m.items)
 
-  module _ (lawful : IsLawful m labels) (clean : HasNoError m) (premises : Premises) where
+  module _ (lawful : IsLawful m labels) (clean : HasNoSilentError m) (premises : Premises) where
     listed_of : Listed m (IsListedPlace m) (ItemsFind m (constant_types m m.items labels) nothing_before m.items labels)
     listed_of f h = let found = said_is_found m labels lawful f h in
-        (record { finding = f; found = found; dynamic = clean f found; at = refl }, clean f found)
+        (record { finding = f; found = found; at = refl }, clean f found)
 
     good : (n : ℕ) → AllGood m bodies n
     good n = all_good m bodies premises.forms n
@@ -159,8 +158,8 @@ module _ (m : Module) (labels : Labelling m) where
       };
     }
 
-    -- a run that ends in a fault has evaluated a listed dynamic place
-    pub sound_of : (events : List Place) (end : End) → Run m events end → IsFaultyEnd end → HasEvaluated m events
+    -- a run that ends in a fault has evaluated a listed place
+    pub sound_of : (events : List Place) (end : End) → Run m events end → IsFaultyEnd end → HasEvaluatedListed m events
     sound_of events end (inl never) fault = absurd (never_stopped m (record { labels = labels; lawful = lawful }) clean
         never.0)
     sound_of events end (inr ran) fault = elim ((module_proceeds ran.1.bound).run [] nothing_bound ran.1.left events
@@ -168,7 +167,6 @@ module _ (m : Module) (labels : Labelling m) where
           | inl h ↦ record {
             finding = h.is.finding;
             found = h.is.found;
-            dynamic = h.is.dynamic;
             event =
                 subst (λ p. Contains events p) (sym h.is.at) h.event;
           }

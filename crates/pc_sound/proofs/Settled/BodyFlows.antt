@@ -175,8 +175,10 @@ module _ (asked : Asked) where
         stmt_flows seen env (pass p) labels out k law = tt
         stmt_flows seen env (breaks p) labels out k law = tt
         stmt_flows seen env (continues p) labels out k law = tt
-        stmt_flows seen env (returns p e) labels out k law = return_flows returned env p e labels.value labels.flows k
-            law.0
+        stmt_flows seen env (returns p None) labels out k law = return_flows returned env p None labels.value
+            labels.flows tt law.0
+        stmt_flows seen env (returns p (Some e)) labels out k law = return_flows returned env p (Some e) labels.value
+            labels.flows k law.0
         stmt_flows seen env (asserts p c e) labels out k law =
             flows_append asked (dynamic_in c labels.condition) (dynamic_in_option e labels.message)
             (expression_flows asked ctx declared env None c labels.condition k.0 law.condition)

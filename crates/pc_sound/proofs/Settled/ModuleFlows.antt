@@ -28,6 +28,7 @@ use Rattle.pc_module_rules.specs.Modules.{MembersLabels, LawfulMembers, ItemLabe
 use Rattle.pc_module_rules.specs.Modules.{before_next, nothing_before, constant_types, LawfulItem, LawfulModuleItems}
 use Rattle.pc_module_rules.specs.Modules.{Labelling}
 use Rattle.pc_module_rules.specs.FlowsOfExpressions.{DynamicFlow}
+use Rattle.pc_module_rules.specs.Statements.{SuiteFinds}
 use Rattle.pc_module_rules.specs.FlowsOfStatements.{dynamic_in_suite}
 use Rattle.pc_module_rules.specs.FlowsOfModules.{dynamic_at_default, dynamic_in_params, dynamic_in_members}
 use Rattle.pc_module_rules.specs.FlowsOfModules.{dynamic_in_methods, dynamic_in_function, dynamic_in_item}
@@ -36,7 +37,9 @@ use Rattle.pc_module_rules.specs.FlowsOfModules.{FlowsDynamically}
 use Rattle.pc_module_rules.proofs.LabelledModule.{every_module_has_a_labelling}
 use Rattle.pc_sound.proofs.Settled.SettledParts.{Asked, classes_below, ClassAsked, TestsAsked, IsSettled, NamesAsked}
 use Rattle.pc_sound.proofs.Settled.SettledParts.{Settled}
+use Rattle.pc_sound.specs.Silent.{bare_returns_in}
 use Rattle.pc_sound.proofs.Settled.SettledStatements.{InitializersSettled}
+use Rattle.pc_sound.proofs.Settled.QuietReturns.{AskedRight}
 use Rattle.pc_sound.proofs.Settled.SettledFunctions.{OwnerAsked, function_settled}
 use Rattle.pc_sound.proofs.Settled.SettledInitializers.{InitializersTimely, initializers_are_settled}
 use Rattle.pc_sound.proofs.Settled.SettledInitializers.{constants_are_settled}
@@ -87,7 +90,10 @@ module _ (asked : Asked) where
   module _ (m : Module) (meant : NamesAsked asked (resolve_in_module m)) (constants : List Tree)
       (types : (i : ℕ) (t : Tree) → slice_get constants i ≡ Some t → IsSettled asked t)
       (in_time : (owner : Owner) (f : FuncDef) → TestsAsked asked
-      (NamesTimely (body_context m constants (locals owner f)))) where
+      (NamesTimely (body_context m constants (locals owner f))))
+      (none_wrong : (owner : Owner) (f : FuncDef) (labels : FunctionLabels f) → AskedRight asked
+      (SuiteFinds m (body_context m constants (locals owner f)) (names_entered [] (entry_parameters m owner f)) f.body
+      labels.body) (bare_returns_in f.body)) where
     body_flows : (owner : Owner) → OwnerAsked asked owner → (f : FuncDef) (labels : FunctionLabels f)
         → LawfulFunction m constants owner f labels → FlowsSettled asked (dynamic_in_suite f.body labels.body)
     body_flows owner there f labels law =
@@ -95,7 +101,8 @@ module _ (asked : Asked) where
         suite_flows asked m ctx labels.declared (return_type m f) (names_entered [] (entry_parameters m owner f))
         (entry_env ctx.resolve [] (entry_parameters m owner f) (none_assigned (length (locals owner f)))) f.body
         labels.body labels.out
-        (function_settled asked m meant constants types owner there f (in_time owner f) labels law) law.body
+        (function_settled asked m meant constants types owner there f (in_time owner f) labels
+        (none_wrong owner f labels) law) law.body
 
     methods_flows : (base : ClassFacts) (c : ℕ) → ClassAsked asked c
         → (number : ℕ) (before : List (List ℕ)) (ms : List Member) (labels : MembersLabels ms)
@@ -214,7 +221,7 @@ named_below m word c e =
     let many = many_classes m in
     omega (arith, behind, within, many)
 
--- where classes are asked, tests of an instance are not
+-- where classes are asked, nothing is asked of tests of an instance
 module _ (m : Module) (bound : ℕ) where
   initializers_timely : (b : BeforeItem) (items : List Item) (labels : ItemsLabels items)
       → InitializersTimely (classes_below bound) m b items labels
@@ -240,8 +247,8 @@ flow_settled m p s t flows =
     let timely = initializers_timely m (length (classes_of m)) nothing_before m.items labelled.labels in
     let initializers = initializers_are_settled asked m (named_below m) labelled.labels labelled.lawful timely in
     let types = constants_are_settled asked m (named_below m) labelled.labels labelled.lawful timely in
-    let all = module_flows asked m (named_below m) constants types (λ owner f. tt) (below m) labelled.labels
-    initializers labelled.lawful in
+    let all = module_flows asked m (named_below m) constants types (λ owner f. tt) (λ owner f labels. tt) (below m)
+    labelled.labels initializers labelled.lawful in
     let first = flows labelled.labels labelled.lawful in
     among_settled asked first.before first.behind (record { place = p; from = s; into = t })
     (subst (FlowsSettled asked) first.order all)

@@ -15,15 +15,17 @@ use Rattle.pc_class.specs.Facts.{TypedParameter, return_type}
 use Rattle.pc_class.specs.Bases.{bases_of}
 use Rattle.pc_flow.specs.Environment.{Env, declared_type, none_assigned}
 use Rattle.pc_rules.specs.Signatures.{body_context}
-use Rattle.pc_module_rules.specs.Statements.{NamesBound}
+use Rattle.pc_module_rules.specs.Statements.{NamesBound, SuiteFinds}
 use Rattle.pc_module_rules.specs.Modules.{entry_parameters, names_entered, DeclaredEntry, LawfulEntry}
 use Rattle.pc_module_rules.specs.Modules.{assigned_at_entry, entry_env, FunctionLabels, LawfulFunction}
+use Rattle.pc_sound.specs.Silent.{bare_returns_in}
 use Rattle.pc_sound.proofs.Settled.SettledParts.{Asked, ClassAsked, TestsAsked, IsSettled, NamesAsked}
 use Rattle.pc_sound.proofs.Settled.SettledStatements.{SuiteSettled}
 use Rattle.pc_sound.proofs.Settled.SettledTypes.{EnvSettled, assign_settled}
 use Rattle.pc_sound.proofs.Settled.SettledCalls.{ParametersSettled}
 use Rattle.pc_sound.proofs.Settled.SettledModules.{body_settled, option_ann_settled, parameters_settled}
 use Rattle.pc_sound.proofs.Settled.SettledBindings.{local_same}
+use Rattle.pc_sound.proofs.Settled.QuietReturns.{AskedRight, suite_quiet}
 use Rattle.pc_sound.proofs.Settled.SettledSuites.{suite_settled}
 use Rattle.pc_sound.proofs.Modules.TimelyBodies.{NamesTimely, all_timely}
 use Rattle.pc_sound.proofs.Steps.Frames.{none_current}
@@ -99,8 +101,10 @@ module _ (asked : Asked) where
     pub function_settled : (constants : List Tree) → ((i : ℕ) (t : Tree) → slice_get constants i ≡ Some t
         → IsSettled asked t) → (owner : Owner) → OwnerAsked owner → (f : FuncDef)
         → TestsAsked asked (NamesTimely (body_context m constants (locals owner f))) → (labels : FunctionLabels f)
+        → AskedRight asked (SuiteFinds m (body_context m constants (locals owner f))
+        (names_entered [] (entry_parameters m owner f)) f.body labels.body) (bare_returns_in f.body)
         → LawfulFunction m constants owner f labels → SuiteSettled asked f.body labels.body
-    function_settled constants ck owner there f in_time labels law =
+    function_settled constants ck owner there f in_time labels none_wrong law =
         let ctx = body_context m constants (locals owner f) in
         let e = entry_settled ctx.resolve labels.declared [] (entry_parameters m owner f)
         (none_assigned (length (locals owner f))) (λ word a. absurd (grind (arith, a)))
@@ -110,4 +114,5 @@ module _ (asked : Asked) where
         (all_timely ctx labels.declared asked in_time) (return_type m f)
         (option_ann_settled asked m meant (bases_of m) f.returns) (names_entered [] (entry_parameters m owner f))
         (entry_env ctx.resolve [] (entry_parameters m owner f) (none_assigned (length (locals owner f)))) f.body
-        labels.body labels.out e.words e.env_settled law.body).settled_labels
+        labels.body labels.out e.words e.env_settled (suite_quiet asked m ctx
+        (names_entered [] (entry_parameters m owner f)) f.body labels.body none_wrong) law.body).settled_labels

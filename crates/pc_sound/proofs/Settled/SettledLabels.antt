@@ -67,11 +67,12 @@ module _ (asked : Asked) where
   with_settled (index p e i) m here h k = (k, h.1)
   with_settled (call p c args kws) m here h k = ((k, h.0.1), h.1)
 
-  item_types_settled : (es : Exprs) (m : ItemsLabels es) → ItemsSettled asked es m → EachSettled asked (item_types es m)
+  pub item_types_settled : (es : Exprs) (m : ItemsLabels es) → ItemsSettled asked es m
+      → EachSettled asked (item_types es m)
   item_types_settled no_exprs m h = tt
   item_types_settled (more_exprs e rest) m h = (settled_type asked e m.first h.0, item_types_settled rest m.rest h.1)
 
-  value_types_settled : (es : Entries) (m : EntriesLabels es) → EntriesSettled asked es m
+  pub value_types_settled : (es : Entries) (m : EntriesLabels es) → EntriesSettled asked es m
       → EachSettled asked (value_types es m)
   value_types_settled no_entries m h = tt
   value_types_settled (more_entries a b rest) m h = (

@@ -1,15 +1,18 @@
 -- The labels of the expressions of statements and of initializers have types whose dicts have int or str as key and
 -- whose classes are as asked, and so have the items that a `for` goes over.
-use Rattle.std.specs.Prelude.{List, [], ◌∷◌, Option, Some, None}
+use Rattle.std.specs.Prelude.{◌≡◌, List, [], ◌∷◌, Option, Some, None, Contains}
+use Rattle.pc_tree.specs.declared.code.Code.TheVariants.{E12}
 use Rattle.pc_tree.specs.Tree.{Expr, Target, to_name, to_attribute, to_index, Stmt, pass, breaks, continues, returns}
 use Rattle.pc_tree.specs.Tree.{asserts, annotated, assigns, evaluates, while_loop, for_loop, conditional, Stmts}
 use Rattle.pc_tree.specs.Tree.{no_stmts, more_stmts, Branches, no_branches, more_branches, Item, constant_item}
 use Rattle.pc_tree.specs.Tree.{class_item, def_item}
 use Rattle.pc_scope.specs.Reach.{completes}
+use Rattle.pc_rules.specs.Operations.{FlowLabel}
+use Rattle.pc_rules.specs.Labels.{FlowLabels}
 use Rattle.pc_module_rules.specs.StatementLabels.{OptionLabels, TargetLabels, StmtLabels, SuiteLabels, BranchesLabels}
 use Rattle.pc_module_rules.specs.StatementLabels.{BehindRule}
 use Rattle.pc_module_rules.specs.Modules.{ItemsLabels}
-use Rattle.pc_sound.proofs.Settled.SettledParts.{Asked, IsSettled, Settled}
+use Rattle.pc_sound.proofs.Settled.SettledParts.{Asked, TestsAsked, IsSettled, Settled}
 
 module _ (asked : Asked) where
   abbrev pub OptionalSettled : (e : Option Expr) → OptionLabels e → Type 0
@@ -21,12 +24,35 @@ module _ (asked : Asked) where
   TargetSettled (to_attribute p e field) m = Settled asked e m.object
   TargetSettled (to_index p e i) m = Settled asked e m.object × Settled asked i m.key
 
+  -- a `return` without a value has no E12, where the soundness law asks
+  abbrev pub IsQuietReturn : FlowLabels → Type 0
+  IsQuietReturn flows = TestsAsked asked ((x : FlowLabel) → Contains flows x → x.code ≡ Some E12 → ⊥)
+
+  -- so each in statements
+  abbrev mutual
+    pub StmtQuiet : (s : Stmt) → StmtLabels s → Type 0
+    StmtQuiet (returns p None) m = IsQuietReturn m.flows
+    StmtQuiet (while_loop p c b) m = SuiteQuiet b m.body
+    StmtQuiet (for_loop p n e b) m = SuiteQuiet b m.body
+    StmtQuiet (conditional p bs o) m = BranchesQuiet bs m.branches × SuiteQuiet o m.otherwise
+    StmtQuiet _ m = Unit {0}
+
+    pub SuiteQuiet : (b : Stmts) → SuiteLabels b → Type 0
+    SuiteQuiet no_stmts m = Unit {0}
+    SuiteQuiet (more_stmts s rest) m = StmtQuiet s m.first × BehindRule (completes s) m.behind
+        (λ r. SuiteQuiet rest r.rest) (Unit {0})
+
+    pub BranchesQuiet : (bs : Branches) → BranchesLabels bs → Type 0
+    BranchesQuiet no_branches m = Unit {0}
+    BranchesQuiet (more_branches c b rest) m = SuiteQuiet b m.body × BranchesQuiet rest m.rest
+
   abbrev mutual
     pub StmtSettled : (s : Stmt) → StmtLabels s → Type 0
     StmtSettled (pass p) m = Unit {0}
     StmtSettled (breaks p) m = Unit {0}
     StmtSettled (continues p) m = Unit {0}
-    StmtSettled (returns p e) m = OptionalSettled e m.value
+    StmtSettled (returns p None) m = IsQuietReturn m.flows
+    StmtSettled (returns p (Some e)) m = Settled asked e m.value
     StmtSettled (asserts p c e) m = Settled asked c m.condition × OptionalSettled e m.message
     StmtSettled (annotated p n a e) m = OptionalSettled e m.value
     StmtSettled (assigns p t e) m = Settled asked e m.value × TargetSettled t m.target

@@ -31,6 +31,7 @@ use Rattle.pc_sound.proofs.Settled.SettledCalls.{ContextSettled}
 use Rattle.pc_sound.proofs.Settled.SettledLabels.{Timely, labels_settled}
 use Rattle.pc_sound.proofs.Settled.SettledModules.{ann_settled}
 use Rattle.pc_sound.proofs.Settled.SettledStatements.{OptionalSettled, StmtSettled, SuiteSettled, BranchesSettled}
+use Rattle.pc_sound.proofs.Settled.SettledStatements.{StmtQuiet, SuiteQuiet, BranchesQuiet}
 use Rattle.pc_sound.proofs.Settled.SettledBindings.{NameSettled, NamesSettled, SeenSettled, names_append, seen_more}
 use Rattle.pc_sound.proofs.Settled.SettledBindings.{seen_names, undeclared_settled, binding_settled, store_settled}
 use Rattle.pc_sound.proofs.Settled.SettledBindings.{iterable_settled, for_target_settled, declaration_settled}
@@ -223,18 +224,19 @@ module _ (asked : Asked) where
           → SeenSettled asked m ctx declared seen → ((out : Option Env) → LawfulStmt m ctx declared returned seen
           env s first out → StmtResult s first out)
           → ((seen : NamesBound) (env : Env) (labels : SuiteLabels rest) (out : Option Env)
-          → SeenSettled asked m ctx declared seen → EnvSettled asked declared env
+          → SeenSettled asked m ctx declared seen → EnvSettled asked declared env → SuiteQuiet asked rest labels
           → LawfulSuite m ctx declared returned seen env rest labels out → SuiteResult rest labels out)
           → (b : Test) (behind : Behind b (Following (SuiteLabels rest))) (out : Option Env)
+          → BehindRule b behind (λ r. SuiteQuiet asked rest r.rest) (Unit {0})
           → BehindRule b behind (λ r. LawfulStmt m ctx declared returned seen env s first (Some r.env)
           × LawfulSuite m ctx declared returned (texts (bound_by_stmt s) ++ seen) r.env rest r.rest out)
           (LawfulStmt m ctx declared returned seen env s first None
           × AreUndeclared m ctx declared (texts (bound_by_stmt s) ++ seen) (bound_by rest) × (out ≡ None))
           → BehindResult s rest first b behind out
-      behind_settled seen env s rest first sk one others true behind out law =
+      behind_settled seen env s rest first sk one others true behind out quiet law =
           let a = one (Some behind.env) law.0 in
           let r = others (texts (bound_by_stmt s) ++ seen) behind.env behind.rest out
-          (seen_names asked m ctx declared (bound_by_stmt s) seen a.names sk) (a.after behind.env refl) law.1 in
+          (seen_names asked m ctx declared (bound_by_stmt s) seen a.names sk) (a.after behind.env refl) quiet law.1 in
           record {
             settled_labels = (a.settled_labels, r.settled_labels);
             names = names_append asked m ctx declared
@@ -243,7 +245,7 @@ module _ (asked : Asked) where
             breaks =
                 envs_append ctx.bases declared (breaks_in s first) (breaks_in_suite rest behind.rest) a.breaks r.breaks;
           }
-      behind_settled seen env s rest first sk one others false behind out law =
+      behind_settled seen env s rest first sk one others false behind out quiet law =
           let a = one None law.0 in
           record {
             settled_labels = (a.settled_labels, tt);
@@ -257,32 +259,34 @@ module _ (asked : Asked) where
 
       mutual
         pub stmt_settled : (seen : NamesBound) (env : Env) (s : Stmt) (labels : StmtLabels s) (out : Option Env)
-            → SeenSettled asked m ctx declared seen → EnvSettled asked declared env
+            → SeenSettled asked m ctx declared seen → EnvSettled asked declared env → StmtQuiet asked s labels
             → LawfulStmt m ctx declared returned seen env s labels out → StmtResult s labels out
-        stmt_settled seen env (pass p) labels out sk ek law = record {
+        stmt_settled seen env (pass p) labels out sk ek quiet law = record {
           settled_labels = tt;
           names = tt;
           after =
               out_is out env law ek;
           breaks = tt;
         }
-        stmt_settled seen env (breaks p) labels out sk ek law = record {
+        stmt_settled seen env (breaks p) labels out sk ek quiet law = record {
           settled_labels = tt;
           names = tt;
           after =
               out_none out law.1;
           breaks = (subst (EnvSettled asked declared) (sym law.0) ek, tt);
         }
-        stmt_settled seen env (continues p) labels out sk ek law =
+        stmt_settled seen env (continues p) labels out sk ek quiet law =
             record { settled_labels = tt; names = tt; after = out_none out law; breaks = tt }
-        stmt_settled seen env (returns p e) labels out sk ek law =
+        stmt_settled seen env (returns p None) labels out sk ek quiet law =
+            record { settled_labels = quiet; names = tt; after = out_none out law.1; breaks = tt }
+        stmt_settled seen env (returns p (Some e)) labels out sk ek quiet law =
             record {
-              settled_labels = return_settled returned rk env e labels.value labels.flows ek law.0;
+              settled_labels = return_settled returned rk env (Some e) labels.value labels.flows ek law.0;
               names = tt;
               after = out_none out law.1;
               breaks = tt;
             }
-        stmt_settled seen env (asserts p c e) labels out sk ek law = record {
+        stmt_settled seen env (asserts p c e) labels out sk ek quiet law = record {
           settled_labels = (
             expression_settled env c labels.condition ek law.condition,
             option_settled returned (narrow ctx.bases declared ctx.resolve false c env) e labels.message
@@ -292,7 +296,7 @@ module _ (asked : Asked) where
           after = out_is out (narrow ctx.bases declared ctx.resolve true c env) law.after (narrowed true c env ek);
           breaks = tt;
         }
-        stmt_settled seen env (annotated p n a e) labels out sk ek law =
+        stmt_settled seen env (annotated p n a e) labels out sk ek quiet law =
             let k = annotated_settled env seen n a e labels.value labels.flows law.after ek sk law.binding in
             record {
               settled_labels = k.settled_labels;
@@ -301,9 +305,9 @@ module _ (asked : Asked) where
                   out_is out law.after law.is k.env_settled;
               breaks = tt;
             }
-        stmt_settled seen env (assigns p t e) labels out sk ek law = assignment_settled returned env seen p t e labels
-            law.after out ek sk law.assignment law.is
-        stmt_settled seen env (evaluates p e) labels out sk ek law =
+        stmt_settled seen env (assigns p t e) labels out sk ek quiet law = assignment_settled returned env seen p t e
+            labels law.after out ek sk law.assignment law.is
+        stmt_settled seen env (evaluates p e) labels out sk ek quiet law =
             record {
               settled_labels = expression_settled env e labels ek law.0;
               names = tt;
@@ -311,11 +315,11 @@ module _ (asked : Asked) where
                   out_is out env law.1 ek;
               breaks = tt;
             }
-        stmt_settled seen env (while_loop p c b) labels out sk ek law =
+        stmt_settled seen env (while_loop p c b) labels out sk ek quiet law =
             let hk = subst (EnvSettled asked declared) (sym law.head)
             (head_settled (binds_number ctx.resolve (bound_by b)) declared env ek) in
             let body = suite_settled seen (narrow ctx.bases declared ctx.resolve true c labels.head) b labels.body
-            labels.out sk (narrowed true c labels.head hk) law.body in
+            labels.out sk (narrowed true c labels.head hk) quiet law.body in
             record {
               settled_labels = (
                 expression_settled labels.head c labels.condition hk law.condition,
@@ -327,7 +331,7 @@ module _ (asked : Asked) where
                   (narrowed false c labels.head hk) body.breaks);
               breaks = tt;
             }
-        stmt_settled seen env (for_loop p n e b) labels out sk ek law =
+        stmt_settled seen env (for_loop p n e b) labels out sk ek quiet law =
             let i = iterable_settled asked m meant ctx declared settled timely env e labels.iterable labels.item ek
             law.iterable in
             let hk = subst (EnvSettled asked declared) (sym law.head)
@@ -335,7 +339,7 @@ module _ (asked : Asked) where
             let t = for_target_settled asked m meant ctx declared settled timely seen n labels.head labels.item
             labels.flows law.inside hk sk i.item_settled law.target in
             let body = suite_settled (n.text ∷ seen) law.inside b labels.body labels.out
-            (seen_more asked m ctx declared n seen t.name_settled sk) t.env_settled law.body in
+            (seen_more asked m ctx declared n seen t.name_settled sk) t.env_settled quiet law.body in
             record {
               settled_labels = ((i.settled_labels, i.item_settled), body.settled_labels);
               names = (t.name_settled, body.names);
@@ -343,10 +347,10 @@ module _ (asked : Asked) where
                   (breaks_in_suite b labels.body) hk body.breaks);
               breaks = tt;
             }
-        stmt_settled seen env (conditional p bs o) labels out sk ek law =
-            let r = branches_settled seen env bs labels.branches labels.last sk ek law.branches in
+        stmt_settled seen env (conditional p bs o) labels out sk ek quiet law =
+            let r = branches_settled seen env bs labels.branches labels.last sk ek quiet.0 law.branches in
             let b = suite_settled (texts (bound_by_branches bs) ++ seen) labels.last o labels.otherwise labels.out
-            (seen_names asked m ctx declared (bound_by_branches bs) seen r.names sk) r.behind law.otherwise in
+            (seen_names asked m ctx declared (bound_by_branches bs) seen r.names sk) r.behind quiet.1 law.otherwise in
             record {
               settled_labels = (r.settled_labels, b.settled_labels);
               names = names_append asked m ctx declared (bound_by_branches bs) (bound_by o) r.names b.names;
@@ -358,25 +362,25 @@ module _ (asked : Asked) where
             }
 
         pub suite_settled : (seen : NamesBound) (env : Env) (b : Stmts) (labels : SuiteLabels b) (out : Option Env)
-            → SeenSettled asked m ctx declared seen → EnvSettled asked declared env
+            → SeenSettled asked m ctx declared seen → EnvSettled asked declared env → SuiteQuiet asked b labels
             → LawfulSuite m ctx declared returned seen env b labels out → SuiteResult b labels out
-        suite_settled seen env no_stmts labels out sk ek law = record {
+        suite_settled seen env no_stmts labels out sk ek quiet law = record {
           settled_labels = tt;
           names = tt;
           after =
               out_is out env law ek;
           breaks = tt;
         }
-        suite_settled seen env (more_stmts s rest) labels out sk ek law =
+        suite_settled seen env (more_stmts s rest) labels out sk ek quiet law =
             let r = behind_settled seen env s rest labels.first sk (λ o l. stmt_settled seen env s labels.first o sk ek
-            l) (λ seen' env' labels' o sk' ek' l. suite_settled seen' env' rest labels' o sk' ek' l) (completes s)
-            labels.behind out law in
+            quiet.0 l) (λ seen' env' labels' o sk' ek' q l. suite_settled seen' env' rest labels' o sk' ek' q l)
+            (completes s) labels.behind out quiet.1 law in
             record { settled_labels = r.settled_labels; names = r.names; after = r.after; breaks = r.breaks }
 
         branches_settled : (seen : NamesBound) (env : Env) (bs : Branches) (labels : BranchesLabels bs) (last : Env)
-            → SeenSettled asked m ctx declared seen → EnvSettled asked declared env
+            → SeenSettled asked m ctx declared seen → EnvSettled asked declared env → BranchesQuiet asked bs labels
             → LawfulBranches m ctx declared returned seen env bs labels last → BranchesResult bs labels last
-        branches_settled seen env no_branches labels last sk ek law =
+        branches_settled seen env no_branches labels last sk ek quiet law =
             record {
               settled_labels = tt;
               names = tt;
@@ -385,12 +389,12 @@ module _ (asked : Asked) where
                   tt;
               breaks = tt;
             }
-        branches_settled seen env (more_branches c b rest) labels last sk ek law =
+        branches_settled seen env (more_branches c b rest) labels last sk ek quiet law =
             let body = suite_settled seen (narrow ctx.bases declared ctx.resolve true c env) b labels.body labels.out sk
-            (narrowed true c env ek) law.body in
+            (narrowed true c env ek) quiet.0 law.body in
             let r = branches_settled (texts (bound_by b) ++ seen) (narrow ctx.bases declared ctx.resolve false c env)
             rest labels.rest last (seen_names asked m ctx declared (bound_by b) seen body.names sk)
-            (narrowed false c env ek) law.others in
+            (narrowed false c env ek) quiet.1 law.others in
             record {
               settled_labels = (
                 expression_settled env c labels.condition ek law.condition,

@@ -4,7 +4,7 @@ use Rattle.std.specs.Prelude.{◌⊎◌, Bool as Test, true, false, Option, Some
 use Rattle.pc_source.specs.declared.place.Place.{Place}
 use Rattle.pc_tree.specs.declared.code.Code.{Code}
 use Rattle.pc_tree.specs.declared.code.Code.TheVariants.{E03, E12}
-use Rattle.pc_tree.specs.Code.{finding, IsError}
+use Rattle.pc_tree.specs.Code.{finding}
 use Rattle.pc_tree.specs.Tree.{Expr}
 use Rattle.pc_tree.specs.Depth.{place_of}
 use Rattle.pc_types.specs.Tree.{Tree, Any, Object, Never, Int, Bool, Str, NoneType, Class, ListOf, DictOf, TupleOf}
@@ -24,6 +24,7 @@ use Rattle.pc_machine.specs.State.{State}
 use Rattle.pc_machine.specs.Free.{Step}
 use Rattle.pc_sound.specs.Values.{HeapTyping, HasType}
 use Rattle.pc_sound.proofs.Steps.Judgment.{HasListed, AreListedCodes, Around, IsWellTyped, KeepsState, IsSafe}
+use Rattle.pc_sound.proofs.Lists.{not_empty}
 use Rattle.pc_sound.proofs.Values.ValuesFlow.{of_static}
 use Rattle.pc_sound.proofs.Steps.SafeSteps.{weaken, stopped_as}
 use Rattle.pc_sound.proofs.Expressions.SimpleExpressions.{Covered, GoodEval}
@@ -70,12 +71,12 @@ atom_erased _ t a b = absurd a
 pub atom_static : (bases : Bases) (s t : Tree) → IsAtom s → Assignable bases s t → Static bases s t
 atom_static bases s t a h = atom_erased s t a (atom_below a (meets_from_assignable h))
 
--- where no error is found at its flow, it is static to that type
+-- where no E12 is found at its flow, it is static to that type
 pub atom_flow : (bases : Bases) (s t : Tree) (c : Option Code) → IsAtom s → Flows bases s t c
-    → ((d : Code) → c ≡ Some d → ¬ (IsError d)) → Static bases s t
+    → (c ≡ Some E12 → ⊥) → Static bases s t
 atom_flow bases s t c a (static below) clean = below
 atom_flow bases s t c a (dynamic n h) clean = atom_static bases s t a h
-atom_flow bases s t c a (wrong n) clean = absurd (clean E12 refl refl)
+atom_flow bases s t c a (wrong n) clean = absurd (clean refl)
 
 -- ---- evaluated places
 
@@ -180,9 +181,13 @@ module _ (around : Around) (ctx : Context) (eval : Expr → Step Value) (good : 
       quiet : (early : Test) → is_early (whole_label e m).codes ≡ early → FlowUnless early around.bases (type_of e m) d
           None → Assigned known e m d None
       quiet true is f =
-          absurd
-          ((covered (finding (place_of e) E03) (found_here e m (finding (place_of e) E03)
-          (record { code = E03; among = early_code (whole_label e m).codes is; is = refl }))).1 refl)
+          weaken around env known known (eval e) (λ k v. HasType around.bases k (type_of e m) v × (E03 ∷ [] ≡ []))
+          (λ k v. HasType around.bases k (assigned_type d (type_of e m) None) v × HasType around.bases k d v)
+          (λ k h. h) (λ k v h. absurd (not_empty h.1))
+          (evaluated_safe around env known (place_of e) (eval e) (λ k v. HasType around.bases k (type_of e m) v)
+          (E03 ∷ []) (covered (finding (place_of e) E03) (found_here e m (finding (place_of e) E03)
+          (record { code = E03; among = early_code (whole_label e m).codes is; is = refl }))).0 (evaluates e)
+          (part known want e m law covered keyed))
       quiet false is f = by_flow f
 
       by_code : (c : Option Code) → flow.code ≡ c → Assigned known e m d flow.code

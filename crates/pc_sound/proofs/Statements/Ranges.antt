@@ -42,6 +42,7 @@ use Rattle.pc_sound.proofs.Steps.SafeSteps.{bind_safe, emits_safe, looks_safe, a
 use Rattle.pc_sound.proofs.Settled.KeyedLabels.{Keyed}
 use Rattle.pc_sound.proofs.Expressions.SimpleExpressions.{Covered, GoodEval, allowed}
 use Rattle.pc_sound.proofs.Values.Flows.{Evaluates, first_evaluates, later_evaluates, emit_evaluates}
+use Rattle.pc_sound.proofs.Lists.{not_empty}
 use Rattle.pc_sound.proofs.Values.UnionMembers.{HasEach}
 use Rattle.pc_sound.proofs.Calls.Arguments.{ArgumentsHave, KeywordsHave, arguments_later, keywords_later}
 use Rattle.pc_sound.proofs.Calls.Arguments.{arguments_safe, keywords_safe}
@@ -145,27 +146,20 @@ module _ (around : Around) (ctx : Context) (fits : IsContextOf around ctx) (m : 
     abbrev g : GivenArguments
     g = arguments_given args kws
 
-    suited : is_suited g range_signature ≡ true
-    suited = go (is_suited g range_signature) refl law.here
+    -- where no code stands at the call, its arguments suit
+    suited : labels.here.codes ≡ [] → is_suited g range_signature ≡ true
+    suited quiet = go (is_suited g range_signature) refl law.here
       where
         go : (x : Test) → is_suited g range_signature ≡ x → labels.here ≡ call_label ctx.bases
             ((if x then record { at_callee = []; at_call = []; gives = Object; calls = range_signature ∷ [] }
             else fails_at_call E14) ∷ []) → is_suited g range_signature ≡ true
         go true e here = e
-        go false e here =
-            absurd
-            ((covered (finding p E14)
-            (inl (record {
-              code = E14;
-              among = subst (λ l. Contains l E14) (sym (ap (λ x. x.codes) here))
-                  (0, omega arith, refl);
-              is = refl;
-            }))).1 refl)
+        go false e here = absurd (not_empty (sym (ap (λ x. x.codes) here) ∙ quiet))
 
-    into_int : (positional_seat (range_offers g) 0).into ≡ Int ∷ []
-    into_int = ap (λ x. flat_map (λ (s : Signature). type_at (slice_get s.parameters 0))
+    into_int : labels.here.codes ≡ [] → (positional_seat (range_offers g) 0).into ≡ Int ∷ []
+    into_int quiet = ap (λ x. flat_map (λ (s : Signature). type_at (slice_get s.parameters 0))
         (signatures ((if x then record { at_callee = []; at_call = []; gives = Object; calls = range_signature ∷ [] }
-        else fails_at_call E14) ∷ []))) suited
+        else fails_at_call E14) ∷ []))) (suited quiet)
 
     found : Covered around (ItemsFind args labels.arguments)
     found f h =
@@ -185,8 +179,8 @@ module _ (around : Around) (ctx : Context) (fits : IsContextOf around ctx) (m : 
     over_range_safe item item_is =
         let seat = positional_seat (range_offers g) in
         let named = named_seat (range_offers g) in
-        let int : item.type ≡ Int = ap (λ x. x.type) item_is
-        ∙ ap (λ x. (if x then clean Int else record { type = Any; codes = A5 ∷ [] }).type) suited in
+        let int : labels.here.codes ≡ [] → item.type ≡ Int = λ quiet. ap (λ x. x.type) item_is
+        ∙ ap (λ x. (if x then clean Int else record { type = Any; codes = A5 ∷ [] }).type) (suited quiet) in
         bind_safe around env _ _ _ (λ k u. Unit {0}) _ (λ k k' x h. tt) (may_stop_safe around env _)
         λ u. bind_safe around env _ _ _ (λ k u. Unit {0}) _ (λ k k' x h. (tt, tt)) (may_stop_safe around env _)
         λ u. bind_safe around env _ _ _ (λ k u. labels.callee.codes ≡ []) _ (λ k k' x h. h)
@@ -216,9 +210,9 @@ module _ (around : Around) (ctx : Context) (fits : IsContextOf around ctx) (m : 
           h.1,
         ))
         (looks_safe around env _ _ _ λ k s h st. range_limit around.bases k seat named args labels.arguments kws
-        labels.keywords values more (one_suits Int Object args kws suited) into_int h.0.0.1 h.0.1)
+        labels.keywords values more (one_suits Int Object args kws (suited h.1)) (into_int h.1) h.0.0.1 h.0.1)
         λ limit. act_safe around env _ iteration_out (action.iterate_range limit) _ λ f k s h st.
-        (refl, limit_ends k s limit item.type int h.1)
+        (refl, limit_ends k s limit item.type (int h.0.1) h.1)
       where
         limit_ends : (k : HeapTyping) (s : State) (v : Value) (t : Tree) → t ≡ Int → HasType around.bases k Int v
             → EndsWell (GoesOver around.bases k t) (iteration_out (range_outcome (seen s.heap v)))

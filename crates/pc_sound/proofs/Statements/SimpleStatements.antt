@@ -2,8 +2,6 @@
 use Rattle.std.proofs.Common.{◌≡◌, ℕ, List, [], ◌∷◌, refl, sym, ap, ◌∙◌, subst, inl, inr, Contains}
 use Rattle.std.specs.Prelude.{◌⊎◌, Bool as Test, true, false, Option, Some, None}
 use Rattle.pc_source.specs.declared.place.Place.{Place}
-use Rattle.pc_tree.specs.declared.code.Code.{Code}
-use Rattle.pc_tree.specs.Code.{finding, IsError}
 use Rattle.pc_tree.specs.Tree.{Name, Expr, Ann, Target, to_name, to_attribute, to_index, pass, breaks, continues}
 use Rattle.pc_tree.specs.Tree.{returns, asserts, annotated, assigns, evaluates, Module}
 use Rattle.pc_tree.specs.Depth.{place_of}
@@ -12,7 +10,7 @@ use Rattle.pc_types.specs.Tree.{Tree, NoneType}
 use Rattle.pc_types.specs.Below.{Static}
 use Rattle.pc_flow.specs.Environment.{Env, declared_type, assign, assigned_type}
 use Rattle.pc_flow.specs.Narrowing.{narrow}
-use Rattle.pc_rules.specs.Operations.{FlowLabel, clean}
+use Rattle.pc_rules.specs.Operations.{clean}
 use Rattle.pc_rules.specs.Context.{Context, FlowsInto}
 use Rattle.pc_rules.specs.Labels.{FlowLabels, Labels, whole_label, type_of, Finds, IsFlowAt}
 use Rattle.pc_rules.specs.Lawful.{Lawful}
@@ -203,19 +201,6 @@ module _ (around : Around) (ctx : Context) (fits : IsContextOf around ctx) (m : 
 
   -- ---- `return`
 
-  -- a flow is not in error where each finding is a listed place
-  flow_clean : (p : Place) (flows : FlowLabels) (x : FlowLabel) → flows ≡ x ∷ [] → Covered around (IsFlowAt p flows)
-      → (d : Code) → x.code ≡ Some d → ¬ (IsError d)
-  flow_clean p flows x is covered d e =
-      (covered (finding p d) (record {
-        flow = x;
-        among = subst (λ l. Contains l x) (sym is) (first_among x []);
-        code =
-            d;
-        found = e;
-        is = refl;
-      })).1
-
   pub returns_none_runs : (p : Place) → GoodStmt around ctx m returned (returns p None)
       (exec_node Step free parts (returns p None))
   returns_none_runs p = record { runs = go }
@@ -229,7 +214,7 @@ module _ (around : Around) (ctx : Context) (fits : IsContextOf around ctx) (m : 
           let f = one_flow ctx.bases (clean NoneType) returned labels.flows law.0 in
           let below : Static around.bases NoneType returned = subst (λ b. Static b NoneType returned) (sym fits.bases)
           (atom_flow ctx.bases NoneType returned f.0.code tt f.2.code
-          (flow_clean p labels.flows f.0 f.1 (λ g h. covered g (inl h)))) in
+          (λ e. keyed f.0 (subst (λ l. Contains l f.0) (sym f.1) (first_among f.0 [])) e)) in
           leads_comes around _ (Gives (leaves none)) _ λ k s at. (
             of_static around.bases k NoneType returned below none
                 tt,

@@ -5,7 +5,7 @@ use Rattle.std.proofs.lemmas.List.Elements.{Contains-append_left, Contains-appen
 use Rattle.pc_source.specs.declared.place.Place.{Place}
 use Rattle.pc_tree.specs.declared.code.Code.{Code}
 use Rattle.pc_tree.specs.declared.code.Code.TheVariants.{A1, E03, E12}
-use Rattle.pc_tree.specs.Code.{finding, IsError}
+use Rattle.pc_tree.specs.Code.{finding}
 use Rattle.pc_tree.specs.Tree.{Expr}
 use Rattle.pc_tree.specs.Depth.{place_of}
 use Rattle.pc_types.specs.Tree.{Tree}
@@ -74,9 +74,6 @@ module _ (around : Around) (ctx : Context) (eval : Expr → Step Value) (good : 
       found : (d : Code) → flow.code ≡ Some d → IsFlowAt (place_of e) (flow ∷ []) (finding (place_of e) d)
       found d is = record { flow = flow; among = (0, omega arith, refl); code = d; found = is; is = refl }
 
-      no_error : (d : Code) → flow.code ≡ Some d → IsError d → ⊥
-      no_error d is err = (allowed (finding (place_of e) d) (found d is)).1 err
-
       dynamic_run : around.listed (place_of e) → (k : HeapTyping) (s s' : State) (events : List Place) (o : Out Value)
           → known k → IsWellTyped around env k s → eval e s events o s' → HasListed around.listed events
           ⊎ KeepsState around (λ k v. HasType around.bases k t v) k s o s'
@@ -104,12 +101,12 @@ module _ (around : Around) (ctx : Context) (eval : Expr → Step Value) (good : 
           (λ k v. HasType around.bases k (type_of e m) v) (λ k v. HasType around.bases k t v) (λ k h. h)
           (λ k v h. of_static around.bases k (type_of e m) t below v h) part
       by_flow _ is (dynamic n a) = record { run = dynamic_run (allowed (finding (place_of e) A1) (found A1 is)).0 }
-      by_flow _ is (wrong n) = absurd (no_error E12 is refl)
+      by_flow _ is (wrong n) = record { run = dynamic_run (allowed (finding (place_of e) E12) (found E12 is)).0 }
 
       go : (early : Test) → is_early (whole_label e m).codes ≡ early → FlowUnless early around.bases (type_of e m) t
           flow.code → IsSafe around env known (eval e) (λ k v. HasType around.bases k t v)
-      go true is f =
-          absurd
-          ((covered (finding (place_of e) E03) (found_here e m (finding (place_of e) E03)
-          (record { code = E03; among = early_code (whole_label e m).codes is; is = refl }))).1 refl)
+      go true is f = record {
+        run = dynamic_run (covered (finding (place_of e) E03) (found_here e m (finding (place_of e) E03)
+            (record { code = E03; among = early_code (whole_label e m).codes is; is = refl }))).0;
+      }
       go false is f = by_flow flow.code refl f

@@ -38,7 +38,7 @@ pub each_static : (bases : Bases) (k : HeapTyping) (s : Tree) (ts : List Tree) (
 each_static bases k s [] v all h = tt
 each_static bases k s (t ∷ ts) v all h = (of_static bases k s t all.0 v h, each_static bases k s ts v all.1 h)
 
--- the flows of a place are allowed where each code of them is a listed dynamic place
+-- the flows of a place are allowed where each code of them is a listed place
 module _ (around : Around) (p : Place) where
   later_flows : (x : FlowLabel) (xs : FlowLabels) → Covered around (IsFlowAt p (x ∷ xs))
       → Covered around (IsFlowAt p xs)
@@ -51,7 +51,7 @@ module _ (around : Around) (p : Place) where
         is = h.is;
       })
 
-  one_flow : (m : Label) → (is_early m.codes ≡ true → ⊥) → (t : Tree) (x : FlowLabel) (xs : FlowLabels)
+  one_flow : (m : Label) → (is_early m.codes ≡ true → around.listed p) → (t : Tree) (x : FlowLabel) (xs : FlowLabels)
       → FlowAt around.bases m t x → Covered around (IsFlowAt p (x ∷ xs)) → Static around.bases m.type t
       ⊎ around.listed p
   one_flow m punctual t x xs at covered = go (is_early m.codes) refl at.code
@@ -63,15 +63,15 @@ module _ (around : Around) (p : Place) where
           ⊎ around.listed p
       by_flow _ is (static below) = inl below
       by_flow _ is (dynamic n a) = inr (covered (finding p A1) (found A1 is)).0
-      by_flow _ is (wrong n) = absurd ((covered (finding p E12) (found E12 is)).1 refl)
+      by_flow _ is (wrong n) = inr (covered (finding p E12) (found E12 is)).0
 
       go : (early : Test) → is_early m.codes ≡ early → FlowUnless early around.bases m.type t x.code
           → Static around.bases m.type t ⊎ around.listed p
-      go true is f = absurd (punctual is)
+      go true is f = inr (punctual is)
       go false is f = by_flow x.code refl f
 
   -- where all flows are allowed, they are static or the place is listed
-  pub settled_flows : (m : Label) → (is_early m.codes ≡ true → ⊥) → (ts : List Tree) (cs : FlowLabels)
+  pub settled_flows : (m : Label) → (is_early m.codes ≡ true → around.listed p) → (ts : List Tree) (cs : FlowLabels)
       → FlowsInto around.bases m ts cs → Covered around (IsFlowAt p cs) → AllStatic around.bases m.type ts
       ⊎ around.listed p
   settled_flows m punctual [] [] flows covered = inl tt
@@ -85,14 +85,14 @@ module _ (around : Around) (p : Place) where
 
 -- an expression of which all findings are allowed is not one with E03
 pub is_punctual : (around : Around) (e : Expr) (m : Labels e) → Covered around (Finds e m)
-    → is_early (whole_label e m).codes ≡ true → ⊥
+    → is_early (whole_label e m).codes ≡ true → around.listed (place_of e)
 is_punctual around e m covered is = (covered (finding (place_of e) E03)
     (found_here e m (finding (place_of e) E03) (record {
       code = E03;
       among = early_code (whole_label e m).codes is;
       is =
           refl;
-    }))).1 refl
+    }))).0
 
 module _ (around : Around) (ctx : Context) (eval : Expr → Step Value) (good : GoodEval around ctx eval)
     (evaluates : (e : Expr) → Evaluates (place_of e) (eval e)) (env : Env) where

@@ -6,8 +6,9 @@ use Rattle.pc_class.specs.Built.{class_findings}
 use Rattle.pc_class.specs.OverrideFindings.{override_findings}
 use Rattle.pc_overrides.proofs.ClassOverrides.{entries_keep}
 use Rattle.pc_notes.specs.declared.notes.Entry.{Entry}
-use Rattle.pc_notes.specs.Notes.{plain_note, notes_of}
+use Rattle.pc_notes.specs.Notes.{plain_note, notes_of, findings_of}
 use Rattle.pc_module_rules.specs.Computed.Modules.{module_finds}
+use Rattle.pc_top.proofs.BesideErrors.{beside_errors}
 use Rattle.pc_top.proofs.ModuleFindings.{exactly, same_flows, told_flows}
 use Rattle.pc_top.proofs.checking.findings_with.Goals as goal
 
@@ -28,10 +29,13 @@ returns g c =
     let all : notes_of c.note_others.new.found ≡ (module_finds m [] ++ map plain_note of_scopes) ++ map plain_note
     (of_tables m ++ override_findings m) = c.in_ok-note_others.ensures
     ∙ (λ i. (noted i ++ map plain_note (c.deref.ensures.value i)) ++ map plain_note (listed i)) in
+    let found = exactly m of_scopes (c.in_ok-of_scopes.ensures.found c.requires.scopes)
+    (notes_of c.note_others.new.found) all in
     record {
-      found = exactly m of_scopes (c.in_ok-of_scopes.ensures.found c.requires.scopes) (notes_of c.note_others.new.found) all;
+      found = found;
       flows = told_flows m (notes_of c.note_others.new.found) (λ p. same_flows p (notes_of c.note_others.new.found)
           (module_finds m []) of_scopes (of_tables m ++ override_findings m) all);
+      sound_beside_errors = beside_errors m (findings_of (notes_of c.note_others.new.found)) found;
       kept = λ ty h. c.check_module.ensures.kept ty (c.override_findings.ensures.kept ty h);
     }
 
