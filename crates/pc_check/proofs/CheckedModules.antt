@@ -1,6 +1,6 @@
 -- Walks over the members of a class and over the items of a module, from one on.
 use Rattle.std.proofs.Common.{◌≡◌, ◌<◌, ◌+◌, ℕ, suc, List, ◌∷◌, map, drop, length, get_or, sym, ap, ◌∙◌, subst, arith}
-use Rattle.std.specs.Prelude.{Some, slice_get}
+use Rattle.std.specs.Prelude.{Some, Bool as Test, slice_get}
 use Rattle.pc_source.specs.declared.place.Place.{Place}
 use Rattle.pc_tree.specs.declared.tree.Item.{Item as RustItem}
 use Rattle.pc_tree.specs.declared.tree.Member.{Member as RustMember}
@@ -52,7 +52,7 @@ pub def_here : (all : List FuncDef) (before rest : List Item) (n : ℕ) (p : Pla
 def_here all before rest n p x h is = stands_first all (functions_in rest) n x
     (subst (λ (l : List Item). StandsFrom all n (functions_in l)) is h)
 
-module _ (m : Module) (constants : List Tree) where
+module _ (keeps : Test) (m : Module) (constants : List Tree) where
   -- ---- members
 
   module _ (class : ℕ) (all : List FuncDef) (total : List Note) (before rest : List Member) (n next : ℕ)
@@ -60,28 +60,28 @@ module _ (m : Module) (constants : List Tree) where
     -- where a walk over members stands: after so many methods, and what is found in all
     pub record MembersAt : Type 0 where
       pub stand : StandsFrom all next (methods_in rest)
-      pub found : methods_find m constants class next rest new ≡ total
+      pub found : methods_find keeps m constants class next rest new ≡ total
 
-    module _ (stand : StandsFrom all n (methods_in before)) (found : methods_find m constants class n before old
+    module _ (stand : StandsFrom all n (methods_in before)) (found : methods_find keeps m constants class n before old
         ≡ total) where
       pub field_passed : (d : Field) → before ≡ field_member d ∷ rest → next ≡ n → new ≡ old → MembersAt
       field_passed d is same kept = record {
         stand = subst (λ (k : ℕ). StandsFrom all k (methods_in rest)) (sym same)
             (subst (λ (l : List Member). StandsFrom all n (methods_in l)) is stand);
-        found = (λ j. methods_find m constants class (same j) rest (kept j))
-            ∙ ap (λ (l : List Member). methods_find m constants class n l old) (sym is) ∙ found;
+        found = (λ j. methods_find keeps m constants class (same j) rest (kept j))
+            ∙ ap (λ (l : List Member). methods_find keeps m constants class n l old) (sym is) ∙ found;
       }
 
       pub method_passed : (d : FuncDef) → before ≡ method_member d ∷ rest → next ≡ n + 1
-          → new ≡ function_finds m constants (owners.Method class n) d old → MembersAt
+          → new ≡ function_finds keeps m constants (owners.Method class n) d old → MembersAt
       method_passed d is more pushed =
           let one : next ≡ suc n = more ∙ (omega arith) in
           record {
             stand = subst (λ (k : ℕ). StandsFrom all k (methods_in rest)) (sym more)
                 (others_stand all (methods_in rest) n d (subst (λ (l : List Member). StandsFrom all n (methods_in l)) is
                 stand));
-            found = (λ j. methods_find m constants class (one j) rest (pushed j))
-                ∙ ap (λ (l : List Member). methods_find m constants class n l old) (sym is) ∙ found;
+            found = (λ j. methods_find keeps m constants class (one j) rest (pushed j))
+                ∙ ap (λ (l : List Member). methods_find keeps m constants class n l old) (sym is) ∙ found;
           }
 
   -- ---- items
@@ -92,11 +92,11 @@ module _ (m : Module) (constants : List Tree) where
     pub record ItemsAt : Type 0 where
       pub classes_stand : StandsFrom classes next_class (classes_in rest)
       pub functions_stand : StandsFrom functions next_function (functions_in rest)
-      pub found : bodies_find m constants next_class next_function rest new ≡ total
+      pub found : bodies_find keeps m constants next_class next_function rest new ≡ total
 
     module _ (classes_from : StandsFrom classes c (classes_in before))
         (functions_from : StandsFrom functions f (functions_in before))
-        (found : bodies_find m constants c f before old ≡ total) where
+        (found : bodies_find keeps m constants c f before old ≡ total) where
       pub constant_passed : (p : Place) (x : Constant) → before ≡ constant_item p x ∷ rest → next_class ≡ c
           → next_function ≡ f → new ≡ old → ItemsAt
       constant_passed p x is ec ef kept = record {
@@ -104,12 +104,12 @@ module _ (m : Module) (constants : List Tree) where
             (subst (λ (l : List Item). StandsFrom classes c (classes_in l)) is classes_from);
         functions_stand = subst (λ (k : ℕ). StandsFrom functions k (functions_in rest)) (sym ef)
             (subst (λ (l : List Item). StandsFrom functions f (functions_in l)) is functions_from);
-        found = (λ j. bodies_find m constants (ec j) (ef j) rest (kept j))
-            ∙ ap (λ (l : List Item). bodies_find m constants c f l old) (sym is) ∙ found;
+        found = (λ j. bodies_find keeps m constants (ec j) (ef j) rest (kept j))
+            ∙ ap (λ (l : List Item). bodies_find keeps m constants c f l old) (sym is) ∙ found;
       }
 
       pub class_passed : (p : Place) (x : ClassDef) → before ≡ class_item p x ∷ rest → next_class ≡ c + 1
-          → next_function ≡ f → new ≡ methods_find m constants c 0 x.members old → ItemsAt
+          → next_function ≡ f → new ≡ methods_find keeps m constants c 0 x.members old → ItemsAt
       class_passed p x is ec ef pushed =
           let one : next_class ≡ suc c = ec ∙ (omega arith) in
           record {
@@ -118,12 +118,12 @@ module _ (m : Module) (constants : List Tree) where
                 (subst (λ (l : List Item). StandsFrom classes c (classes_in l)) is classes_from));
             functions_stand = subst (λ (k : ℕ). StandsFrom functions k (functions_in rest)) (sym ef)
                 (subst (λ (l : List Item). StandsFrom functions f (functions_in l)) is functions_from);
-            found = (λ j. bodies_find m constants (one j) (ef j) rest (pushed j))
-                ∙ ap (λ (l : List Item). bodies_find m constants c f l old) (sym is) ∙ found;
+            found = (λ j. bodies_find keeps m constants (one j) (ef j) rest (pushed j))
+                ∙ ap (λ (l : List Item). bodies_find keeps m constants c f l old) (sym is) ∙ found;
           }
 
       pub def_passed : (p : Place) (x : FuncDef) → before ≡ def_item p x ∷ rest → next_class ≡ c → next_function ≡ f + 1
-          → new ≡ function_finds m constants (owners.Func f) x old → ItemsAt
+          → new ≡ function_finds keeps m constants (owners.Func f) x old → ItemsAt
       def_passed p x is ec ef pushed =
           let one : next_function ≡ suc f = ef ∙ (omega arith) in
           record {
@@ -132,6 +132,6 @@ module _ (m : Module) (constants : List Tree) where
             functions_stand = subst (λ (k : ℕ). StandsFrom functions k (functions_in rest)) (sym ef)
                 (others_stand functions (functions_in rest) f x
                 (subst (λ (l : List Item). StandsFrom functions f (functions_in l)) is functions_from));
-            found = (λ j. bodies_find m constants (ec j) (one j) rest (pushed j))
-                ∙ ap (λ (l : List Item). bodies_find m constants c f l old) (sym is) ∙ found;
+            found = (λ j. bodies_find keeps m constants (ec j) (one j) rest (pushed j))
+                ∙ ap (λ (l : List Item). bodies_find keeps m constants c f l old) (sym is) ∙ found;
           }

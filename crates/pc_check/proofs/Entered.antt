@@ -2,7 +2,7 @@
 -- body from there.
 use Rattle.std.proofs.Common.{◌≡◌, ◌∙◌, ◌++◌, ℕ, zero, suc, List, [], ◌∷◌, Option, Some, None, length, refl, sym, ap}
 use Rattle.std.proofs.Common.{subst, arith}
-use Rattle.std.specs.Prelude.{All, true, false, is_some, replicate, slice_set, slice_index_or}
+use Rattle.std.specs.Prelude.{All, Bool as Test, true, false, is_some, replicate, slice_set, slice_index_or}
 use Rattle.std.specs.Borrow.{Bor}
 use Rattle.std.specs.Option.{option_map, option_copied}
 use Rattle.std.proofs.lemmas.List.Elements.{All-nil, All-head, All-tail, All-cons, All-replicate}
@@ -145,16 +145,17 @@ found_from context f found n ps =
     body.found ++ end_finds context.context.bases context.returned f.name.place body.env
 
 -- what is found in a function, by what its receiver, its parameters and its body come to
-pub function_found : (m : Module) (constants : List Tree) (owner : Owner) (f : FuncDef) (context : BodyContext)
+pub function_found : (keeps : Test) (m : Module) (constants : List Tree) (owner : Owner) (f : FuncDef)
+    (context : BodyContext)
     (found : List Note) (n : ℕ) (middle start : Table × Env) (body : Walk) →
-    context ≡ body_context_of m constants owner f →
+    context ≡ body_context_of keeps m constants owner f →
     n ≡ length (locals owner f) →
     middle ≡ enter_parameters context.context.resolve (none_assigned n) (none_assigned n) (receiver_parameter owner) →
     start ≡ enter_parameters context.context.resolve middle.0 middle.1 (parameters_of m f.params) →
     body ≡ walk_from context f found start →
     body.found ++ end_finds context.context.bases context.returned f.name.place body.env
-    ≡ function_finds m constants owner f found
-function_found m constants owner f context found n middle start body ef en em es eb =
+    ≡ function_finds keeps m constants owner f found
+function_found keeps m constants owner f context found n middle start body ef en em es eb =
     let resolve = context.context.resolve in
     let entered = es ∙ ap (λ (r : Table × Env). enter_parameters resolve r.0 r.1 (parameters_of m f.params)) em
     ∙ sym (enter_both resolve (none_assigned n) (none_assigned n) (receiver_parameter owner)

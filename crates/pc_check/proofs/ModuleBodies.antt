@@ -1,7 +1,7 @@
 -- What the bodies of a module stand in: types stay of the store, signatures are those of the module's functions, and a
 -- context is that of a body.
 use Rattle.std.proofs.Common.{◌≡◌, ℕ, List, map, length, refl, sym, ap, subst, ◌∙◌, All, arith}
-use Rattle.std.specs.Prelude.{true, Option, Some, None, slice_get, unwrap_or}
+use Rattle.std.specs.Prelude.{Bool as Test, true, Option, Some, None, slice_get, unwrap_or}
 use Rattle.std.specs.Option.{option_map}
 use Rattle.std.proofs.lemmas.List.Elements.{All-get_or, All-weaker}
 use Rattle.std.proofs.lemmas.Option.{slice_get-map, slice_get_within, unwrap_or-slice_get}
@@ -124,7 +124,7 @@ module _ (m : Module) where
   -- ---- contexts of bodies
 
   -- what a context stands in, part by part
-  pub context_is : (owner : Owner) (f : FuncDef) (bases : Bases) (classes : List ClassFacts)
+  pub context_is : (keeps : Test) (owner : Owner) (f : FuncDef) (bases : Bases) (classes : List ClassFacts)
       (functions : List Signature) (constants : List Tree) (known : ℕ) (resolve : List ℕ → Res) (returns : Tree)
       → bases ≡ bases_of m → classes ≡ classes_of m → functions ≡ signatures_of m
       → known ≡ length (classes_in m.items) → resolve ≡ resolve_among m (locals owner f) → returns ≡ return_type m f
@@ -141,8 +141,9 @@ module _ (m : Module) where
           resolve = resolve;
         };
         returned = returns;
-      } in k) ≡ body_context_of m constants owner f
-  context_is owner f bases classes functions constants known resolve returns b c s k r t =
+        keeps = keeps;
+      } in k) ≡ body_context_of keeps m constants owner f
+  context_is keeps owner f bases classes functions constants known resolve returns b c s k r t =
       λ i. record {
         whole = m;
         context = record {
@@ -156,6 +157,7 @@ module _ (m : Module) where
           resolve = r i;
         };
         returned = t i;
+        keeps = keeps;
       }
 
   -- names mean to a function what its module's scopes say

@@ -51,9 +51,8 @@ pub(crate) fn check_owned<S: TypeStore>(
     requires bodies { IsModuleBodies (S.has checker.old.store.now) S.tree bodies.now }
     requires owner { function_of (module_in bodies.now) owner ≡ Some (func_of def.now) }
     ensures found { OnOk result
-        (notes_of checker.new.found.now ≡ function_finds (module_in bodies.now) (constants_of (module_in bodies.now))
-        owner
-        (func_of def.now) (notes_of checker.old.found.now)) }
+        (notes_of checker.new.found.now ≡ function_finds bodies.now.globals.now.keeps (module_in bodies.now)
+        (constants_of (module_in bodies.now)) owner (func_of def.now) (notes_of checker.old.found.now)) }
     ensures goes_on { GoesOn S.TypeStore checker.old checker.new }
 {
     match signature_for(bodies.signatures, owner) {

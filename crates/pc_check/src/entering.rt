@@ -133,7 +133,7 @@ fn walk_function<S: TypeStore>(
     def: &FuncDef,
 ) -> Result<(), OutOfMemory>
     requires context { HoldsContext (S.has walk.old.store.now) S.tree walk.old.context }
-    requires body { body_context_in S.TypeStore walk.old ≡ body_context_of
+    requires body { body_context_in S.TypeStore walk.old ≡ body_context_of walk.old.context.globals.now.keeps
         (module_of walk.old.context.globals.now.outline.now.tree.now)
         (map S.tree walk.old.context.globals.now.constants.now) owner (func_of def.now) }
     requires count { count ≡ length (locals owner (func_of def.now)) }
@@ -142,7 +142,8 @@ fn walk_function<S: TypeStore>(
     requires params { parameters_with S.tree params.now
         ≡ parameters_of (module_of walk.old.context.globals.now.outline.now.tree.now) (func_of def.now).params }
     ensures pushed { OnOk result
-        (notes_of walk.new.found.now ≡ function_finds (module_of walk.old.context.globals.now.outline.now.tree.now)
+        (notes_of walk.new.found.now ≡ function_finds walk.old.context.globals.now.keeps
+        (module_of walk.old.context.globals.now.outline.now.tree.now)
         (map S.tree walk.old.context.globals.now.constants.now) owner (func_of def.now) (notes_of walk.old.found.now)) }
     ensures goes_on { GoesOn S.TypeStore walk.old walk.new }
 {
@@ -168,14 +169,15 @@ pub(crate) fn check_function<S: TypeStore>(
 ) -> Result<(), OutOfMemory>
     requires context { HoldsContext (S.has checker.old.store.now) S.tree context }
     requires body { body_context_with S.tree context
-        ≡ body_context_of (module_of context.globals.now.outline.now.tree.now)
+        ≡ body_context_of context.globals.now.keeps (module_of context.globals.now.outline.now.tree.now)
         (map S.tree context.globals.now.constants.now) owner (func_of def.now) }
     requires count { count ≡ length (locals owner (func_of def.now)) }
     requires given { All (HasParameter (S.has checker.old.store.now)) params.now }
     requires params { parameters_with S.tree params.now
         ≡ parameters_of (module_of context.globals.now.outline.now.tree.now) (func_of def.now).params }
     ensures found { OnOk result
-        (notes_of checker.new.found.now ≡ function_finds (module_of context.entry.globals.now.outline.now.tree.now)
+        (notes_of checker.new.found.now ≡ function_finds context.entry.globals.now.keeps
+        (module_of context.entry.globals.now.outline.now.tree.now)
         (map S.tree context.entry.globals.now.constants.now) owner
         (func_of def.now) (notes_of checker.old.found.now)) }
     ensures goes_on { CheckerGoesOn S.TypeStore checker.old checker.new }

@@ -42,6 +42,6 @@ pub fn explain_flow<S: TypeStore>(
     ensures kept { KeepsTypes S.has store.old store.new }
 {
     let mut found = Notes::new(alloc);
-    check_module(store, alloc, tree, scopes, classes, &mut found)?;
+    check_module(store, alloc, tree, scopes, classes, false, &mut found)?;
     Ok(found.explain(store, alloc, place)?)
 }

@@ -11,7 +11,7 @@ ghost use Rattle.pc_class.specs.Tables.{HasEntries, classes_with};
 ghost use Rattle.pc_notes.specs.Notes.{notes_of};
 ghost use Rattle.pc_rules.specs.Computed.Checkers.{GoesOn};
 ghost use Rattle.pc_rules.specs.Computed.Signatures.{constants_of};
-ghost use Rattle.pc_module_rules.specs.Computed.Modules.{methods_find, bodies_find, module_finds};
+ghost use Rattle.pc_module_rules.specs.Computed.Modules.{methods_find, bodies_find, module_notes};
 ghost use Rattle.pc_check.specs.Internal.ModuleWalk.{module_in, IsModuleBodies};
 
 use crate::bodies::{ModuleBodies, check_owned};
@@ -52,9 +52,8 @@ fn check_methods<S: TypeStore>(
     requires bodies { IsModuleBodies (S.has checker.old.store.now) S.tree bodies.now }
     requires class { slice_get (classes_in (module_in bodies.now).items) class ≡ Some (class_of def.now) }
     ensures found { OnOk result
-        (notes_of checker.new.found.now ≡ methods_find (module_in bodies.now) (constants_of (module_in bodies.now))
-        class 0
-        (class_of def.now).members (notes_of checker.old.found.now)) }
+        (notes_of checker.new.found.now ≡ methods_find bodies.now.globals.now.keeps (module_in bodies.now)
+        (constants_of (module_in bodies.now)) class 0 (class_of def.now).members (notes_of checker.old.found.now)) }
     ensures goes_on { GoesOn S.TypeStore checker.old checker.new }
 {
     let mut methods = 0;
@@ -79,8 +78,8 @@ fn check_bodies<S: TypeStore>(
 ) -> Result<(), OutOfMemory>
     requires { IsModuleBodies (S.has checker.old.store.now) S.tree bodies.now }
     ensures found { OnOk result
-        (notes_of checker.new.found.now ≡ bodies_find (module_in bodies.now) (constants_of (module_in bodies.now)) 0 0
-        (module_in bodies.now).items (notes_of checker.old.found.now)) }
+        (notes_of checker.new.found.now ≡ bodies_find bodies.now.globals.now.keeps (module_in bodies.now)
+        (constants_of (module_in bodies.now)) 0 0 (module_in bodies.now).items (notes_of checker.old.found.now)) }
     ensures goes_on { GoesOn S.TypeStore checker.old checker.new }
 {
     let mut classes = 0;
@@ -104,22 +103,24 @@ fn check_bodies<S: TypeStore>(
 
 /// Finds what stands under the labels of a module, appended to `found`: first what is found of its signatures and its
 /// constants, then in the bodies of its functions and methods, in text order. What stands in annotations that the class
-/// table reads, those of fields and of methods that bind their names, is found with that table.
+/// table reads, those of fields and of methods that bind their names, is found with that table. Where types are kept,
+/// the type of each label is noted too, before the codes of the label.
 ///
 /// Language Reference 3.12, 7 "Simple statements" and 8 "Compound statements"; the codes are own rules of the profile.
-#[tactic(auto, unfolding(pc_module_rules::specs::Computed::Modules::module_finds))]
+#[tactic(auto, unfolding(pc_module_rules::specs::Computed::Modules::module_notes))]
 pub fn check_module<S: TypeStore>(
     store: &mut S,
     alloc: Global,
     tree: &Module,
     scopes: &Scopes,
     classes: &ClassTable<S::Ty>,
+    keeps: bool,
     found: &mut Notes,
 ) -> Result<(), OutOfMemory>
     requires scopes { AreScopes (module_of tree.now) scopes.now }
     requires classes { classes_with S.tree classes.now ≡ classes_of (module_of tree.now) }
     requires entries { HasEntries (S.has store.old) classes.now }
-    ensures found { OnOk result (notes_of found.new ≡ module_finds (module_of tree.now) (notes_of found.old)) }
+    ensures found { OnOk result (notes_of found.new ≡ module_notes keeps (module_of tree.now) (notes_of found.old)) }
     ensures kept { KeepsTypes S.has store.old store.new }
 {
     let mut checker = Checker {
@@ -133,7 +134,7 @@ pub fn check_module<S: TypeStore>(
         scopes,
         parents,
     };
-    let signatures = read_signatures(&mut checker, &outline, classes)?;
+    let signatures = read_signatures(&mut checker, &outline, classes, keeps)?;
     let known = count_classes(tree.items.as_slice());
     let globals = ModuleContext {
         outline: &outline,
@@ -141,6 +142,7 @@ pub fn check_module<S: TypeStore>(
         functions: signatures.functions(),
         constants: signatures.constants(),
         known,
+        keeps,
     };
     let bodies = ModuleBodies {
         globals: &globals,

@@ -1,6 +1,6 @@
 -- The label of a call and what is found in it, by its callee and its arguments as the program holds them.
 use Rattle.std.proofs.Common.{◌≡◌, ◌<◌, length, arith, refl, List, [], ◌∷◌, ◌++◌, sym, ap, ◌∙◌, Option, None}
-use Rattle.std.specs.Prelude.{Bool as Test, true, false, ◌&&◌, codes, flat_map}
+use Rattle.std.specs.Prelude.{Bool as Test, true, false, ◌&&◌, codes}
 use Rattle.pc_source.specs.declared.place.Place.{Place}
 use Rattle.pc_tree.specs.declared.code.Code.{Code}
 use Rattle.pc_tree.specs.Tree.{Expr, Exprs, Keywords, no_keywords, more_keywords, call}
@@ -15,7 +15,7 @@ use Rattle.pc_rules.specs.Calls.{arguments_given, positional_seat, named_seat}
 use Rattle.pc_rules.specs.Labels.{ItemsLabels, second_place}
 use Rattle.pc_rules.specs.Lawful.{whole_call_label, whole_second_code, early_second}
 use Rattle.pc_rules.specs.Context.{Context}
-use Rattle.pc_rules.specs.Computed.Findings.{own_at, once, codes_at, notes_of_code}
+use Rattle.pc_rules.specs.Computed.Findings.{label_at, shows, notes_of_code}
 use Rattle.pc_rules.specs.Computed.Standing.{Standing, items_in, label_in, parts_find, types_in, arguments_find}
 use Rattle.pc_rules.specs.Computed.Standing.{keywords_find}
 use Rattle.pc_calls.specs.JudgedCalls.{second_code_of}
@@ -86,27 +86,27 @@ module _ (k : Standing) (want : Option Tree) (p : Place) (c : Expr) (args : Expr
       args (types_in k (positional_seat os) args)) offers_there
       ∙ sym (label_call k want p c args kws)
 
-  pub call_parts_found : (old callee_new callee_last then_arguments then_keywords last : List Note) (codes : List Code)
+  pub call_parts_found : (old callee_new callee_last then_arguments then_keywords last : List Note) (noted : List Note)
       (is_test early : Test) →
-      codes ≡ once (callee_in k g c).label.codes →
+      noted ≡ label_at k.keeps (shows c) (place_of c) (callee_in k g c).label →
       is_test ≡ is_instance_test c args kws →
       early ≡ early_in k (positional_seat offers) args →
       callee_new ≡ old ++ parts_find k None c →
-      callee_last ≡ callee_new ++ flat_map (own_at (place_of c)) codes →
+      callee_last ≡ callee_new ++ noted →
       then_arguments ≡ callee_last ++ arguments_find k is_test (positional_seat offers) args →
       then_keywords ≡ then_arguments ++ keywords_find k (named_seat offers) [] kws →
       last ≡ then_keywords ++ notes_of_code (second_place args p) (second_code_of k.context.resolve rule args early) →
       last ≡ old ++ parts_find k want (call p c args kws)
-  call_parts_found old a b d e last codes is_test early codes_is test_is early_is ha hb hd he hl =
+  call_parts_found old a b d e last noted is_test early noted_is test_is early_is ha hb hd he hl =
       let callee = callee_in k (arguments_given args kws) c in
-      let first = parts_find k None c ++ codes_at (place_of c) (callee_in k g c).label.codes in
+      let first = parts_find k None c ++ label_at k.keeps (shows c) (place_of c) (callee_in k g c).label in
       let second = arguments_find k (is_instance_test c args kws) (positional_seat callee.offers) args in
       let third = keywords_find k (named_seat callee.offers) [] kws in
       let fourth = notes_of_code (second_place args p) (second_code_of k.context.resolve callee.rule args
       (early_in k (positional_seat callee.offers) args)) in
       let one : b ≡ old ++ first = two_found old a b (parts_find k None c)
-      (codes_at (place_of c) (callee_in k g c).label.codes) ha
-      (hb ∙ ap (λ cs. a ++ flat_map (own_at (place_of c)) cs) codes_is) in
+      (label_at k.keeps (shows c) (place_of c) (callee_in k g c).label) ha
+      (hb ∙ ap (λ ns. a ++ ns) noted_is) in
       let two : d ≡ b ++ second = hd ∙ ap (λ t. b ++ arguments_find k t (positional_seat offers) args) test_is
       ∙ ap (λ (os : List CallOffer). b ++ arguments_find k (is_instance_test c args kws) (positional_seat os) args)
       offers_there in

@@ -1,36 +1,37 @@
--- What is found in a condition whose own label has no code: what is found in its parts.
+-- What is found in a condition that is a negation or a junction: what is found in its parts, and what is noted of its
+-- label.
 use Rattle.std.proofs.Common.{◌≡◌, ◌++◌, sym, ap, ◌∙◌, None}
-use Rattle.std.specs.Prelude.{List, true, false}
-use Rattle.std.proofs.lemmas.List.{append-nil}
+use Rattle.std.specs.Prelude.{List, true, false, flat_map}
 use Rattle.pc_source.specs.declared.place.Place.{Place}
 use Rattle.pc_tree.specs.Tree.{Expr, negation, conjunction, disjunction}
-use Rattle.pc_tree.specs.Depth.{place_of}
 use Rattle.pc_types.specs.Tree.{Tree}
 use Rattle.pc_notes.specs.Notes.{Note}
-use Rattle.pc_rules.specs.Operations.{Label, clean}
-use Rattle.pc_rules.specs.Computed.Findings.{codes_at}
-use Rattle.pc_rules.specs.Computed.Standing.{Standing, narrowed_standing, label_in, finds_in, parts_find}
-use Rattle.pc_expr.proofs.Forms.{finds_whole, label_negation, parts_negation, label_conjunction, label_disjunction}
-use Rattle.pc_expr.proofs.Typed.{and_found, or_found}
+use Rattle.pc_rules.specs.Computed.Findings.{own_at, brief, type_noted}
+use Rattle.pc_rules.specs.Computed.Standing.{Standing, narrowed_standing, label_with, label_in, finds_in}
+use Rattle.pc_rules.specs.declared.label.Label.{Label as RustLabel}
+use Rattle.pc_expr.proofs.Forms.{parts_negation}
+use Rattle.pc_expr.proofs.Typed.{whole_found, and_found, or_found}
 
-module _ {T : Type 0} (tree : T → Tree) (k : Standing) where
-  clean_found : (e : Expr) (t : Tree) → label_in k None e ≡ clean t → parts_find k None e ≡ finds_in k None e
-  clean_found e t h = sym (finds_whole k None e ∙ ap (λ (m : Label). parts_find k None e ++ codes_at (place_of e)
-      m.codes) h ∙ append-nil (parts_find k None e))
+module _ {T : Type 0} (tree : T → Tree) (k : Standing) (l : RustLabel T) where
+  abbrev noted : Place → List Note
+  noted p = type_noted k.keeps true p (tree l.ty) ++ flat_map (own_at p) l.codes.items
 
-  pub negation_found : (p : Place) (e : Expr) (old new : List Note) → new ≡ old ++ finds_in k None e
-      → new ≡ old ++ finds_in k None (negation p e)
-  negation_found p e old new h = h ∙ ap (λ fs. old ++ fs) (sym (parts_negation k None p e)
-      ∙ clean_found (negation p e) _ (label_negation k None p e))
+  pub negation_found : (p : Place) (e : Expr) (old new last : List Note)
+      → label_with tree l ≡ brief (label_in k None (negation p e)) → new ≡ old ++ finds_in k None e
+      → last ≡ new ++ noted p → last ≡ old ++ finds_in k None (negation p e)
+  negation_found p e old new last is h n = whole_found tree k None (negation p e) l old new last is
+      (h ∙ ap (λ fs. old ++ fs) (sym (parts_negation k None p e))) n
 
-  pub conjunction_found : (p : Place) (a b : Expr) (after : Standing) (old new last : List Note)
+  pub conjunction_found : (p : Place) (a b : Expr) (after : Standing) (old new last all : List Note)
+      → label_with tree l ≡ brief (label_in k None (conjunction p a b))
       → after ≡ narrowed_standing k true a → new ≡ old ++ finds_in k None a → last ≡ new ++ finds_in after None b
-      → last ≡ old ++ finds_in k None (conjunction p a b)
-  conjunction_found p a b after old new last e h j = and_found tree k None p a b after old new last e h j
-      ∙ ap (λ fs. old ++ fs) (clean_found (conjunction p a b) _ (label_conjunction k None p a b))
+      → all ≡ last ++ noted p → all ≡ old ++ finds_in k None (conjunction p a b)
+  conjunction_found p a b after old new last all is e h j n = whole_found tree k None (conjunction p a b) l old last all
+      is (and_found tree k None p a b after old new last e h j) n
 
-  pub disjunction_found : (p : Place) (a b : Expr) (after : Standing) (old new last : List Note)
+  pub disjunction_found : (p : Place) (a b : Expr) (after : Standing) (old new last all : List Note)
+      → label_with tree l ≡ brief (label_in k None (disjunction p a b))
       → after ≡ narrowed_standing k false a → new ≡ old ++ finds_in k None a → last ≡ new ++ finds_in after None b
-      → last ≡ old ++ finds_in k None (disjunction p a b)
-  disjunction_found p a b after old new last e h j = or_found tree k None p a b after old new last e h j
-      ∙ ap (λ fs. old ++ fs) (clean_found (disjunction p a b) _ (label_disjunction k None p a b))
+      → all ≡ last ++ noted p → all ≡ old ++ finds_in k None (disjunction p a b)
+  disjunction_found p a b after old new last all is e h j n = whole_found tree k None (disjunction p a b) l old last all
+      is (or_found tree k None p a b after old new last e h j) n

@@ -24,18 +24,18 @@ use Rattle.pc_rules.specs.Lawful.{list_item, dict_parts, tuple_parts, members_of
 use Rattle.pc_rules.specs.Lawful.{list_label, key_seat, value_seat, int_literal, compare_label, compare_types}
 use Rattle.pc_rules.specs.Lawful.{whole_call_label, keyword_seat}
 use Rattle.pc_rules.specs.Computed.Expressions.{flows_of, dict_label, labels_of}
-use Rattle.pc_rules.specs.Computed.Findings.{codes_at, flows_at, notes_under, found_in_parts, found_in_items}
+use Rattle.pc_rules.specs.Computed.Findings.{label_at, shows, flows_at, notes_under, found_in_parts, found_in_items}
 use Rattle.pc_rules.specs.Computed.Findings.{found_in_arguments}
 use Rattle.pc_rules.specs.Computed.Standing.{Standing, narrowed_standing, label_in, finds_in, parts_find, items_in}
 use Rattle.pc_rules.specs.Computed.Standing.{types_in, items_find, arguments_find, keys_in, values_in, entries_find}
 use Rattle.pc_rules.specs.Computed.Standing.{keywords_find}
 use Rattle.pc_rules.proofs.PartsKept.{parts_kept}
-use Rattle.pc_expr.specs.Typing.{is_other, unnamed_callee, callee_in, callee_finds, early_in}
+use Rattle.pc_expr.specs.Typing.{unnamed_callee, callee_in, callee_finds, early_in}
 
 module _ (k : Standing) (want : Option Tree) where
   -- what is found in an expression: in its parts, and then at it
-  pub finds_whole : (e : Expr) → finds_in k want e ≡ parts_find k want e ++ codes_at (place_of e)
-      (label_in k want e).codes
+  pub finds_whole : (e : Expr) → finds_in k want e ≡ parts_find k want e
+      ++ label_at k.keeps true (place_of e) (label_in k want e)
   unfolding finds_in parts_find label_in
   finds_whole e = refl
 
@@ -215,10 +215,12 @@ module _ (k : Standing) (want : Option Tree) where
 
 -- ---- items
 
-arguments_are_items : (es : Exprs) (m : ItemsLabels es) → found_in_arguments false es m ≡ found_in_items es m
-arguments_are_items no_exprs m = refl
-arguments_are_items (more_exprs e rest) m = ap (λ fs. notes_under e m.first ++ (flows_at (place_of e) m.flows ++ fs))
-    (arguments_are_items rest m.rest)
+arguments_are_items : (keeps : Test) (es : Exprs) (m : ItemsLabels es)
+    → found_in_arguments keeps false es m ≡ found_in_items keeps es m
+arguments_are_items keeps no_exprs m = refl
+arguments_are_items keeps (more_exprs e rest) m = ap (λ fs. notes_under keeps e m.first
+    ++ (flows_at (place_of e) m.flows ++ fs))
+    (arguments_are_items keeps rest m.rest)
 
 module _ (k : Standing) (seat : ℕ → Seat) where
   pub types_none : types_in k seat no_exprs ≡ []
@@ -243,7 +245,7 @@ module _ (k : Standing) (seat : ℕ → Seat) where
   -- the arguments of a call that is no test of an instance
   pub arguments_all : (es : Exprs) → arguments_find k false seat es ≡ items_find k seat es
   unfolding arguments_find items_find
-  arguments_all es = arguments_are_items es (items_in k seat es)
+  arguments_all es = arguments_are_items k.keeps es (items_in k seat es)
 
   -- the first argument of a test of an instance alone
   pub arguments_first : (e : Expr) (es : Exprs) → arguments_find k true seat (more_exprs e es)
@@ -332,14 +334,15 @@ label_put (call p c args kws) m here = refl
 
 module _ (k : Standing) (g : GivenArguments) where
   -- what is found in a callee: in its parts, and then at it
-  pub callee_whole : (e : Expr) → callee_finds k g e ≡ parts_find k None e ++ codes_at (place_of e)
-      (callee_in k g e).label.codes
+  pub callee_whole : (e : Expr) → callee_finds k g e ≡ parts_find k None e
+      ++ label_at k.keeps (shows e) (place_of e) (callee_in k g e).label
   unfolding callee_finds parts_find
   callee_whole e =
       let m = labels_of k.context k.declared k.env None e in
       let here = (callee_in k g e).label in
-      ap (λ fs. fs ++ codes_at (place_of e) (whole_label e (with_label e m here)).codes) (parts_kept e m here)
-      ∙ ap (λ (x : Label). found_in_parts e m ++ codes_at (place_of e) x.codes) (label_put e m here)
+      ap (λ fs. fs ++ label_at k.keeps (shows e) (place_of e) (whole_label e (with_label e m here)))
+      (parts_kept k.keeps e m here)
+      ∙ ap (λ (x : Label). found_in_parts k.keeps e m ++ label_at k.keeps (shows e) (place_of e) x) (label_put e m here)
 
   pub callee_name : (n : Name) → callee_in k g (name n) ≡ name_callee k.context k.env g (k.context.resolve n.text)
   unfolding callee_in
@@ -356,7 +359,7 @@ module _ (k : Standing) (g : GivenArguments) where
   by_body false m = refl
 
   -- any other callee
-  pub callee_other : (e : Expr) → is_other e ≡ true → callee_in k g e ≡ unnamed_callee k.context.in_body
+  pub callee_other : (e : Expr) → shows e ≡ true → callee_in k g e ≡ unnamed_callee k.context.in_body
       (label_in k None e)
   unfolding callee_in label_in
   callee_other (name n) h = absurd (cc h)

@@ -29,7 +29,7 @@ use Rattle.pc_rules.specs.Operations.{index_member, binary_label, display_label}
 use Rattle.pc_rules.specs.Lawful.{list_item, dict_parts, tuple_parts, members_of_expected, item_seat, part_seat}
 use Rattle.pc_rules.specs.Lawful.{list_label, key_seat, value_seat, int_literal, compare_label, compare_types}
 use Rattle.pc_rules.specs.Computed.Expressions.{flows_of, dict_label}
-use Rattle.pc_rules.specs.Computed.Findings.{own_at, once, brief, codes_at, flows_at}
+use Rattle.pc_rules.specs.Computed.Findings.{own_at, once, brief, type_noted, label_at, flows_at}
 use Rattle.pc_rules.specs.Computed.Standing.{Standing, narrowed_standing, label_in, finds_in, parts_find, types_in}
 use Rattle.pc_rules.specs.Computed.Standing.{items_find, keys_in, values_in, entries_find, label_with}
 use Rattle.pc_rules.specs.declared.label.Label.{Label as RustLabel}
@@ -55,13 +55,20 @@ pub three_found : (old new next last a b c : List Note) → new ≡ old ++ a →
 three_found old new next last a b c h k i = two_found old new last a (b ++ c) h (two_found new next last b c k i)
 
 module _ {T : Type 0} (tree : T → Tree) (k : Standing) (want : Option Tree) where
-  -- what is found in an expression, by what is found in its parts and the codes of its label
+  -- what is noted of a label of the program, by the label that it means
+  pub noted_label : (keeps shown : Test) (p : Place) (l : RustLabel T) (m : Label) → label_with tree l ≡ brief m
+      → type_noted keeps shown p (tree l.ty) ++ flat_map (own_at p) l.codes.items ≡ label_at keeps shown p m
+  noted_label keeps shown p l m is =
+      ap (λ (x : Label). type_noted keeps shown p x.type ++ flat_map (own_at p) x.codes) is
+
+  -- what is found in an expression, by what is found in its parts and what is noted of its label
   pub whole_found : (e : Expr) (l : RustLabel T) (old new last : List Note)
       → label_with tree l ≡ brief (label_in k want e) → new ≡ old ++ parts_find k want e
-      → last ≡ new ++ flat_map (own_at (place_of e)) l.codes.items → last ≡ old ++ finds_in k want e
+      → last ≡ new ++ (type_noted k.keeps true (place_of e) (tree l.ty) ++ flat_map (own_at (place_of e)) l.codes.items)
+      → last ≡ old ++ finds_in k want e
   whole_found e l old new last is h j =
-      two_found old new last (parts_find k want e) (codes_at (place_of e) (label_in k want e).codes) h
-      (j ∙ ap (λ cs. new ++ flat_map (own_at (place_of e)) cs) (codes_are tree l (label_in k want e) is))
+      two_found old new last (parts_find k want e) (label_at k.keeps true (place_of e) (label_in k want e)) h
+      (j ∙ ap (λ ns. new ++ ns) (noted_label k.keeps true (place_of e) l (label_in k want e) is))
       ∙ ap (λ fs. old ++ fs) (sym (finds_whole k want e))
 
   pub negative_is : (p : Place) (e : Expr) (l : RustLabel T) → label_with tree l ≡ brief (label_in k None e)
@@ -173,10 +180,11 @@ module _ {T : Type 0} (tree : T → Tree) (k : Standing) (want : Option Tree) wh
 -- the standing after a condition, by the environment that it leaves
 pub standing_after : (k : Standing) (env : Env) (holds : Test) (e : Expr)
     → env ≡ narrow k.context.bases k.declared k.context.resolve holds e k.env
-    → (let s : Standing = record { context = k.context; declared = k.declared; env = env } in s) ≡ narrowed_standing k
+    → (let s : Standing = record { context = k.context; declared = k.declared; env = env; keeps = k.keeps } in s)
+    ≡ narrowed_standing k
     holds e
 standing_after k env holds e h = ap (λ (x : Env). let s : Standing =
-    record { context = k.context; declared = k.declared; env = x } in s) h
+    record { context = k.context; declared = k.declared; env = x; keeps = k.keeps } in s) h
 
 -- ---- displays
 

@@ -2,21 +2,15 @@
 -- labels. Own rule of the profile.
 use Rattle.std.specs.Prelude.{ℕ, List, Bool as Test, true, false, None}
 use Rattle.pc_tree.specs.declared.code.Code.TheVariants.{E03}
-use Rattle.pc_tree.specs.Tree.{Expr, Exprs, name, attribute}
+use Rattle.pc_tree.specs.Tree.{Expr, Exprs}
 use Rattle.pc_notes.specs.Notes.{Note}
 use Rattle.pc_rules.specs.Operations.{Label, in_error}
 use Rattle.pc_rules.specs.Calls.{GivenArguments, CalleeLabel, Seat, value_callee}
 use Rattle.pc_rules.specs.Labels.{with_label}
 use Rattle.pc_rules.specs.Lawful.{callee_of, early_second}
 use Rattle.pc_rules.specs.Computed.Expressions.{labels_of}
-use Rattle.pc_rules.specs.Computed.Findings.{notes_under}
+use Rattle.pc_rules.specs.Computed.Findings.{callee_notes_under}
 use Rattle.pc_rules.specs.Computed.Standing.{Standing, items_in}
-
--- an expression that is neither a name nor an attribute
-abbrev pub is_other : Expr → Test
-is_other (name n) = false
-is_other (attribute p e field) = false
-is_other _ = true
 
 -- a callee that is neither a name nor, in a body, an attribute, by its label
 abbrev pub unnamed_callee : (in_body : Test) → Label → CalleeLabel
@@ -29,7 +23,8 @@ callee_in k g e = callee_of k.context k.env g e (labels_of k.context k.declared 
 
 -- what is found in a callee and in its parts
 unfoldable pub callee_finds : Standing → GivenArguments → Expr → List Note
-callee_finds k g e = notes_under e (with_label e (labels_of k.context k.declared k.env None e) (callee_in k g e).label)
+callee_finds k g e = callee_notes_under k.keeps e (with_label e (labels_of k.context k.declared k.env None e)
+    (callee_in k g e).label)
 
 -- whether an initializer names the second of several expressions too early
 unfoldable pub early_in : Standing → (seat : ℕ → Seat) → Exprs → Test

@@ -13,7 +13,7 @@ ghost use Rattle.pc_notes.specs.Notes.{notes_of};
 ghost use Rattle.pc_rules.specs.Operations.{Label as LabelOf};
 ghost use Rattle.pc_rules.specs.Labels.{second_place};
 ghost use Rattle.pc_rules.specs.Lawful.{whole_call_label};
-ghost use Rattle.pc_rules.specs.Computed.Findings.{brief, notes_of_code};
+ghost use Rattle.pc_rules.specs.Computed.Findings.{brief, notes_of_code, shows};
 ghost use Rattle.pc_rules.specs.Computed.Standing.{label_with, context_with};
 ghost use Rattle.pc_calls.specs.JudgedCalls.{offer_called, rule_of, second_code_of, HasCallOffer, IsCallee};
 ghost use Rattle.pc_expr.specs.Typing.{unnamed_callee};
@@ -109,4 +109,31 @@ pub(crate) fn is_test(callee: &Expr, arguments: &[Expr], by_name: &[KeywordArgum
     ensures two { result ≡ true → length arguments.now ≡ 2 }
 {
     is_instance_test(callee, arguments, by_name)
+}
+
+/// Whether the type of a callee is shown: of a name and of an attribute it is not.
+pub(crate) fn shows(callee: &Expr) -> bool
+    ensures { result ≡ shows (expr_of callee.now) }
+{
+    match callee {
+        Expr::Name(_) | Expr::Attribute(_, _, _) => false,
+        Expr::Int(_, _)
+        | Expr::Str(_, _)
+        | Expr::True(_)
+        | Expr::False(_)
+        | Expr::NoneValue(_)
+        | Expr::Tuple(_, _)
+        | Expr::List(_, _)
+        | Expr::Dict(_, _)
+        | Expr::Negative(_, _)
+        | Expr::Not(_, _)
+        | Expr::Binary(_, _, _, _)
+        | Expr::Compare(_, _, _, _)
+        | Expr::IsNone(_, _)
+        | Expr::IsNotNone(_, _)
+        | Expr::And(_, _, _)
+        | Expr::Or(_, _, _)
+        | Expr::Index(_, _, _)
+        | Expr::Call(_, _, _, _) => true,
+    }
 }

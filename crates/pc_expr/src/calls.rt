@@ -13,7 +13,7 @@ ghost use Rattle.pc_expr.specs.Internal.Seats.{AreTyped};
 ghost use Rattle.pc_expr.specs.Internal.Forms.{IsCall};
 ghost use Rattle.pc_rules.specs.Computed.Checkers.{Finds, GoesOn, IsLabel, Stands};
 
-use crate::call_labels::{callee_of_other, is_test, label_call};
+use crate::call_labels::{callee_of_other, is_test, label_call, shows};
 use crate::items::{Typed, early_at};
 use crate::typing::{label_expr, type_expr, type_seated};
 use indexmap::IndexSet;
@@ -23,7 +23,7 @@ use pc_calls::{
 };
 use pc_flow::Env;
 use pc_notes::Notes;
-use pc_rules::{Checker, Label, Setting, find_codes, is_early};
+use pc_rules::{Checker, Label, Setting, is_early, note_label};
 use pc_source::OutOfMemory;
 use pc_tree::{Expr, KeywordArgument};
 use pc_types::TypeStore;
@@ -50,7 +50,15 @@ pub(crate) fn label_called<S: TypeStore>(
             let keys = setting.globals.outline.tree.keys;
             let given = given(checker.alloc, keys, arguments, by_name)?;
             let called = label_callee(checker, setting, env, &given, callee)?;
-            find_codes(callee.place(), &called.label.codes, checker.found)?;
+            note_label(
+                checker.store,
+                checker.alloc,
+                setting.globals.keeps,
+                shows(callee),
+                callee.place(),
+                &called.label,
+                checker.found,
+            )?;
             let is_test = is_test(callee, arguments, by_name);
             let typed = type_arguments(checker, setting, env, is_test, &called.offers, arguments)?;
             type_keywords(checker, setting, env, &called.offers, by_name)?;

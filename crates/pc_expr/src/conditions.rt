@@ -23,7 +23,7 @@ use pc_flow::{
     BothWays, Connective, Declarations, Env, Junction, copy_env, narrow_junction, narrow_simple,
 };
 use pc_operations::{label_bool, label_junction};
-use pc_rules::{Checker, Label, Setting};
+use pc_rules::{Checker, Label, Setting, note_label};
 use pc_source::OutOfMemory;
 use pc_tree::Expr;
 use pc_types::TypeStore;
@@ -158,6 +158,15 @@ pub fn type_condition<S: TypeStore>(
         Expr::Not(_, operand) => {
             let condition = type_condition(checker, setting, env, operand)?;
             let label = label_bool(checker.store, checker.alloc)?;
+            note_label(
+                checker.store,
+                checker.alloc,
+                setting.globals.keeps,
+                true,
+                e.place(),
+                &label,
+                checker.found,
+            )?;
             let ways = condition.ways.swapped();
             Ok(Condition { label, ways })
         }
@@ -170,6 +179,15 @@ pub fn type_condition<S: TypeStore>(
             let first = type_condition(checker, setting, env, left)?;
             let second = type_condition(checker, setting, &first.ways.where_true, right)?;
             let whole = junction_condition(checker, setting, &junction, first, second)?;
+            note_label(
+                checker.store,
+                checker.alloc,
+                setting.globals.keeps,
+                true,
+                e.place(),
+                &whole.label,
+                checker.found,
+            )?;
             Ok(whole)
         }
         Expr::Or(_, left, right) => {
@@ -181,6 +199,15 @@ pub fn type_condition<S: TypeStore>(
             let first = type_condition(checker, setting, env, left)?;
             let second = type_condition(checker, setting, &first.ways.where_false, right)?;
             let whole = junction_condition(checker, setting, &junction, first, second)?;
+            note_label(
+                checker.store,
+                checker.alloc,
+                setting.globals.keeps,
+                true,
+                e.place(),
+                &whole.label,
+                checker.found,
+            )?;
             Ok(whole)
         }
         _ => {

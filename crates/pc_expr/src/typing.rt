@@ -21,7 +21,7 @@ use pc_operations::{
     binary_label, label_attribute, label_bool, label_comparison, label_index, label_int,
     label_junction, label_negative, label_none, label_str,
 };
-use pc_rules::{Checker, Label, Setting, find_codes, find_flows, name_label};
+use pc_rules::{Checker, Label, Setting, find_flows, name_label, note_label};
 use pc_source::OutOfMemory;
 use pc_tree::Expr;
 use pc_types::TypeStore;
@@ -46,7 +46,15 @@ pub fn type_expr<S: TypeStore>(
     ensures goes_on { GoesOn S.TypeStore checker.old checker.new }
 {
     let label = label_expr(checker, setting, env, want, e)?;
-    find_codes(e.place(), &label.codes, checker.found)?;
+    note_label(
+        checker.store,
+        checker.alloc,
+        setting.globals.keeps,
+        true,
+        e.place(),
+        &label,
+        checker.found,
+    )?;
     Ok(label)
 }
 

@@ -8,7 +8,7 @@ use Rattle.pc_source.specs.declared.place.Place.{Place}
 use Rattle.pc_tree.specs.declared.code.Finding.{Finding}
 use Rattle.pc_tree.proofs.Among.{none_among, first_among, later_among, among_first}
 use Rattle.pc_types.specs.Tree.{Tree}
-use Rattle.pc_notes.specs.Notes.{Note, plain_note, is_same_place, or_else, flow_or, flow_noted}
+use Rattle.pc_notes.specs.Notes.{Note, told, typed, plain_note, is_same_place, or_else, flow_or, flow_noted}
 use Rattle.pc_module_rules.specs.FlowsOfExpressions.{DynamicFlow}
 use Rattle.pc_module_rules.specs.FlowsOfModules.{IsFirstAt}
 use Rattle.pc_module_rules.proofs.Places.{same_place, own_place}
@@ -54,8 +54,9 @@ first_at p (d ∷ ds) = at_or p d (first_at p ds)
 pub noted_append : (p : Place) (xs ys : List Note) → flow_noted p (xs ++ ys) ≡ or_else (flow_noted p xs)
     (flow_noted p ys)
 noted_append p [] ys = refl
-noted_append p (n ∷ ns) ys = ap (flow_or p n) (noted_append p ns ys) ∙ if_or (is_same_place p n.finding.place) n.flow
-    (flow_noted p ns) (flow_noted p ys)
+noted_append p (told f flow ∷ ns) ys = ap (flow_or p (told f flow)) (noted_append p ns ys)
+    ∙ if_or (is_same_place p f.place) flow (flow_noted p ns) (flow_noted p ys)
+noted_append p (typed shown q t ∷ ns) ys = noted_append p ns ys
 
 first_append : (p : Place) (ds es : List DynamicFlow) → first_at p (ds ++ es) ≡ or_else (first_at p ds) (first_at p es)
 first_append p [] es = refl
@@ -65,19 +66,26 @@ first_append p (d ∷ ds) es = ap (at_or p d) (first_append p ds es)
 -- ---- notes that tell of just these flows
 
 -- at each place notes tell of the first of these flows there, and of none where there is none
-abbrev pub Tells : List Note → List DynamicFlow → Type 0
-Tells notes flows = (p : Place) → flow_noted p notes ≡ first_at p flows
+pub record Tells (notes : List Note) (flows : List DynamicFlow) : Type 0 where
+  pub is : (p : Place) → flow_noted p notes ≡ first_at p flows
+
+pub tell_none : Tells [] []
+tell_none = record { is = λ p. refl }
 
 pub tell_then : (xs ys : List Note) (ds es : List DynamicFlow) → Tells xs ds → Tells ys es → Tells (xs ++ ys) (ds ++ es)
-tell_then xs ys ds es h k = λ p. noted_append p xs ys ∙ both_or (h p) (k p) ∙ sym (first_append p ds es)
+tell_then xs ys ds es h k =
+    record { is = λ p. noted_append p xs ys ∙ both_or (h.is p) (k.is p) ∙ sym (first_append p ds es) }
 
 -- notes that tell of just these flows, with others after them that tell of none
 pub tell_behind : (xs ys : List Note) (ds : List DynamicFlow) → Tells xs ds → Tells ys [] → Tells (xs ++ ys) ds
-tell_behind xs ys ds h k = λ p. noted_append p xs ys ∙ both_or (h p) (k p) ∙ or_none (first_at p ds)
+tell_behind xs ys ds h k =
+    record { is = λ p. noted_append p xs ys ∙ both_or (h.is p) (k.is p) ∙ or_none (first_at p ds) }
 
 pub tell_plain : (fs : List Finding) → Tells (map plain_note fs) []
-tell_plain [] = λ p. refl
-tell_plain (f ∷ fs) = λ p. same_either (is_same_place p f.place) (flow_noted p (map plain_note fs)) ∙ tell_plain fs p
+tell_plain [] = tell_none
+tell_plain (f ∷ fs) = record {
+  is = λ p. same_either (is_same_place p f.place) (flow_noted p (map plain_note fs)) ∙ (tell_plain fs).is p;
+}
 
 -- of flows in other brackets
 pub tell_grouped : (xs : List Note) (a b c : List DynamicFlow) → Tells xs (a ++ (b ++ c)) → Tells xs ((a ++ b) ++ c)
@@ -93,7 +101,7 @@ pub grow_none : (found : List Note) → Grows found found []
 grow_none found = λ p. sym (or_none (flow_noted p found))
 
 pub grow : (found xs : List Note) (ds : List DynamicFlow) → Tells xs ds → Grows found (found ++ xs) ds
-grow found xs ds h = λ p. noted_append p found xs ∙ ap (λ (o : Pair). or_else (flow_noted p found) o) (h p)
+grow found xs ds h = λ p. noted_append p found xs ∙ ap (λ (o : Pair). or_else (flow_noted p found) o) (h.is p)
 
 pub grow_then : (f g h : List Note) (ds es : List DynamicFlow) → Grows f g ds → Grows g h es → Grows f h (ds ++ es)
 grow_then f g h ds es a b = λ p. b p ∙ ap (λ (o : Pair). or_else o (first_at p es)) (a p)
@@ -107,8 +115,9 @@ grow_behind f xs h es a b = grow_then f (f ++ xs) h [] es (grow f xs [] a) b
 -- notes that tell of just these flows, with more after them
 pub tell_grown : (found after : List Note) (ds es : List DynamicFlow) → Tells found ds → Grows found after es
     → Tells after (ds ++ es)
-tell_grown found after ds es h k = λ p. k p ∙ ap (λ (o : Pair). or_else o (first_at p es)) (h p)
-    ∙ sym (first_append p ds es)
+tell_grown found after ds es h k = record {
+  is = λ p. k p ∙ ap (λ (o : Pair). or_else o (first_at p es)) (h.is p) ∙ sym (first_append p ds es);
+}
 
 -- of flows in other brackets
 pub grow_grouped : (found after : List Note) (a b c : List DynamicFlow) → Grows found after (a ++ (b ++ c))

@@ -13,11 +13,14 @@ pub mod LabelledStatements
 pub mod LabelledSuites
 pub mod LabelledTargets
 pub mod LocalNames
+pub mod KeptWalks
 pub mod Labelled
+pub mod NotedTypes
 pub mod OneModule
 pub mod OneStatement
 pub mod Places
 pub mod PlainCodes
+pub mod RangeNames
 pub mod ReturnedValues
 pub mod RightFlows
 pub mod RightModules
@@ -34,6 +37,9 @@ pub mod ToldExpressions
 pub mod ToldFlows
 pub mod ToldModules
 pub mod ToldStatements
+pub mod TypedExpressions
+pub mod TypedModules
+pub mod TypedStatements
 pub mod UnassignedBehind
 pub mod WalkedBindings
 pub mod WalkedEnvironments

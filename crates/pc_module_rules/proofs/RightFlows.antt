@@ -4,6 +4,7 @@ use Rattle.std.proofs.Common.{◌≡◌, Bool as Test, true, false, List, [], �
 use Rattle.std.proofs.Common.{subst, inl, inr, Contains, ◌↔◌}
 use Rattle.std.specs.Prelude.{if◌then◌else◌, IsSome}
 use Rattle.std.proofs.lemmas.Bool.{false≢true}
+use Rattle.std.proofs.lemmas.List.Elements.{Contains-append_right}
 use Rattle.pc_source.specs.declared.place.Place.{Place}
 use Rattle.pc_tree.specs.declared.code.Code.{Code}
 use Rattle.pc_tree.specs.declared.code.Code.TheVariants.{A1}
@@ -24,7 +25,7 @@ use Rattle.pc_class.specs.Bases.{bases_of}
 use Rattle.pc_class.specs.Facts.{Method}
 use Rattle.pc_class.specs.Findings.{ClassFinds, base, member, order, override}
 use Rattle.pc_class.specs.Overrides.{Judges, static, dynamic, wrong}
-use Rattle.pc_notes.specs.Notes.{Note, findings_of, is_same_place, or_else, flow_noted}
+use Rattle.pc_notes.specs.Notes.{Note, told, typed, finding_in, findings_of, is_same_place, or_else, flow_noted}
 use Rattle.pc_module_rules.proofs.Places.{same_place, own_place}
 use Rattle.pc_module_rules.proofs.PlainCodes.{IsPlain, IsPlainIfAny}
 use Rattle.pc_module_rules.proofs.RightNotes.{IsTestedFlow, IsFormedFlow, AreRight}
@@ -82,60 +83,60 @@ module _ (bases : Bases) (p : Place) where
   ToldIfAny notes None = Unit {0}
   ToldIfAny notes (Some f) = Told notes f
 
-  module _ (n : Note) (ns : List Note) where
-    told_behind : (rest : Option (Tree × Tree)) → ToldIfAny ns rest → ToldIfAny (n ∷ ns) rest
-    told_behind None h = tt
-    told_behind (Some f) h = record {
-      stands = later_among n.finding (findings_of ns) (finding p A1) h.stands;
-      static =
-          h.static;
-      assignable = h.assignable;
-      from = h.from;
-      into = h.into;
-    }
+  told_behind : (n : Note) (ns : List Note) (rest : Option (Tree × Tree)) → ToldIfAny ns rest → ToldIfAny (n ∷ ns) rest
+  told_behind n ns None h = tt
+  told_behind n ns (Some f) h = record {
+    stands = Contains-append_right (finding_in n) (findings_of ns) (finding p A1) h.stands;
+    static = h.static;
+    assignable = h.assignable;
+    from = h.from;
+    into = h.into;
+  }
 
-    told_one : (b : Test) → is_same_place p n.finding.place ≡ b → (o : Option (Tree × Tree))
-        → IsTestedFlow bases n.finding.code o → IsFormedFlow bases o → (rest : Option (Tree × Tree)) → ToldIfAny ns rest
-        → ToldIfAny (n ∷ ns) (if b then or_else o rest else rest)
+  module _ (g : Finding) (flow : Option (Tree × Tree)) (ns : List Note) where
+    told_one : (b : Test) → is_same_place p g.place ≡ b → (o : Option (Tree × Tree))
+        → IsTestedFlow bases g.code o → IsFormedFlow bases o → (rest : Option (Tree × Tree)) → ToldIfAny ns rest
+        → ToldIfAny (told g flow ∷ ns) (if b then or_else o rest else rest)
     told_one true e (Some f) t k rest h =
-        let place : p ≡ n.finding.place = same_place p n.finding.place e in
-        let is : n.finding ≡ finding p A1 = λ i. record { place = sym place i; code = t.0 i } in
+        let place : p ≡ g.place = same_place p g.place e in
+        let is : g ≡ finding p A1 = λ i. record { place = sym place i; code = t.0 i } in
         record {
-          stands = subst (Contains (findings_of (n ∷ ns))) is (first_among n.finding (findings_of ns));
-          static =
-              t.1;
+          stands = subst (Contains (findings_of (told g flow ∷ ns))) is (first_among g (findings_of ns));
+          static = t.1;
           assignable = t.2;
           from = k.0;
           into = k.1;
         }
-    told_one true e None t k rest h = told_behind rest h
-    told_one false e o t k rest h = told_behind rest h
+    told_one true e None t k rest h = told_behind (told g flow) ns rest h
+    told_one false e o t k rest h = told_behind (told g flow) ns rest h
 
-    -- a flow after a note, and one that the note tells of
-    some_behind : (b : Test) (o rest : Option (Tree × Tree)) → IsSome rest → IsSome (if b then or_else o rest else rest)
-    some_behind true (Some f) rest h = refl
-    some_behind true None rest h = h
-    some_behind false o rest h = h
+  -- a flow after a note, and one that the note tells of
+  some_behind : (b : Test) (o rest : Option (Tree × Tree)) → IsSome rest → IsSome (if b then or_else o rest else rest)
+  some_behind true (Some f) rest h = refl
+  some_behind true None rest h = h
+  some_behind false o rest h = h
 
-    some_here : (b : Test) → b ≡ true → (c : Code) → c ≡ A1 → (o : Option (Tree × Tree)) → IsTestedFlow bases c o
-        → (rest : Option (Tree × Tree)) → IsSome (if b then or_else o rest else rest)
-    some_here true e c a (Some f) t rest = refl
-    some_here true e c a None t rest = absurd (cc (subst IsPlain a t))
-    some_here false e c a o t rest = absurd (cc e)
+  some_here : (b : Test) → b ≡ true → (c : Code) → c ≡ A1 → (o : Option (Tree × Tree)) → IsTestedFlow bases c o
+      → (rest : Option (Tree × Tree)) → IsSome (if b then or_else o rest else rest)
+  some_here true e c a (Some f) t rest = refl
+  some_here true e c a None t rest = absurd (cc (subst IsPlain a t))
+  some_here false e c a o t rest = absurd (cc e)
 
-  told : (notes : List Note) → AreRight bases notes → ToldIfAny notes (flow_noted p notes)
-  told [] h = tt
-  told (n ∷ ns) h = told_one n ns (is_same_place p n.finding.place) refl n.flow h.0.tested h.0.formed (flow_noted p ns)
-      (told ns h.1)
+  flow_told : (notes : List Note) → AreRight bases notes → ToldIfAny notes (flow_noted p notes)
+  flow_told [] h = tt
+  flow_told (told f flow ∷ ns) h = told_one f flow ns (is_same_place p f.place) refl flow h.0.tested h.0.formed
+      (flow_noted p ns) (flow_told ns h.1)
+  flow_told (typed shown q t ∷ ns) h = told_behind (typed shown q t) ns (flow_noted p ns) (flow_told ns h.1)
 
   noted : (notes : List Note) → AreRight bases notes → Contains (findings_of notes) (finding p A1)
       → IsSome (flow_noted p notes)
   noted [] h c = absurd (none_among (finding p A1) c)
-  noted (n ∷ ns) h c = elim (among_first n.finding (findings_of ns) (finding p A1) c) [
-    | inl e ↦ some_here n ns (is_same_place p n.finding.place) (subst (λ (f : Finding). is_same_place p f.place ≡ true)
-        (sym e) (own_place p)) n.finding.code (ap (λ (f : Finding). f.code) e) n.flow h.0.tested (flow_noted p ns)
-    | inr r ↦ some_behind n ns (is_same_place p n.finding.place) n.flow (flow_noted p ns) (noted ns h.1 r)
+  noted (told g flow ∷ ns) h c = elim (among_first g (findings_of ns) (finding p A1) c) [
+    | inl e ↦ some_here (is_same_place p g.place) (subst (λ (f : Finding). is_same_place p f.place ≡ true)
+        (sym e) (own_place p)) g.code (ap (λ (f : Finding). f.code) e) flow h.0.tested (flow_noted p ns)
+    | inr r ↦ some_behind (is_same_place p g.place) flow (flow_noted p ns) (noted ns h.1 r)
   ]
+  noted (typed shown q t ∷ ns) h c = noted ns h.1 c
 
   stands_of : (notes : List Note) (o : Option (Tree × Tree)) → ToldIfAny notes o → IsSome o
       → Contains (findings_of notes) (finding p A1)
@@ -165,12 +166,12 @@ flow_found m p = (to, from)
     from : IsSome (dynamic_flow m p) → IsFinding m (finding p A1)
     from some = (findings_computed m (finding p A1)).1
         (inr (inr (inr (stands_of (bases_of m) p (module_finds m []) (dynamic_flow m p)
-        (told (bases_of m) p (module_finds m []) (all_right m)) some))))
+        (flow_told (bases_of m) p (module_finds m []) (all_right m)) some))))
 
 told_of : (m : Module) (p : Place) (s t : Tree) → dynamic_flow m p ≡ Some (s, t)
     → Told (bases_of m) p (module_finds m []) (s, t)
 told_of m p s t e = subst (ToldIfAny (bases_of m) p (module_finds m [])) e
-    (told (bases_of m) p (module_finds m []) (all_right m))
+    (flow_told (bases_of m) p (module_finds m []) (all_right m))
 
 pub flow_dynamic : (m : Module) (p : Place) (s t : Tree) → dynamic_flow m p ≡ Some (s, t) → Assignable (bases_of m) s t
     × ¬ (Static (bases_of m) s t)

@@ -24,7 +24,7 @@ use Rattle.pc_types.specs.Computed.{static_test, assignable_test}
 use Rattle.pc_flow.specs.Environment.{Env}
 use Rattle.pc_flow.specs.Narrowing.{narrow}
 use Rattle.pc_flow.specs.WellFormed.{IsWellFormedIfAny, IsWellFormedEnv, AreWellFormed}
-use Rattle.pc_notes.specs.Notes.{Note, plain_note}
+use Rattle.pc_notes.specs.Notes.{Note, told, typed, plain_note}
 use Rattle.pc_rules.specs.Operations.{Label, FlowLabel, operand_types, index_member, attribute_member, negative_member}
 use Rattle.pc_rules.specs.Context.{Context, is_early}
 use Rattle.pc_rules.specs.Calls.{Seat, arguments_given, count_exprs, call_label, positional_seat, named_seat}
@@ -38,7 +38,8 @@ use Rattle.pc_rules.specs.Computed.Expressions.{keywords_labels}
 use Rattle.pc_rules.specs.Computed.Findings.{own_at, has_code, add_code, once_onto, once, codes_at, notes_of_code}
 use Rattle.pc_rules.specs.Computed.Findings.{flow_note, own_flow, flow_then, flows_behind, flows_at, whole}
 use Rattle.pc_rules.specs.Computed.Findings.{found_in_parts, found_in_items, found_in_arguments, found_in_entries}
-use Rattle.pc_rules.specs.Computed.Findings.{found_in_keywords, notes_under}
+use Rattle.pc_rules.specs.Computed.Findings.{found_in_keywords, notes_under, callee_notes_under, type_noted, label_at}
+use Rattle.pc_rules.specs.Computed.Findings.{called, shows}
 use Rattle.pc_rules.specs.Computed.Standing.{Standing, label_in, finds_in, items_in, keywords_in, arguments_find}
 use Rattle.pc_rules.specs.Computed.Standing.{keywords_find}
 use Rattle.pc_rules.specs.Laws.WellFormed.{ContextWellFormed, FlowsWellFormed, LabelsWellFormed, ItemsWellFormed}
@@ -66,7 +67,8 @@ IsTestedFlow bases c None = IsPlain c
 IsTestedFlow bases c (Some f) = (c ≡ A1) × (static_test bases f.0 f.1 ≡ false) × (assignable_test bases f.0 f.1 ≡ true)
 
 abbrev pub IsTested : Bases → Note → Type 0
-IsTested bases n = IsTestedFlow bases n.finding.code n.flow
+IsTested bases (told f flow) = IsTestedFlow bases f.code flow
+IsTested bases (typed shown p t) = Unit {0}
 
 -- the types of a flow are well-formed, if there is one
 abbrev pub IsFormedFlow : Bases → Option (Tree × Tree) → Type 0
@@ -74,7 +76,8 @@ IsFormedFlow bases None = Unit {0}
 IsFormedFlow bases (Some f) = IsWellFormed bases f.0 × IsWellFormed bases f.1
 
 abbrev pub IsFormed : Bases → Note → Type 0
-IsFormed bases n = IsFormedFlow bases n.flow
+IsFormed bases (told f flow) = IsFormedFlow bases flow
+IsFormed bases (typed shown p t) = Unit {0}
 
 -- a note is right
 pub record IsRight (bases : Bases) (n : Note) : Type 0 where
@@ -226,76 +229,101 @@ module _ (bases : Bases) where
       → AllByRecursion (IsFormed bases) (xs ++ ys)
   formed_then xs ys h k = all_append (IsFormed bases) xs ys h k
 
-  formed_whole : (e : Expr) (m : Labels e) (parts : List Note) → AllByRecursion (IsFormed bases) parts
-      → AllByRecursion (IsFormed bases) (whole e m parts)
-  formed_whole e m parts h = formed_then parts (codes_at (place_of e) (whole_label e m).codes) h
-      (formed_codes (place_of e) (whole_label e m).codes)
+  formed_type : (keeps shown : Test) (p : Place) (t : Tree)
+      → AllByRecursion (IsFormed bases) (type_noted keeps shown p t)
+  formed_type false shown p t = tt
+  formed_type true shown p t = (tt, tt)
+
+  formed_label : (keeps shown : Test) (p : Place) (m : Label)
+      → AllByRecursion (IsFormed bases) (label_at keeps shown p m)
+  formed_label keeps shown p m =
+      formed_then (type_noted keeps shown p m.type) (codes_at p m.codes) (formed_type keeps shown p m.type)
+      (formed_codes p m.codes)
+
+  formed_whole : (keeps : Test) (e : Expr) (m : Labels e) (parts : List Note) → AllByRecursion (IsFormed bases) parts
+      → AllByRecursion (IsFormed bases) (whole keeps e m parts)
+  formed_whole keeps e m parts h = formed_then parts (label_at keeps true (place_of e) (whole_label e m)) h
+      (formed_label keeps true (place_of e) (whole_label e m))
+
+  formed_called : (keeps : Test) (e : Expr) (m : Labels e) (parts : List Note) → AllByRecursion (IsFormed bases) parts
+      → AllByRecursion (IsFormed bases) (called keeps e m parts)
+  formed_called keeps e m parts h = formed_then parts (label_at keeps (shows e) (place_of e) (whole_label e m)) h
+      (formed_label keeps (shows e) (place_of e) (whole_label e m))
 
   mutual
-    formed_parts : (e : Expr) (m : Labels e) → LabelsWellFormed bases e m
-        → AllByRecursion (IsFormed bases) (found_in_parts e m)
-    formed_parts (name n) m h = tt
-    formed_parts (number p digits) m h = tt
-    formed_parts (text p characters) m h = tt
-    formed_parts (truth p value) m h = tt
-    formed_parts (nothing p) m h = tt
-    formed_parts (tuple p es) m h = formed_items es m.items h.1
-    formed_parts (list p es) m h = formed_items es m.items h.1
-    formed_parts (dict p es) m h = formed_entries es m.entries h.1
-    formed_parts (negative p e) m h = formed_whole e m.operand _ (formed_parts e m.operand h.1)
-    formed_parts (negation p e) m h = formed_whole e m.operand _ (formed_parts e m.operand h.1)
-    formed_parts (binary p o l r) m h = formed_then _ _ (formed_whole l m.left _ (formed_parts l m.left h.1))
-        (formed_whole r m.right _ (formed_parts r m.right h.2))
-    formed_parts (compare p o l r) m h = formed_then _ _ (formed_whole l m.left _ (formed_parts l m.left h.1))
-        (formed_then _ _ (formed_whole r m.right _ (formed_parts r m.right h.2))
+    formed_parts : (keeps : Test) (e : Expr) (m : Labels e) → LabelsWellFormed bases e m
+        → AllByRecursion (IsFormed bases) (found_in_parts keeps e m)
+    formed_parts keeps (name n) m h = tt
+    formed_parts keeps (number p digits) m h = tt
+    formed_parts keeps (text p characters) m h = tt
+    formed_parts keeps (truth p value) m h = tt
+    formed_parts keeps (nothing p) m h = tt
+    formed_parts keeps (tuple p es) m h = formed_items keeps es m.items h.1
+    formed_parts keeps (list p es) m h = formed_items keeps es m.items h.1
+    formed_parts keeps (dict p es) m h = formed_entries keeps es m.entries h.1
+    formed_parts keeps (negative p e) m h = formed_whole keeps e m.operand _ (formed_parts keeps e m.operand h.1)
+    formed_parts keeps (negation p e) m h = formed_whole keeps e m.operand _ (formed_parts keeps e m.operand h.1)
+    formed_parts keeps (binary p o l r) m h = formed_then _ _
+        (formed_whole keeps l m.left _ (formed_parts keeps l m.left h.1))
+        (formed_whole keeps r m.right _ (formed_parts keeps r m.right h.2))
+    formed_parts keeps (compare p o l r) m h = formed_then _ _
+        (formed_whole keeps l m.left _ (formed_parts keeps l m.left h.1))
+        (formed_then _ _ (formed_whole keeps r m.right _ (formed_parts keeps r m.right h.2))
         (formed_flows (place_of l) m.flows h.3))
-    formed_parts (is_none p e) m h = formed_whole e m.operand _ (formed_parts e m.operand h.1)
-    formed_parts (is_not_none p e) m h = formed_whole e m.operand _ (formed_parts e m.operand h.1)
-    formed_parts (conjunction p l r) m h = formed_then _ _ (formed_whole l m.left _ (formed_parts l m.left h.1))
-        (formed_whole r m.right _ (formed_parts r m.right h.2))
-    formed_parts (disjunction p l r) m h = formed_then _ _ (formed_whole l m.left _ (formed_parts l m.left h.1))
-        (formed_whole r m.right _ (formed_parts r m.right h.2))
-    formed_parts (attribute p e field) m h = formed_whole e m.object _ (formed_parts e m.object h.1)
-    formed_parts (index p e i) m h = formed_then _ _ (formed_whole e m.object _ (formed_parts e m.object h.1))
-        (formed_then _ _ (formed_whole i m.key _ (formed_parts i m.key h.2)) (formed_flows (place_of i) m.flows h.3))
-    formed_parts (call p c args kws) m h =
-        formed_then _ _ (formed_whole c m.callee _ (formed_parts c m.callee h.1))
-        (formed_then _ _ (formed_arguments (is_instance_test c args kws) args m.arguments h.2)
-        (formed_then _ _ (formed_keywords kws m.keywords h.3) (formed_code (second_place args p) m.second)))
+    formed_parts keeps (is_none p e) m h = formed_whole keeps e m.operand _ (formed_parts keeps e m.operand h.1)
+    formed_parts keeps (is_not_none p e) m h = formed_whole keeps e m.operand _ (formed_parts keeps e m.operand h.1)
+    formed_parts keeps (conjunction p l r) m h = formed_then _ _
+        (formed_whole keeps l m.left _ (formed_parts keeps l m.left h.1))
+        (formed_whole keeps r m.right _ (formed_parts keeps r m.right h.2))
+    formed_parts keeps (disjunction p l r) m h = formed_then _ _
+        (formed_whole keeps l m.left _ (formed_parts keeps l m.left h.1))
+        (formed_whole keeps r m.right _ (formed_parts keeps r m.right h.2))
+    formed_parts keeps (attribute p e field) m h = formed_whole keeps e m.object _ (formed_parts keeps e m.object h.1)
+    formed_parts keeps (index p e i) m h = formed_then _ _ (formed_whole keeps e m.object _
+        (formed_parts keeps e m.object h.1))
+        (formed_then _ _ (formed_whole keeps i m.key _ (formed_parts keeps i m.key h.2))
+        (formed_flows (place_of i) m.flows h.3))
+    formed_parts keeps (call p c args kws) m h =
+        formed_then _ _ (formed_called keeps c m.callee _ (formed_parts keeps c m.callee h.1))
+        (formed_then _ _ (formed_arguments keeps (is_instance_test c args kws) args m.arguments h.2)
+        (formed_then _ _ (formed_keywords keeps kws m.keywords h.3) (formed_code (second_place args p) m.second)))
 
-    formed_items : (es : Exprs) (m : ItemsLabels es) → ItemsWellFormed bases es m
-        → AllByRecursion (IsFormed bases) (found_in_items es m)
-    formed_items no_exprs m h = tt
-    formed_items (more_exprs e rest) m h = formed_then _ _ (formed_whole e m.first _ (formed_parts e m.first h.0))
-        (formed_then _ _ (formed_flows (place_of e) m.flows h.1) (formed_items rest m.rest h.2))
+    formed_items : (keeps : Test) (es : Exprs) (m : ItemsLabels es) → ItemsWellFormed bases es m
+        → AllByRecursion (IsFormed bases) (found_in_items keeps es m)
+    formed_items keeps no_exprs m h = tt
+    formed_items keeps (more_exprs e rest) m h = formed_then _ _
+        (formed_whole keeps e m.first _ (formed_parts keeps e m.first h.0))
+        (formed_then _ _ (formed_flows (place_of e) m.flows h.1) (formed_items keeps rest m.rest h.2))
 
-    formed_arguments : (is_test : Test) (es : Exprs) (m : ItemsLabels es) → ItemsWellFormed bases es m
-        → AllByRecursion (IsFormed bases) (found_in_arguments is_test es m)
-    formed_arguments is_test no_exprs m h = tt
-    formed_arguments true (more_exprs e rest) m h = formed_whole e m.first _ (formed_parts e m.first h.0)
-    formed_arguments false (more_exprs e rest) m h = formed_then _ _
-        (formed_whole e m.first _ (formed_parts e m.first h.0)) (formed_then _ _ (formed_flows (place_of e) m.flows h.1)
-        (formed_arguments false rest m.rest h.2))
+    formed_arguments : (keeps : Test) (is_test : Test) (es : Exprs) (m : ItemsLabels es) → ItemsWellFormed bases es m
+        → AllByRecursion (IsFormed bases) (found_in_arguments keeps is_test es m)
+    formed_arguments keeps is_test no_exprs m h = tt
+    formed_arguments keeps true (more_exprs e rest) m h = formed_whole keeps e m.first _
+        (formed_parts keeps e m.first h.0)
+    formed_arguments keeps false (more_exprs e rest) m h = formed_then _ _
+        (formed_whole keeps e m.first _ (formed_parts keeps e m.first h.0))
+        (formed_then _ _ (formed_flows (place_of e) m.flows h.1)
+        (formed_arguments keeps false rest m.rest h.2))
 
-    formed_entries : (es : Entries) (m : EntriesLabels es) → EntriesWellFormed bases es m
-        → AllByRecursion (IsFormed bases) (found_in_entries es m)
-    formed_entries no_entries m h = tt
-    formed_entries (more_entries key value rest) m h =
-        formed_then _ _ (formed_whole key m.key _ (formed_parts key m.key h.0.0))
+    formed_entries : (keeps : Test) (es : Entries) (m : EntriesLabels es) → EntriesWellFormed bases es m
+        → AllByRecursion (IsFormed bases) (found_in_entries keeps es m)
+    formed_entries keeps no_entries m h = tt
+    formed_entries keeps (more_entries key value rest) m h =
+        formed_then _ _ (formed_whole keeps key m.key _ (formed_parts keeps key m.key h.0.0))
         (formed_then _ _ (formed_flows (place_of key) m.key_flows h.0.1)
-        (formed_then _ _ (formed_whole value m.value _ (formed_parts value m.value h.1.0))
-        (formed_then _ _ (formed_flows (place_of value) m.value_flows h.1.1) (formed_entries rest m.rest h.2))))
+        (formed_then _ _ (formed_whole keeps value m.value _ (formed_parts keeps value m.value h.1.0))
+        (formed_then _ _ (formed_flows (place_of value) m.value_flows h.1.1) (formed_entries keeps rest m.rest h.2))))
 
-    formed_keywords : (es : Keywords) (m : KeywordsLabels es) → KeywordsWellFormed bases es m
-        → AllByRecursion (IsFormed bases) (found_in_keywords es m)
-    formed_keywords no_keywords m h = tt
-    formed_keywords (more_keywords parameter value rest) m h = formed_then _ _
-        (formed_whole value m.first _ (formed_parts value m.first h.0))
-        (formed_then _ _ (formed_flows (place_of value) m.flows h.1) (formed_keywords rest m.rest h.2))
+    formed_keywords : (keeps : Test) (es : Keywords) (m : KeywordsLabels es) → KeywordsWellFormed bases es m
+        → AllByRecursion (IsFormed bases) (found_in_keywords keeps es m)
+    formed_keywords keeps no_keywords m h = tt
+    formed_keywords keeps (more_keywords parameter value rest) m h = formed_then _ _
+        (formed_whole keeps value m.first _ (formed_parts keeps value m.first h.0))
+        (formed_then _ _ (formed_flows (place_of value) m.flows h.1) (formed_keywords keeps rest m.rest h.2))
 
 -- ---- what is tested in an expression
 
-module _ (ctx : Context) (declared : List Tree) where
+module _ (ctx : Context) (declared : List Tree) (keeps : Test) where
   abbrev labels_here : Env → (want : Option Tree) → (e : Expr) → Labels e
   labels_here env want e = labels ctx declared (static_test ctx.bases) (assignable_test ctx.bases) env want e
 
@@ -355,26 +383,36 @@ module _ (ctx : Context) (declared : List Tree) where
   tested_then : (xs ys : List Note) → AllTested xs → AllTested ys → AllTested (xs ++ ys)
   tested_then xs ys h k = all_append (IsTested ctx.bases) xs ys h k
 
+  tested_type : (shown : Test) (p : Place) (t : Tree) → (b : Test) → AllTested (type_noted b shown p t)
+  tested_type shown p t false = tt
+  tested_type shown p t true = (tt, tt)
+
+  tested_label : (shown : Test) (p : Place) (m : Label) → LabelPlain m → AllTested (label_at keeps shown p m)
+  tested_label shown p m h = tested_then (type_noted keeps shown p m.type) (codes_at p m.codes)
+      (tested_type shown p m.type keeps) (tested_codes ctx.bases p m.codes h)
+
   tested_callee : (env : Env) (e : Expr) (here : Label) → LabelPlain here
-      → AllTested (found_in_parts e (labels_here env None e)) → AllTested
-      (notes_under e (with_label e (labels_here env None e) here))
+      → AllTested (found_in_parts keeps e (labels_here env None e)) → AllTested
+      (callee_notes_under keeps e (with_label e (labels_here env None e) here))
   tested_callee env e here k h =
       let m = labels_here env None e in
-      tested_then (found_in_parts e (with_label e m here)) (codes_at (place_of e)
-      (whole_label e (with_label e m here)).codes)
-      (subst AllTested (sym (parts_kept e m here)) h)
-      (tested_codes ctx.bases (place_of e) (whole_label e (with_label e m here)).codes
+      tested_then (found_in_parts keeps e (with_label e m here)) (label_at keeps (shows e) (place_of e)
+      (whole_label e (with_label e m here)))
+      (subst AllTested (sym (parts_kept keeps e m here)) h)
+      (tested_label (shows e) (place_of e) (whole_label e (with_label e m here))
       (subst LabelPlain (sym (own_label e m here)) k))
 
-  tested_whole : (env : Env) (want : Option Tree) (e : Expr) → AllTested (found_in_parts e (labels_here env want e))
-      → AllTested (notes_under e (labels_here env want e))
+  tested_whole : (env : Env) (want : Option Tree) (e : Expr) →
+      AllTested (found_in_parts keeps e (labels_here env want e))
+      → AllTested (notes_under keeps e (labels_here env want e))
   tested_whole env want e h =
-      tested_then (found_in_parts e (labels_here env want e)) (codes_at (place_of e)
-      (whole_label e (labels_here env want e)).codes) h
-      (tested_codes ctx.bases (place_of e) (whole_label e (labels_here env want e)).codes (label_plain env want e))
+      tested_then (found_in_parts keeps e (labels_here env want e)) (label_at keeps true (place_of e)
+      (whole_label e (labels_here env want e))) h
+      (tested_label true (place_of e) (whole_label e (labels_here env want e)) (label_plain env want e))
 
   mutual
-    tested_parts : (env : Env) (want : Option Tree) (e : Expr) → AllTested (found_in_parts e (labels_here env want e))
+    tested_parts : (env : Env) (want : Option Tree) (e : Expr)
+        → AllTested (found_in_parts keeps e (labels_here env want e))
     tested_parts env want (name n) = tt
     tested_parts env want (number p digits) = tt
     tested_parts env want (text p characters) = tt
@@ -419,7 +457,8 @@ module _ (ctx : Context) (declared : List Tree) where
         (tested_code ctx.bases (second_place args p) _ (whole_second_plain ctx callee.rule args
         (items_here env (positional_seat callee.offers) args)))))
 
-    tested_items : (env : Env) (seat : ℕ → Seat) (es : Exprs) → AllTested (found_in_items es (items_here env seat es))
+    tested_items : (env : Env) (seat : ℕ → Seat) (es : Exprs)
+        → AllTested (found_in_items keeps es (items_here env seat es))
     tested_items env seat no_exprs = tt
     tested_items env seat (more_exprs e rest) =
         tested_then _ _ (tested_whole env (seat 0).want e (tested_parts env (seat 0).want e))
@@ -427,7 +466,7 @@ module _ (ctx : Context) (declared : List Tree) where
         (seat 0).into) (tested_items env (λ i. seat (suc i)) rest))
 
     tested_arguments : (env : Env) (is_test : Test) (seat : ℕ → Seat) (es : Exprs)
-        → AllTested (found_in_arguments is_test es (items_here env seat es))
+        → AllTested (found_in_arguments keeps is_test es (items_here env seat es))
     tested_arguments env is_test seat no_exprs = tt
     tested_arguments env true seat (more_exprs e rest) = tested_whole env (seat 0).want e
         (tested_parts env (seat 0).want e)
@@ -436,7 +475,8 @@ module _ (ctx : Context) (declared : List Tree) where
         (tested_then _ _ (tested_flows ctx.bases (place_of e) (whole_label e (labels_here env (seat 0).want e))
         (seat 0).into) (tested_arguments env false (λ i. seat (suc i)) rest))
 
-    tested_entries : (env : Env) (x y : Seat) (es : Entries) → AllTested (found_in_entries es (entries_here env x y es))
+    tested_entries : (env : Env) (x y : Seat) (es : Entries) →
+        AllTested (found_in_entries keeps es (entries_here env x y es))
     tested_entries env x y no_entries = tt
     tested_entries env x y (more_entries key value rest) =
         tested_then _ _ (tested_whole env x.want key (tested_parts env x.want key))
@@ -446,7 +486,7 @@ module _ (ctx : Context) (declared : List Tree) where
         y.into) (tested_entries env x y rest))))
 
     tested_keywords : (env : Env) (seat : List ℕ → Seat) (before : List (List ℕ)) (es : Keywords)
-        → AllTested (found_in_keywords es (keywords_here env seat before es))
+        → AllTested (found_in_keywords keeps es (keywords_here env seat before es))
     tested_keywords env seat before no_keywords = tt
     tested_keywords env seat before (more_keywords parameter value rest) =
         tested_then _ _ (tested_whole env (keyword_seat seat before parameter).want value
@@ -456,7 +496,7 @@ module _ (ctx : Context) (declared : List Tree) where
         (keyword_seat seat before parameter).into)
         (tested_keywords env seat (parameter.text ∷ before) rest))
 
-  tested_in : (env : Env) (want : Option Tree) (e : Expr) → AllTested (notes_under e (labels_here env want e))
+  tested_in : (env : Env) (want : Option Tree) (e : Expr) → AllTested (notes_under keeps e (labels_here env want e))
   tested_in env want e = tested_whole env want e (tested_parts env want e)
 
 -- ---- lists of right notes
@@ -500,9 +540,9 @@ module _ (k : Standing) (w : StandsWell k) where
       → AreRight ctx.bases (finds_in k want e)
   unfolding finds_in
   right_in want h e =
-      let m = labels_here ctx k.declared k.env want e in
-      right_both ctx.bases (notes_under e m) (tested_in ctx k.declared k.env want e)
-      (formed_whole ctx.bases e m (found_in_parts e m) (formed_parts ctx.bases e m
+      let m = labels_here ctx k.declared k.keeps k.env want e in
+      right_both ctx.bases (notes_under k.keeps e m) (tested_in ctx k.declared k.keeps k.env want e)
+      (formed_whole ctx.bases k.keeps e m (found_in_parts k.keeps e m) (formed_parts ctx.bases k.keeps e m
       (labels_are_lawful ctx k.declared k.env want e w.context w.declared w.env h).2))
 
   -- so are those in a call of `range` as what a `for` goes over
@@ -526,9 +566,10 @@ module _ (k : Standing) (w : StandsWell k) where
       let arguments = arguments_find k is_test (positional_seat offers) args in
       let keywords = keywords_find k (named_seat offers) [] kws in
       right_append ctx.bases arguments (keywords ++ codes_at p (call_label ctx.bases offers).codes)
-      (right_both ctx.bases arguments (tested_arguments ctx k.declared k.env is_test (positional_seat offers) args)
-      (formed_arguments ctx.bases is_test args (items_in k (positional_seat offers) args) a.each))
+      (right_both ctx.bases arguments (tested_arguments ctx k.declared k.keeps k.env is_test (positional_seat offers)
+      args)
+      (formed_arguments ctx.bases k.keeps is_test args (items_in k (positional_seat offers) args) a.each))
       (right_append ctx.bases keywords (codes_at p (call_label ctx.bases offers).codes)
-      (right_both ctx.bases keywords (tested_keywords ctx k.declared k.env (named_seat offers) [] kws)
-      (formed_keywords ctx.bases kws (keywords_in k (named_seat offers) [] kws) b.each))
+      (right_both ctx.bases keywords (tested_keywords ctx k.declared k.keeps k.env (named_seat offers) [] kws)
+      (formed_keywords ctx.bases k.keeps kws (keywords_in k (named_seat offers) [] kws) b.each))
       (right_codes ctx.bases p (call_label ctx.bases offers).codes (range_plain ctx.bases (arguments_given args kws))))

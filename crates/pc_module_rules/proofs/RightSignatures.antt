@@ -253,12 +253,12 @@ module _ (m : Module) where
 
   -- after constants of well-formed types
   module _ (r : ItemsReached) (k : AreWellFormed bases r.constants) where
-    stands_well : StandsWell (initial m r.constants r.classes)
+    stands_well : StandsWell (initial m false r.constants r.classes)
     stands_well = record { context = initializers_well_formed m r.constants r.classes k; declared = tt; env = tt }
 
-    right_value : (into : List Tree) → AreWellFormed bases into → (e : Expr) → Right (value_findings m r into e)
+    right_value : (into : List Tree) → AreWellFormed bases into → (e : Expr) → Right (value_findings m false r into e)
     right_value into h e =
-        let here = initial m r.constants r.classes in
+        let here = initial m false r.constants r.classes in
         let want = first_of_types into in
         let w = first_well_formed bases into h in
         right_then (finds_in here want e) (flows_at (place_of e) (flows_of bases (label_in here want e) into))
@@ -269,22 +269,22 @@ module _ (m : Module) where
     into_well_formed : (c : Constant) → AreWellFormed bases (initializer_types m r c)
     into_well_formed c = wants_well_formed (binds_text r.bound c.name.text) c.annotation
 
-    right_constant : (c : Constant) → Right (constant_findings m r c)
+    right_constant : (c : Constant) → Right (constant_findings m false r c)
     right_constant c =
         right_then (map plain_note (option_findings m bases c.annotation))
-        (value_findings m r (initializer_types m r c) c.value) (right_option m bases c.annotation)
+        (value_findings m false r (initializer_types m r c) c.value) (right_option m bases c.annotation)
         (right_value (initializer_types m r c) (into_well_formed c) c.value)
 
     type_well_formed : (c : Constant) → IsWellFormed bases (type_of_constant m r c)
     type_well_formed c =
         let types = initializer_types m r c in
         constant_well_formed c.annotation (initializer_label m r c).type
-        (label_well_formed (initial m r.constants r.classes) stands_well (first_of_types types)
+        (label_well_formed (initial m false r.constants r.classes) stands_well (first_of_types types)
         (first_well_formed bases types (into_well_formed c)) c.value)
 
     -- ---- items
 
-    right_item : (i : Item) → Right (item_findings m r i)
+    right_item : (i : Item) → Right (item_findings m false r i)
     right_item (constant_item p c) = right_constant c
     right_item (class_item p c) = right_members (base_at m r.classes) no_name c.members
     right_item (def_item p f) = tt
@@ -294,9 +294,11 @@ module _ (m : Module) where
     behind_well_formed (class_item p c) = k
     behind_well_formed (def_item p f) = k
 
-  right_items : (r : ItemsReached) → AreWellFormed bases r.constants → (is : List Item) → Right (items_findings m r is)
+  right_items : (r : ItemsReached) → AreWellFormed bases r.constants → (is : List Item)
+      → Right (items_findings m false r is)
   right_items r k [] = tt
-  right_items r k (i ∷ is) = right_then (item_findings m r i) (items_findings m (behind m r i) is) (right_item r k i)
+  right_items r k (i ∷ is) = right_then (item_findings m false r i) (items_findings m false (behind m r i) is)
+      (right_item r k i)
       (right_items (behind m r i) (behind_well_formed r k i) is)
 
   all_well_formed : (r : ItemsReached) → AreWellFormed bases r.constants → (is : List Item)
@@ -310,7 +312,7 @@ module _ (m : Module) where
   unfolding constants_of
   constants_formed = all_well_formed nothing_reached tt m.items
 
-  pub right_signatures : Right (signatures_find m)
+  pub right_signatures : Right (signatures_find m false)
   unfolding signatures_find
-  right_signatures = right_then (functions_findings m m.items) (items_findings m nothing_reached m.items)
+  right_signatures = right_then (functions_findings m m.items) (items_findings m false nothing_reached m.items)
       (right_functions m.items) (right_items nothing_reached tt m.items)

@@ -577,9 +577,9 @@ end_right bases t p (Some env) = in_both (AreRight bases) (static_test bases Non
 -- the notes in the body of a function are right, where those before it are
 pub right_function : (m : Module) (constants : List Tree) → AreWellFormed (bases_of m) constants
     → (owner : Owner) (f : FuncDef) (found : List Note) → AreRight (bases_of m) found
-    → AreRight (bases_of m) (function_finds m constants owner f found)
+    → AreRight (bases_of m) (function_finds false m constants owner f found)
 right_function m constants kc owner f found kf =
-    let context = body_context_of m constants owner f in
+    let context = body_context_of false m constants owner f in
     let names = locals owner f in
     let none = unassigned_well_formed (bases_of m) (length names) in
     let start = enter_parameters context.context.resolve (none_assigned (length names)) (none_assigned (length names))

@@ -21,7 +21,7 @@ use Rattle.pc_module_rules.proofs.ToldModules.{module_tells}
 -- what is computed at a place is the first flow there under a lawful labelling
 computed_is : (m : Module) (labels : Labelling m) → IsLawful m labels → (p : Place)
     → dynamic_flow m p ≡ first_at p (dynamic_flows m labels)
-computed_is m labels l p = module_tells m labels l p
+computed_is m labels l p = (module_tells m labels l).is p
 
 pub flows_computed : DynamicFlowsAreComputed
 flows_computed m p s t = (

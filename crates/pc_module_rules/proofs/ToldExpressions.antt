@@ -43,7 +43,7 @@ use Rattle.pc_module_rules.proofs.WalkedTables.{types_well_formed}
 use Rattle.pc_module_rules.proofs.WalkedExpressions.{here, ExpressionTold, told, flows_told}
 use Rattle.pc_module_rules.specs.FlowsOfExpressions.{dynamic_at, dynamic_in}
 use Rattle.pc_module_rules.specs.FlowsOfStatements.{dynamic_in_option, dynamic_in_value, dynamic_in_target}
-use Rattle.pc_module_rules.proofs.FirstFlows.{Tells, tell_then, tell_grouped}
+use Rattle.pc_module_rules.proofs.FirstFlows.{Tells, tell_none, tell_then, tell_grouped}
 use Rattle.pc_module_rules.proofs.ToldFlows.{tell_codes, tell_flows, tell_expression}
 
 module _ (setting : Surroundings) (returned : Tree) (kr : IsWellFormed setting.context.bases returned)
@@ -71,12 +71,12 @@ module _ (setting : Surroundings) (returned : Tree) (kr : IsWellFormed setting.c
 
   -- what is found in an expression is what stands under its lawful labels
   found_is : (want : Option Tree) → IsWellFormedIfAny ctx.bases want → (e : Expr) (labels : Labels e)
-      → Lawful ctx declared env want e labels → finds_in at_env want e ≡ notes_under e labels
+      → Lawful ctx declared env want e labels → finds_in at_env want e ≡ notes_under false e labels
   unfolding finds_in
   found_is want kw e labels l =
       let computed = labels_of ctx (type_table table) env want e in
       let k = labels_are_lawful ctx (type_table table) env want e ck ds h.well_formed kw in
-      ap (notes_under e) (sym (one ctx declared (type_table table) env h.same want e labels computed l k.0))
+      ap (notes_under false e) (sym (one ctx declared (type_table table) env h.same want e labels computed l k.0))
 
   pub tell_in : (want : Option Tree) → IsWellFormedIfAny ctx.bases want → (e : Expr) (labels : Labels e)
       → Lawful ctx declared env want e labels → Tells (finds_in at_env want e) (dynamic_in e labels)
@@ -126,7 +126,7 @@ module _ (setting : Surroundings) (returned : Tree) (kr : IsWellFormed setting.c
     moved : (a k c : List Note) → (a ++ (k ++ [])) ++ c ≡ a ++ (k ++ c)
     moved a k c = append_assoc a (k ++ []) c ∙ ap (λ x. a ++ (x ++ c)) (append-nil k)
 
-    range_listed : notes_under (call p (name n) args kws) range_labels ≡ range_finds at_env p (name n) args kws
+    range_listed : notes_under false (call p (name n) args kws) range_labels ≡ range_finds at_env p (name n) args kws
     unfolding arguments_find keywords_find
     range_listed = moved (arguments_find at_env (is_instance_test (name n) args kws) (positional_seat offers) args)
         (keywords_find at_env (named_seat offers) [] kws) (codes_at p (call_label ctx.bases offers).codes)
@@ -165,7 +165,7 @@ module _ (setting : Surroundings) (returned : Tree) (kr : IsWellFormed setting.c
         (dynamic_in (call p (name n) args kws) labels)
     tell_call true labels item l =
         subst (λ xs. Tells xs (dynamic_in (call p (name n) args kws) labels))
-        (sym (ap (notes_under (call p (name n) args kws)) (range_lawful labels l.0)) ∙ range_listed)
+        (sym (ap (notes_under false (call p (name n) args kws)) (range_lawful labels l.0)) ∙ range_listed)
         (tell_expression (call p (name n) args kws) labels)
     tell_call false labels item l = tell_in None tt (call p (name n) args kws) labels l.0
 
@@ -239,7 +239,7 @@ module _ (setting : Surroundings) (returned : Tree) (kr : IsWellFormed setting.c
 
   pub tell_option : (e : Option Expr) (labels : OptionLabels e) → LawfulOption m ctx declared returned env e labels
       → Tells (option_finds context at_env None e) (dynamic_in_option e labels)
-  tell_option None labels l = λ q. refl
+  tell_option None labels l = tell_none
   tell_option (Some e) labels l = tell_in None tt e labels l
 
   pub tell_return : (p : Place) (e : Option Expr) (labels : OptionLabels e) (flows : FlowLabels)

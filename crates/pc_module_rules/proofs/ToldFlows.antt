@@ -22,7 +22,8 @@ use Rattle.pc_rules.specs.Computed.Findings.{flow_then, flows_behind, flows_at, 
 use Rattle.pc_rules.specs.Computed.Findings.{found_in_arguments, found_in_entries, found_in_keywords, notes_under}
 use Rattle.pc_module_rules.specs.FlowsOfExpressions.{DynamicFlow, dynamic_one, dynamic_at, dynamic_in, dynamic_in_exprs}
 use Rattle.pc_module_rules.specs.FlowsOfExpressions.{dynamic_in_arguments, dynamic_in_entries, dynamic_in_keywords}
-use Rattle.pc_module_rules.proofs.FirstFlows.{Pair, same_either, first_at, Tells, tell_then, tell_behind, tell_plain}
+use Rattle.pc_module_rules.proofs.FirstFlows.{Pair, same_either, first_at, Tells, tell_none, tell_then, tell_behind}
+use Rattle.pc_module_rules.proofs.FirstFlows.{tell_plain}
 use Rattle.pc_module_rules.proofs.PlainCodes.{in_both, tells_flow, IsPlain}
 
 -- ---- codes
@@ -152,7 +153,7 @@ module _ (p q : Place) where
 
 -- the notes of the flows of a value tell of just its dynamic ones
 pub tell_flows : (p : Place) (flows : FlowLabels) → Tells (flows_at p flows) (dynamic_at p flows)
-tell_flows p flows = λ q. at_place q (is_same_place q p) refl
+tell_flows p flows = record { is = λ q. at_place q (is_same_place q p) refl }
   where
     at_place : (q : Place) (b : Test) → is_same_place q p ≡ b → flow_noted q (flows_at p flows)
         ≡ first_at q (dynamic_at p flows)
@@ -162,34 +163,34 @@ tell_flows p flows = λ q. at_place q (is_same_place q p) refl
 -- ---- codes of labels
 
 tell_own : (p : Place) (c : Code) → Tells (own_at p c) []
-tell_own p c = in_both (λ (xs : List Note). Tells xs []) (is_of_scopes c) [] (plain_note (finding p c) ∷ []) (λ q. refl)
+tell_own p c = in_both (λ (xs : List Note). Tells xs []) (is_of_scopes c) [] (plain_note (finding p c) ∷ []) tell_none
     (tell_plain (finding p c ∷ []))
 
 tell_each : (p : Place) (cs : List Code) → Tells (flat_map (own_at p) cs) []
-tell_each p [] = λ q. refl
+tell_each p [] = tell_none
 tell_each p (c ∷ cs) = tell_then (own_at p c) (flat_map (own_at p) cs) [] [] (tell_own p c) (tell_each p cs)
 
 pub tell_codes : (p : Place) (cs : List Code) → Tells (codes_at p cs) []
 tell_codes p cs = tell_each p (once cs)
 
 tell_code : (p : Place) (o : Option Code) → Tells (notes_of_code p o) []
-tell_code p None = λ q. refl
+tell_code p None = tell_none
 tell_code p (Some c) = tell_own p c
 
 -- ---- expressions
 
 tell_whole : (e : Expr) (m : Labels e) (parts : List Note) (ds : List DynamicFlow) → Tells parts ds
-    → Tells (whole e m parts) ds
+    → Tells (whole false e m parts) ds
 tell_whole e m parts ds h = tell_behind parts (codes_at (place_of e) (whole_label e m).codes) ds h
     (tell_codes (place_of e) (whole_label e m).codes)
 
 mutual
-  tell_parts : (e : Expr) (m : Labels e) → Tells (found_in_parts e m) (dynamic_in e m)
-  tell_parts (name n) m = λ q. refl
-  tell_parts (number p digits) m = λ q. refl
-  tell_parts (text p characters) m = λ q. refl
-  tell_parts (truth p value) m = λ q. refl
-  tell_parts (nothing p) m = λ q. refl
+  tell_parts : (e : Expr) (m : Labels e) → Tells (found_in_parts false e m) (dynamic_in e m)
+  tell_parts (name n) m = tell_none
+  tell_parts (number p digits) m = tell_none
+  tell_parts (text p characters) m = tell_none
+  tell_parts (truth p value) m = tell_none
+  tell_parts (nothing p) m = tell_none
   tell_parts (tuple p es) m = tell_items es m.items
   tell_parts (list p es) m = tell_items es m.items
   tell_parts (dict p es) m = tell_entries es m.entries
@@ -215,33 +216,34 @@ mutual
       (tell_then _ _ _ _ (tell_arguments (is_instance_test c args kws) args m.arguments)
       (tell_behind _ _ _ (tell_keywords kws m.keywords) (tell_code (second_place args p) m.second)))
 
-  tell_items : (es : Exprs) (m : ItemsLabels es) → Tells (found_in_items es m) (dynamic_in_exprs es m)
-  tell_items no_exprs m = λ q. refl
+  tell_items : (es : Exprs) (m : ItemsLabels es) → Tells (found_in_items false es m) (dynamic_in_exprs es m)
+  tell_items no_exprs m = tell_none
   tell_items (more_exprs e rest) m =
       tell_then _ _ _ _ (tell_whole e m.first _ _ (tell_parts e m.first))
       (tell_then _ _ _ _ (tell_flows (place_of e) m.flows) (tell_items rest m.rest))
 
   tell_arguments : (is_test : Test) (es : Exprs) (m : ItemsLabels es)
-      → Tells (found_in_arguments is_test es m) (dynamic_in_arguments is_test es m)
-  tell_arguments is_test no_exprs m = λ q. refl
+      → Tells (found_in_arguments false is_test es m) (dynamic_in_arguments is_test es m)
+  tell_arguments is_test no_exprs m = tell_none
   tell_arguments true (more_exprs e rest) m = tell_whole e m.first _ _ (tell_parts e m.first)
   tell_arguments false (more_exprs e rest) m =
       tell_then _ _ _ _ (tell_whole e m.first _ _ (tell_parts e m.first))
       (tell_then _ _ _ _ (tell_flows (place_of e) m.flows) (tell_arguments false rest m.rest))
 
-  tell_entries : (es : Entries) (m : EntriesLabels es) → Tells (found_in_entries es m) (dynamic_in_entries es m)
-  tell_entries no_entries m = λ q. refl
+  tell_entries : (es : Entries) (m : EntriesLabels es) → Tells (found_in_entries false es m) (dynamic_in_entries es m)
+  tell_entries no_entries m = tell_none
   tell_entries (more_entries key value rest) m =
       tell_then _ _ _ _ (tell_whole key m.key _ _ (tell_parts key m.key))
       (tell_then _ _ _ _ (tell_flows (place_of key) m.key_flows)
       (tell_then _ _ _ _ (tell_whole value m.value _ _ (tell_parts value m.value))
       (tell_then _ _ _ _ (tell_flows (place_of value) m.value_flows) (tell_entries rest m.rest))))
 
-  tell_keywords : (es : Keywords) (m : KeywordsLabels es) → Tells (found_in_keywords es m) (dynamic_in_keywords es m)
-  tell_keywords no_keywords m = λ q. refl
+  tell_keywords : (es : Keywords) (m : KeywordsLabels es) → Tells (found_in_keywords false es m)
+      (dynamic_in_keywords es m)
+  tell_keywords no_keywords m = tell_none
   tell_keywords (more_keywords parameter value rest) m =
       tell_then _ _ _ _ (tell_whole value m.first _ _ (tell_parts value m.first))
       (tell_then _ _ _ _ (tell_flows (place_of value) m.flows) (tell_keywords rest m.rest))
 
-pub tell_expression : (e : Expr) (m : Labels e) → Tells (notes_under e m) (dynamic_in e m)
-tell_expression e m = tell_whole e m (found_in_parts e m) (dynamic_in e m) (tell_parts e m)
+pub tell_expression : (e : Expr) (m : Labels e) → Tells (notes_under false e m) (dynamic_in e m)
+tell_expression e m = tell_whole e m (found_in_parts false e m) (dynamic_in e m) (tell_parts e m)

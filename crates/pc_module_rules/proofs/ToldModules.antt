@@ -52,7 +52,7 @@ use Rattle.pc_module_rules.specs.Modules.{BeforeItem, nothing_before, before_nex
 use Rattle.pc_module_rules.specs.Modules.{Labelling, IsLawful}
 use Rattle.pc_module_rules.specs.Laws.Labellings.{Surroundings}
 use Rattle.pc_module_rules.specs.Computed.Statements.{Walk, walk_suite, enter_parameters, end_finds, function_finds}
-use Rattle.pc_module_rules.specs.Computed.Modules.{methods_find, bodies_find, module_finds}
+use Rattle.pc_module_rules.specs.Computed.Modules.{methods_find, bodies_find, module_notes, module_finds}
 use Rattle.pc_module_rules.specs.Laws.Walks.{body_context_in}
 use Rattle.pc_module_rules.proofs.LabelledFunctions.{entries_well_formed}
 use Rattle.pc_module_rules.proofs.LabelledModule.{wants_well_formed, first_well_formed, constant_well_formed, one_more}
@@ -65,7 +65,8 @@ use Rattle.pc_module_rules.specs.FlowsOfModules.{dynamic_in_methods, dynamic_in_
 use Rattle.pc_module_rules.specs.FlowsOfModules.{dynamic_in_body, dynamic_in_each, dynamic_flows}
 use Rattle.pc_module_rules.specs.FlowsOfStatements.{dynamic_in_suite}
 use Rattle.pc_module_rules.proofs.EnteredTables.{all_entered, none_fits, none_assigned_fits}
-use Rattle.pc_module_rules.proofs.FirstFlows.{Tells, tell_then, tell_behind, tell_plain, Grows, grow_none, grow}
+use Rattle.pc_module_rules.proofs.FirstFlows.{Tells, tell_none, tell_then, tell_behind, tell_plain, Grows, grow_none}
+use Rattle.pc_module_rules.proofs.FirstFlows.{grow}
 use Rattle.pc_module_rules.proofs.FirstFlows.{grow_then, tell_grown}
 use Rattle.pc_module_rules.proofs.PlainCodes.{in_both}
 use Rattle.pc_module_rules.proofs.ToldFlows.{tell_flows, tell_expression}
@@ -86,9 +87,9 @@ module _ (m : Module) where
 
   default_tells : (binds : Test) (l : Option Literal) (t : Tree) (flows : FlowLabels) → IsWellFormed bases t
       → LawfulDefault bases binds l t flows → Tells (default_findings bases binds l t) (dynamic_at_default l flows)
-  default_tells binds None t flows kw h = λ q. refl
+  default_tells binds None t flows kw h = tell_none
   default_tells false (Some l) t flows kw h = subst (λ (fs : FlowLabels). Tells [] (dynamic_at (literal_place l) fs))
-      (sym h) (λ q. refl)
+      (sym h) tell_none
   default_tells true (Some l) t flows kw h =
       let from = clean (literal_type l) in
       let e : flows_of bases from (t ∷ []) ≡ flows = into_one bases from (t ∷ []) (flows_of bases from (t ∷ [])) flows
@@ -98,7 +99,7 @@ module _ (m : Module) where
 
   params_tell : (before : List (List ℕ)) (ps : List Param) (labels : ParamsLabels ps) → LawfulParams m before ps labels
       → Tells (params_findings m (λ t. is_one_of t before) ps) (dynamic_in_params ps labels)
-  params_tell before [] labels h = λ q. refl
+  params_tell before [] labels h = tell_none
   params_tell before (p ∷ ps) labels h =
       let notes = map plain_note (option_findings m bases p.annotation) in
       let default = default_findings bases (binds_name before p.name) p.default (read_option m bases p.annotation) in
@@ -122,7 +123,7 @@ module _ (m : Module) where
   defaults_tell : (before : List (List ℕ)) (ps : List Param) (labels : ParamsLabels ps)
       → LawfulParams m before ps labels → Tells (params_defaults m (λ t. is_one_of t before) ps)
       (dynamic_in_params ps labels)
-  defaults_tell before [] labels h = λ q. refl
+  defaults_tell before [] labels h = tell_none
   defaults_tell before (p ∷ ps) labels h =
       tell_then (default_findings bases (binds_name before p.name) p.default (read_option m bases p.annotation))
       (params_defaults m (λ t. is_one_of t (p.name.text ∷ before)) ps) (dynamic_at_default p.default labels.default)
@@ -142,7 +143,7 @@ module _ (m : Module) where
   members_tell : (all : List Tree) (base : ClassFacts) (c number : ℕ) (before : List (List ℕ)) (ms : List Member)
       (labels : MembersLabels ms) → LawfulMembers m all base c number before ms labels
       → Tells (members_findings m base (λ t. is_one_of t before) ms) (dynamic_in_members ms labels)
-  members_tell all base c number before [] labels l = λ q. refl
+  members_tell all base c number before [] labels l = tell_none
   members_tell all base c number before (field_member d ∷ rest) labels l =
       tell_then (field_default m base (λ t. is_one_of t before) d)
       (members_findings m base (λ t. is_one_of t (d.name.text ∷ before)) rest)
@@ -183,12 +184,13 @@ module _ (m : Module) where
         (initializers_well_formed m b.constants b.classes kb) tt tt (first_well_formed m into into_well_formed) in
         one_labelling context [] [] refl (first_of_types into) c.value computed labels.value h.0 l.value
 
-    found_is : finds_in (initial m b.constants b.classes) (first_of_types into) c.value ≡ notes_under c.value
+    found_is : finds_in (initial m false b.constants b.classes) (first_of_types into) c.value
+        ≡ notes_under false c.value
         labels.value
     unfolding finds_in
-    found_is = ap (notes_under c.value) is_computed
+    found_is = ap (notes_under false c.value) is_computed
 
-    label_is : label_in (initial m b.constants b.classes) (first_of_types into) c.value ≡ whole_label c.value
+    label_is : label_in (initial m false b.constants b.classes) (first_of_types into) c.value ≡ whole_label c.value
         labels.value
     unfolding label_in
     label_is = ap (whole_label c.value) is_computed
@@ -200,7 +202,7 @@ module _ (m : Module) where
     constant_is : type_of_constant m (reached_at b) c ≡ constant_type m c.annotation (type_of c.value labels.value)
     constant_is = ap (λ (x : Label). constant_type m c.annotation x.type) label_is
 
-    flows_are : flows_of bases (label_in (initial m b.constants b.classes) (first_of_types into) c.value) into
+    flows_are : flows_of bases (label_in (initial m false b.constants b.classes) (first_of_types into) c.value) into
         ≡ labels.flows
     flows_are =
         let k = subst (λ (x : Labels c.value). IsWellFormed bases (type_of c.value x)) is_computed is_well_formed in
@@ -209,17 +211,18 @@ module _ (m : Module) where
         into) labels.flows (flows_are_lawful bases (whole_label c.value labels.value) into (smaller m) k
         into_well_formed) l.flow
 
-    constant_tells : Tells (constant_findings m (reached_at b) c) (dynamic_in_item (constant_item p c) labels)
+    constant_tells : Tells (constant_findings m false (reached_at b) c) (dynamic_in_item (constant_item p c) labels)
     constant_tells =
         let notes = map plain_note (option_findings m bases c.annotation) in
         let q = place_of c.value in
         let ds = dynamic_in c.value labels.value in
         let es = dynamic_at q labels.flows in
-        let is : value_findings m (reached_at b) into c.value ≡ notes_under c.value labels.value ++ flows_at q
+        let is : value_findings m false (reached_at b) into c.value ≡ notes_under false c.value labels.value
+        ++ flows_at q
         labels.flows = λ i. found_is i ++ flows_at q (flows_are i) in
-        tell_then notes (value_findings m (reached_at b) into c.value) [] (ds ++ es)
+        tell_then notes (value_findings m false (reached_at b) into c.value) [] (ds ++ es)
         (tell_plain (option_findings m bases c.annotation))
-        (subst (λ xs. Tells xs (ds ++ es)) (sym is) (tell_then (notes_under c.value labels.value)
+        (subst (λ xs. Tells xs (ds ++ es)) (sym is) (tell_then (notes_under false c.value labels.value)
         (flows_at q labels.flows) ds es (tell_expression c.value labels.value) (tell_flows q labels.flows)))
 
   -- ---- items
@@ -228,7 +231,7 @@ module _ (m : Module) where
   functions_tell : (all : List Tree) (b : BeforeItem) (items : List Item) (labels : ItemsLabels items)
       → LawfulModuleItems m all b items labels → Tells (functions_findings m items)
       (dynamic_in_each dynamic_in_function items labels)
-  functions_tell all b [] labels l = λ q. refl
+  functions_tell all b [] labels l = tell_none
   functions_tell all b (i ∷ rest) labels l =
       tell_then (function_findings m i) (functions_findings m rest) (dynamic_in_function i labels.first)
       (dynamic_in_each dynamic_in_function rest labels.rest) (one i labels.first l.0)
@@ -236,8 +239,8 @@ module _ (m : Module) where
     where
       one : (i : Item) (mk : ItemLabels i) → LawfulItem m all b i mk
           → Tells (function_findings m i) (dynamic_in_function i mk)
-      one (constant_item p c) mk h = λ q. refl
-      one (class_item p c) mk h = λ q. refl
+      one (constant_item p c) mk h = tell_none
+      one (class_item p c) mk h = tell_none
       one (def_item p f) mk h = def_tells [] f mk.params h.params
 
   -- constants and classes
@@ -252,9 +255,9 @@ module _ (m : Module) where
 
   items_tell : (all : List Tree) (b : BeforeItem) → AreWellFormed bases b.constants → (items : List Item)
       → ClassesFrom m b.classes (classes_in items) → (labels : ItemsLabels items)
-      → LawfulModuleItems m all b items labels → Tells (items_findings m (reached_at b) items)
+      → LawfulModuleItems m all b items labels → Tells (items_findings m false (reached_at b) items)
       (dynamic_in_each dynamic_in_item items labels)
-  items_tell all b kb [] from labels l = λ q. refl
+  items_tell all b kb [] from labels l = tell_none
   items_tell all b kb (constant_item p c ∷ rest) from labels l =
       let mk = labels.first in
       let t = constant_type m c.annotation (type_of c.value mk.value) in
@@ -266,14 +269,15 @@ module _ (m : Module) where
         classes = b.classes;
         bound = λ w. is_one_of w next.names;
       }) (constant_is b kb p c mk all l.0) in
-      tell_then (constant_findings m (reached_at b) c) (items_findings m (behind m (reached_at b) (constant_item p c))
+      tell_then (constant_findings m false (reached_at b) c) (items_findings m false
+      (behind m (reached_at b) (constant_item p c))
       rest) (dynamic_in_item (constant_item p c) mk) others (constant_tells b kb p c mk all l.0)
-      (subst (λ (x : ItemsReached). Tells (items_findings m x rest) others) (sym here)
+      (subst (λ (x : ItemsReached). Tells (items_findings m false x rest) others) (sym here)
       (items_tell all next (one_more m b.constants t kb (type_well_formed b kb p c mk all l.0)) rest from
       labels.rest l.1))
   items_tell all b kb (class_item p c ∷ rest) from labels l =
       let next = before_next m b (class_item p c) labels.first in
-      tell_then (class_notes m b.classes c) (items_findings m (reached_at next) rest)
+      tell_then (class_notes m b.classes c) (items_findings m false (reached_at next) rest)
       (dynamic_in_members c.members labels.first) (dynamic_in_each dynamic_in_item rest labels.rest)
       (class_tells all b p c labels.first (ap (slice_get (classes_in m.items)) (omega arith) ∙ from 0) l.0)
       (items_tell all next kb rest (λ i. ap (slice_get (classes_in m.items)) (omega arith) ∙ from (suc i)) labels.rest
@@ -284,13 +288,14 @@ module _ (m : Module) where
   -- ---- bodies
 
   end_tells : (t : Tree) (p : Place) (out : Option Env) → Tells (end_finds bases t p out) []
-  end_tells t p None = λ q. refl
+  end_tells t p None = tell_none
   end_tells t p (Some env) = in_both (λ (xs : List Note). Tells xs []) (static_test bases NoneType t) []
-      (plain_note (finding p E21) ∷ []) (λ q. refl) (tell_plain (finding p E21 ∷ []))
+      (plain_note (finding p E21) ∷ []) tell_none (tell_plain (finding p E21 ∷ []))
 
   module _ (all : List Tree) (ka : AreWellFormed bases all) where
     function_tells : (owner : Owner) (f : FuncDef) (labels : FunctionLabels f) → LawfulFunction m all owner f labels
-        → (found : List Note) → Grows found (function_finds m all owner f found) (dynamic_in_suite f.body labels.body)
+        → (found : List Note) → Grows found (function_finds false m all owner f found)
+        (dynamic_in_suite f.body labels.body)
     function_tells owner f labels l found =
         let names = locals owner f in
         let setting : Surroundings = record {
@@ -319,33 +324,34 @@ module _ (m : Module) where
 
     methods_tell : (base : ClassFacts) (c number : ℕ) (before : List (List ℕ)) (ms : List Member)
         (labels : MembersLabels ms) → LawfulMembers m all base c number before ms labels → (found : List Note)
-        → Grows found (methods_find m all c number ms found) (dynamic_in_methods ms labels)
+        → Grows found (methods_find false m all c number ms found) (dynamic_in_methods ms labels)
     methods_tell base c number before [] labels l found = grow_none found
     methods_tell base c number before (field_member d ∷ rest) labels l found =
         methods_tell base c number (d.name.text ∷ before) rest labels.rest l.others found
     methods_tell base c number before (method_member f ∷ rest) labels l found =
-        let one = function_finds m all (owners.Method c number) f found in
-        grow_then found one (methods_find m all c (suc number) rest one) (dynamic_in_suite f.body labels.method.body)
+        let one = function_finds false m all (owners.Method c number) f found in
+        grow_then found one (methods_find false m all c (suc number) rest one)
+        (dynamic_in_suite f.body labels.method.body)
         (dynamic_in_methods rest labels.rest)
         (function_tells (owners.Method c number) f labels.method l.method found)
         (methods_tell base c (suc number) (f.name.text ∷ before) rest labels.rest l.others one)
 
     bodies_tell : (b : BeforeItem) (items : List Item) (labels : ItemsLabels items)
         → LawfulModuleItems m all b items labels → (found : List Note)
-        → Grows found (bodies_find m all b.classes b.functions items found)
+        → Grows found (bodies_find false m all b.classes b.functions items found)
         (dynamic_in_each dynamic_in_body items labels)
     bodies_tell b [] labels l found = grow_none found
     bodies_tell b (constant_item p c ∷ rest) labels l found = bodies_tell
         (before_next m b (constant_item p c) labels.first) rest labels.rest l.1 found
     bodies_tell b (class_item p c ∷ rest) labels l found =
-        let one = methods_find m all b.classes 0 c.members found in
-        grow_then found one (bodies_find m all (suc b.classes) b.functions rest one)
+        let one = methods_find false m all b.classes 0 c.members found in
+        grow_then found one (bodies_find false m all (suc b.classes) b.functions rest one)
         (dynamic_in_methods c.members labels.first) (dynamic_in_each dynamic_in_body rest labels.rest)
         (methods_tell (base_class m b.classes c) b.classes 0 [] c.members labels.first l.0 found)
         (bodies_tell (before_next m b (class_item p c) labels.first) rest labels.rest l.1 one)
     bodies_tell b (def_item p f ∷ rest) labels l found =
-        let one = function_finds m all (owners.Func b.functions) f found in
-        grow_then found one (bodies_find m all b.classes (suc b.functions) rest one)
+        let one = function_finds false m all (owners.Func b.functions) f found in
+        grow_then found one (bodies_find false m all b.classes (suc b.functions) rest one)
         (dynamic_in_suite f.body labels.first.body) (dynamic_in_each dynamic_in_body rest labels.rest)
         (function_tells (owners.Func b.functions) f labels.first l.0 found)
         (bodies_tell (before_next m b (def_item p f) labels.first) rest labels.rest l.1 one)
@@ -353,18 +359,19 @@ module _ (m : Module) where
 -- what is found of a module tells of just the dynamic flows under its lawful labelling
 pub module_tells : (m : Module) (labels : Labelling m) → IsLawful m labels
     → Tells (module_finds m []) (dynamic_flows m labels)
-unfolding module_finds signatures_find
+unfolding module_notes signatures_find
 module_tells m labels l =
     let all = constant_types m m.items labels in
     let same : constants_of m ≡ all = constants_have_types m labels l in
     let ka : AreWellFormed (bases_of m) all = subst (AreWellFormed (bases_of m)) same (constants_well_formed m) in
-    let first = functions_findings m m.items ++ items_findings m nothing_reached m.items in
+    let first = functions_findings m m.items ++ items_findings m false nothing_reached m.items in
     let ds = dynamic_in_each dynamic_in_function m.items labels ++ dynamic_in_each dynamic_in_item m.items labels in
     let es = dynamic_in_each dynamic_in_body m.items labels in
-    let signed : Tells first ds = tell_then (functions_findings m m.items) (items_findings m nothing_reached m.items)
+    let signed : Tells first ds = tell_then (functions_findings m m.items)
+    (items_findings m false nothing_reached m.items)
     (dynamic_in_each dynamic_in_function m.items labels) (dynamic_in_each dynamic_in_item m.items labels)
     (functions_tell m all nothing_before m.items labels l)
     (items_tell m all nothing_before tt m.items (λ i. ap (slice_get (classes_in m.items)) (omega arith)) labels l) in
-    subst (λ ts. Tells (bodies_find m ts 0 0 m.items first) (ds ++ es)) (sym same)
-    (tell_grown first (bodies_find m all 0 0 m.items first) ds es signed
+    subst (λ ts. Tells (bodies_find false m ts 0 0 m.items first) (ds ++ es)) (sym same)
+    (tell_grown first (bodies_find false m all 0 0 m.items first) ds es signed
     (bodies_tell m all ka nothing_before m.items labels l first))

@@ -56,7 +56,7 @@ module _ (setting : Surroundings) where
       (h : EnvFits setting declared table env) where
     -- what the walk's expressions stand in
     abbrev pub here : Standing
-    here = record { context = ctx; declared = type_table table; env = env }
+    here = record { context = ctx; declared = type_table table; env = env; keeps = false }
 
     ds : AreWellFormed ctx.bases (type_table table)
     ds = types_well_formed ctx.bases table kt
@@ -78,7 +78,7 @@ module _ (setting : Surroundings) where
         let q : computed ≡ labels = sym (one ctx declared (type_table table) env h.same want e labels computed l k.0) in
         record {
           label = ap (whole_label e) q;
-          found = subst (λ x. Lists (notes_under e computed) (Finds e x)) q (lists_expression e computed);
+          found = subst (λ x. Lists (notes_under false e computed) (Finds e x)) q (lists_expression e computed);
           well_formed = subst (λ x. IsWellFormed ctx.bases (type_of e x)) q k.1;
         }
 
@@ -124,7 +124,7 @@ module _ (setting : Surroundings) where
         moved : (a k c : List Note) → (a ++ (k ++ [])) ++ c ≡ a ++ (k ++ c)
         moved a k c = append_assoc a (k ++ []) c ∙ ap (λ x. a ++ (x ++ c)) (append-nil k)
 
-        range_listed : notes_under (call p (name n) args kws) range_labels ≡ range_finds here p (name n) args kws
+        range_listed : notes_under false (call p (name n) args kws) range_labels ≡ range_finds here p (name n) args kws
         unfolding arguments_find keywords_find
         range_listed = moved (arguments_find here (is_instance_test (name n) args kws) (positional_seat offers) args)
             (keywords_find here (named_seat offers) [] kws) (codes_at p (call_label ctx.bases offers).codes)

@@ -1,7 +1,7 @@
 -- Lists of what is found, and what they have: just what stands somewhere, but for what is found of scopes.
 use Rattle.std.proofs.Common.{◌≡◌, ◌⊎◌, ◌↔◌, List, [], ◌∷◌, ◌++◌, refl, sym, subst, inl, inr, Contains, append-nil}
 use Rattle.std.specs.Prelude.{Bool as Test, true, false, map}
-use Rattle.std.proofs.lemmas.List.{map-append}
+use Rattle.std.proofs.lemmas.Grind.{flat_map-append}
 use Rattle.std.proofs.lemmas.List.Elements.{Contains-append_left, Contains-append_right}
 use Rattle.pc_source.specs.declared.place.Place.{Place}
 use Rattle.pc_tree.specs.declared.code.Code.{Code}
@@ -13,7 +13,7 @@ use Rattle.pc_types.specs.Below.{Bases}
 use Rattle.pc_ann.specs.Annotations.{AnnFinds}
 use Rattle.pc_ann.specs.Listed.{ann_findings}
 use Rattle.pc_ann.proofs.Listing.{all_listed}
-use Rattle.pc_notes.specs.Notes.{Note, plain_note, findings_of}
+use Rattle.pc_notes.specs.Notes.{Note, plain_note, finding_in, findings_of}
 use Rattle.pc_rules.specs.Operations.{clean}
 use Rattle.pc_rules.specs.Labels.{FlowLabels, Labels, is_of_scopes, IsFoundAt, IsFlowAt, Finds}
 use Rattle.pc_rules.specs.Computed.Findings.{codes_at, flows_at, notes_under}
@@ -28,7 +28,7 @@ IsElsewhere f = is_of_scopes f.code ≡ false
 
 -- the findings of one list after another
 joined : (xs ys : List Note) → findings_of (xs ++ ys) ≡ findings_of xs ++ findings_of ys
-joined xs ys = map-append (λ (n : Note). n.finding) xs ys
+joined xs ys = flat_map-append finding_in xs ys
 
 pub lists_nothing : Lists [] (λ f. ⊥)
 lists_nothing f = (λ h. absurd (none_among f h), λ h. absurd h.0)
@@ -55,7 +55,7 @@ lists_both {P = P} {Q = Q} xs ys h k f = (to, from)
 
 -- ---- what is found under labels
 
-pub lists_expression : (e : Expr) (m : Labels e) → Lists (notes_under e m) (Finds e m)
+pub lists_expression : (e : Expr) (m : Labels e) → Lists (notes_under false e m) (Finds e m)
 lists_expression e m f = let h = findings_listed e m f in (
   λ c. let r = h.0 c in (r.stands, r.own),
   λ q. h.1 (record { stands = q.0; own = q.1 }),

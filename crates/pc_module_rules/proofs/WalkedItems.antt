@@ -2,7 +2,7 @@
 -- constants are theirs.
 use Rattle.std.proofs.Common.{◌≡◌, ◌⊎◌, ◌+◌, ℕ, suc, List, [], ◌∷◌, ◌++◌, refl, sym, ap, ◌∙◌, subst, arith}
 use Rattle.std.proofs.Common.{append_assoc, append-nil}
-use Rattle.std.specs.Prelude.{Some, slice_get, map}
+use Rattle.std.specs.Prelude.{Some, slice_get, map, false}
 use Rattle.pc_tree.specs.declared.code.Finding.{Finding}
 use Rattle.pc_tree.specs.Tree.{ClassDef, Constant, Item, constant_item, class_item, def_item, Module}
 use Rattle.pc_tree.specs.Depth.{place_of}
@@ -83,13 +83,13 @@ module _ (m : Module) where
     ConstantSays f = OptionAnnFinds m (bases_of m) c.annotation f
         ⊎ (Finds c.value labels.value f ⊎ IsFlowAt (place_of c.value) labels.flows f)
 
-    constant_listed : Lists (constant_findings m (reached_at b) c) ConstantSays
+    constant_listed : Lists (constant_findings m false (reached_at b) c) ConstantSays
     constant_listed =
         lists_both (map plain_note (option_findings m (bases_of m) c.annotation))
-        (value_findings m (reached_at b) into c.value)
+        (value_findings m false (reached_at b) into c.value)
         (lists_each (map plain_note (option_findings m (bases_of m) c.annotation))
         (λ f. option_listed m f c.annotation))
-        (lists_each (value_findings m (reached_at b) into c.value)
+        (lists_each (value_findings m false (reached_at b) into c.value)
         (λ f. value_listed m (reached_at b) kb into into_well_formed c.value labels.value l.value labels.flows
         l.flow f))
 
@@ -126,7 +126,7 @@ module _ (m : Module) where
   pub record ItemsWalked (b : BeforeItem) (items : List Item) (labels : ItemsLabels items) : Type 0 where
     pub types : (behind_all m (reached_at b) items).constants ≡ b.constants ++ constant_types m items labels
     pub well_formed : AreWellFormed (bases_of m) (b.constants ++ constant_types m items labels)
-    pub listed : Lists (items_findings m (reached_at b) items ++ map plain_note (classes_annotated m b.classes
+    pub listed : Lists (items_findings m false (reached_at b) items ++ map plain_note (classes_annotated m b.classes
         (classes_in items))) (ItemsSay m items labels)
 
   pub items_walked : (all : List Tree) (b : BeforeItem) → AreWellFormed (bases_of m) b.constants → (items : List Item)
@@ -156,11 +156,11 @@ module _ (m : Module) where
       record {
         types = ap (λ (x : ItemsReached). (behind_all m x rest).constants) here ∙ r.types ∙ more;
         well_formed = subst (AreWellFormed (bases_of m)) more r.well_formed;
-        listed = lists_beside (constant_findings m (reached_at b) c)
-            (items_findings m (behind m (reached_at b) (constant_item p c)) rest) [] annotated annotated
-            (λ f. (λ h. h, λ h. h)) (without_annotations (constant_findings m (reached_at b) c)
+        listed = lists_beside (constant_findings m false (reached_at b) c)
+            (items_findings m false (behind m (reached_at b) (constant_item p c)) rest) [] annotated annotated
+            (λ f. (λ h. h, λ h. h)) (without_annotations (constant_findings m false (reached_at b) c)
             (constant_listed b kb p c mk all l.0))
-            (subst (λ (x : ItemsReached). Lists (items_findings m x rest ++ map plain_note annotated)
+            (subst (λ (x : ItemsReached). Lists (items_findings m false x rest ++ map plain_note annotated)
             (ItemsSay m rest labels.rest)) (sym here) r.listed);
       }
   items_walked all b kb (class_item p c ∷ rest) from labels l =
@@ -172,7 +172,7 @@ module _ (m : Module) where
       record {
         types = r.types;
         well_formed = r.well_formed;
-        listed = lists_beside (class_notes m b.classes c) (items_findings m (reached_at next) rest)
+        listed = lists_beside (class_notes m b.classes c) (items_findings m false (reached_at next) rest)
             here annotated (here ++ annotated) (λ f. (λ h. h, λ h. h))
             (class_listed all b p c labels.first (ap (slice_get (classes_in m.items)) (omega arith) ∙ from 0) l.0)
             r.listed;
@@ -184,7 +184,7 @@ module _ (m : Module) where
       record {
         types = r.types;
         well_formed = r.well_formed;
-        listed = lists_beside [] (items_findings m (reached_at next) rest) [] annotated annotated
+        listed = lists_beside [] (items_findings m false (reached_at next) rest) [] annotated annotated
             (λ f. (λ h. h, λ h. h)) lists_nothing r.listed;
       }
 
@@ -203,17 +203,17 @@ module _ (m : Module) where
 
     pub all_bodies_say : AreWellFormed (bases_of m) all → (b : BeforeItem) (items : List Item)
         (labels : ItemsLabels items) → LawfulModuleItems m all b items labels → (found : List Note)
-        → Adds found (bodies_find m all b.classes b.functions items found) (BodiesSay b items labels)
+        → Adds found (bodies_find false m all b.classes b.functions items found) (BodiesSay b items labels)
     all_bodies_say k b [] labels l found = adds_nothing found
     all_bodies_say k b (constant_item p c ∷ rest) labels l found =
         all_bodies_say k (before_next m b (constant_item p c) labels.first) rest labels.rest l.1 found
     all_bodies_say k b (class_item p c ∷ rest) labels l found =
-        let one = methods_find m all b.classes 0 c.members found in
-        adds_both found one (bodies_find m all (suc b.classes) b.functions rest one)
+        let one = methods_find false m all b.classes 0 c.members found in
+        adds_both found one (bodies_find false m all (suc b.classes) b.functions rest one)
         (methods_say m all k (base_class m b.classes c) b.classes 0 [] c.members labels.first l.0 found)
         (all_bodies_say k (before_next m b (class_item p c) labels.first) rest labels.rest l.1 one)
     all_bodies_say k b (def_item p d ∷ rest) labels l found =
-        let one = function_finds m all (owners.Func b.functions) d found in
-        adds_both found one (bodies_find m all b.classes (suc b.functions) rest one)
+        let one = function_finds false m all (owners.Func b.functions) d found in
+        adds_both found one (bodies_find false m all b.classes (suc b.functions) rest one)
         (bodies_say m all k (owners.Func b.functions) d labels.first l.0 found)
         (all_bodies_say k (before_next m b (def_item p d) labels.first) rest labels.rest l.1 one)

@@ -124,13 +124,14 @@ module _ (m : Module) where
     -- what the walks over the bodies of methods find
     pub methods_say : AreWellFormed (bases_of m) constants → (base : ClassFacts) (c number : ℕ) (before : List (List ℕ))
         (ms : List Member) (labels : MembersLabels ms) → LawfulMembers m constants base c number before ms labels
-        → (found : List Note) → Adds found (methods_find m constants c number ms found) (MethodsSay c number ms labels)
+        → (found : List Note) → Adds found (methods_find false m constants c number ms found)
+        (MethodsSay c number ms labels)
     methods_say k base c number before [] labels l found = adds_nothing found
     methods_say k base c number before (field_member d ∷ rest) labels l found = methods_say k base c number
         (d.name.text ∷ before) rest labels.rest l.others found
     methods_say k base c number before (method_member d ∷ rest) labels l found =
-        let one = function_finds m constants (owners.Method c number) d found in
-        adds_both found one (methods_find m constants c (suc number) rest one)
+        let one = function_finds false m constants (owners.Method c number) d found in
+        adds_both found one (methods_find false m constants c (suc number) rest one)
         (bodies_say m constants k (owners.Method c number) d labels.method l.method found)
         (methods_say k base c (suc number) (d.name.text ∷ before) rest labels.rest l.others one)
 

@@ -1,6 +1,6 @@
 -- What is computed of a module is what its lawful labelling says: the types of its constants, and what is found.
 use Rattle.std.proofs.Common.{◌≡◌, ◌⊎◌, ◌↔◌, List, [], ◌∷◌, ◌++◌, sym, ap, subst, inl, inr, Contains, arith}
-use Rattle.std.specs.Prelude.{map, slice_get}
+use Rattle.std.specs.Prelude.{map, slice_get, false}
 use Rattle.pc_tree.specs.declared.code.Finding.{Finding}
 use Rattle.pc_tree.specs.Tree.{Item, constant_item, class_item, def_item, Module}
 use Rattle.pc_scope.specs.Bindings.{classes_in}
@@ -18,7 +18,7 @@ use Rattle.pc_rules.specs.Computed.Signatures.{items_findings}
 use Rattle.pc_module_rules.specs.Modules.{Labelling, IsLawful, ItemsLabels, BeforeItem, nothing_before, before_next}
 use Rattle.pc_module_rules.specs.Modules.{constant_types, ItemsFind, LabelsSay, LabelsFind, IsFinding}
 use Rattle.pc_module_rules.specs.SignaturesSaid.{FunctionsSay, ItemsSay, SignaturesSay}
-use Rattle.pc_module_rules.specs.Computed.Modules.{bodies_find, module_finds}
+use Rattle.pc_module_rules.specs.Computed.Modules.{bodies_find, module_notes, module_finds}
 use Rattle.pc_module_rules.specs.Laws.Walks.{Adds, Lists}
 use Rattle.pc_module_rules.specs.Laws.Modules.{ConstantsHaveTheTypesOfLabels, SignaturesFindWhatLabelsSay}
 use Rattle.pc_module_rules.specs.Laws.Modules.{ModulesFindWhatLabelsSay, ModulesFindWhatLabelsFind}
@@ -124,27 +124,28 @@ module _ (m : Module) (labels : Labelling m) (l : IsLawful m labels) where
   unfolding constants_of
   constants_are = walked.types
 
-  signatures_listed : Lists (signatures_find m ++ map plain_note (member_annotations m)) (SignaturesSay m labels)
+  signatures_listed : Lists (signatures_find m false ++ map plain_note (member_annotations m)) (SignaturesSay m labels)
   unfolding signatures_find member_annotations
   signatures_listed =
       let anns = classes_annotated m 0 (classes_in m.items) in
-      lists_beside (functions_findings m m.items) (items_findings m nothing_reached m.items) [] anns anns
+      lists_beside (functions_findings m m.items) (items_findings m false nothing_reached m.items) [] anns anns
       (λ f. (λ h. h, λ h. h)) (without_annotations (functions_findings m m.items)
       (functions_listed m all nothing_before m.items labels l)) walked.listed
 
   module_adds : (found : List Note) → Adds found (module_finds m found ++ map plain_note (member_annotations m))
       (LabelsSay m labels)
-  unfolding module_finds
+  unfolding module_notes
   module_adds found =
-      let signed = found ++ signatures_find m in
+      let signed = found ++ signatures_find m false in
       let anns = map plain_note (member_annotations m) in
-      let adds : Adds found (bodies_find m all 0 0 m.items signed ++ anns) (LabelsSay m labels) =
-      adds_same found (bodies_find m all 0 0 m.items signed ++ anns)
+      let adds : Adds found (bodies_find false m all 0 0 m.items signed ++ anns) (LabelsSay m labels) =
+      adds_same found (bodies_find false m all 0 0 m.items signed ++ anns)
       (λ f. items_joined m all f nothing_before m.items labels)
       (λ f. items_split m all f nothing_before m.items labels)
-      (adds_around found (signatures_find m) (bodies_find m all 0 0 m.items signed) (member_annotations m)
+      (adds_around found (signatures_find m false) (bodies_find false m all 0 0 m.items signed) (member_annotations m)
       signatures_listed (all_bodies_say m all walked.well_formed nothing_before m.items labels l signed)) in
-      subst (λ ts. Adds found (bodies_find m ts 0 0 m.items signed ++ anns) (LabelsSay m labels)) (sym constants_are)
+      subst (λ ts. Adds found (bodies_find false m ts 0 0 m.items signed ++ anns) (LabelsSay m labels))
+      (sym constants_are)
       adds
 
   module_found : (f : Finding) → Contains (findings_of (module_finds m [] ++ map plain_note (member_annotations m))) f

@@ -4,6 +4,11 @@ pub mod FlowsOfModules
 pub mod FlowsOfStatements
 pub mod Laws
 pub mod Modules
+pub mod NamesOfModules
+pub mod NamesOfStatements
 pub mod SignaturesSaid
 pub mod StatementLabels
 pub mod Statements
+pub mod TypesOfExpressions
+pub mod TypesOfModules
+pub mod TypesOfStatements

@@ -3,6 +3,7 @@
 
 mod flow_laws;
 mod laws;
+mod type_laws;
 
 pub use flow_laws::{
     dynamic_flows_are_dynamic, dynamic_flows_are_found, dynamic_flows_stand_under_labels,
@@ -13,3 +14,4 @@ pub use laws::{
     modules_find_what_labels_say, one_labelling, returned_values_flow, suites_have_labels,
     walks_say_what_labels_say,
 };
+pub use type_laws::types_are_noted;

@@ -2,7 +2,7 @@
 use Rattle.std.proofs.Common.{◌≡◌, ℕ, suc, ◌<◌, arith, All, Contains, map, List, [], ◌∷◌, ◌++◌, Bool, true, false, cond}
 use Rattle.std.proofs.Common.{Option, Some, None, refl, sym, ap, ◌∙◌, subst, Equal}
 use Rattle.std.specs.Prelude.{◌&&◌, nat_eq, if◌then◌else◌, option_map, is_some, IsSome, IfSome, MatchOption}
-use Rattle.std.specs.Prelude.{string_bytes}
+use Rattle.std.specs.Prelude.{string_bytes, box_value}
 use Rattle.std.specs.Borrow.{Bor}
 use Rattle.std.proofs.lemmas.Cmp.{ranked}
 use Rattle.std.proofs.lemmas.Bool.{eqb-true, eq-eqb}
@@ -20,7 +20,10 @@ use Rattle.pc_types.specs.Boxed.{tree_of}
 use Rattle.pc_ann.specs.Text.{type_text}
 use Rattle.pc_notes.specs.declared.notes.Flow.{Flow}
 use Rattle.pc_notes.specs.declared.notes.Entry.{Entry}
-use Rattle.pc_notes.specs.Notes.{Note, is_same_place, kept_flow, or_else, flow_or, flow_types, flow_noted, note_of}
+use Rattle.pc_notes.specs.declared.notes.Entry.TheVariants.{Told, Typed}
+use Rattle.pc_notes.specs.Notes.{Note, told, typed, is_same_place, kept_flow, or_else, flow_or, flow_types, flow_noted}
+use Rattle.pc_notes.specs.Notes.{note_of}
+use Rattle.pc_notes.specs.Notes.{entry_place}
 use Rattle.pc_notes.specs.Notes.{notes_of}
 use Rattle.pc_notes.specs.Notes.{IsGivenFlow}
 use Rattle.pc_notes.specs.Texts.{FlowText, IsFlowText, place_cmp, places_of, HasGivenFlows, HasFirstFlows}
@@ -40,8 +43,9 @@ behind false o r x = refl
 pub noted_more : (p : Place) (ns : List Note) (n : Note) → flow_noted p (ns ++ n ∷ []) ≡ or_else (flow_noted p ns)
     (flow_or p n None)
 noted_more p [] n = refl
-noted_more p (m ∷ ns) n = ap (flow_or p m) (noted_more p ns n) ∙ behind (is_same_place p m.finding.place) m.flow
-    (flow_noted p ns) (flow_or p n None)
+noted_more p (told f flow ∷ ns) n = ap (flow_or p (told f flow)) (noted_more p ns n)
+    ∙ behind (is_same_place p f.place) flow (flow_noted p ns) (flow_or p n None)
+noted_more p (typed shown q t ∷ ns) n = noted_more p ns n
 
 -- ---- places
 
@@ -107,21 +111,30 @@ other_place : (p k : Place) (o : Option (Tree × Tree)) → is_eq (place_cmp k p
     → is_same_place p k ≡ b → (if b then or_else o None else None) ≡ None
 other_place p k o h b e = rw (not_same p k h b e) refl
 
+other_at : (p : Place) (e : Entry) → is_eq (place_cmp (entry_place e) p) ≡ false → flow_or p (note_of e) None ≡ None
+other_at p (Told f flow) h =
+    other_place p f.place (option_map flow_types (option_map box_value flow)) h (is_same_place p f.place) refl
+other_at p (Typed shown q t) h = refl
+
+nothing : (b : Bool) (o : Option Flow) → o ≡ None → (if b then or_else (option_map flow_types o) None else None)
+    ≡ None
+nothing true None h = refl
+nothing true (Some f) h = absurd (cc h)
+nothing false o h = refl
+
+none_kept : (p : Place) (e : Entry) → kept_flow e ≡ None → flow_or p (note_of e) None ≡ None
+none_kept p (Told f flow) h = nothing (is_same_place p f.place) (option_map box_value flow) h
+none_kept p (Typed shown q t) h = refl
+
 -- an entry without a flow is left out
 pub left_out : (es : List Entry) (e : Entry) (flows : BTreeMap Place (Bor Flow)) → kept_flow e ≡ None
     → HasFirstFlows (notes_of es) flows → HasFirstFlows (notes_of es ++ note_of e ∷ []) flows
 left_out es e flows n has = record { first = first; given = has.given }
   where
-    nothing : (b : Bool) (o : Option Flow) → o ≡ None → (if b then or_else (option_map flow_types o) None else None)
-        ≡ None
-    nothing true None h = refl
-    nothing true (Some f) h = cc
-    nothing false o h = refl
-
     first : (p : Place) → option_map (λ (f : Bor Flow). flow_types f.now) (get place_cmp flows p) ≡ flow_noted p
         (notes_of es ++ note_of e ∷ [])
     first p = has.first p ∙ sym (noted_more p (notes_of es) (note_of e) ∙ ap (or_else (flow_noted p (notes_of es)))
-        (nothing (is_same_place p e.finding.place) (kept_flow e) n) ∙ or_else_none (flow_noted p (notes_of es)))
+        (none_kept p e n) ∙ or_else_none (flow_noted p (notes_of es)))
 
 kept_first : (o x : Option (Tree × Tree)) → is_some o ≡ true → or_else o x ≡ o
 kept_first None x h = cc
@@ -133,25 +146,25 @@ some_mapped f (Some a) = refl
 
 -- at a place that has a flow a later one is left out
 pub known_place : (es : List Entry) (e : Entry) (flows : BTreeMap Place (Bor Flow))
-    → is_some (get place_cmp flows e.finding.place) ≡ true → HasFirstFlows (notes_of es) flows
+    → is_some (get place_cmp flows (entry_place e)) ≡ true → HasFirstFlows (notes_of es) flows
     → HasFirstFlows (notes_of es ++ note_of e ∷ []) flows
 known_place es e flows known has = record {
   first = λ p. has.first p
-      ∙ sym (noted_more p (notes_of es) (note_of e) ∙ by p (is_eq (place_cmp e.finding.place p)) refl);
+      ∙ sym (noted_more p (notes_of es) (note_of e) ∙ by p (is_eq (place_cmp (entry_place e) p)) refl);
   given =
       has.given;
 }
   where
-    by : (p : Place) (b : Bool) → is_eq (place_cmp e.finding.place p) ≡ b
+    by : (p : Place) (b : Bool) → is_eq (place_cmp (entry_place e) p) ≡ b
         → or_else (flow_noted p (notes_of es)) (flow_or p (note_of e) None) ≡ flow_noted p (notes_of es)
     by p true h =
-        let same : e.finding.place ≡ p = place_same e.finding.place p h in
+        let same : (entry_place e) ≡ p = place_same (entry_place e) p h in
         let some : is_some (flow_noted p (notes_of es)) ≡ true = ap is_some (sym (has.first p))
         ∙ some_mapped (λ (f : Bor Flow). flow_types f.now) (get place_cmp flows p)
         ∙ subst (λ q. is_some (get place_cmp flows q) ≡ true) same known in
         kept_first (flow_noted p (notes_of es)) (flow_or p (note_of e) None) some
-    by p false h = ap (or_else (flow_noted p (notes_of es))) (other_place p e.finding.place (note_of e).flow h
-        (is_same_place p e.finding.place) refl) ∙ or_else_none (flow_noted p (notes_of es))
+    by p false h = ap (or_else (flow_noted p (notes_of es))) (other_at p e h)
+        ∙ or_else_none (flow_noted p (notes_of es))
 
 none_first : (o x : Option (Tree × Tree)) → is_some o ≡ false → or_else o x ≡ x
 none_first None x h = refl
@@ -160,16 +173,16 @@ none_first (Some a) x h = cc
 -- at a place without a flow one is put in
 pub new_place : (es : List Entry) (e : Entry) (f : Bor Flow) (old new : BTreeMap Place (Bor Flow))
     → kept_flow e ≡ Some f.now
-    → IsGivenFlow f.now → is_some (get place_cmp old e.finding.place) ≡ false
-    → ((q : Place) → get place_cmp new q ≡ cond (is_eq (place_cmp e.finding.place q)) (Some f) (get place_cmp old q))
+    → IsGivenFlow f.now → is_some (get place_cmp old (entry_place e)) ≡ false
+    → ((q : Place) → get place_cmp new q ≡ cond (is_eq (place_cmp (entry_place e) q)) (Some f) (get place_cmp old q))
     → HasFirstFlows (notes_of es) old → HasFirstFlows (notes_of es ++ note_of e ∷ []) new
 new_place es e f old new is is_given fresh step has =
     record {
       first = λ p. ap (option_map (λ (g : Bor Flow). flow_types g.now)) (step p)
-          ∙ by p (is_eq (place_cmp e.finding.place p)) refl ∙ sym (noted_more p (notes_of es) (note_of e));
+          ∙ by p (is_eq (place_cmp (entry_place e) p)) refl ∙ sym (noted_more p (notes_of es) (note_of e));
       given =
           λ p. subst (λ (o : Option (Bor Flow)). IfSome o (λ g. IsGivenFlow g.now)) (sym (step p))
-          (each p (is_eq (place_cmp e.finding.place p)));
+          (each p (is_eq (place_cmp (entry_place e) p)));
     }
   where
     each : (p : Place) (b : Bool) → IfSome (cond b (Some f) (get place_cmp old p)) (λ g. IsGivenFlow g.now)
@@ -182,22 +195,44 @@ new_place es e f old new is is_given fresh step has =
     own_if true (Some g) h e = let q : g ≡ f.now = cc in ap (λ x. Some (flow_types x)) q
     own_if false o h e = cc
 
-    own : flow_or e.finding.place (note_of e) None ≡ Some (flow_types f.now)
-    own = own_if (is_same_place e.finding.place e.finding.place) (kept_flow e) (self_tested e.finding.place) is
+    own_of : (x : Entry) → kept_flow x ≡ Some f.now
+        → flow_or (entry_place x) (note_of x) None ≡ Some (flow_types f.now)
+    own_of (Told g flow) h = own_if (is_same_place g.place g.place) (option_map box_value flow) (self_tested g.place) h
+    own_of (Typed shown q t) h = absurd (cc h)
 
-    by : (p : Place) (b : Bool) → is_eq (place_cmp e.finding.place p) ≡ b
+    own : flow_or (entry_place e) (note_of e) None ≡ Some (flow_types f.now)
+    own = own_of e is
+
+    by : (p : Place) (b : Bool) → is_eq (place_cmp (entry_place e) p) ≡ b
         → option_map (λ (g : Bor Flow). flow_types g.now) (cond b (Some f) (get place_cmp old p))
         ≡ or_else (flow_noted p (notes_of es)) (flow_or p (note_of e) None)
     by p true h =
-        let same : e.finding.place ≡ p = place_same e.finding.place p h in
+        let same : (entry_place e) ≡ p = place_same (entry_place e) p h in
         let none : is_some (flow_noted p (notes_of es)) ≡ false = ap is_some (sym (has.first p))
         ∙ some_mapped (λ (g : Bor Flow). flow_types g.now) (get place_cmp old p)
         ∙ subst (λ q. is_some (get place_cmp old q) ≡ false) same fresh in
         sym (none_first (flow_noted p (notes_of es)) (flow_or p (note_of e) None) none
         ∙ subst (λ q. flow_or q (note_of e) None ≡ Some (flow_types f.now)) same own)
     by p false h = has.first p ∙ sym (ap (or_else (flow_noted p (notes_of es)))
-        (other_place p e.finding.place (note_of e).flow h (is_same_place p e.finding.place) refl)
+        (other_at p e h)
         ∙ or_else_none (flow_noted p (notes_of es)))
+
+-- the same with the place as the program has it
+pub known_at : (es : List Entry) (e : Entry) (flows : BTreeMap Place (Bor Flow)) (q : Place) → q ≡ entry_place e
+    → is_some (get place_cmp flows q) ≡ true → HasFirstFlows (notes_of es) flows
+    → HasFirstFlows (notes_of es ++ note_of e ∷ []) flows
+known_at es e flows q same known =
+    known_place es e flows (subst (λ x. is_some (get place_cmp flows x) ≡ true) same known)
+
+pub new_at : (es : List Entry) (e : Entry) (f : Bor Flow) (old new : BTreeMap Place (Bor Flow)) (q : Place)
+    → q ≡ entry_place e → kept_flow e ≡ Some f.now
+    → IsGivenFlow f.now → is_some (get place_cmp old q) ≡ false
+    → ((r : Place) → get place_cmp new r ≡ cond (is_eq (place_cmp q r)) (Some f) (get place_cmp old r))
+    → HasFirstFlows (notes_of es) old → HasFirstFlows (notes_of es ++ note_of e ∷ []) new
+new_at es e f old new q same is is_given fresh step =
+    new_place es e f old new is is_given (subst (λ x. is_some (get place_cmp old x) ≡ false) same fresh)
+    (subst (λ x. (r : Place) → get place_cmp new r ≡ cond (is_eq (place_cmp x r)) (Some f) (get place_cmp old r))
+    same step)
 
 -- the map has this entry
 abbrev pub IsPairOf : BTreeMap Place (Bor Flow) → Place × Bor Flow → Type 0

@@ -1,11 +1,13 @@
 //! Findings as they are gathered, each with the two types of the flow that it tells of.
 
-ghost use Rattle.std.specs.Prelude.{◌≡◌, ◌++◌, ◌∷◌, [], map, IfOk, IfSome, List, OnOk, None, option_map, if◌then◌else◌};
+ghost use Rattle.std.specs.Prelude.{◌≡◌, ◌++◌, ◌∷◌, [], map, All, IfOk, IfSome, List, OnOk, None, option_map};
+ghost use Rattle.std.specs.Prelude.{if◌then◌else◌};
 ghost use Rattle.pc_tree.specs.Code.{finding};
 ghost use Rattle.pc_tree.specs.Tree.{module_of};
 ghost use Rattle.pc_types.specs.Store.{KeepsTypes};
-ghost use Rattle.pc_notes.specs.Notes.{IsGivenFlow, Note, note_of, notes_of, plain_note, dynamic, findings_of};
-ghost use Rattle.pc_notes.specs.Notes.{is_same_place, kept_flow, flow_noted, ExplainsFlow};
+ghost use Rattle.pc_notes.specs.Notes.{IsGivenFlow, Note, note_of, notes_of, plain_note, dynamic, typed, findings_of};
+ghost use Rattle.pc_notes.specs.Notes.{is_same_place, entry_place, kept_flow, flow_noted, ExplainsFlow};
+ghost use Rattle.pc_notes.specs.Notes.{types_of, type_shown, IsGivenShown};
 ghost use Rattle.pc_notes.specs.declared.notes.Entry.{Entry as Kept};
 ghost use Rattle.pc_notes.specs.Texts.{AreFlowTexts, HasFirstFlows, HasGivenFlows};
 
@@ -25,25 +27,46 @@ pub(crate) struct Flow {
     pub(crate) into: BoxType,
 }
 
-/// A finding, and the types of the flow that it tells of, where it tells of one.
+/// A finding, with the types of the flow that it tells of, where it tells of one; or the type of a label.
 #[derive(Drop)]
-pub(crate) struct Entry {
-    pub(crate) finding: Finding,
-    pub(crate) flow: Option<Box<Flow>>,
+pub(crate) enum Entry {
+    Told(Finding, Option<Box<Flow>>),
+    /// Whether it is shown, its place, and the type.
+    Typed(bool, Place, Box<BoxType>),
 }
 
 impl Entry {
+    /// Where an entry stands.
+    fn place(&self) -> Place
+        ensures { result ≡ entry_place self.now }
+    {
+        match self {
+            Entry::Told(finding, _) => finding.place,
+            Entry::Typed(_, place, _) => *place,
+        }
+    }
+
+    /// The flow that an entry tells of.
+    fn flow(&self) -> Option<&Flow>
+        ensures { option_map (λ f. f.now) result ≡ kept_flow self.now }
+    {
+        match self {
+            Entry::Told(_, flow) => match flow {
+                Some(flow) => Some(flow.as_ref()),
+                None => None,
+            },
+            Entry::Typed(_, _, _) => None,
+        }
+    }
+
     /// The flow that an entry tells of, if it stands at this place.
     fn flow_at(&self, place: Place) -> Option<&Flow>
         ensures { option_map (λ f. f.now) result
-            ≡ (if is_same_place place self.now.finding.place then kept_flow self.now else None) }
+            ≡ (if is_same_place place (entry_place self.now) then kept_flow self.now else None) }
     {
-        let own = self.finding.place;
+        let own = self.place();
         if place.start == own.start && place.end == own.end {
-            match &self.flow {
-                Some(flow) => Some(flow.as_ref()),
-                None => None,
-            }
+            self.flow()
         } else {
             None
         }
@@ -88,10 +111,7 @@ impl Notes {
         ensures { OnOk result (notes_of self.new ≡ notes_of self.old ++ plain_note (finding place code) ∷ []) }
     {
         let finding = Finding { place, code };
-        self.entries.push(Entry {
-            finding,
-            flow: None,
-        })?;
+        self.entries.push(Entry::Told(finding, None))?;
         Ok(())
     }
 
@@ -126,10 +146,26 @@ impl Notes {
             place,
             code: Code::A1,
         };
-        self.entries.push(Entry {
-            finding,
-            flow: Some(Box::new(alloc, Flow { from, into })?),
-        })?;
+        self.entries.push(Entry::Told(finding, Some(Box::new(alloc, Flow { from, into })?)))?;
+        Ok(())
+    }
+
+    /// Notes the type of a label at a place.
+    pub fn put_type<S: TypeStore>(
+        &mut self,
+        store: &S,
+        alloc: Global,
+        shown: bool,
+        place: Place,
+        ty: &S::Ty,
+    ) -> Result<(), OutOfMemory>
+        requires { S.has store.now ty.now }
+        ensures { OnOk result (notes_of self.new ≡ notes_of self.old ++ typed shown place (S.tree ty.now) ∷ []) }
+    {
+        let mut boxes = BoxStore::new();
+        let ty = transfer(store, &mut boxes, alloc, ty)?;
+        self.entries
+            .push(Entry::Typed(shown, place, Box::new(alloc, ty)?))?;
         Ok(())
     }
 
@@ -139,9 +175,25 @@ impl Notes {
     {
         let mut findings = Vec::new(alloc);
         for entry in &self.entries {
-            findings.push(entry.finding)?;
+            if let Entry::Told(finding, _) = entry {
+                findings.push(*finding)?;
+            }
         }
         Ok(findings)
+    }
+
+    /// The types that are shown, each with its place, in their order.
+    pub fn types(&self, alloc: Global) -> Result<Vec<(Place, &BoxType)>, OutOfMemory>
+        ensures types { IfOk result (λ v. map type_shown v.items ≡ types_of (notes_of self.now)) }
+        ensures given { IfOk result (λ v. All IsGivenShown v.items) }
+    {
+        let mut types = Vec::new(alloc);
+        for entry in &self.entries {
+            if let Entry::Typed(true, place, ty) = entry {
+                types.push((*place, ty.as_ref()))?;
+            }
+        }
+        Ok(types)
     }
 
     /// The types of the first flow that is noted at a place, as types of a store; none where no flow is noted there.
@@ -199,13 +251,14 @@ fn keep_first<'n>(
     ensures { OnOk result ((entries : List Kept) → HasFirstFlows (notes_of entries) flows.old
         → HasFirstFlows (notes_of entries ++ note_of entry.now ∷ []) flows.new) }
 {
-    let Some(flow) = &entry.flow else {
+    let Some(flow) = entry.flow() else {
         return Ok(());
     };
-    if flows.contains_key(&entry.finding.place) {
+    let place = entry.place();
+    if flows.contains_key(&place) {
         return Ok(());
     }
-    flows.insert(entry.finding.place, flow)?;
+    flows.insert(place, flow)?;
     Ok(())
 }
 

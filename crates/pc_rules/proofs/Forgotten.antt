@@ -19,7 +19,7 @@ use Rattle.pc_tree.specs.Tree.{attribute, index, call, no_exprs, more_exprs, no_
 use Rattle.pc_tree.specs.Tree.{more_keywords}
 use Rattle.pc_tree.specs.Depth.{place_of}
 use Rattle.pc_scope.specs.Expressions.{is_instance_test}
-use Rattle.pc_notes.specs.Notes.{Note, plain_note, findings_of}
+use Rattle.pc_notes.specs.Notes.{Note, plain_note, finding_in, findings_of}
 use Rattle.pc_rules.specs.Operations.{Label}
 use Rattle.pc_rules.specs.Computed.Findings.{has_code, add_code, once_onto, once, flow_note, own_flow, flow_then}
 use Rattle.pc_rules.specs.Computed.Findings.{flows_behind}
@@ -118,34 +118,45 @@ found_in e m = whole e m (found_in_parts e m)
 -- ---- what is forgotten of the list with types
 
 -- of two lists, one after the other
-both : (xs ys : List Note) (a b : List Finding) → findings_of xs ≡ a → findings_of ys ≡ b → findings_of (xs ++ ys) ≡ a
-    ++ b
-both xs ys a b e f = map-append (λ (n : Note). n.finding) xs ys ∙ (λ i. e i ++ f i)
+-- of these notes these findings are left; a record, by which the lists are read off
+record Forgets (notes : List Note) (fs : List Finding) : Type 0 where
+  is : findings_of notes ≡ fs
 
-unless : (b : Test) (n : Note) → findings_of (if b then [] else n ∷ []) ≡ (if b then [] else n.finding ∷ [])
+joined : (xs ys : List Note) (a b : List Finding) → findings_of xs ≡ a → findings_of ys ≡ b
+    → findings_of (xs ++ ys) ≡ a ++ b
+joined xs ys a b e f = flat_map-append finding_in xs ys ∙ (λ i. e i ++ f i)
+
+both : (xs ys : List Note) (a b : List Finding) → Forgets xs a → Forgets ys b → Forgets (xs ++ ys) (a ++ b)
+both xs ys a b e f = record { is = joined xs ys a b e.is f.is }
+
+nothing_left : Forgets [] []
+nothing_left = record { is = refl }
+
+unless : (b : Test) (n : Note) → findings_of (if b then [] else n ∷ []) ≡ (if b then [] else finding_in n)
 unless true n = refl
-unless false n = refl
+unless false n = append-nil (finding_in n)
 
 forget_own : (p : Place) (c : Code) → findings_of (noted.own_at p c) ≡ own_at p c
 forget_own p c = unless (is_of_scopes c) (plain_note (finding p c))
 
 forget_each : (p : Place) (cs : List Code) → findings_of (flat_map (noted.own_at p) cs) ≡ flat_map (own_at p) cs
 forget_each p [] = refl
-forget_each p (c ∷ cs) = both (noted.own_at p c) (flat_map (noted.own_at p) cs) _ _ (forget_own p c) (forget_each p cs)
+forget_each p (c ∷ cs) = joined (noted.own_at p c) (flat_map (noted.own_at p) cs) _ _ (forget_own p c)
+    (forget_each p cs)
 
 forget_codes : (p : Place) (cs : List Code) → findings_of (noted.codes_at p cs) ≡ codes_at p cs
 forget_codes p cs = forget_each p (once cs)
 
-pub forget_code : (p : Place) (o : Option Code) → findings_of (noted.notes_of_code p o) ≡ code_at p o
-forget_code p None = refl
-forget_code p (Some c) = forget_own p c
+forget_code : (p : Place) (o : Option Code) → Forgets (noted.notes_of_code p o) (code_at p o)
+forget_code p None = nothing_left
+forget_code p (Some c) = record { is = forget_own p c }
 
-noted_finding : (p : Place) (s t : Tree) (c : Code) → (flow_note p s t c).finding ≡ finding p c
+noted_finding : (p : Place) (s t : Tree) (c : Code) → finding_in (flow_note p s t c) ≡ finding p c ∷ []
 noted_finding p s t A1 = refl
 noted_finding p s t _ = refl
 
 forget_flow : (p : Place) (s t : Tree) (c : Code) → findings_of (own_flow p s t c) ≡ own_at p c
-forget_flow p s t c = unless (is_of_scopes c) (flow_note p s t c) ∙ ap (λ f. if is_of_scopes c then [] else f ∷ [])
+forget_flow p s t c = unless (is_of_scopes c) (flow_note p s t c) ∙ ap (λ fs. if is_of_scopes c then [] else fs)
     (noted_finding p s t c)
 
 -- the findings of codes, after those of codes before them
@@ -172,7 +183,8 @@ flow_step p before s t (Some c) rest cs go = by_test (has_code before c)
         ∙ ap (λ l. l ++ findings_of (rest (before ++ c ∷ []))) (own_append p before (c ∷ [])
         ∙ ap (λ l. flat_map (own_at p) before ++ l) (append-nil (own_at p c)))
         ∙ append_assoc (flat_map (own_at p) before) (own_at p c) (findings_of (rest (before ++ c ∷ [])))
-        ∙ ap (λ l. flat_map (own_at p) before ++ l) (sym (both (own_flow p s t c) (rest (before ++ c ∷ [])) (own_at p c)
+        ∙ ap (λ l. flat_map (own_at p) before ++ l) (sym (joined (own_flow p s t c) (rest (before ++ c ∷ []))
+        (own_at p c)
         (findings_of (rest (before ++ c ∷ []))) (forget_flow p s t c) refl))
 
 forget_behind : (p : Place) (flows : FlowLabels) (before : List Code)
@@ -185,18 +197,27 @@ forget_behind p (f ∷ fs) before = flow_step p before f.from f.into f.code (λ 
 pub forget_flows : (p : Place) (flows : FlowLabels) → findings_of (noted.flows_at p flows) ≡ flows_at p flows
 forget_flows p flows = sym (forget_behind p flows [])
 
-forget_whole : (e : Expr) (m : Labels e) (parts : List Note) (fs : List Finding) → findings_of parts ≡ fs
-    → findings_of (noted.whole e m parts) ≡ whole e m fs
-forget_whole e m parts fs h = both parts (noted.codes_at (place_of e) (whole_label e m).codes) fs _ h
-    (forget_codes (place_of e) (whole_label e m).codes)
+of_flows : (p : Place) (flows : FlowLabels) → Forgets (noted.flows_at p flows) (flows_at p flows)
+of_flows p flows = record { is = forget_flows p flows }
+
+forget_whole : (e : Expr) (m : Labels e) (parts : List Note) (fs : List Finding) → Forgets parts fs
+    → Forgets (noted.whole false e m parts) (whole e m fs)
+forget_whole e m parts fs h = record {
+  is = joined parts (noted.codes_at (place_of e) (whole_label e m).codes) fs _ h.is
+      (forget_codes (place_of e) (whole_label e m).codes);
+}
+
+forget_called : (e : Expr) (m : Labels e) (parts : List Note) (fs : List Finding) → Forgets parts fs
+    → Forgets (noted.called false e m parts) (whole e m fs)
+forget_called e m parts fs h = forget_whole e m parts fs h
 
 mutual
-  pub forget_parts : (e : Expr) (m : Labels e) → findings_of (noted.found_in_parts e m) ≡ found_in_parts e m
-  forget_parts (name n) m = refl
-  forget_parts (number p digits) m = refl
-  forget_parts (text p characters) m = refl
-  forget_parts (truth p value) m = refl
-  forget_parts (nothing p) m = refl
+  forget_parts : (e : Expr) (m : Labels e) → Forgets (noted.found_in_parts false e m) (found_in_parts e m)
+  forget_parts (name n) m = nothing_left
+  forget_parts (number p digits) m = nothing_left
+  forget_parts (text p characters) m = nothing_left
+  forget_parts (truth p value) m = nothing_left
+  forget_parts (nothing p) m = nothing_left
   forget_parts (tuple p items) m = forget_items items m.items
   forget_parts (list p items) m = forget_items items m.items
   forget_parts (dict p entries) m = forget_entries entries m.entries
@@ -205,7 +226,7 @@ mutual
   forget_parts (binary p operator l r) m = both _ _ _ _ (forget_whole l m.left _ _ (forget_parts l m.left))
       (forget_whole r m.right _ _ (forget_parts r m.right))
   forget_parts (compare p operator l r) m = both _ _ _ _ (forget_whole l m.left _ _ (forget_parts l m.left))
-      (both _ _ _ _ (forget_whole r m.right _ _ (forget_parts r m.right)) (forget_flows (place_of l) m.flows))
+      (both _ _ _ _ (forget_whole r m.right _ _ (forget_parts r m.right)) (of_flows (place_of l) m.flows))
   forget_parts (is_none p e) m = forget_whole e m.operand _ _ (forget_parts e m.operand)
   forget_parts (is_not_none p e) m = forget_whole e m.operand _ _ (forget_parts e m.operand)
   forget_parts (conjunction p l r) m = both _ _ _ _ (forget_whole l m.left _ _ (forget_parts l m.left))
@@ -214,40 +235,40 @@ mutual
       (forget_whole r m.right _ _ (forget_parts r m.right))
   forget_parts (attribute p e field) m = forget_whole e m.object _ _ (forget_parts e m.object)
   forget_parts (index p e i) m = both _ _ _ _ (forget_whole e m.object _ _ (forget_parts e m.object))
-      (both _ _ _ _ (forget_whole i m.key _ _ (forget_parts i m.key)) (forget_flows (place_of i) m.flows))
+      (both _ _ _ _ (forget_whole i m.key _ _ (forget_parts i m.key)) (of_flows (place_of i) m.flows))
   forget_parts (call p callee arguments keywords) m =
-      both _ _ _ _ (forget_whole callee m.callee _ _ (forget_parts callee m.callee))
+      both _ _ _ _ (forget_called callee m.callee _ _ (forget_parts callee m.callee))
       (both _ _ _ _ (forget_arguments (is_instance_test callee arguments keywords) arguments m.arguments)
       (both _ _ _ _ (forget_keywords keywords m.keywords) (forget_code (second_place arguments p) m.second)))
 
-  pub forget_items : (es : Exprs) (m : ItemsLabels es) → findings_of (noted.found_in_items es m) ≡ found_in_items es m
-  forget_items no_exprs m = refl
+  forget_items : (es : Exprs) (m : ItemsLabels es) → Forgets (noted.found_in_items false es m) (found_in_items es m)
+  forget_items no_exprs m = nothing_left
   forget_items (more_exprs e rest) m = both _ _ _ _ (forget_whole e m.first _ _ (forget_parts e m.first))
-      (both _ _ _ _ (forget_flows (place_of e) m.flows) (forget_items rest m.rest))
+      (both _ _ _ _ (of_flows (place_of e) m.flows) (forget_items rest m.rest))
 
-  pub forget_arguments : (is_test : Test) (es : Exprs) (m : ItemsLabels es)
-      → findings_of (noted.found_in_arguments is_test es m) ≡ found_in_arguments is_test es m
-  forget_arguments is_test no_exprs m = refl
+  forget_arguments : (is_test : Test) (es : Exprs) (m : ItemsLabels es)
+      → Forgets (noted.found_in_arguments false is_test es m) (found_in_arguments is_test es m)
+  forget_arguments is_test no_exprs m = nothing_left
   forget_arguments true (more_exprs e rest) m = forget_whole e m.first _ _ (forget_parts e m.first)
   forget_arguments false (more_exprs e rest) m = both _ _ _ _ (forget_whole e m.first _ _ (forget_parts e m.first))
-      (both _ _ _ _ (forget_flows (place_of e) m.flows) (forget_arguments false rest m.rest))
+      (both _ _ _ _ (of_flows (place_of e) m.flows) (forget_arguments false rest m.rest))
 
-  pub forget_entries : (es : Entries) (m : EntriesLabels es) → findings_of (noted.found_in_entries es m)
-      ≡ found_in_entries es m
-  forget_entries no_entries m = refl
+  forget_entries : (es : Entries) (m : EntriesLabels es) → Forgets (noted.found_in_entries false es m)
+      (found_in_entries es m)
+  forget_entries no_entries m = nothing_left
   forget_entries (more_entries key value rest) m =
       both _ _ _ _ (forget_whole key m.key _ _ (forget_parts key m.key))
-      (both _ _ _ _ (forget_flows (place_of key) m.key_flows)
+      (both _ _ _ _ (of_flows (place_of key) m.key_flows)
       (both _ _ _ _ (forget_whole value m.value _ _ (forget_parts value m.value))
-      (both _ _ _ _ (forget_flows (place_of value) m.value_flows) (forget_entries rest m.rest))))
+      (both _ _ _ _ (of_flows (place_of value) m.value_flows) (forget_entries rest m.rest))))
 
-  pub forget_keywords : (es : Keywords) (m : KeywordsLabels es) → findings_of (noted.found_in_keywords es m)
-      ≡ found_in_keywords es m
-  forget_keywords no_keywords m = refl
+  forget_keywords : (es : Keywords) (m : KeywordsLabels es) → Forgets (noted.found_in_keywords false es m)
+      (found_in_keywords es m)
+  forget_keywords no_keywords m = nothing_left
   forget_keywords (more_keywords parameter value rest) m = both _ _ _ _
       (forget_whole value m.first _ _ (forget_parts value m.first))
-      (both _ _ _ _ (forget_flows (place_of value) m.flows) (forget_keywords rest m.rest))
+      (both _ _ _ _ (of_flows (place_of value) m.flows) (forget_keywords rest m.rest))
 
 -- in an expression, with its own codes
-pub forget_inside : (e : Expr) (m : Labels e) → findings_of (noted.notes_under e m) ≡ found_in e m
-forget_inside e m = forget_whole e m (noted.found_in_parts e m) (found_in_parts e m) (forget_parts e m)
+pub forget_inside : (e : Expr) (m : Labels e) → findings_of (noted.notes_under false e m) ≡ found_in e m
+forget_inside e m = (forget_whole e m (noted.found_in_parts false e m) (found_in_parts e m) (forget_parts e m)).is

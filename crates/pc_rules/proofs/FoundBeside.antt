@@ -2,15 +2,15 @@
 use Rattle.std.proofs.Common.{◌≡◌, ◌⊎◌, ◌↔◌, List, ◌++◌, sym, ap, ◌∙◌, subst, inl, inr, Contains}
 use Rattle.std.proofs.Common.{append_assoc}
 use Rattle.std.specs.Prelude.{map}
-use Rattle.std.proofs.lemmas.List.{map-append}
+use Rattle.std.proofs.lemmas.Grind.{flat_map-append}
 use Rattle.std.proofs.lemmas.List.Elements.{Contains-append_left, Contains-append_right, Contains-append_cases}
 use Rattle.pc_tree.specs.declared.code.Finding.{Finding}
-use Rattle.pc_notes.specs.Notes.{Note, plain_note, findings_of}
+use Rattle.pc_notes.specs.Notes.{Note, plain_note, finding_in, findings_of}
 use Rattle.pc_rules.proofs.FoundList.{IsFoundElsewhere, Noted, plain_findings}
 
 -- the findings of notes, and then findings that tell of no flow
 pub with_plain : (ns : List Note) (fs : List Finding) → findings_of (ns ++ map plain_note fs) ≡ findings_of ns ++ fs
-with_plain ns fs = map-append (λ (n : Note). n.finding) ns (map plain_note fs)
+with_plain ns fs = flat_map-append finding_in ns (map plain_note fs)
     ∙ ap (λ (l : List Finding). findings_of ns ++ l) (plain_findings fs)
 
 -- what stands in a list moved ahead stands there still
@@ -41,12 +41,12 @@ module _ (f : Finding) where
   pub noted_apart : (ns ms : List Note) → Contains (findings_of (ns ++ ms)) f
       → Contains (findings_of ns) f ⊎ Contains (findings_of ms) f
   noted_apart ns ms c = Contains-append_cases (findings_of ns) (findings_of ms) f
-      (subst (λ (l : List Finding). Contains l f) (map-append (λ (n : Note). n.finding) ns ms) c)
+      (subst (λ (l : List Finding). Contains l f) (flat_map-append finding_in ns ms) c)
 
   pub noted_together : (ns ms : List Note) → Contains (findings_of ns) f ⊎ Contains (findings_of ms) f
       → Contains (findings_of (ns ++ ms)) f
   noted_together ns ms s = subst (λ (l : List Finding). Contains l f)
-      (sym (map-append (λ (n : Note). n.finding) ns ms)) (elim s [
+      (sym (flat_map-append finding_in ns ms)) (elim s [
         | inl a ↦ Contains-append_left (findings_of ns) (findings_of ms) f a
         | inr b ↦ Contains-append_right (findings_of ns) (findings_of ms) f b
       ])

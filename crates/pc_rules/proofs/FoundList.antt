@@ -2,7 +2,7 @@
 use Rattle.std.proofs.Common.{◌≡◌, ◌⊎◌, ◌↔◌, List, [], ◌∷◌, ◌++◌, refl, sym, ap, ◌∙◌, subst, inl, inr, Contains}
 use Rattle.std.specs.Prelude.{Bool as Test, true, false, if◌then◌else◌, Option, Some, None, flat_map, map}
 use Rattle.std.specs.Prelude.{option_to_list}
-use Rattle.std.proofs.lemmas.List.{map-append}
+use Rattle.std.proofs.lemmas.Grind.{flat_map-append}
 use Rattle.std.proofs.lemmas.List.Elements.{Contains-append_left, Contains-append_right}
 use Rattle.pc_source.specs.declared.place.Place.{Place}
 use Rattle.pc_tree.specs.declared.code.Code.{Code}
@@ -19,7 +19,7 @@ use Rattle.pc_rules.specs.Operations.{FlowLabel}
 use Rattle.pc_rules.specs.Labels.{FlowLabels, Labels, ItemsLabels, EntriesLabels, KeywordsLabels, is_of_scopes}
 use Rattle.pc_rules.specs.Labels.{second_place, IsFoundAt, IsFlowAt, IsCodeAt, Finds, ItemsFind, ArgumentsFind}
 use Rattle.pc_rules.specs.Labels.{EntriesFind, KeywordsFind}
-use Rattle.pc_notes.specs.Notes.{Note, plain_note, findings_of}
+use Rattle.pc_notes.specs.Notes.{Note, plain_note, finding_in, findings_of}
 use Rattle.pc_rules.specs.Computed.Findings.{once, IsOwn}
 use Rattle.pc_rules.specs.Computed.Findings as noted
 use Rattle.pc_rules.proofs.Forgotten.{own_at, codes_at, code_at, flow_codes, flows_at, found_in, found_in_items}
@@ -329,7 +329,7 @@ mutual
       (in_expression f value m.first) (in_keywords f rest m.rest)
 
 -- the list has just what stands under the labels and is not found of scopes
-pub findings_listed : (e : Expr) (m : Labels e) (f : Finding) → Contains (findings_of (noted.notes_under e m)) f
+pub findings_listed : (e : Expr) (m : Labels e) (f : Finding) → Contains (findings_of (noted.notes_under false e m)) f
     ↔ IsOwn e m f
 findings_listed e m f =
     let h = in_expression f e m in
@@ -353,7 +353,7 @@ noted_same f xs to from h = same_listed f (findings_of xs) to from h
 pub noted_in_turn : (f : Finding) (xs ys : List Note) {P Q : Type 0} → Noted f xs P → Noted f ys Q
     → Noted f (xs ++ ys) (P ⊎ Q)
 noted_in_turn f xs ys {P} {Q} h k =
-    subst (λ (l : List Finding). Lists f l (P ⊎ Q)) (sym (map-append (λ (n : Note). n.finding) xs ys))
+    subst (λ (l : List Finding). Lists f l (P ⊎ Q)) (sym (flat_map-append finding_in xs ys))
     (in_turn f (findings_of xs) (findings_of ys) h k)
 
 -- the list of flows has the codes of flows

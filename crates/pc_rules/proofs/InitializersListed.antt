@@ -1,6 +1,7 @@
 -- The list of what is found of an initializer has just what stands under its lawful labels and of its flow, but for
 -- what is found of
 -- scopes; and its type is that of those labels.
+use Rattle.std.specs.Prelude.{false}
 use Rattle.std.proofs.Common.{◌≡◌, ◌⊎◌, List, [], ◌∷◌, ◌++◌, refl, sym, ap, ◌∙◌, subst}
 use Rattle.pc_tree.specs.declared.code.Finding.{Finding}
 use Rattle.pc_tree.specs.Tree.{Expr, Module}
@@ -48,16 +49,18 @@ module _ (m : Module) (r : ItemsReached) (known : AreWellFormed (bases_of m) r.c
         (first_well_formed (bases_of m) into wanted) in
         one_labelling context [] [] refl (first_of_types into) e computed labels h.0 lawful
 
-    pub initializer_label : label_in (initial m r.constants r.classes) (first_of_types into) e ≡ whole_label e labels
+    pub initializer_label : label_in (initial m false r.constants r.classes) (first_of_types into) e
+        ≡ whole_label e labels
     unfolding label_in
     initializer_label = ap (whole_label e) is_computed
 
-    initializer_found : finds_in (initial m r.constants r.classes) (first_of_types into) e ≡ notes_under e labels
+    initializer_found : finds_in (initial m false r.constants r.classes) (first_of_types into) e
+        ≡ notes_under false e labels
     unfolding finds_in
-    initializer_found = ap (notes_under e) is_computed
+    initializer_found = ap (notes_under false e) is_computed
 
     flows_computed : (flows : FlowLabels) → FlowsInto (bases_of m) (whole_label e labels) into flows
-        → flows_of (bases_of m) (label_in (initial m r.constants r.classes) (first_of_types into) e) into ≡ flows
+        → flows_of (bases_of m) (label_in (initial m false r.constants r.classes) (first_of_types into) e) into ≡ flows
     flows_computed flows h =
         let w = labels_are_lawful context [] [] (first_of_types into) e
         (initializers_well_formed m r.constants r.classes known) tt tt
@@ -69,7 +72,7 @@ module _ (m : Module) (r : ItemsReached) (known : AreWellFormed (bases_of m) r.c
         ∙ into_one (bases_of m) (whole_label e labels) into (flows_of (bases_of m) (whole_label e labels) into)
         flows k h
 
-    listed_own : (f : Finding) → Noted f (notes_under e labels) (Finds e labels f)
+    listed_own : (f : Finding) → Noted f (notes_under false e labels) (Finds e labels f)
     listed_own f = let l = findings_listed e labels f in (
       λ c. let o = l.0 c in (o.stands, o.own),
       λ s own. l.1 (record { stands = s; own = own }),
@@ -77,10 +80,11 @@ module _ (m : Module) (r : ItemsReached) (known : AreWellFormed (bases_of m) r.c
 
     -- what is found of an initializer, by its lawful labels and its lawful flow
     pub value_listed : (flows : FlowLabels) → FlowsInto (bases_of m) (whole_label e labels) into flows → (f : Finding)
-        → Noted f (value_findings m r into e) (Finds e labels f ⊎ IsFlowAt (place_of e) flows f)
+        → Noted f (value_findings m false r into e) (Finds e labels f ⊎ IsFlowAt (place_of e) flows f)
     value_listed flows h f =
         let p = place_of e in
-        let all : value_findings m r into e ≡ notes_under e labels ++ flows_at p flows = λ i. initializer_found i
+        let all : value_findings m false r into e ≡ notes_under false e labels
+        ++ flows_at p flows = λ i. initializer_found i
         ++ flows_at p (flows_computed flows h i) in
         subst (λ (l : List Note). Noted f l (Finds e labels f ⊎ IsFlowAt p flows f)) (sym all)
-        (in_turn f (notes_under e labels) (flows_at p flows) (listed_own f) (at_flows f p flows))
+        (in_turn f (notes_under false e labels) (flows_at p flows) (listed_own f) (at_flows f p flows))

@@ -7,7 +7,7 @@ ghost use Rattle.pc_notes.specs.Notes.{notes_of};
 ghost use Rattle.pc_rules.specs.Operations.{clean, in_error};
 ghost use Rattle.pc_rules.specs.Context.{is_early};
 ghost use Rattle.pc_rules.specs.Labels.{is_of_scopes};
-ghost use Rattle.pc_rules.specs.Computed.Findings.{own_at, has_code, add_code, once_onto};
+ghost use Rattle.pc_rules.specs.Computed.Findings.{own_at, type_noted, has_code, add_code, once_onto};
 ghost use Rattle.pc_rules.specs.Computed.Standing.{label_with, MeansLabel};
 
 use pc_notes::Notes;
@@ -84,6 +84,26 @@ pub fn find_codes(place: Place, codes: &[Code], found: &mut Notes) -> Result<(),
         }
     }
     Ok(())
+}
+
+/// Notes what a label tells at its place: its type, where types are kept, and its codes.
+pub fn note_label<S: TypeStore>(
+    store: &S,
+    alloc: Global,
+    keeps: bool,
+    shown: bool,
+    place: Place,
+    label: &Label<S::Ty>,
+    found: &mut Notes,
+) -> Result<(), OutOfMemory>
+    requires { S.has store.now label.now.ty }
+    ensures { OnOk result (notes_of found.new ≡ notes_of found.old
+        ++ (type_noted keeps shown place (S.tree label.now.ty) ++ flat_map (own_at place) label.now.codes.items)) }
+{
+    if keeps {
+        found.put_type(store, alloc, shown, place, &label.ty)?;
+    }
+    find_codes(place, &label.codes, found)
 }
 
 /// Whether a code is one of these.

@@ -27,6 +27,8 @@ pub struct ModuleContext<'m, Ty: Drop> {
     pub constants: &'m [Ty],
     /// How many of its classes may be named.
     pub known: usize,
+    /// Whether the types of labels are noted.
+    pub keeps: bool,
 }
 
 /// What an expression stands in, apart from its environment: what it may name, what names mean there, and the declared

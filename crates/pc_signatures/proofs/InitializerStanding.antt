@@ -1,6 +1,6 @@
 -- What an initializer stands in, by a setting of the program.
 use Rattle.std.proofs.Common.{◌≡◌, ℕ, List, [], ap}
-use Rattle.std.specs.Prelude.{false}
+use Rattle.std.specs.Prelude.{Bool as Test, false}
 use Rattle.pc_tree.specs.Tree.{Module}
 use Rattle.pc_scope.specs.declared.resolution.Owner.TheVariants as owners
 use Rattle.pc_scope.specs.declared.resolution.Res.{Res}
@@ -26,7 +26,8 @@ module _ (m : Module) where
 
   -- what an initializer stands in, part by part
   pub standing_is : (bases : Bases) (classes : List ClassFacts) (functions : List Signature)
-      (constants types : List Tree) (known number : ℕ) (resolve : List ℕ → Res) (declared : List Tree) (env : Env)
+      (keeps : Test) (constants types : List Tree) (known number : ℕ) (resolve : List ℕ → Res) (declared : List Tree)
+      (env : Env)
       → bases ≡ bases_of m → classes ≡ classes_of m → functions ≡ signatures_of m → constants ≡ types → known ≡ number
       → resolve ≡ resolve_in_module m → declared ≡ [] → env ≡ []
       → (let k : Standing = record {
@@ -40,10 +41,10 @@ module _ (m : Module) where
           resolve = resolve;
         };
         declared = declared;
-        env =
-            env;
-      } in k) ≡ initial m types number
-  standing_is bases classes functions constants types known number resolve declared env b c f t k r d e =
+        env = env;
+        keeps = keeps;
+      } in k) ≡ initial m keeps types number
+  standing_is bases classes functions keeps constants types known number resolve declared env b c f t k r d e =
       λ i. record {
         context = record {
           bases = b i;
@@ -56,4 +57,5 @@ module _ (m : Module) where
         };
         declared = d i;
         env = e i;
+        keeps = keeps;
       }

@@ -1,5 +1,6 @@
 -- A walk over items, one after another: what is reached so far, and what is to come.
 use Rattle.std.proofs.Common.{◌≡◌, ◌<◌, ◌+◌, ℕ, List, [], ◌∷◌, ◌++◌, map, drop, length, get_or, sym, ap, ◌∙◌, arith}
+use Rattle.std.specs.Prelude.{Bool as Test}
 use Rattle.pc_tree.proofs.Stops.{cons_at}
 use Rattle.pc_tree.specs.declared.tree.Item.{Item as RustItem}
 use Rattle.pc_tree.specs.Tree.{Item, constant_item, class_item, def_item, Module, item_of}
@@ -31,10 +32,13 @@ module _ (m : Module) where
       ap (λ n. behind_all m n (map item_of (drop (i + 1) items))) e
       ∙ ap (λ (l : List RustItem). behind_all m r (map item_of l)) (sym (cons_at items i x less is))
 
-  pub items_found : (r next : ItemsReached) (items : List RustItem) (i : ℕ) (x : RustItem) → i < length items
+  pub items_found : (keeps : Test) (r next : ItemsReached) (items : List RustItem) (i : ℕ) (x : RustItem)
+      → i < length items
       → x ≡ get_or items i x → next ≡ behind m r (item_of x)
-      → items_findings m r (map item_of (drop i items)) ≡ item_findings m r (item_of x) ++ items_findings m next
+      → items_findings m keeps r (map item_of (drop i items)) ≡ item_findings m keeps r (item_of x)
+      ++ items_findings m keeps next
       (map item_of (drop (i + 1) items))
-  items_found r next items i x less is e =
-      ap (λ (l : List RustItem). items_findings m r (map item_of l)) (cons_at items i x less is)
-      ∙ ap (λ n. item_findings m r (item_of x) ++ items_findings m n (map item_of (drop (i + 1) items))) (sym e)
+  items_found keeps r next items i x less is e =
+      ap (λ (l : List RustItem). items_findings m keeps r (map item_of l)) (cons_at items i x less is)
+      ∙ ap (λ n. item_findings m keeps r (item_of x) ++ items_findings m keeps n (map item_of (drop (i + 1) items)))
+      (sym e)

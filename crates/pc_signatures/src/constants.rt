@@ -1,7 +1,7 @@
 //! The classes and the constants of a module, in text order.
 #![tactic(auto, using(pc_rules::proofs::Checkers::goes_further))]
 
-ghost use Rattle.std.specs.Prelude.{◌≡◌, ◌++◌, ◌∷◌, [], if◌then◌else◌, map, length, IfOk, OnOk, All};
+ghost use Rattle.std.specs.Prelude.{◌≡◌, ◌++◌, ◌∷◌, [], if◌then◌else◌, map, length, IfOk, OnOk, All, false};
 ghost use Rattle.std.specs.Option.{option_map};
 ghost use Rattle.pc_source.specs.declared.place.Place.{Place};
 ghost use Rattle.pc_tree.specs.Tree.{expr_of, class_of, constant_of, item_of};
@@ -52,10 +52,10 @@ fn type_initializer<S: TypeStore>(
     requires want { HasIfAny (S.has checker.old.store.now) want.now }
     ensures labelled { IfOk result
         (λ l. IsLabel S.TypeStore checker.new l
-        (label_in (initial (module_in globals.now.outline.now) (map S.tree read.now.constants.items)
+        (label_in (initial (module_in globals.now.outline.now) false (map S.tree read.now.constants.items)
         (length read.now.methods.items)) (option_map S.tree want.now) (expr_of value.now))) }
     ensures found { OnOk result (Finds checker.old checker.new
-        (finds_in (initial (module_in globals.now.outline.now) (map S.tree read.now.constants.items)
+        (finds_in (initial (module_in globals.now.outline.now) globals.now.keeps (map S.tree read.now.constants.items)
         (length read.now.methods.items)) (option_map S.tree want.now) (expr_of value.now))) }
     ensures goes_on { GoesOn S.TypeStore checker.old checker.new }
 {
@@ -71,6 +71,7 @@ fn type_initializer<S: TypeStore>(
         functions: globals.functions,
         constants: &read.constants,
         known: read.methods.len(),
+        keeps: globals.keeps,
     };
     let setting = Setting {
         globals: &so_far,
@@ -94,7 +95,7 @@ fn check_annotated<S: TypeStore>(
     requires constants { All (S.has checker.old.store.now) read.now.constants.items }
     requires ty { S.has checker.old.store.now ty.now }
     ensures found { OnOk result (Finds checker.old checker.new
-        (value_findings (module_in globals.now.outline.now) (reached_with S.tree read.now)
+        (value_findings (module_in globals.now.outline.now) globals.now.keeps (reached_with S.tree read.now)
         (if binds then S.tree ty.now ∷ [] else []) (expr_of value.now))) }
     ensures goes_on { GoesOn S.TypeStore checker.old checker.new }
 {
@@ -122,7 +123,7 @@ fn read_constant<S: TypeStore>(
         (type_of_constant (module_in globals.now.outline.now) (reached_with S.tree read.now)
         (constant_of constant.now))) }
     ensures found { OnOk result (Finds checker.old checker.new
-        (constant_findings (module_in globals.now.outline.now) (reached_with S.tree read.now)
+        (constant_findings (module_in globals.now.outline.now) globals.now.keeps (reached_with S.tree read.now)
         (constant_of constant.now))) }
     ensures goes_on { GoesOn S.TypeStore checker.old checker.new }
 {
@@ -157,7 +158,7 @@ fn add_constant<S: TypeStore>(
         ≡ behind (module_in globals.now.outline.now) (reached_with S.tree read.old)
         (constant_item p (constant_of constant.now))) }
     ensures found { OnOk result (Finds checker.old checker.new
-        (constant_findings (module_in globals.now.outline.now) (reached_with S.tree read.old)
+        (constant_findings (module_in globals.now.outline.now) globals.now.keeps (reached_with S.tree read.old)
         (constant_of constant.now))) }
     ensures goes_on { GoesOn S.TypeStore checker.old checker.new }
 {
@@ -218,7 +219,8 @@ fn add_item<S: TypeStore>(
         (reached_with S.tree read.new
         ≡ behind (module_in globals.now.outline.now) (reached_with S.tree read.old) (item_of item.now)) }
     ensures found { OnOk result (Finds checker.old checker.new
-        (item_findings (module_in globals.now.outline.now) (reached_with S.tree read.old) (item_of item.now))) }
+        (item_findings (module_in globals.now.outline.now) globals.now.keeps (reached_with S.tree read.old)
+        (item_of item.now))) }
     ensures goes_on { GoesOn S.TypeStore checker.old checker.new }
 {
     match &item.kind {
@@ -242,7 +244,7 @@ pub(crate) fn read_items<S: TypeStore>(
     ensures methods { IfOk result
         (λ w. map (methods_with S.tree) w.methods.items ≡ method_signatures (module_in globals.now.outline.now)) }
     ensures found { OnOk result (Finds checker.old checker.new
-        (items_findings (module_in globals.now.outline.now) nothing_reached
+        (items_findings (module_in globals.now.outline.now) globals.now.keeps nothing_reached
         (module_in globals.now.outline.now).items)) }
     ensures goes_on { GoesOn S.TypeStore checker.old checker.new }
 {

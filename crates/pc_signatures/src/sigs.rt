@@ -79,7 +79,8 @@ impl<Ty: Drop> Sigs<Ty> {
 /// The types of the constants of a module, and what its functions and methods take and return, with what is found in
 /// annotations, in initializers and of their flows, and at defaults, appended to `found`: first what is found of
 /// functions, then of classes and constants in text order. Not among it is what is found in the annotations of fields,
-/// and of methods that bind their names: `class_table` finds it, and has the types.
+/// and of methods that bind their names: `class_table` finds it, and has the types. Where types are kept, those of the
+/// labels in initializers are noted too.
 ///
 /// Language Reference 3.12, 7.2 "Assignment statements" and 8.7 "Function definitions"; library reference,
 /// `dataclasses`; typing specification, "Type annotations"; own rules of the profile.
@@ -88,6 +89,7 @@ pub fn read_signatures<S: TypeStore>(
     checker: &mut Checker<'_, S>,
     outline: &ModuleOutline,
     classes: &ClassTable<S::Ty>,
+    keeps: bool,
 ) -> Result<Sigs<S::Ty>, OutOfMemory>
     requires outline { IsModuleOutline outline.now }
     requires classes { classes_with S.tree classes.now ≡ classes_of (module_in outline.now) }
@@ -99,7 +101,7 @@ pub fn read_signatures<S: TypeStore>(
     ensures methods { IfOk result (λ s. all_signatures_with S.tree s.methods ≡ method_signatures
         (module_in outline.now)) }
     ensures found { OnOk result (Finds checker.old checker.new
-        (signatures_find (module_in outline.now))) }
+        (signatures_find (module_in outline.now) keeps)) }
     ensures goes_on { GoesOn S.TypeStore checker.old checker.new }
 {
     let functions = read_functions(checker, outline)?;
@@ -109,6 +111,7 @@ pub fn read_signatures<S: TypeStore>(
         functions: &functions,
         constants: &[],
         known: 0,
+        keeps,
     };
     let read = read_items(checker, &globals)?;
     Ok(Sigs {

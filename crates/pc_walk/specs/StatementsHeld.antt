@@ -39,6 +39,7 @@ module _ {Ty : Type 0} (tree : Ty → Tree) where
     whole = module_of f.globals.now.outline.now.tree.now;
     context = context_in f;
     returned = tree f.returned.now;
+    keeps = f.globals.now.keeps;
   }
 
 -- a type is of the store and well-formed

@@ -90,8 +90,31 @@ fn checked_text<S: TypeStore>(
     requires entries { HasEntries (S.has store.old) classes.now }
 {
     let mut notes = Notes::new(alloc);
-    check_module(store, alloc, tree, scopes, classes, &mut notes)?;
+    check_module(store, alloc, tree, scopes, classes, false, &mut notes)?;
     listed(alloc, &notes)
+}
+
+/// The types that the check of a module keeps and shows, in the order of noting: the bytes of each place, and its type.
+fn types_text<S: TypeStore>(
+    store: &mut S,
+    alloc: Global,
+    tree: &Module,
+    scopes: &Scopes,
+    classes: &ClassTable<S::Ty>,
+) -> Result<String, OutOfMemory>
+    requires scopes { AreScopes (module_of tree.now) scopes.now }
+    requires classes { classes_with S.tree classes.now ≡ classes_of (module_of tree.now) }
+    requires entries { HasEntries (S.has store.old) classes.now }
+{
+    let mut notes = Notes::new(alloc);
+    check_module(store, alloc, tree, scopes, classes, true, &mut notes)?;
+    let boxes = BoxStore::new();
+    let mut text = String::new(alloc);
+    for (place, ty) in &notes.types(alloc)? {
+        let ty = type_text(&boxes, alloc, tree, ty)?;
+        write!(text, "{} {} {ty}; ", place.start, place.end)?;
+    }
+    Ok(text)
 }
 
 /// Adds the text of a type behind those of others.
@@ -261,7 +284,7 @@ fn signed_text<S: TypeStore>(
         scopes,
         parents: classes.parents(),
     };
-    let signed = read_signatures(&mut checker, &outline, classes)?;
+    let signed = read_signatures(&mut checker, &outline, classes, false)?;
     let (constants, functions) = (signed.constants(), signed.functions());
     if part == "SIGNATURES" {
         return signatures_text(&checker, tree, constants, functions);
@@ -272,14 +295,15 @@ fn signed_text<S: TypeStore>(
         functions,
         constants,
         known: classes.count(),
+        keeps: false,
     };
     let want = expected(checker.store, alloc, constants, part == "EXPECTED")?;
     label_text(checker.store, alloc, &globals, part != "INITIAL", &want)
 }
 
 /// What a store answers in a part of this name to a module with its names and its table of classes: the flow at a place,
-/// what is found in the module, what its last initializer is as in a body, as in a body where its type is expected, or as
-/// an initializer, or what its signatures are.
+/// what is found in the module, the types in it, what its last initializer is as in a body, as in a body where its type
+/// is expected, or as an initializer, or what its signatures are.
 fn answer_with<S: TypeStore>(
     store: &mut S,
     alloc: Global,
@@ -296,6 +320,7 @@ fn answer_with<S: TypeStore>(
     match part {
         "FLOWS" => flow_text(store, alloc, tree, scopes, classes, place),
         "FOUND" => checked_text(store, alloc, tree, scopes, classes),
+        "TYPES" => types_text(store, alloc, tree, scopes, classes),
         _ => signed_text(store, alloc, tree, scopes, classes, part),
     }
 }

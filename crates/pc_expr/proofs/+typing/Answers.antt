@@ -15,6 +15,7 @@ use Rattle.pc_expr.proofs.Forms.{parts_negation, label_is_none, parts_is_none, l
 use Rattle.pc_expr.proofs.Forms.{parts_attribute, callee_name, callee_attribute, callee_other, callee_early}
 use Rattle.pc_expr.proofs.Forms.{arguments_all}
 use Rattle.pc_rules.proofs.Along.{labelled_by, on_ok, if_ok}
+use Rattle.pc_expr.proofs.Typed.{noted_label}
 use Rattle.pc_expr.proofs.Typed.{whole_found, negative_is, attribute_is, binary_is, binary_found, compare_is}
 use Rattle.pc_expr.proofs.Typed.{compare_found, index_is, index_found, and_is, and_found, or_is, or_found}
 use Rattle.pc_expr.proofs.Typed.{standing_after, codes_are, list_is, list_found, tuple_is, tuple_found, dict_is}
@@ -22,7 +23,7 @@ use Rattle.pc_expr.proofs.Typed.{dict_found, counted, type_is}
 use Rattle.std.proofs.lemmas.List.Elements.{All-push, All-nil}
 use Rattle.pc_rules.specs.Calls.{positional_seat, method_callee, named_seat}
 use Rattle.pc_rules.specs.Computed.Expressions.{flows_of}
-use Rattle.pc_rules.specs.Computed.Findings.{brief, once, flows_at}
+use Rattle.pc_rules.specs.Computed.Findings.{brief, once, flows_at, shows}
 use Rattle.pc_calls.specs.JudgedCalls.{HasCallOffer, offer_called, given_with, rule_of, names_in}
 use Rattle.pc_expr.specs.Internal.Seats.{seats_of, seat_with}
 use Rattle.pc_expr.proofs.EntrySteps.{keys_step, values_step, entries_step, keys_end, values_end, entries_end}
@@ -32,7 +33,7 @@ use Rattle.pc_expr.proofs.WaysGiven.{negation_ways, and_ways, and_ways_agree, or
 use Rattle.pc_expr.proofs.SeatsKept.{seats_kept, entry_seats_kept}
 use Rattle.pc_expr.proofs.Steps.{seated_types, seated_finds, types_end, finds_end, early_step, early_end}
 use Rattle.pc_tree.specs.declared.tree.Expr.{Expr as RustExpr}
-use Rattle.pc_expr.specs.Typing.{is_other, callee_in}
+use Rattle.pc_expr.specs.Typing.{callee_in}
 use Rattle.pc_expr.proofs.CalleesTyped.{callee_as, two_arguments, two_types, two_early, first_found}
 use Rattle.pc_expr.proofs.CallForms.{call_label_is, call_parts_found}
 use Rattle.pc_calls.proofs.CallsKept.{offers_kept}
@@ -49,7 +50,7 @@ typing::type_expr-returns-clause-found g t c =
     whole_found g.S.TypeStore.tree (standing_of g.S.TypeStore.tree c.args.setting.now c.args.env.now)
     (option_map g.S.TypeStore.tree c.args.want.now) (expr_of c.args.e.now) c.in_ok-label.label _ _ _
     c.in_ok-label.ensures.labelled.is c.in_ok-label.ensures.found
-    (rw (c.place.ensures, c.deref.ensures.value) at c.in_ok-find_codes.ensures)
+    (rw c.place.ensures at c.in_ok-note_label.ensures)
 
 pub typing::label_expr-returns-in-Name-clause-labelled : goal.typing::label_expr-returns-in-Name-clause-labelled
 typing::label_expr-returns-in-Name-clause-labelled g t c =
@@ -543,25 +544,25 @@ calls::label_callee-returns-in_ok-label-in-Attribute-2-clause-called g t c =
 pub calls::label_callee-returns-in_ok-label-in-Int-clause-called :
     goal.calls::label_callee-returns-in_ok-label-in-Int-clause-called
 calls::label_callee-returns-in_ok-label-in-Int-clause-called g t c =
-    let other : is_other (expr_of c.args.callee.now) ≡ true =
-    (⊎_elim (λ t. ap (λ (x : RustExpr). is_other (expr_of x)) t.2)
-    (⊎_elim (λ t. ap (λ (x : RustExpr). is_other (expr_of x)) t.2)
-    (⊎_elim (λ t. ap (λ (x : RustExpr). is_other (expr_of x)) t.1)
-    (⊎_elim (λ t. ap (λ (x : RustExpr). is_other (expr_of x)) t.1)
-    (⊎_elim (λ t. ap (λ (x : RustExpr). is_other (expr_of x)) t.1)
-    (⊎_elim (λ t. ap (λ (x : RustExpr). is_other (expr_of x)) t.2 ∙ ap is_other (tuple_tree t.0 t.1))
-    (⊎_elim (λ t. ap (λ (x : RustExpr). is_other (expr_of x)) t.2 ∙ ap is_other (list_tree t.0 t.1))
-    (⊎_elim (λ t. ap (λ (x : RustExpr). is_other (expr_of x)) t.2 ∙ ap is_other (dict_tree t.0 t.1))
-    (⊎_elim (λ t. ap (λ (x : RustExpr). is_other (expr_of x)) t.2)
-    (⊎_elim (λ t. ap (λ (x : RustExpr). is_other (expr_of x)) t.2)
-    (⊎_elim (λ t. ap (λ (x : RustExpr). is_other (expr_of x)) t.4)
-    (⊎_elim (λ t. ap (λ (x : RustExpr). is_other (expr_of x)) t.4)
-    (⊎_elim (λ t. ap (λ (x : RustExpr). is_other (expr_of x)) t.2)
-    (⊎_elim (λ t. ap (λ (x : RustExpr). is_other (expr_of x)) t.2)
-    (⊎_elim (λ t. ap (λ (x : RustExpr). is_other (expr_of x)) t.3)
-    (⊎_elim (λ t. ap (λ (x : RustExpr). is_other (expr_of x)) t.3)
-    (⊎_elim (λ t. ap (λ (x : RustExpr). is_other (expr_of x)) t.3)
-    (λ t. ap (λ (x : RustExpr). is_other (expr_of x)) t.4 ∙ ap is_other (call_tree t.0 t.1 t.2 t.3)))))))))))))))))))
+    let other : shows (expr_of c.args.callee.now) ≡ true =
+    (⊎_elim (λ t. ap (λ (x : RustExpr). shows (expr_of x)) t.2)
+    (⊎_elim (λ t. ap (λ (x : RustExpr). shows (expr_of x)) t.2)
+    (⊎_elim (λ t. ap (λ (x : RustExpr). shows (expr_of x)) t.1)
+    (⊎_elim (λ t. ap (λ (x : RustExpr). shows (expr_of x)) t.1)
+    (⊎_elim (λ t. ap (λ (x : RustExpr). shows (expr_of x)) t.1)
+    (⊎_elim (λ t. ap (λ (x : RustExpr). shows (expr_of x)) t.2 ∙ ap shows (tuple_tree t.0 t.1))
+    (⊎_elim (λ t. ap (λ (x : RustExpr). shows (expr_of x)) t.2 ∙ ap shows (list_tree t.0 t.1))
+    (⊎_elim (λ t. ap (λ (x : RustExpr). shows (expr_of x)) t.2 ∙ ap shows (dict_tree t.0 t.1))
+    (⊎_elim (λ t. ap (λ (x : RustExpr). shows (expr_of x)) t.2)
+    (⊎_elim (λ t. ap (λ (x : RustExpr). shows (expr_of x)) t.2)
+    (⊎_elim (λ t. ap (λ (x : RustExpr). shows (expr_of x)) t.4)
+    (⊎_elim (λ t. ap (λ (x : RustExpr). shows (expr_of x)) t.4)
+    (⊎_elim (λ t. ap (λ (x : RustExpr). shows (expr_of x)) t.2)
+    (⊎_elim (λ t. ap (λ (x : RustExpr). shows (expr_of x)) t.2)
+    (⊎_elim (λ t. ap (λ (x : RustExpr). shows (expr_of x)) t.3)
+    (⊎_elim (λ t. ap (λ (x : RustExpr). shows (expr_of x)) t.3)
+    (⊎_elim (λ t. ap (λ (x : RustExpr). shows (expr_of x)) t.3)
+    (λ t. ap (λ (x : RustExpr). shows (expr_of x)) t.4 ∙ ap shows (call_tree t.0 t.1 t.2 t.3)))))))))))))))))))
     c.in-Int.is in
     callee_as g.S.TypeStore.has g.S.TypeStore.tree _ c.callee_of_other-in-Int.result _ _
     (sym (callee_other (standing_of g.S.TypeStore.tree c.args.setting.now c.args.env.now)
@@ -603,8 +604,10 @@ calls::label_called-returns-clause-found g t c expected =
     (rule_of c.in_ok-called-in-Call.called.rule) (map (offer_called g.S.TypeStore.tree)
     c.in_ok-called-in-Call.called.offers.items) (rw c.deref-in-Call-2.ensures at
     c.in_ok-called-in-Call.ensures.called.rule) (rw c.deref-in-Call-2.ensures at
-    c.in_ok-called-in-Call.ensures.called.offers) _ _ _ _ _ _ c.in_ok-called-in-Call.called.label.codes.items _ _
-    (codes_are g.S.TypeStore.tree c.in_ok-called-in-Call.called.label
+    c.in_ok-called-in-Call.ensures.called.offers) _ _ _ _ _ _ _ _ _
+    (noted_label g.S.TypeStore.tree (standing_of g.S.TypeStore.tree c.args.setting.now c.args.env.now)
+    None c.args.setting.now.globals.now.keeps (shows (expr_of c.in-Call.callee.value))
+    (place_of (expr_of c.in-Call.callee.value)) c.in_ok-called-in-Call.called.label
     (callee_in (standing_of g.S.TypeStore.tree c.args.setting.now c.args.env.now)
     (given_with c.in_ok-given-in-Call.given) (expr_of c.in-Call.callee.value)).label
     (rw c.deref-in-Call-2.ensures at c.in_ok-called-in-Call.ensures.called.label))
@@ -612,10 +615,11 @@ calls::label_called-returns-clause-found g t c expected =
     c.is_test-is_test.ensures.value) (rw (c.deref-in-Call-8.ensures.value, c.deref-in-Call-9.ensures.value) at
     c.in_ok-typed-in-Call.ensures.typed.early) (rw c.deref-in-Call-2.ensures at
     c.in_ok-called-in-Call.ensures.found) (rw (
+      c.shows.ensures,
       c.place.ensures,
       c.deref-in-Call-3.ensures,
-      c.deref-in-Call-4.ensures.value,
-    ) at c.in_ok-find_codes-in-Call.ensures)
+      c.deref-in-Call-4.ensures,
+    ) at c.in_ok-note_label-in-Call.ensures)
     (rw (c.deref-in-Call-8.ensures.value, c.deref-in-Call-9.ensures.value) at c.in_ok-typed-in-Call.ensures.found)
     (rw (c.deref-in-Call-10.ensures.value, c.deref-in-Call-11.ensures.value) at
     c.in_ok-type_keywords-in-Call.ensures.found) i ∙ ap (λ x. (notes_of c.args.checker.now.found.now) ++ parts_find
@@ -793,9 +797,9 @@ typing::label_expr-returns-in-Call-clause-labelled g t c = c.label_called.ensure
 pub typing::label_expr-returns-in-Call-clause-found : goal.typing::label_expr-returns-in-Call-clause-found
 typing::label_expr-returns-in-Call-clause-found g t c = c.label_called.ensures.found _
 
-pub conditions::type_condition-returns-in_ok-label-in-Not-clause-labelled :
-    goal.conditions::type_condition-returns-in_ok-label-in-Not-clause-labelled
-conditions::type_condition-returns-in_ok-label-in-Not-clause-labelled g t c =
+pub conditions::type_condition-returns-in_ok-note_label-in-Not-clause-labelled :
+    goal.conditions::type_condition-returns-in_ok-note_label-in-Not-clause-labelled
+conditions::type_condition-returns-in_ok-note_label-in-Not-clause-labelled g t c =
     rw c.in-Not.is (record {
       given = c.in_ok-label-in-Not.ensures.value.given;
       is =
@@ -804,9 +808,9 @@ conditions::type_condition-returns-in_ok-label-in-Not-clause-labelled g t c =
           c.in-Not.field-0 (expr_of c.in-Not.operand.value)));
     })
 
-pub conditions::type_condition-returns-in_ok-label-in-Not-clause-ways :
-    goal.conditions::type_condition-returns-in_ok-label-in-Not-clause-ways
-conditions::type_condition-returns-in_ok-label-in-Not-clause-ways g t c =
+pub conditions::type_condition-returns-in_ok-note_label-in-Not-clause-ways :
+    goal.conditions::type_condition-returns-in_ok-note_label-in-Not-clause-ways
+conditions::type_condition-returns-in_ok-note_label-in-Not-clause-ways g t c =
     let has = g.S.TypeStore.has in
     let tree = g.S.TypeStore.tree in
     let w = rw c.deref.ensures at c.in_ok-condition-in-Not.ensures.ways in
@@ -815,12 +819,16 @@ conditions::type_condition-returns-in_ok-label-in-Not-clause-ways g t c =
     c.in_ok-condition-in-Not.condition.ways w c.swapped-ways.result c.swapped-ways.ensures.where_true
     c.swapped-ways.ensures.where_false)
 
-pub conditions::type_condition-returns-in_ok-label-in-Not-clause-found :
-    goal.conditions::type_condition-returns-in_ok-label-in-Not-clause-found
-conditions::type_condition-returns-in_ok-label-in-Not-clause-found g t c =
-    rw c.in-Not.is (negation_found g.S.TypeStore.tree (standing_of g.S.TypeStore.tree c.args.setting.now c.args.env.now)
-    c.in-Not.field-0 (expr_of c.in-Not.operand.value) _ _ (rw c.deref.ensures at
-    c.in_ok-condition-in-Not.ensures.found))
+pub conditions::type_condition-returns-in_ok-note_label-in-Not-clause-found :
+    goal.conditions::type_condition-returns-in_ok-note_label-in-Not-clause-found
+conditions::type_condition-returns-in_ok-note_label-in-Not-clause-found g t c =
+    let tree = g.S.TypeStore.tree in
+    let k = standing_of tree c.args.setting.now c.args.env.now in
+    let label = c.in_ok-label-in-Not in
+    rw c.in-Not.is (negation_found tree k label.label c.in-Not.field-0 (expr_of c.in-Not.operand.value) _ _ _
+    (label.ensures.value.is ∙ ap brief (sym (label_negation k None c.in-Not.field-0 (expr_of c.in-Not.operand.value))))
+    (rw c.deref.ensures at c.in_ok-condition-in-Not.ensures.found)
+    (rw (c.place.ensures, c.in-Not.is) at c.in_ok-note_label-in-Not.ensures))
 
 pub conditions::type_condition-simple_ways-requires : goal.conditions::type_condition-simple_ways-requires
 conditions::type_condition-simple_ways-requires g t c = record {
@@ -829,9 +837,9 @@ conditions::type_condition-simple_ways-requires g t c = record {
   simple = first_of (search (rules, the_lemmas), grind (the_lemmas, arith));
 }
 
-pub conditions::type_condition-returns-in_ok-whole-in-And-clause-labelled :
-    goal.conditions::type_condition-returns-in_ok-whole-in-And-clause-labelled
-conditions::type_condition-returns-in_ok-whole-in-And-clause-labelled g t c =
+pub conditions::type_condition-returns-in_ok-note_label-in-And-clause-labelled :
+    goal.conditions::type_condition-returns-in_ok-note_label-in-And-clause-labelled
+conditions::type_condition-returns-in_ok-note_label-in-And-clause-labelled g t c =
     let tree = g.S.TypeStore.tree in
     let k = standing_of tree c.args.setting.now c.args.env.now in
     let first = c.in_ok-first-in-And in
@@ -847,9 +855,9 @@ conditions::type_condition-returns-in_ok-whole-in-And-clause-labelled g t c =
           first.ensures.ways.where_true)));
     })
 
-pub conditions::type_condition-returns-in_ok-whole-in-And-clause-ways :
-    goal.conditions::type_condition-returns-in_ok-whole-in-And-clause-ways
-conditions::type_condition-returns-in_ok-whole-in-And-clause-ways g t c =
+pub conditions::type_condition-returns-in_ok-note_label-in-And-clause-ways :
+    goal.conditions::type_condition-returns-in_ok-note_label-in-And-clause-ways
+conditions::type_condition-returns-in_ok-note_label-in-And-clause-ways g t c =
     let has = g.S.TypeStore.has in
     let tree = g.S.TypeStore.tree in
     let first = c.in_ok-first-in-And in
@@ -861,18 +869,26 @@ conditions::type_condition-returns-in_ok-whole-in-And-clause-ways g t c =
     (keeps_both has _ _ _ first.ensures.goes_on.kept c.in_ok-second-in-And.ensures.goes_on.kept) c.in-And.field-0 _
     w.whole.ways w.ensures.goes_on.kept w.ensures.asked w.ensures.met)
 
-pub conditions::type_condition-returns-in_ok-whole-in-And-clause-found :
-    goal.conditions::type_condition-returns-in_ok-whole-in-And-clause-found
-conditions::type_condition-returns-in_ok-whole-in-And-clause-found g t c =
+pub conditions::type_condition-returns-in_ok-note_label-in-And-clause-found :
+    goal.conditions::type_condition-returns-in_ok-note_label-in-And-clause-found
+conditions::type_condition-returns-in_ok-note_label-in-And-clause-found g t c =
     let tree = g.S.TypeStore.tree in
     let k = standing_of tree c.args.setting.now c.args.env.now in
     let first = c.in_ok-first-in-And in
-    rw (c.in-And.is, c.in_ok-whole-in-And.ensures.found) (conjunction_found tree k c.in-And.field-0
+    let w = c.in_ok-whole-in-And in
+    let after = standing_after k _ true (expr_of c.in-And.left.value) (rw c.deref-in-And-3.ensures at
+    first.ensures.ways.where_true) in
+    rw c.in-And.is (conjunction_found tree k w.whole.label c.in-And.field-0
     (expr_of c.in-And.left.value) (expr_of c.in-And.right.value)
-    (standing_of tree c.args.setting.now first.first.ways.where_true) _ _ _
-    (standing_after k _ true (expr_of c.in-And.left.value) (rw c.deref-in-And-3.ensures at
-    first.ensures.ways.where_true)) (rw c.deref-in-And-3.ensures at first.ensures.found)
-    (rw c.deref-in-And-4.ensures at c.in_ok-second-in-And.ensures.found))
+    (standing_of tree c.args.setting.now first.first.ways.where_true) _ _ _ _
+    (w.ensures.labelled.is ∙ ap brief (and_is tree k None c.in-And.field-0 (expr_of c.in-And.left.value)
+    (expr_of c.in-And.right.value) first.first.label c.in_ok-second-in-And.second.label
+    (rw c.deref-in-And-3.ensures at first.ensures.labelled.is)
+    (standing_of tree c.args.setting.now first.first.ways.where_true)
+    (rw c.deref-in-And-4.ensures at c.in_ok-second-in-And.ensures.labelled.is) after))
+    after (rw c.deref-in-And-3.ensures at first.ensures.found)
+    (rw c.deref-in-And-4.ensures at c.in_ok-second-in-And.ensures.found)
+    (rw (c.place-in-And.ensures, c.in-And.is, w.ensures.found) at c.in_ok-note_label-in-And.ensures))
 
 pub conditions::type_condition-junction_condition-requires-clause-agree :
     goal.conditions::type_condition-junction_condition-requires-clause-agree
@@ -886,9 +902,9 @@ conditions::type_condition-junction_condition-requires-clause-agree g t c =
     (rw c.deref-in-And-3.ensures at first.ensures.ways) c.in_ok-second-in-And.second.ways
     (rw c.deref-in-And-4.ensures at c.in_ok-second-in-And.ensures.ways))
 
-pub conditions::type_condition-returns-in_ok-whole-in-Or-clause-labelled :
-    goal.conditions::type_condition-returns-in_ok-whole-in-Or-clause-labelled
-conditions::type_condition-returns-in_ok-whole-in-Or-clause-labelled g t c =
+pub conditions::type_condition-returns-in_ok-note_label-in-Or-clause-labelled :
+    goal.conditions::type_condition-returns-in_ok-note_label-in-Or-clause-labelled
+conditions::type_condition-returns-in_ok-note_label-in-Or-clause-labelled g t c =
     let tree = g.S.TypeStore.tree in
     let k = standing_of tree c.args.setting.now c.args.env.now in
     let first = c.in_ok-first-in-Or in
@@ -904,9 +920,9 @@ conditions::type_condition-returns-in_ok-whole-in-Or-clause-labelled g t c =
           first.ensures.ways.where_false)));
     })
 
-pub conditions::type_condition-returns-in_ok-whole-in-Or-clause-ways :
-    goal.conditions::type_condition-returns-in_ok-whole-in-Or-clause-ways
-conditions::type_condition-returns-in_ok-whole-in-Or-clause-ways g t c =
+pub conditions::type_condition-returns-in_ok-note_label-in-Or-clause-ways :
+    goal.conditions::type_condition-returns-in_ok-note_label-in-Or-clause-ways
+conditions::type_condition-returns-in_ok-note_label-in-Or-clause-ways g t c =
     let has = g.S.TypeStore.has in
     let tree = g.S.TypeStore.tree in
     let first = c.in_ok-first-in-Or in
@@ -918,18 +934,26 @@ conditions::type_condition-returns-in_ok-whole-in-Or-clause-ways g t c =
     (keeps_both has _ _ _ first.ensures.goes_on.kept c.in_ok-second-in-Or.ensures.goes_on.kept) c.in-Or.field-0 _
     w.whole.ways w.ensures.goes_on.kept w.ensures.asked w.ensures.met)
 
-pub conditions::type_condition-returns-in_ok-whole-in-Or-clause-found :
-    goal.conditions::type_condition-returns-in_ok-whole-in-Or-clause-found
-conditions::type_condition-returns-in_ok-whole-in-Or-clause-found g t c =
+pub conditions::type_condition-returns-in_ok-note_label-in-Or-clause-found :
+    goal.conditions::type_condition-returns-in_ok-note_label-in-Or-clause-found
+conditions::type_condition-returns-in_ok-note_label-in-Or-clause-found g t c =
     let tree = g.S.TypeStore.tree in
     let k = standing_of tree c.args.setting.now c.args.env.now in
     let first = c.in_ok-first-in-Or in
-    rw (c.in-Or.is, c.in_ok-whole-in-Or.ensures.found) (disjunction_found tree k c.in-Or.field-0
+    let w = c.in_ok-whole-in-Or in
+    let after = standing_after k _ false (expr_of c.in-Or.left.value) (rw c.deref-in-Or-3.ensures at
+    first.ensures.ways.where_false) in
+    rw c.in-Or.is (disjunction_found tree k w.whole.label c.in-Or.field-0
     (expr_of c.in-Or.left.value) (expr_of c.in-Or.right.value)
-    (standing_of tree c.args.setting.now first.first.ways.where_false) _ _ _
-    (standing_after k _ false (expr_of c.in-Or.left.value) (rw c.deref-in-Or-3.ensures at
-    first.ensures.ways.where_false)) (rw c.deref-in-Or-3.ensures at first.ensures.found)
-    (rw c.deref-in-Or-4.ensures at c.in_ok-second-in-Or.ensures.found))
+    (standing_of tree c.args.setting.now first.first.ways.where_false) _ _ _ _
+    (w.ensures.labelled.is ∙ ap brief (or_is tree k None c.in-Or.field-0 (expr_of c.in-Or.left.value)
+    (expr_of c.in-Or.right.value) first.first.label c.in_ok-second-in-Or.second.label
+    (rw c.deref-in-Or-3.ensures at first.ensures.labelled.is)
+    (standing_of tree c.args.setting.now first.first.ways.where_false)
+    (rw c.deref-in-Or-4.ensures at c.in_ok-second-in-Or.ensures.labelled.is) after))
+    after (rw c.deref-in-Or-3.ensures at first.ensures.found)
+    (rw c.deref-in-Or-4.ensures at c.in_ok-second-in-Or.ensures.found)
+    (rw (c.place-in-Or.ensures, c.in-Or.is, w.ensures.found) at c.in_ok-note_label-in-Or.ensures))
 
 pub conditions::type_condition-junction_condition-requires-in-Or-clause-agree :
     goal.conditions::type_condition-junction_condition-requires-in-Or-clause-agree

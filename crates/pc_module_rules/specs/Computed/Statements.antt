@@ -66,11 +66,13 @@ known_declared None annotation = annotation
 
 -- ---- what a walk has come to
 
--- what the statements of a function stand in: the module, what they may name, and the type that the function returns
+-- what the statements of a function stand in: the module, what they may name, the type that the function returns, and
+-- whether the types of labels are noted
 pub record BodyContext : Type 0 where
   pub whole : Module
   pub context : Context
   pub returned : Tree
+  pub keeps : Test
 
 -- what a walk over statements has come to: declared types, the environment, none where no run comes, inside a loop the
 -- way out of it joined with each `break` so far, and what was found
@@ -109,7 +111,12 @@ with_way bases table (Some way) (Some env) = Some (join_env bases (type_table ta
 module _ (context : BodyContext) where
   -- what an expression stands in
   abbrev pub at : Table → Env → Standing
-  at table env = record { context = context.context; declared = type_table table; env = env }
+  at table env = record {
+    context = context.context;
+    declared = type_table table;
+    env = env;
+    keeps = context.keeps;
+  }
 
   -- an environment where a condition is true, or where it is false
   abbrev pub narrowed_at : Table → (holds : Test) → Expr → Env → Env
@@ -398,23 +405,24 @@ end_finds bases return_type p (Some env) = if static_test bases NoneType return_
     else plain_note (finding p E21) ∷ []
 
 -- what the statements of a function stand in
-abbrev pub body_context_of : Module → (constants : List Tree) → Owner → FuncDef → BodyContext
-body_context_of m constants owner f = record {
+abbrev pub body_context_of : (keeps : Test) → Module → (constants : List Tree) → Owner → FuncDef → BodyContext
+body_context_of keeps m constants owner f = record {
   whole = m;
   context = body_context m constants (locals owner f);
   returned = return_type m f;
+  keeps = keeps;
 }
 
 -- the walk over the body of a function, from its entry
-abbrev pub walk_body : Module → (constants : List Tree) → Owner → FuncDef → List Note → Walk
-walk_body m constants owner f found =
-    let context = body_context_of m constants owner f in
+abbrev pub walk_body : (keeps : Test) → Module → (constants : List Tree) → Owner → FuncDef → List Note → Walk
+walk_body keeps m constants owner f found =
+    let context = body_context_of keeps m constants owner f in
     let start = enter_parameters context.context.resolve (none_assigned (length (locals owner f)))
     (none_assigned (length (locals owner f))) (entry_parameters m owner f) in
     walk_suite context (record { table = start.0; env = Some start.1; broken = None; found = found }) f.body
 
--- what was found, and then what is found in the body of a function, and E21 at its name
-abbrev pub function_finds : Module → (constants : List Tree) → Owner → FuncDef → List Note → List Note
-function_finds m constants owner f found =
-    let body = walk_body m constants owner f found in
+-- what was noted, and then what is noted in the body of a function, and E21 at its name
+abbrev pub function_finds : (keeps : Test) → Module → (constants : List Tree) → Owner → FuncDef → List Note → List Note
+function_finds keeps m constants owner f found =
+    let body = walk_body keeps m constants owner f found in
     body.found ++ end_finds (bases_of m) (return_type m f) f.name.place body.env

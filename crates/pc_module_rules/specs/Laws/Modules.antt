@@ -1,7 +1,7 @@
 -- The law that what is computed of a module is just what its lawful labelling says: the types of its constants, what is
 -- found of its signatures and constants, and what is found under all its labels, but for what is found of scopes.
 -- Own rule of the profile.
-use Rattle.std.specs.Prelude.{◌≡◌, ◌⊎◌, ◌↔◌, List, [], ◌++◌, map, Contains}
+use Rattle.std.specs.Prelude.{◌≡◌, ◌⊎◌, ◌↔◌, List, [], ◌++◌, map, Contains, false}
 use Rattle.pc_tree.specs.declared.code.Finding.{Finding}
 use Rattle.pc_tree.specs.Tree.{Module}
 use Rattle.pc_scope_findings.specs.Findings.{ScopeFinds}
@@ -23,7 +23,7 @@ ConstantsHaveTheTypesOfLabels = (m : Module) (labels : Labelling m) → IsLawful
 -- labelling says of them, but for what is found of scopes
 abbrev pub SignaturesFindWhatLabelsSay : Type 0
 SignaturesFindWhatLabelsSay = (m : Module) (labels : Labelling m) → IsLawful m labels
-    → Lists (signatures_find m ++ map plain_note (member_annotations m)) (SignaturesSay m labels)
+    → Lists (signatures_find m false ++ map plain_note (member_annotations m)) (SignaturesSay m labels)
 
 -- after what was found, and with what the class table finds in annotations, just what any lawful labelling says is
 -- found of the module, but for what is found of scopes

@@ -29,7 +29,12 @@ use Rattle.pc_module_rules.specs.Computed.Statements.{function_finds}
 
 -- what the statements of a function that returns this type stand in
 abbrev pub body_context_in : Surroundings → (returned : Tree) → BodyContext
-body_context_in setting returned = record { whole = setting.whole; context = setting.context; returned = returned }
+body_context_in setting returned = record {
+  whole = setting.whole;
+  context = setting.context;
+  returned = returned;
+  keeps = false;
+}
 
 -- a table of a walk fits declared types, after the names bound so far: each local that one of them means has its
 -- declared type there, and no other local has one
@@ -117,4 +122,5 @@ abbrev pub BodiesFindWhatLabelsSay : Type 0
 BodiesFindWhatLabelsSay =
     (m : Module) (constants : List Tree) → AreWellFormed (bases_of m) constants
     → (owner : Owner) (f : FuncDef) (labels : FunctionLabels f) → LawfulFunction m constants owner f labels →
-    (found : List Note) → Adds found (function_finds m constants owner f found) (BodySays m constants owner f labels)
+    (found : List Note) → Adds found (function_finds false m constants owner f found)
+    (BodySays m constants owner f labels)

@@ -16,7 +16,7 @@ use Rattle.pc_tree.specs.Tree.{more_keywords}
 use Rattle.pc_tree.specs.Depth.{place_of}
 use Rattle.pc_types.specs.Tree.{Tree}
 use Rattle.pc_scope.specs.Expressions.{is_instance_test}
-use Rattle.pc_notes.specs.Notes.{Note, plain_note, dynamic, findings_of}
+use Rattle.pc_notes.specs.Notes.{Note, plain_note, dynamic, typed, findings_of}
 use Rattle.pc_rules.specs.Operations.{Label}
 use Rattle.pc_rules.specs.Labels.{FlowLabels, Labels, ItemsLabels, EntriesLabels, KeywordsLabels, whole_label}
 use Rattle.pc_rules.specs.Labels.{is_of_scopes}
@@ -90,73 +90,97 @@ flows_behind p before (f ∷ fs) = flow_then p before f.from f.into f.code (λ c
 abbrev pub flows_at : Place → FlowLabels → List Note
 flows_at p flows = flows_behind p [] flows
 
--- the findings in the parts of an expression, with those of its own codes after them
-abbrev pub whole : (e : Expr) → Labels e → List Note → List Note
-whole e m parts = parts ++ codes_at (place_of e) (whole_label e m).codes
+-- the type of a label at its place, where types are kept
+abbrev pub type_noted : (keeps shown : Test) → Place → Tree → List Note
+type_noted false shown p t = []
+type_noted true shown p t = typed shown p t ∷ []
 
--- the findings in the parts of an expression, under the labels of items, of arguments, and of the entries of a dict
-abbrev mutual
-  -- what is found in the parts of an expression and of their flows
-  pub found_in_parts : (e : Expr) → Labels e → List Note
-  found_in_parts (name n) m = []
-  found_in_parts (number p digits) m = []
-  found_in_parts (text p characters) m = []
-  found_in_parts (truth p value) m = []
-  found_in_parts (nothing p) m = []
-  found_in_parts (tuple p items) m = found_in_items items m.items
-  found_in_parts (list p items) m = found_in_items items m.items
-  found_in_parts (dict p entries) m = found_in_entries entries m.entries
-  found_in_parts (negative p e) m = whole e m.operand (found_in_parts e m.operand)
-  found_in_parts (negation p e) m = whole e m.operand (found_in_parts e m.operand)
-  found_in_parts (binary p operator l r) m = whole l m.left (found_in_parts l m.left)
-      ++ whole r m.right (found_in_parts r m.right)
-  found_in_parts (compare p operator l r) m = whole l m.left (found_in_parts l m.left)
-      ++ (whole r m.right (found_in_parts r m.right) ++ flows_at (place_of l) m.flows)
-  found_in_parts (is_none p e) m = whole e m.operand (found_in_parts e m.operand)
-  found_in_parts (is_not_none p e) m = whole e m.operand (found_in_parts e m.operand)
-  found_in_parts (conjunction p l r) m = whole l m.left (found_in_parts l m.left)
-      ++ whole r m.right (found_in_parts r m.right)
-  found_in_parts (disjunction p l r) m = whole l m.left (found_in_parts l m.left)
-      ++ whole r m.right (found_in_parts r m.right)
-  found_in_parts (attribute p e field) m = whole e m.object (found_in_parts e m.object)
-  found_in_parts (index p e i) m = whole e m.object (found_in_parts e m.object)
-      ++ (whole i m.key (found_in_parts i m.key) ++ flows_at (place_of i) m.flows)
-  found_in_parts (call p callee arguments keywords) m =
-      whole callee m.callee (found_in_parts callee m.callee)
-      ++ (found_in_arguments (is_instance_test callee arguments keywords) arguments m.arguments
-      ++ (found_in_keywords keywords m.keywords ++ notes_of_code (second_place arguments p) m.second))
+-- what is noted of a label at its place: its type, where types are kept, and then the findings of its codes
+abbrev pub label_at : (keeps shown : Test) → Place → Label → List Note
+label_at keeps shown p m = type_noted keeps shown p m.type ++ codes_at p m.codes
 
-  -- of items, each with its flows
-  pub found_in_items : (es : Exprs) → ItemsLabels es → List Note
-  found_in_items no_exprs m = []
-  found_in_items (more_exprs e rest) m = whole e m.first (found_in_parts e m.first)
-      ++ (flows_at (place_of e) m.flows ++ found_in_items rest m.rest)
+-- the type of a callee is shown, but for a name and an attribute
+abbrev pub shows : Expr → Test
+shows (name n) = false
+shows (attribute p e field) = false
+shows _ = true
 
-  -- of arguments; of a test of an instance what stands second is not looked at
-  pub found_in_arguments : (is_test : Test) → (es : Exprs) → ItemsLabels es → List Note
-  found_in_arguments is_test no_exprs m = []
-  found_in_arguments true (more_exprs e rest) m = whole e m.first (found_in_parts e m.first)
-  found_in_arguments false (more_exprs e rest) m = whole e m.first (found_in_parts e m.first)
-      ++ (flows_at (place_of e) m.flows ++ found_in_arguments false rest m.rest)
+module _ (keeps : Test) where
+  -- the findings in the parts of an expression, with what is noted of its own label after them
+  abbrev pub whole : (e : Expr) → Labels e → List Note → List Note
+  whole e m parts = parts ++ label_at keeps true (place_of e) (whole_label e m)
 
-  -- of the entries of a dict, each key and value with its flows
-  pub found_in_entries : (es : Entries) → EntriesLabels es → List Note
-  found_in_entries no_entries m = []
-  found_in_entries (more_entries key value rest) m =
-      whole key m.key (found_in_parts key m.key)
-      ++ (flows_at (place_of key) m.key_flows
-      ++ (whole value m.value (found_in_parts value m.value)
-      ++ (flows_at (place_of value) m.value_flows ++ found_in_entries rest m.rest)))
+  -- the same of a callee
+  abbrev pub called : (e : Expr) → Labels e → List Note → List Note
+  called e m parts = parts ++ label_at keeps (shows e) (place_of e) (whole_label e m)
 
-  -- of arguments by name, each with its flows
-  pub found_in_keywords : (es : Keywords) → KeywordsLabels es → List Note
-  found_in_keywords no_keywords m = []
-  found_in_keywords (more_keywords parameter value rest) m = whole value m.first (found_in_parts value m.first)
-      ++ (flows_at (place_of value) m.flows ++ found_in_keywords rest m.rest)
+  -- the findings in the parts of an expression, under the labels of items, of arguments, and of the entries of a dict
+  abbrev mutual
+    -- what is found in the parts of an expression and of their flows
+    pub found_in_parts : (e : Expr) → Labels e → List Note
+    found_in_parts (name n) m = []
+    found_in_parts (number p digits) m = []
+    found_in_parts (text p characters) m = []
+    found_in_parts (truth p value) m = []
+    found_in_parts (nothing p) m = []
+    found_in_parts (tuple p items) m = found_in_items items m.items
+    found_in_parts (list p items) m = found_in_items items m.items
+    found_in_parts (dict p entries) m = found_in_entries entries m.entries
+    found_in_parts (negative p e) m = whole e m.operand (found_in_parts e m.operand)
+    found_in_parts (negation p e) m = whole e m.operand (found_in_parts e m.operand)
+    found_in_parts (binary p operator l r) m = whole l m.left (found_in_parts l m.left)
+        ++ whole r m.right (found_in_parts r m.right)
+    found_in_parts (compare p operator l r) m = whole l m.left (found_in_parts l m.left)
+        ++ (whole r m.right (found_in_parts r m.right) ++ flows_at (place_of l) m.flows)
+    found_in_parts (is_none p e) m = whole e m.operand (found_in_parts e m.operand)
+    found_in_parts (is_not_none p e) m = whole e m.operand (found_in_parts e m.operand)
+    found_in_parts (conjunction p l r) m = whole l m.left (found_in_parts l m.left)
+        ++ whole r m.right (found_in_parts r m.right)
+    found_in_parts (disjunction p l r) m = whole l m.left (found_in_parts l m.left)
+        ++ whole r m.right (found_in_parts r m.right)
+    found_in_parts (attribute p e field) m = whole e m.object (found_in_parts e m.object)
+    found_in_parts (index p e i) m = whole e m.object (found_in_parts e m.object)
+        ++ (whole i m.key (found_in_parts i m.key) ++ flows_at (place_of i) m.flows)
+    found_in_parts (call p callee arguments keywords) m =
+        called callee m.callee (found_in_parts callee m.callee)
+        ++ (found_in_arguments (is_instance_test callee arguments keywords) arguments m.arguments
+        ++ (found_in_keywords keywords m.keywords ++ notes_of_code (second_place arguments p) m.second))
 
--- the findings under the labels of an expression: what is found in its parts, and then at it
-abbrev pub notes_under : (e : Expr) → Labels e → List Note
-notes_under e m = whole e m (found_in_parts e m)
+    -- of items, each with its flows
+    pub found_in_items : (es : Exprs) → ItemsLabels es → List Note
+    found_in_items no_exprs m = []
+    found_in_items (more_exprs e rest) m = whole e m.first (found_in_parts e m.first)
+        ++ (flows_at (place_of e) m.flows ++ found_in_items rest m.rest)
+
+    -- of arguments; of a test of an instance what stands second is not looked at
+    pub found_in_arguments : (is_test : Test) → (es : Exprs) → ItemsLabels es → List Note
+    found_in_arguments is_test no_exprs m = []
+    found_in_arguments true (more_exprs e rest) m = whole e m.first (found_in_parts e m.first)
+    found_in_arguments false (more_exprs e rest) m = whole e m.first (found_in_parts e m.first)
+        ++ (flows_at (place_of e) m.flows ++ found_in_arguments false rest m.rest)
+
+    -- of the entries of a dict, each key and value with its flows
+    pub found_in_entries : (es : Entries) → EntriesLabels es → List Note
+    found_in_entries no_entries m = []
+    found_in_entries (more_entries key value rest) m =
+        whole key m.key (found_in_parts key m.key)
+        ++ (flows_at (place_of key) m.key_flows
+        ++ (whole value m.value (found_in_parts value m.value)
+        ++ (flows_at (place_of value) m.value_flows ++ found_in_entries rest m.rest)))
+
+    -- of arguments by name, each with its flows
+    pub found_in_keywords : (es : Keywords) → KeywordsLabels es → List Note
+    found_in_keywords no_keywords m = []
+    found_in_keywords (more_keywords parameter value rest) m = whole value m.first (found_in_parts value m.first)
+        ++ (flows_at (place_of value) m.flows ++ found_in_keywords rest m.rest)
+
+  -- the findings under the labels of an expression: what is found in its parts, and then at it
+  abbrev pub notes_under : (e : Expr) → Labels e → List Note
+  notes_under e m = whole e m (found_in_parts e m)
+
+  -- of a callee
+  abbrev pub callee_notes_under : (e : Expr) → Labels e → List Note
+  callee_notes_under e m = called e m (found_in_parts e m)
 
 -- a finding under labels that is not found of scopes
 pub record IsOwn (e : Expr) (m : Labels e) (f : Finding) : Type 0 where
@@ -166,4 +190,4 @@ pub record IsOwn (e : Expr) (m : Labels e) (f : Finding) : Type 0 where
 -- the law that the list has just what stands under the labels and is not found of scopes
 abbrev pub LabelFindingsAreListed : Type 0
 LabelFindingsAreListed = (e : Expr) (m : Labels e) (f : Finding)
-    → Contains (findings_of (notes_under e m)) f ↔ IsOwn e m f
+    → Contains (findings_of (notes_under false e m)) f ↔ IsOwn e m f

@@ -169,8 +169,13 @@ module _ (m : Module) where
   -- ---- constants
 
   -- what an initializer stands in, after constants of these types and so many classes
-  abbrev pub initial : (constants : List Tree) → (classes : ℕ) → Standing
-  initial constants classes = record { context = initializer_context m constants classes; declared = []; env = [] }
+  abbrev pub initial : (keeps : Test) → (constants : List Tree) → (classes : ℕ) → Standing
+  initial keeps constants classes = record {
+    context = initializer_context m constants classes;
+    declared = [];
+    env = [];
+    keeps = keeps;
+  }
 
   -- what an initializer flows into
   abbrev pub initializer_types : ItemsReached → Constant → List Tree
@@ -178,23 +183,24 @@ module _ (m : Module) where
 
   -- the label of an initializer
   abbrev pub initializer_label : ItemsReached → Constant → Label
-  initializer_label r c = label_in (initial r.constants r.classes) (first_of_types (initializer_types r c)) c.value
+  initializer_label r c = label_in (initial false r.constants r.classes) (first_of_types (initializer_types r c))
+      c.value
 
   -- the type of a constant
   abbrev pub type_of_constant : ItemsReached → Constant → Tree
   type_of_constant r c = constant_type m c.annotation (initializer_label r c).type
 
   -- what is found of an initializer that flows into these types: in it, and of its flow
-  abbrev pub value_findings : ItemsReached → (into : List Tree) → Expr → List Note
-  value_findings r into e =
-      finds_in (initial r.constants r.classes) (first_of_types into) e
+  abbrev pub value_findings : (keeps : Test) → ItemsReached → (into : List Tree) → Expr → List Note
+  value_findings keeps r into e =
+      finds_in (initial keeps r.constants r.classes) (first_of_types into) e
       ++ flows_at (place_of e)
-      (flows_of (bases_of m) (label_in (initial r.constants r.classes) (first_of_types into) e) into)
+      (flows_of (bases_of m) (label_in (initial false r.constants r.classes) (first_of_types into) e) into)
 
   -- what is found of a constant: in its annotation, and of its initializer
-  abbrev pub constant_findings : ItemsReached → Constant → List Note
-  constant_findings r c = map plain_note (option_findings m (bases_of m) c.annotation)
-      ++ value_findings r (initializer_types r c) c.value
+  abbrev pub constant_findings : (keeps : Test) → ItemsReached → Constant → List Note
+  constant_findings keeps r c = map plain_note (option_findings m (bases_of m) c.annotation)
+      ++ value_findings keeps r (initializer_types r c) c.value
 
   -- ---- items
 
@@ -222,15 +228,15 @@ module _ (m : Module) where
   behind_all r (i ∷ is) = behind_all (behind r i) is
 
   -- what is found of an item that is a constant, or of the members of one that is a class
-  abbrev pub item_findings : ItemsReached → Item → List Note
-  item_findings r (constant_item p c) = constant_findings r c
-  item_findings r (class_item p c) = class_notes r.classes c
-  item_findings r (def_item p f) = []
+  abbrev pub item_findings : (keeps : Test) → ItemsReached → Item → List Note
+  item_findings keeps r (constant_item p c) = constant_findings keeps r c
+  item_findings keeps r (class_item p c) = class_notes r.classes c
+  item_findings keeps r (def_item p f) = []
 
   -- what is found of the constants and classes among items
-  abbrev pub items_findings : ItemsReached → List Item → List Note
-  items_findings r [] = []
-  items_findings r (i ∷ is) = item_findings r i ++ items_findings (behind r i) is
+  abbrev pub items_findings : (keeps : Test) → ItemsReached → List Item → List Note
+  items_findings keeps r [] = []
+  items_findings keeps r (i ∷ is) = item_findings keeps r i ++ items_findings keeps (behind r i) is
 
   -- ---- the module
 
@@ -243,5 +249,5 @@ module _ (m : Module) where
   method_signatures = signatures_of_methods (classes_in m.items)
 
   -- what is found of the signatures and the constants of a module, but for what the class table finds in annotations
-  unfoldable pub signatures_find : List Note
-  signatures_find = functions_findings m.items ++ items_findings nothing_reached m.items
+  unfoldable pub signatures_find : (keeps : Test) → List Note
+  signatures_find keeps = functions_findings m.items ++ items_findings keeps nothing_reached m.items

@@ -28,11 +28,13 @@ use Rattle.pc_rules.specs.declared.label.Offer.{Offer as RustOffer}
 
 -- ---- what an expression stands in
 
--- what an expression stands in: what it may name, the declared types of the locals, and the environment
+-- what an expression stands in: what it may name, the declared types of the locals, the environment, and whether the
+-- types of labels are noted
 pub record Standing : Type 0 where
   pub context : Context
   pub declared : List Tree
   pub env : Env
+  pub keeps : Test
 
 -- with the environment as a condition leaves it
 abbrev pub narrowed_standing : Standing → (holds : Test) → Expr → Standing
@@ -40,6 +42,7 @@ narrowed_standing k holds e = record {
   context = k.context;
   declared = k.declared;
   env = narrow k.context.bases k.declared k.context.resolve holds e k.env;
+  keeps = k.keeps;
 }
 
 -- ---- the computed labels there
@@ -50,11 +53,11 @@ label_in k want e = whole_label e (labels_of k.context k.declared k.env want e)
 
 -- what is found in it and in its parts
 unfoldable pub finds_in : Standing → (want : Option Tree) → Expr → List Note
-finds_in k want e = notes_under e (labels_of k.context k.declared k.env want e)
+finds_in k want e = notes_under k.keeps e (labels_of k.context k.declared k.env want e)
 
 -- what is found in its parts alone
 unfoldable pub parts_find : Standing → (want : Option Tree) → Expr → List Note
-parts_find k want e = found_in_parts e (labels_of k.context k.declared k.env want e)
+parts_find k want e = found_in_parts k.keeps e (labels_of k.context k.declared k.env want e)
 
 module _ (k : Standing) where
   -- the labels of items, each with what is expected of it and what it flows into
@@ -79,11 +82,11 @@ unfoldable pub types_in : Standing → (seat : ℕ → Seat) → Exprs → List 
 types_in k seat es = item_types es (items_in k seat es)
 
 unfoldable pub items_find : Standing → (seat : ℕ → Seat) → Exprs → List Note
-items_find k seat es = found_in_items es (items_in k seat es)
+items_find k seat es = found_in_items k.keeps es (items_in k seat es)
 
 -- what is found in arguments by position; of a test of an instance what stands second is not looked at
 unfoldable pub arguments_find : Standing → (is_test : Test) → (seat : ℕ → Seat) → Exprs → List Note
-arguments_find k is_test seat es = found_in_arguments is_test es (items_in k seat es)
+arguments_find k is_test seat es = found_in_arguments k.keeps is_test es (items_in k seat es)
 
 -- the types of the keys and of the values of a dict, and what is found in its entries
 unfoldable pub keys_in : Standing → (key value : Seat) → Entries → List Tree
@@ -93,11 +96,11 @@ unfoldable pub values_in : Standing → (key value : Seat) → Entries → List 
 values_in k key value es = value_types es (entries_in k key value es)
 
 unfoldable pub entries_find : Standing → (key value : Seat) → Entries → List Note
-entries_find k key value es = found_in_entries es (entries_in k key value es)
+entries_find k key value es = found_in_entries k.keeps es (entries_in k key value es)
 
 -- what is found in arguments by name
 unfoldable pub keywords_find : Standing → (seat : List ℕ → Seat) → (before : List (List ℕ)) → Keywords → List Note
-keywords_find k seat before es = found_in_keywords es (keywords_in k seat before es)
+keywords_find k seat before es = found_in_keywords k.keeps es (keywords_in k seat before es)
 
 -- ---- values of the program
 
@@ -141,6 +144,7 @@ module _ {Ty : Type 0} (tree : Ty → Tree) where
     context = context_with s;
     declared = declared_of tree s.declared.now;
     env = env_of tree types;
+    keeps = s.globals.now.keeps;
   }
 
 -- a type is of the store, if there is one

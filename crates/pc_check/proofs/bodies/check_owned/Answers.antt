@@ -42,7 +42,8 @@ check_function-requires-clause-body g c =
     let signature = signature_is m tree bodies.signatures.now h.functions h.methods c.args.owner f
     c.in-Some.signature.now
     c.requires.owner (sym c.signature_for.ensures ∙ ap option_copied c.in-Some.is) in
-    context_is m c.args.owner f _ _ _ (map tree c.args.bodies.now.globals.now.constants.now) _ _ _ h.outline.parents
+    context_is m bodies.globals.now.keeps c.args.owner f _ _ _ (map tree c.args.bodies.now.globals.now.constants.now) _
+    _ _ h.outline.parents
     h.classes
     (ap (map (signature_with tree)) h.same_functions ∙ h.functions) h.known
     (names_mean m bodies.globals.now.outline.now.scopes.now h.outline.scopes c.args.owner f c.requires.owner)
@@ -91,7 +92,8 @@ returns-in-Some-clause-found g c =
     let same : map tree c.args.bodies.now.globals.now.constants.now ≡ constants_of m =
     ap (map tree) c.requires.bodies.same_constants ∙ c.requires.bodies.constants in
     subst (λ cs. OnOk c.check_function.result (notes_of c.check_function.new.checker.found.now
-    ≡ function_finds m cs c.args.owner (func_of c.args.def.now) found)) same c.check_function.ensures.found
+    ≡ function_finds c.args.bodies.now.globals.now.keeps m cs c.args.owner (func_of c.args.def.now) found)) same
+    c.check_function.ensures.found
 
 pub check_function-requires-clause-params : goal.check_function-requires-clause-params
 check_function-requires-clause-params g c =

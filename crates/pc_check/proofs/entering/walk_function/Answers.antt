@@ -125,7 +125,8 @@ returns-clause-pushed g c =
     (λ f w. walk_suite f w (stmts_of_list c.deref.result.now)) g2 s
     ∙ ap (λ b. walk_suite context (reached S mid (Some env) None) (stmts_of_list b)) c.deref.ensures.value
     ∙ ap (λ (ns : List Note). walk_suite context (reached_by start.0 (Some start.1) None ns) def.body) notes in
-    let whole = function_found m (map tree old.context.globals.now.constants.now) c.args.owner def context found n
+    let whole = function_found old.context.globals.now.keeps m (map tree old.context.globals.now.constants.now)
+    c.args.owner def context found n
     middle start body
     c.requires.body c.requires.count received started walked in
     c.in_ok-find_end.ensures.pushed

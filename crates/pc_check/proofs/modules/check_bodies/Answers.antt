@@ -42,6 +42,7 @@ pub loop-item-preserved : goal.loop-item-preserved
 loop-item-preserved g c =
     let has = g.S.TypeStore.has in
     let tree = g.S.TypeStore.tree in
+    let keeps = c.args.bodies.now.globals.now.keeps in
     let m = module_in c.args.bodies.now in
     let cs = constants_of m in
     let items = c.as_slice-items.result.now in
@@ -57,20 +58,21 @@ loop-item-preserved g c =
     let k = c.loop-item.functions in
     let old = (notes_of c.loop-item.checker.found.now) in
     let new = (notes_of c.match-item.checker.found.now) in
-    let total = bodies_find m cs 0 0 (map item_of items) (notes_of c.args.checker.now.found.now) in
-    let here : ItemsAt m cs classes functions total before rest n k c.match-item.classes c.match-item.functions old
+    let total = bodies_find keeps m cs 0 0 (map item_of items) (notes_of c.args.checker.now.found.now) in
+    let here : ItemsAt keeps m cs classes functions total before rest n k c.match-item.classes c.match-item.functions
+    old
     new = elim c.match-item.branch [
-      | in-Constant w ↦ constant_passed m cs classes functions total before rest n k c.match-item.classes
+      | in-Constant w ↦ constant_passed keeps m cs classes functions total before rest n k c.match-item.classes
           c.match-item.functions old new v.classes_stand v.functions_stand v.found
           x.first (constant_of w.in-Constant.field-0)
           (step ∙ ap (λ q. item_of_kind x.first q ∷ rest) w.in-Constant.is) w.classes-is w.functions-is
           (λ j. notes_of ((w.checker-is j).found.now))
-      | in-Class+in_ok-check_methods-in-Class w ↦ class_passed m cs classes functions total before rest n k
+      | in-Class+in_ok-check_methods-in-Class w ↦ class_passed keeps m cs classes functions total before rest n k
           c.match-item.classes c.match-item.functions old new v.classes_stand v.functions_stand v.found
           x.first (class_of w.in-Class.class) (step ∙ ap (λ q. item_of_kind x.first q ∷ rest) w.in-Class.is)
           w.classes-is w.functions-is ((λ j. notes_of ((w.checker-is j).found.now))
           ∙ w.in_ok-check_methods-in-Class.ensures.found)
-      | in-Def+in_ok-check_owned-in-Def w ↦ def_passed m cs classes functions total before rest n k
+      | in-Def+in_ok-check_owned-in-Def w ↦ def_passed keeps m cs classes functions total before rest n k
           c.match-item.classes c.match-item.functions old new v.classes_stand v.functions_stand v.found
           x.first (func_of w.in-Def.def) (step ∙ ap (λ q. item_of_kind x.first q ∷ rest) w.in-Def.is) w.classes-is
           w.functions-is ((λ j. notes_of ((w.checker-is j).found.now)) ∙ w.in_ok-check_owned-in-Def.ensures.found)

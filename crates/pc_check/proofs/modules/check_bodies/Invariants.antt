@@ -18,8 +18,10 @@ invariant-loop-item g l = record {
       (classes_in (map item_of (drop l.item-index l.items)));
   functions_stand : StandsFrom (functions_in (module_in l.bodies).items) l.functions
       (functions_in (map item_of (drop l.item-index l.items)));
-  found : bodies_find (module_in l.bodies) (constants_of (module_in l.bodies)) l.classes l.functions
-      (map item_of (drop l.item-index l.items)) (notes_of l.checker.found.now) ≡ bodies_find (module_in l.bodies)
+  found : bodies_find l.bodies.globals.now.keeps (module_in l.bodies) (constants_of (module_in l.bodies)) l.classes
+      l.functions
+      (map item_of (drop l.item-index l.items)) (notes_of l.checker.found.now)
+      ≡ bodies_find l.bodies.globals.now.keeps (module_in l.bodies)
       (constants_of (module_in l.bodies)) 0 0 (map item_of l.items) (notes_of l.fn.checker.found.now);
   goes_on : GoesOn g.S.TypeStore l.fn.checker l.checker;
 }

@@ -28,6 +28,7 @@ pub loop-member-preserved : goal.loop-member-preserved
 loop-member-preserved g c =
     let has = g.S.TypeStore.has in
     let tree = g.S.TypeStore.tree in
+    let keeps = c.args.bodies.now.globals.now.keeps in
     let m = module_in c.args.bodies.now in
     let ms = c.as_slice-members.result.now in
     let i = c.loop-member.member-index in
@@ -37,16 +38,17 @@ loop-member-preserved g c =
     let before = map member_of (drop i ms) in
     let rest = map member_of (drop (i + 1) ms) in
     let step = members_next ms i c.member-item.result c.loop-member-test.true c.member-item.is in
-    let total = methods_find m (constants_of m) c.args.class 0 (map member_of ms)
+    let total = methods_find keeps m (constants_of m) c.args.class 0 (map member_of ms)
     (notes_of c.args.checker.now.found.now) in
-    let here : MembersAt m (constants_of m) c.args.class all total before rest n c.match-member.methods
+    let here : MembersAt keeps m (constants_of m) c.args.class all total before rest n c.match-member.methods
     (notes_of c.loop-member.checker.found.now) (notes_of c.match-member.checker.found.now) =
     elim c.match-member.branch [
-      | in-Field w ↦ field_passed m (constants_of m) c.args.class all total before rest n c.match-member.methods
+      | in-Field w ↦ field_passed keeps m (constants_of m) c.args.class all total before rest n c.match-member.methods
           (notes_of c.loop-member.checker.found.now) (notes_of c.match-member.checker.found.now) v.stand v.found
           (field_of w.in-Field.field-0) (step ∙ ap (λ y. member_of y ∷ rest) w.in-Field.is) w.methods-is
           (λ j. notes_of ((w.checker-is j).found.now))
-      | in-Method+in_ok-check_owned-in-Method w ↦ method_passed m (constants_of m) c.args.class all total before rest
+      | in-Method+in_ok-check_owned-in-Method w ↦ method_passed keeps m (constants_of m) c.args.class all total before
+          rest
           n c.match-member.methods (notes_of c.loop-member.checker.found.now)
           (notes_of c.match-member.checker.found.now) v.stand v.found
           (func_of w.in-Method.method) (step ∙ ap (λ y. member_of y ∷ rest) w.in-Method.is) w.methods-is

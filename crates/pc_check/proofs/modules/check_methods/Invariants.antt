@@ -15,8 +15,10 @@ invariant-loop-member g l = record {
   counted : l.methods ≤ l.member-index;
   stand : StandsFrom (methods_in (class_of l.def).members) l.methods
       (methods_in (map member_of (drop l.member-index l.members)));
-  found : methods_find (module_in l.bodies) (constants_of (module_in l.bodies)) l.class l.methods
-      (map member_of (drop l.member-index l.members)) (notes_of l.checker.found.now) ≡ methods_find (module_in l.bodies)
+  found : methods_find l.bodies.globals.now.keeps (module_in l.bodies) (constants_of (module_in l.bodies)) l.class
+      l.methods
+      (map member_of (drop l.member-index l.members)) (notes_of l.checker.found.now)
+      ≡ methods_find l.bodies.globals.now.keeps (module_in l.bodies)
       (constants_of (module_in l.bodies)) l.class 0 (map member_of l.members) (notes_of l.fn.checker.found.now);
   goes_on : GoesOn g.S.TypeStore l.fn.checker l.checker;
 }

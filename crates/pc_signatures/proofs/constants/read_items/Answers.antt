@@ -42,7 +42,7 @@ loop-item-preserved g c =
           (map (methods_with tree) c.add_item.new.read.methods.items) _ _ _ _ v.methods
           (classes_apart m items i x less is) c.in_ok-add_item.ensures.methods;
       found = stepped (notes_of c.loop-item.checker.found.now) (notes_of c.add_item.new.checker.found.now) _ _ _ _
-          v.found (items_found m old new items i x less is c.in_ok-add_item.ensures.reached)
+          v.found (items_found m c.args.globals.now.keeps old new items i x less is c.in_ok-add_item.ensures.reached)
           c.in_ok-add_item.ensures.found;
       goes_on = goes_further v.goes_on c.add_item.ensures.goes_on;
     }

@@ -22,9 +22,10 @@ invariant-loop-item g l = record {
   methods : map (methods_with g.S.TypeStore.tree) l.read.methods.items ++ signatures_of_methods
       (module_in l.globals.outline.now) (classes_in (map item_of (drop l.item-index l.items))) ≡ signatures_of_methods
       (module_in l.globals.outline.now) (classes_in (map item_of l.items));
-  found : (notes_of l.checker.found.now) ++ items_findings (module_in l.globals.outline.now)
+  found : (notes_of l.checker.found.now) ++ items_findings (module_in l.globals.outline.now) l.globals.keeps
       (reached_with g.S.TypeStore.tree l.read) (map item_of (drop l.item-index l.items))
-      ≡ (notes_of l.fn.checker.found.now) ++ items_findings (module_in l.globals.outline.now) nothing_reached
+      ≡ (notes_of l.fn.checker.found.now) ++ items_findings (module_in l.globals.outline.now) l.globals.keeps
+      nothing_reached
       (map item_of l.items);
   goes_on : GoesOn g.S.TypeStore l.fn.checker l.checker;
 }

@@ -11,13 +11,13 @@ use Rattle.pc_signatures.proofs.InitializerStanding.{module_names, standing_is}
 use Rattle.pc_signatures.proofs.constants.type_initializer.Goals as goal
 
 pub returns-clause-labelled : goal.returns-clause-labelled
-unfolding meanings
+unfolding meanings label_in
 returns-clause-labelled g c =
     let tree = g.S.TypeStore.tree in
     let globals = c.requires.globals in
     let m = module_in c.args.globals.now.outline.now in
-    let is = standing_is m _ _ _ _ (map tree c.args.read.now.constants.items) _ (length c.args.read.now.methods.items) _
-    _ _
+    let is = standing_is m _ _ _ c.args.globals.now.keeps _ (map tree c.args.read.now.constants.items) _
+    (length c.args.read.now.methods.items) _ _ _
     globals.outline.parents globals.classes globals.functions.are (ap (map tree) c.deref.ensures.value)
     (c.len.ensures ∙ c.args.read.now.methods.ok.0) (module_names m _ globals.outline.scopes.tables)
     (ap (declared_of tree) c.in_ok-declared.ensures) (ap (env_of tree) c.in_ok-env.ensures) in
@@ -31,8 +31,8 @@ returns-clause-found g c =
     let tree = g.S.TypeStore.tree in
     let globals = c.requires.globals in
     let m = module_in c.args.globals.now.outline.now in
-    let is = standing_is m _ _ _ _ (map tree c.args.read.now.constants.items) _ (length c.args.read.now.methods.items) _
-    _ _
+    let is = standing_is m _ _ _ c.args.globals.now.keeps _ (map tree c.args.read.now.constants.items) _
+    (length c.args.read.now.methods.items) _ _ _
     globals.outline.parents globals.classes globals.functions.are (ap (map tree) c.deref.ensures.value)
     (c.len.ensures ∙ c.args.read.now.methods.ok.0) (module_names m _ globals.outline.scopes.tables)
     (ap (declared_of tree) c.in_ok-declared.ensures) (ap (env_of tree) c.in_ok-env.ensures) in

@@ -79,6 +79,7 @@ returns-clause-finds g c =
       context = context_in S.tree w.context;
       declared = ds;
       env = env_of S.tree c.args.env.now;
+      keeps = w.context.globals.now.keeps;
     } in new ≡ old
     ++ (arguments_find s (is_instance_test callee arguments keywords) (positional_seat offers) arguments
     ++ (keywords_find s (named_seat offers) [] keywords ++ codes)))

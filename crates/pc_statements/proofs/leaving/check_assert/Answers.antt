@@ -19,5 +19,6 @@ returns-clause-finds g c =
     found_then S old c.type_condition.new.walk c.find_option.new.walk _ _ _ _ _ c.type_condition.ensures.goes_on
     c.find_option.ensures.goes_on c.in_ok-where_true.ensures.finds c.in_ok-find_option.ensures.finds
     (ap (λ (x : Env). finds_in K None (expr_of c.args.condition.now) ++ option_finds (body_context_in S old)
-    (record { context = K.context; declared = K.declared; env = x }) None (option_expr_of c.args.message.now))
+    (record { context = K.context; declared = K.declared; env = x; keeps = K.keeps }) None
+    (option_expr_of c.args.message.now))
     c.in_ok-where_true.ensures.where_false.is)

@@ -73,7 +73,12 @@ returns-clause-finds g c =
     let found = c.type_condition.new.checker.found.now in
     let new = record w { store = record w.store { now = store }; found = record w.found { now = found } } in
     let pushed = subst (λ (ds : List Tree). notes_of found ≡ notes_of w.found.now ++ finds_in
-    (record { context = context_in tree w.context; declared = ds; env = env_of tree c.args.env.now })
+    (record {
+      context = context_in tree w.context;
+      declared = ds;
+      env = env_of tree c.args.env.now;
+      keeps = w.context.globals.now.keeps;
+    })
     None e) (declared_is tree w.declared.now) c.in_ok-typed.ensures.found in
     let all : Found S w c.args.env.now new (λ f k. finds_in k None e) =
     found_by S w new c.args.env.now _ c.requires (grown c.type_condition.ensures.goes_on.kept) refl pushed in

@@ -47,7 +47,12 @@ returns-clause-labelled g c =
     let l = c.in_ok-label.label in
     let new = record w { store = record w.store { now = store } } in
     let label = subst (λ (ds : List Tree). MeansLabel S.has tree store l (label_in
-    (record { context = context_in tree w.context; declared = ds; env = env_of tree c.args.env.now })
+    (record {
+      context = context_in tree w.context;
+      declared = ds;
+      env = env_of tree c.args.env.now;
+      keeps = w.context.globals.now.keeps;
+    })
     want e)) (declared_is tree w.declared.now) c.in_ok-label.ensures.labelled in
     let labelled : IsLabel S new l (label_in k want e) = gives_label S.has tree bases store l k want e refl
     h.context.context
@@ -66,7 +71,12 @@ returns-clause-finds g c =
     let found = c.type_expr.new.checker.found.now in
     let new = record w { store = record w.store { now = store }; found = record w.found { now = found } } in
     let pushed = subst (λ (ds : List Tree). notes_of found ≡ notes_of w.found.now ++ finds_in
-    (record { context = context_in tree w.context; declared = ds; env = env_of tree c.args.env.now })
+    (record {
+      context = context_in tree w.context;
+      declared = ds;
+      env = env_of tree c.args.env.now;
+      keeps = w.context.globals.now.keeps;
+    })
     want e) (declared_is tree w.declared.now) c.in_ok-label.ensures.found in
     let all : Found S w c.args.env.now new (λ f k. finds_in k want e) =
     found_by S w new c.args.env.now _ c.requires.stands (grown c.type_expr.ensures.goes_on.kept) refl pushed in

@@ -1,0 +1,483 @@
+-- What a walk over statements that keeps types notes of them is the types under lawful labels, besides what was noted
+-- before.
+use Rattle.std.proofs.Common.{◌≡◌, ℕ, List, [], ◌∷◌, ◌++◌, refl, sym, ap, ◌∙◌, subst, append-nil}
+use Rattle.std.specs.Prelude.{Bool as Test, true, false, unwrap_or, Option, Some, None}
+use Rattle.pc_source.specs.declared.place.Place.{Place}
+use Rattle.pc_tree.specs.declared.code.Code.TheVariants.{E24}
+use Rattle.pc_tree.specs.declared.code.Finding.{Finding}
+use Rattle.pc_tree.specs.Code.{finding}
+use Rattle.pc_tree.specs.Depth.{place_of}
+use Rattle.pc_tree.specs.Tree.{Name, Expr, Ann, Target, to_name, to_attribute, to_index, Stmt, Stmts, Branches, pass}
+use Rattle.pc_tree.specs.Tree.{breaks, continues, returns, asserts, annotated, assigns, evaluates, while_loop, for_loop}
+use Rattle.pc_tree.specs.Tree.{conditional, no_stmts, more_stmts, no_branches, more_branches}
+use Rattle.pc_tree.specs.Stopping.{bound_by, bound_by_stmt, bound_by_branches}
+use Rattle.pc_scope.specs.declared.resolution.Res.{Res}
+use Rattle.pc_scope.specs.declared.resolution.Res.TheVariants as res
+use Rattle.pc_scope.specs.Bindings.{texts}
+use Rattle.pc_scope.specs.Reach.{completes}
+use Rattle.pc_scope.specs.Resolution.{is_one_of}
+use Rattle.pc_types.specs.Tree.{Tree}
+use Rattle.pc_types.specs.WellFormed.{IsWellFormed}
+use Rattle.pc_ann.specs.Annotations.{read_ann}
+use Rattle.pc_ann.proofs.Readings.{read_ann_well_formed}
+use Rattle.pc_ann.specs.Listed.{ann_findings}
+use Rattle.pc_flow.specs.Environment.{Env}
+use Rattle.pc_flow.specs.Narrowing.{narrow}
+use Rattle.pc_flow.specs.WellFormed.{IsWellFormedIfAny}
+use Rattle.pc_flow.proofs.Conditions.{current_well_formed}
+use Rattle.pc_notes.specs.Notes.{Note}
+use Rattle.pc_rules.specs.Operations.{Label, clean}
+use Rattle.pc_rules.specs.Labels.{FlowLabels, Labels, type_of}
+use Rattle.pc_rules.specs.Lawful.{Lawful}
+use Rattle.pc_rules.specs.Computed.Expressions.{flows_of}
+use Rattle.pc_rules.specs.Computed.Findings.{codes_at, flows_at}
+use Rattle.pc_rules.specs.Computed.Standing.{label_in, finds_in}
+use Rattle.pc_module_rules.specs.StatementLabels.{OptionLabels, StmtLabels, SuiteLabels, BranchesLabels, Behind}
+use Rattle.pc_module_rules.specs.StatementLabels.{Following, BehindRule, behind_list}
+use Rattle.pc_module_rules.specs.Statements.{NamesBound, is_first, binds_number, AreUndeclared, known_type}
+use Rattle.pc_module_rules.specs.Statements.{LawfulBinding, annotation_at, LawfulAnnotated, LawfulStmt, LawfulSuite}
+use Rattle.pc_module_rules.specs.Statements.{LawfulBranches}
+use Rattle.pc_module_rules.specs.Laws.Labellings.{Surroundings}
+use Rattle.pc_module_rules.specs.Computed.Statements.{Table, bound_type, known_declared, BodyContext, Walk}
+use Rattle.pc_module_rules.specs.Computed.Statements.{BranchesResult, at, with_way, narrowed_at, head_at, item_label_of}
+use Rattle.pc_module_rules.specs.Computed.Statements.{iterable_finds, bind_label, bind_value, bind_annotated}
+use Rattle.pc_module_rules.specs.Computed.Statements.{annotation_finds, bound_name, bind_item, store_finds}
+use Rattle.pc_module_rules.specs.Computed.Statements.{assign_target, option_finds, return_finds, behind_loop}
+use Rattle.pc_module_rules.specs.Computed.Statements.{inside_for, step, walk_suite, walk_branches}
+use Rattle.pc_module_rules.specs.Laws.Walks.{TableFits, EnvFits, OutFits, WalkSays, body_context_in}
+use Rattle.pc_module_rules.proofs.DeclaredTypes.{known_well_formed, want_is}
+use Rattle.pc_module_rules.proofs.WalkedTables.{fits_both}
+use Rattle.pc_module_rules.proofs.WalkedEnvironments.{truth_same, truth_fits, head_same, head_fits}
+use Rattle.pc_module_rules.proofs.WalkedExpressions.{iterable_told}
+use Rattle.pc_module_rules.proofs.WalkedBindings.{target_says}
+use Rattle.pc_module_rules.proofs.WalkedStatements.{stmt_says, suite_says}
+use Rattle.pc_module_rules.specs.TypesOfExpressions.{TypeAt, types_in}
+use Rattle.pc_module_rules.specs.TypesOfStatements.{types_in_option, types_in_iterable, types_in_stmt, types_in_suite}
+use Rattle.pc_module_rules.specs.TypesOfStatements.{types_in_branches}
+use Rattle.pc_module_rules.proofs.KeptWalks.{SameWalk, standing, same_item, same_target, same_step, same_suite}
+use Rattle.pc_module_rules.proofs.NotedTypes.{Shows, show_plain, show_codes, show_flows, ShowsMore, more_none, more}
+use Rattle.pc_module_rules.proofs.NotedTypes.{more_then, more_behind}
+use Rattle.pc_module_rules.proofs.TypedExpressions.{KnowsRange, show_read, show_iterable, show_store, show_option}
+use Rattle.pc_module_rules.proofs.TypedExpressions.{show_return}
+
+module _ (setting : Surroundings) (knows : KnowsRange setting) (returned : Tree)
+    (kr : IsWellFormed setting.context.bases returned) (declared : List Tree) where
+  open setting use {whole as m, context as ctx, context_well_formed as ck}
+
+  -- what the statements stand in, where types are kept, and where not
+  abbrev context : BodyContext
+  context = standing m ctx returned true
+
+  abbrev plain : BodyContext
+  plain = body_context_in setting returned
+
+  abbrev TableHere : NamesBound → Table → Type 0
+  TableHere seen table = TableFits setting declared seen table
+
+  abbrev LawfulHere : NamesBound → Env → (s : Stmt) → StmtLabels s → Option Env → Type 0
+  LawfulHere seen env s labels out = LawfulStmt m ctx declared returned seen env s labels out
+
+  abbrev LawfulThere : NamesBound → Env → (b : Stmts) → SuiteLabels b → Option Env → Type 0
+  LawfulThere seen env b labels out = LawfulSuite m ctx declared returned seen env b labels out
+
+  -- ---- where a walk has come to
+
+  -- the walk that keeps types has come to the environment of the labels, from this table to one that fits
+  record Stands (seen : NamesBound) (table : Table) (w : Walk) (out : Option Env) : Type 0 where
+    fits : TableHere seen w.table
+    grows : (env : Env) → EnvFits setting declared table env → EnvFits setting declared w.table env
+    env_is : w.env ≡ out
+    env_fits : OutFits setting declared w.table out
+    broken_fits : OutFits setting declared w.table w.broken
+
+  stands : (seen : NamesBound) (table : Table) (broken : Option Env) (found : List Note) (v w : Walk) (out : Option Env)
+      (ways : List Env) (Says : Finding → Type 0) → SameWalk v w
+      → WalkSays setting declared seen table broken found w out ways Says → Stands seen table v out
+  stands seen table broken found v w out ways Says h says = record {
+    fits = subst (λ (t : Table). TableHere seen t) (sym h.table) says.fits;
+    grows = λ env f. subst (λ (t : Table). EnvFits setting declared t env) (sym h.table) (says.grows env f);
+    env_is = h.env ∙ says.env_is;
+    env_fits = subst (λ (t : Table). OutFits setting declared t out) (sym h.table) says.env_fits;
+    broken_fits = subst (λ (t : Table). OutFits setting declared t v.broken) (sym h.table)
+        (subst (λ (o : Option Env). OutFits setting declared w.table o) (sym h.broken) says.broken_fits);
+  }
+
+  stmt_stands : (seen : NamesBound) (table : Table) (env : Env) (broken : Option Env) (found : List Note)
+      → TableHere seen table → EnvFits setting declared table env → OutFits setting declared table broken
+      → (s : Stmt) (labels : StmtLabels s) (out : Option Env) → LawfulHere seen env s labels out
+      → Stands (texts (bound_by_stmt s) ++ seen) table (step context table (Some env) broken found s) out
+  stmt_stands seen table env broken found t f kb s labels out l =
+      stands (texts (bound_by_stmt s) ++ seen) table broken found (step context table (Some env) broken found s)
+      (step plain table (Some env) broken found s) out _ _
+      (same_step m ctx returned true false table (Some env) broken found found s)
+      (stmt_says setting returned kr declared seen table env broken found t f kb s labels out l)
+
+  suite_stands : (seen : NamesBound) (w : Walk) (env : Env) → w.env ≡ Some env → TableHere seen w.table
+      → EnvFits setting declared w.table env → OutFits setting declared w.table w.broken
+      → (b : Stmts) (labels : SuiteLabels b) (out : Option Env) → LawfulThere seen env b labels out
+      → Stands (texts (bound_by b) ++ seen) w.table (walk_suite context w b) out
+  suite_stands seen w env e t f kb b labels out l =
+      stands (texts (bound_by b) ++ seen) w.table w.broken w.found (walk_suite context w b) (walk_suite plain w b) out
+      _ _ (same_suite m ctx returned true false w w (record { table = refl; env = refl; broken = refl }) b)
+      (suite_says setting returned kr declared seen w env e t f kb b labels out l)
+
+  -- ---- a name bound
+
+  module _ (seen : NamesBound) (n : Name) (table : Table) (h : TableFits setting declared seen table) where
+    -- what is bound to a name that has a label shows none besides
+    label_shows : (env : Env) (x : ℕ) (want : Option Tree) (p : Place) (label : Label) (found : List Note)
+        → ShowsMore found (bind_label context table env x want p label found).found []
+    label_shows env x want p label found =
+        let flows = flows_of ctx.bases label (unwrap_or want label.type ∷ []) in
+        more found (flows_at p flows) [] (show_flows p flows)
+
+    -- a value bound to a local
+    value_shows : (x : ℕ) → ctx.resolve n.text ≡ res.Local x → (env : Env) → EnvFits setting declared table env
+        → (a a' : Option Tree) → (is_first seen n ≡ true → a ≡ a') → IsWellFormedIfAny ctx.bases a'
+        → (e : Expr) (labels : Labels e) (flows : FlowLabels) (after : Env) (found : List Note)
+        → LawfulBinding m ctx declared env seen n (res.Local x) a e labels flows after
+        → ShowsMore found (bind_value context table env (res.Local x) a' e found).found (types_in e labels)
+    value_shows x i env f a a' s ka e labels flows after found l =
+        let o = bound_type table x in
+        let b = is_one_of n.text seen in
+        let want = known_declared o a' in
+        let w : known_type m ctx declared (is_first seen n) x a ≡ want = want_is m ctx declared x o b
+        (λ q. h.bound n.text x q i) (λ q. h.unbound n.text x q i) b refl a a' s (type_of e labels) l.at_first in
+        let kw : IsWellFormedIfAny ctx.bases want = known_well_formed ctx.bases o a'
+        (current_well_formed ctx.bases table x h.well_formed) ka in
+        let lw = subst (λ y. Lawful ctx declared env y e labels) w l.value in
+        let finds = finds_in (at context table env) want e in
+        let label = label_in (at context table env) want e in
+        let bound = bind_label context table env x want (place_of e) label (found ++ finds) in
+        subst (λ (rows : List TypeAt). ShowsMore found bound.found rows) (append-nil (types_in e labels))
+        (more_then found (found ++ finds) bound.found (types_in e labels) []
+        (more found finds (types_in e labels)
+        (show_read setting knows returned kr declared table h.well_formed env f want kw e labels lw))
+        (label_shows env x want (place_of e) label (found ++ finds)))
+
+    -- what is no local binds nothing
+    plain_shows : (env : Env) → EnvFits setting declared table env → (e : Expr) (labels : Labels e) (found : List Note)
+        → Lawful ctx declared env None e labels
+        → ShowsMore found (found ++ finds_in (at context table env) None e) (types_in e labels)
+    plain_shows env f e labels found l = more found (finds_in (at context table env) None e) (types_in e labels)
+        (show_read setting knows returned kr declared table h.well_formed env f None tt e labels l)
+
+    binding_shows : (r : Res) → ctx.resolve n.text ≡ r → (env : Env) → EnvFits setting declared table env
+        → (a a' : Option Tree) → (is_first seen n ≡ true → a ≡ a') → IsWellFormedIfAny ctx.bases a'
+        → (e : Expr) (labels : Labels e) (flows : FlowLabels) (after : Env) (found : List Note)
+        → LawfulBinding m ctx declared env seen n r a e labels flows after
+        → ShowsMore found (bind_value context table env r a' e found).found (types_in e labels)
+    binding_shows (res.Local x) i env f a a' s ka e labels flows after found l = value_shows x i env f a a' s ka e
+        labels flows after found l
+    binding_shows (res.Const c) i env f a a' s ka e labels flows after found l = plain_shows env f e labels found
+        l.value
+    binding_shows (res.Func c) i env f a a' s ka e labels flows after found l = plain_shows env f e labels found l.value
+    binding_shows (res.Class c) i env f a a' s ka e labels flows after found l = plain_shows env f e labels found
+        l.value
+    binding_shows (res.Builtin c) i env f a a' s ka e labels flows after found l = plain_shows env f e labels found
+        l.value
+    binding_shows res.None i env f a a' s ka e labels flows after found l = plain_shows env f e labels found l.value
+
+    -- the target of a `for`
+    target_shows : (r : Res) (head : Env) (p : Place) (t : Tree) (found : List Note)
+        → ShowsMore found (bind_item context table head r p t found).found []
+    target_shows (res.Local x) head p t found = label_shows head x (bound_type table x) p (clean t) found
+    target_shows _ head p t found = more_none found
+
+    -- a name annotated, with a value or alone
+    annotation_shows : (o : Option Tree) (a : Ann) → Shows (annotation_finds context o n a) []
+    annotation_shows (Some d) a = show_plain (finding n.place E24 ∷ [])
+    annotation_shows None a = show_plain (ann_findings m ctx.bases a)
+
+    annotated_shows : (env : Env) → EnvFits setting declared table env → (a : Ann) (e : Option Expr)
+        (labels : OptionLabels e) (flows : FlowLabels) (after : Env) (found : List Note)
+        → LawfulAnnotated m ctx declared env seen n a e labels flows after
+        → ShowsMore found (bind_annotated context table env n a e found).found (types_in_option e labels)
+    annotated_shows env f a None labels flows after found l =
+        let o = bound_name context table (ctx.resolve n.text) in
+        more found (annotation_finds context o n a) [] (annotation_shows o a)
+    annotated_shows env f a (Some e) labels flows after found l =
+        let t = read_ann m ctx.bases a in
+        let o = bound_name context table (ctx.resolve n.text) in
+        let finds = annotation_finds context o n a in
+        more_behind found finds (bind_annotated context table env n a (Some e) found).found (types_in e labels)
+        (annotation_shows o a)
+        (binding_shows (ctx.resolve n.text) refl env f (annotation_at m ctx declared (is_first seen n) t) (Some t)
+        (λ q. ap (λ b. annotation_at m ctx declared b t) q) (read_ann_well_formed m ctx.bases ck.smaller a) e labels
+        flows after (found ++ finds) l)
+
+  -- ---- assignments
+
+  assignment_shows : (seen : NamesBound) (table : Table) (env : Env) (found : List Note) → TableHere seen table
+      → EnvFits setting declared table env → (p : Place) (t : Target) (e : Expr) (labels : StmtLabels (assigns p t e))
+      (out : Option Env) → LawfulHere seen env (assigns p t e) labels out
+      → ShowsMore found (assign_target context table env t e found).found (types_in_stmt (assigns p t e) labels)
+  assignment_shows seen table env found t f p (to_name n) e labels out l =
+      binding_shows seen n table t (ctx.resolve n.text) refl env f None None (λ q. refl) tt e labels.value labels.flows
+      l.after found l.assignment
+  assignment_shows seen table env found t f p (to_attribute q o field) e labels out l =
+      more found (store_finds context (at context table env) (to_attribute q o field) e)
+      (types_in_stmt (assigns p (to_attribute q o field) e) labels)
+      (show_store setting knows returned kr declared table t.well_formed env f (to_attribute q o field) labels.target e
+      labels.value labels.flows l.assignment.0)
+  assignment_shows seen table env found t f p (to_index q o i) e labels out l =
+      more found (store_finds context (at context table env) (to_index q o i) e)
+      (types_in_stmt (assigns p (to_index q o i) e) labels)
+      (show_store setting knows returned kr declared table t.well_formed env f (to_index q o i) labels.target e
+      labels.value labels.flows l.assignment.0)
+
+  -- ---- statements, suites and branches
+
+  -- what a walk over a suite shows, from where it fits
+  abbrev SuiteShows : NamesBound → (b : Stmts) → Type 0
+  SuiteShows seen b =
+      (w : Walk) (env : Env) → w.env ≡ Some env → TableHere seen w.table → EnvFits setting declared w.table env
+      → OutFits setting declared w.table w.broken → (labels : SuiteLabels b) (out : Option Env)
+      → LawfulThere seen env b labels out → ShowsMore w.found (walk_suite context w b).found (types_in_suite b labels)
+
+  -- where no run comes, nothing is noted
+  none_noted : (v : Walk) → v.env ≡ None → (rest : Stmts) → (walk_suite context v rest).found ≡ v.found
+  none_noted v e no_stmts = refl
+  none_noted v e (more_stmts s rest) =
+      none_noted (step context v.table v.env v.broken v.found s)
+      (ap (λ (o : Option Env). (step context v.table o v.broken v.found s).env) e) rest
+      ∙ ap (λ (o : Option Env). (step context v.table o v.broken v.found s).found) e
+
+  -- what stands after a statement, with what stands in it
+  behind_shows : (b : Test) (seen : NamesBound) (env : Env) (table : Table) (found : List Note) (s : Stmt)
+      (rest : Stmts) (s0 : StmtLabels s) (r : Behind b (Following (SuiteLabels rest))) (out : Option Env) (v : Walk)
+      → ((o : Option Env) → LawfulHere seen env s s0 o
+      → Stands (texts (bound_by_stmt s) ++ seen) table v o × ShowsMore found v.found (types_in_stmt s s0))
+      → SuiteShows (texts (bound_by_stmt s) ++ seen) rest
+      → BehindRule b r (λ x. LawfulHere seen env s s0 (Some x.env)
+      × LawfulThere (texts (bound_by_stmt s) ++ seen) x.env rest x.rest out)
+      (LawfulHere seen env s s0 None × AreUndeclared m ctx declared (texts (bound_by_stmt s) ++ seen) (bound_by rest)
+      × (out ≡ None))
+      → ShowsMore found (walk_suite context v rest).found (types_in_stmt s s0 ++ behind_list b r
+      (λ x. types_in_suite rest x.rest))
+  behind_shows true seen env table found s rest s0 r out v first next l =
+      let f = first (Some r.env) l.0 in
+      more_then found v.found (walk_suite context v rest).found (types_in_stmt s s0) (types_in_suite rest r.rest) f.1
+      (next v r.env f.0.env_is f.0.fits f.0.env_fits f.0.broken_fits r.rest out l.1)
+  behind_shows false seen env table found s rest s0 r out v first next l =
+      let f = first None l.0 in
+      subst (λ (rows : List TypeAt). ShowsMore found (walk_suite context v rest).found rows)
+      (sym (append-nil (types_in_stmt s s0)))
+      (subst (λ (xs : List Note). ShowsMore found xs (types_in_stmt s s0)) (sym (none_noted v f.0.env_is rest)) f.1)
+
+  -- a walk over branches fits the labels, and shows just the types under them
+  record ForkShows (seen : NamesBound) (found : List Note) (w : BranchesResult) (last : Env) (rows : List TypeAt)
+      : Type 0 where
+    fits : TableHere seen w.table
+    last_is : w.last ≡ last
+    last_fits : EnvFits setting declared w.table last
+    broken_fits : OutFits setting declared w.table w.broken
+    shows : ShowsMore found w.found rows
+
+  mutual
+    stmt_shows : (seen : NamesBound) (table : Table) (env : Env) (broken : Option Env) (found : List Note)
+        → TableHere seen table → EnvFits setting declared table env → OutFits setting declared table broken
+        → (s : Stmt) (labels : StmtLabels s) (out : Option Env) → LawfulHere seen env s labels out
+        → ShowsMore found (step context table (Some env) broken found s).found (types_in_stmt s labels)
+    stmt_shows seen table env broken found t f kb (pass p) labels out l = more_none found
+    stmt_shows seen table env broken found t f kb (breaks p) labels out l = more_none found
+    stmt_shows seen table env broken found t f kb (continues p) labels out l = more_none found
+    stmt_shows seen table env broken found t f kb (returns p e) labels out l =
+        more found (return_finds context (at context table env) p e) (types_in_option e labels.value)
+        (show_return setting knows returned kr declared table t.well_formed env f p e labels.value labels.flows l.0)
+    stmt_shows seen table env broken found t f kb (asserts p c e) labels out l =
+        let no = narrow ctx.bases declared ctx.resolve false c env in
+        let fn = truth_fits setting declared table t.well_formed false c env f in
+        let xs = finds_in (at context table env) None c in
+        let ys = option_finds context (at context table (narrowed_at context table false c env)) None e in
+        let a = types_in c labels.condition in
+        let b = types_in_option e labels.message in
+        more_then found (found ++ xs) ((found ++ xs) ++ ys) a b
+        (more found xs a (show_read setting knows returned kr declared table t.well_formed env f None tt c
+        labels.condition l.condition))
+        (more (found ++ xs) ys b
+        (subst (λ (x : Env). Shows (option_finds context (at context table x) None e) b)
+        (truth_same setting declared table t.well_formed false c env f)
+        (show_option setting knows returned kr declared table t.well_formed no fn e labels.message l.message)))
+    stmt_shows seen table env broken found t f kb (annotated p n a e) labels out l = annotated_shows seen n table t env
+        f a e labels.value labels.flows l.after found l.binding
+    stmt_shows seen table env broken found t f kb (assigns p x e) labels out l = assignment_shows seen table env found t
+        f p x e labels out l
+    stmt_shows seen table env broken found t f kb (evaluates p e) labels out l =
+        more found (finds_in (at context table env) None e) (types_in e labels)
+        (show_read setting knows returned kr declared table t.well_formed env f None tt e labels l.0)
+    stmt_shows seen table env broken found t f kb (while_loop p c b) labels out l =
+        let kt = t.well_formed in
+        let bound = binds_number ctx.resolve (bound_by b) in
+        let fh = subst (EnvFits setting declared table) (sym l.head)
+        (head_fits setting declared table kt bound env f) in
+        let q : labels.head ≡ head_at context table (bound_by b) env = l.head
+        ∙ head_same setting declared table kt bound env f in
+        let xs = finds_in (at context table labels.head) None c in
+        let yes = truth_same setting declared table kt true c labels.head fh in
+        let no = truth_same setting declared table kt false c labels.head fh in
+        let out_of = subst (EnvFits setting declared table) no (truth_fits setting declared table kt false c labels.head
+        fh) in
+        let start : Walk = record {
+          table = table;
+          env = Some (narrowed_at context table true c labels.head);
+          broken = Some (narrowed_at context table false c labels.head);
+          found = found ++ xs;
+        } in
+        let rows = types_in c labels.condition in
+        let others = types_in_suite b labels.body in
+        subst
+        (λ (h : Env). ShowsMore found (behind_loop context broken (walk_suite context
+        (record {
+          table = table;
+          env = Some (narrowed_at context table true c h);
+          broken = Some (narrowed_at context table false c h);
+          found = found ++ finds_in (at context table h) None c;
+        })
+        b)).found (rows ++ others)) q
+        (more_then found (found ++ xs) (walk_suite context start b).found rows others
+        (more found xs rows (show_read setting knows returned kr declared table kt labels.head fh None tt c
+        labels.condition l.condition))
+        (suite_shows seen b start (narrow ctx.bases declared ctx.resolve true c labels.head) (ap Some (sym yes)) t
+        (truth_fits setting declared table kt true c labels.head fh) out_of labels.body labels.out l.body))
+    stmt_shows seen table env broken found t f kb (for_loop p n e b) labels out l =
+        let kt = t.well_formed in
+        let bound = binds_number ctx.resolve (n ∷ bound_by b) in
+        let fh = subst (EnvFits setting declared table) (sym l.head)
+        (head_fits setting declared table kt bound env f) in
+        let q : labels.head ≡ head_at context table (n ∷ bound_by b) env = l.head
+        ∙ head_same setting declared table kt bound env f in
+        let it = iterable_told setting declared table kt env f returned e labels.iterable labels.item l.iterable in
+        let item = item_label_of context (at context table env) e in
+        let item_is : item ≡ labels.item = same_item m ctx returned true false table env e ∙ it.item_is in
+        let xs = iterable_finds context (at context table env) e in
+        let ys = codes_at (place_of e) item.codes in
+        let before = (found ++ xs) ++ ys in
+        let start = bind_item context table labels.head (ctx.resolve n.text) (place_of e) item.type before in
+        let other = bind_item plain table labels.head (ctx.resolve n.text) (place_of e) labels.item.type before in
+        let same = same_target m ctx returned true false table labels.head (ctx.resolve n.text) (place_of e) item.type
+        labels.item.type (ap (λ (x : Label). x.type) item_is) before before in
+        let tg = target_says setting returned declared seen n table t (ctx.resolve n.text) refl labels.head fh
+        labels.item it.well_formed (place_of e) labels.flows l.inside before l.target in
+        let back : other.table ≡ start.table = sym same.table in
+        let rows = types_in_iterable e labels.iterable in
+        let others = types_in_suite b labels.body in
+        let body = inside_for context labels.head start in
+        let rest = more_behind (found ++ xs) ys (walk_suite context body b).found others
+        (show_codes (place_of e) item.codes)
+        (more_then before start.found (walk_suite context body b).found [] others
+        (target_shows seen n table t (ctx.resolve n.text) labels.head (place_of e) item.type before)
+        (suite_shows (n.text ∷ seen) b body l.inside (ap Some (same.env ∙ tg.env_is))
+        (subst (λ (u : Table). TableHere (n.text ∷ seen) u) back tg.fits)
+        (subst (λ (u : Table). EnvFits setting declared u l.inside) back tg.env_fits)
+        (subst (λ (u : Table). EnvFits setting declared u labels.head) back (tg.grows labels.head fh))
+        labels.body labels.out l.body)) in
+        subst
+        (λ (h : Env). ShowsMore found (behind_loop context broken (walk_suite context
+        (inside_for context h (bind_item context table h (ctx.resolve n.text) (place_of e) item.type before)) b)).found
+        (rows ++ others)) q
+        (more_then found (found ++ xs) (walk_suite context body b).found rows others
+        (more found xs rows (show_iterable setting knows returned kr declared table kt env f e labels.iterable
+        labels.item l.iterable)) rest)
+    stmt_shows seen table env broken found t f kb (conditional p bs o) labels out l =
+        let start : BranchesResult = record {
+          table = table;
+          last = env;
+          ways = None;
+          broken = broken;
+          found = found;
+        } in
+        let fork = walk_branches context start bs in
+        let br = branches_show seen start env refl t f kb bs labels.branches labels.last l.branches in
+        let mid : Walk = record {
+          table = fork.table;
+          env = Some fork.last;
+          broken = fork.broken;
+          found = fork.found;
+        } in
+        more_then found fork.found (walk_suite context mid o).found (types_in_branches bs labels.branches)
+        (types_in_suite o labels.otherwise) br.shows
+        (suite_shows (texts (bound_by_branches bs) ++ seen) o mid labels.last (ap Some br.last_is) br.fits br.last_fits
+        br.broken_fits labels.otherwise labels.out l.otherwise)
+
+    pub suite_shows : (seen : NamesBound) (b : Stmts) (w : Walk) (env : Env) → w.env ≡ Some env
+        → TableHere seen w.table → EnvFits setting declared w.table env → OutFits setting declared w.table w.broken
+        → (labels : SuiteLabels b) (out : Option Env) → LawfulThere seen env b labels out
+        → ShowsMore w.found (walk_suite context w b).found (types_in_suite b labels)
+    suite_shows seen no_stmts w env e t f kb labels out l = more_none w.found
+    suite_shows seen (more_stmts s rest) w env e t f kb labels out l =
+        subst (λ (o : Option Env). ShowsMore w.found
+        (walk_suite context (step context w.table o w.broken w.found s) rest).found
+        (types_in_suite (more_stmts s rest) labels)) (sym e)
+        (behind_shows (completes s) seen env w.table w.found s rest labels.first labels.behind out
+        (step context w.table (Some env) w.broken w.found s)
+        (λ o y. (
+          stmt_stands seen w.table env w.broken w.found t f kb s labels.first o y,
+          stmt_shows seen w.table env w.broken w.found t f kb s labels.first o y,
+        ))
+        (suite_shows (texts (bound_by_stmt s) ++ seen) rest) l)
+
+    branches_show : (seen : NamesBound) (w : BranchesResult) (env : Env) → w.last ≡ env → TableHere seen w.table
+        → EnvFits setting declared w.table env → OutFits setting declared w.table w.broken
+        → (bs : Branches) (labels : BranchesLabels bs) (last : Env) → LawfulBranches m ctx declared returned seen env bs
+        labels last
+        → ForkShows (texts (bound_by_branches bs) ++ seen) w.found (walk_branches context w bs) last
+        (types_in_branches bs labels)
+    branches_show seen w env e t f kb no_branches labels last l = record {
+      fits = t;
+      last_is = e ∙ sym l;
+      last_fits = subst (EnvFits setting declared w.table) (sym l) f;
+      broken_fits = kb;
+      shows = more_none w.found;
+    }
+    branches_show seen w env e t f kb (more_branches c b rest) labels last l =
+        let kt = t.well_formed in
+        let xs = finds_in (at context w.table env) None c in
+        let yes = truth_same setting declared w.table kt true c env f in
+        let no = truth_same setting declared w.table kt false c env f in
+        let start : Walk = record {
+          table = w.table;
+          env = Some (narrowed_at context w.table true c env);
+          broken = w.broken;
+          found = w.found ++ xs;
+        } in
+        let body = suite_stands seen start (narrow ctx.bases declared ctx.resolve true c env) (ap Some (sym yes)) t
+        (truth_fits setting declared w.table kt true c env f) kb b labels.body labels.out l.body in
+        let shown = suite_shows seen b start (narrow ctx.bases declared ctx.resolve true c env) (ap Some (sym yes)) t
+        (truth_fits setting declared w.table kt true c env f) kb labels.body labels.out l.body in
+        let u = walk_suite context start b in
+        let next : BranchesResult = record {
+          table = u.table;
+          last = narrowed_at context w.table false c env;
+          ways = with_way ctx.bases u.table w.ways u.env;
+          broken = u.broken;
+          found = u.found;
+        } in
+        let others = branches_show (texts (bound_by b) ++ seen) next
+        (narrow ctx.bases declared ctx.resolve false c env) (sym no) body.fits
+        (body.grows (narrow ctx.bases declared ctx.resolve false c env)
+        (truth_fits setting declared w.table kt false c env f)) body.broken_fits rest labels.rest last l.others in
+        let at_condition = types_in c labels.condition in
+        let inside = types_in_suite b labels.body in
+        let further = types_in_branches rest labels.rest in
+        subst (λ (x : Env). ForkShows (texts (bound_by_branches (more_branches c b rest)) ++ seen) w.found
+        (walk_branches context (record {
+          table = w.table;
+          last = x;
+          ways = w.ways;
+          broken = w.broken;
+          found = w.found;
+        }) (more_branches c b rest)) last (at_condition ++ (inside ++ further))) (sym e)
+        (record {
+          fits = fits_both setting declared (bound_by b) (bound_by_branches rest) seen
+              (walk_branches context next rest).table others.fits;
+          last_is = others.last_is;
+          last_fits = others.last_fits;
+          broken_fits = others.broken_fits;
+          shows = more_then w.found (w.found ++ xs) (walk_branches context next rest).found at_condition
+              (inside ++ further)
+              (more w.found xs at_condition (show_read setting knows returned kr declared w.table kt env f None tt c
+              labels.condition l.condition))
+              (more_then (w.found ++ xs) u.found (walk_branches context next rest).found inside further shown
+              others.shows);
+        })

@@ -1,0 +1,43 @@
+-- The types under the labelling of a module, each at its place, one after another: in the initializers of constants,
+-- and then in the bodies of functions and methods, in text order. Literals of defaults have none. Own rule of the
+-- profile.
+use Rattle.std.specs.Prelude.{List, [], ◌∷◌, ◌++◌}
+use Rattle.pc_source.specs.declared.place.Place.{Place}
+use Rattle.pc_tree.specs.Tree.{Member, field_member, method_member, Item, constant_item, class_item, def_item, Module}
+use Rattle.pc_types.specs.Tree.{Tree}
+use Rattle.pc_module_rules.specs.Modules.{MembersLabels, ItemLabels, ItemsLabels, Labelling}
+use Rattle.pc_module_rules.specs.TypesOfExpressions.{TypeAt, types_in}
+use Rattle.pc_module_rules.specs.TypesOfStatements.{types_in_suite}
+
+-- in the initializer of a constant, none where an item is a class or a function
+abbrev pub types_in_item : (i : Item) → ItemLabels i → List TypeAt
+types_in_item (constant_item p c) labels = types_in c.value labels.value
+types_in_item (class_item p c) labels = []
+types_in_item (def_item p f) labels = []
+
+-- in the bodies of methods
+abbrev pub types_in_methods : (ms : List Member) → MembersLabels ms → List TypeAt
+types_in_methods [] labels = []
+types_in_methods (field_member x ∷ rest) labels = types_in_methods rest labels.rest
+types_in_methods (method_member f ∷ rest) labels = types_in_suite f.body labels.method.body
+    ++ types_in_methods rest labels.rest
+
+-- in the body of a function, or in those of a class's methods
+abbrev pub types_in_body : (i : Item) → ItemLabels i → List TypeAt
+types_in_body (constant_item p c) labels = []
+types_in_body (class_item p c) labels = types_in_methods c.members labels
+types_in_body (def_item p f) labels = types_in_suite f.body labels.body
+
+-- the types in each item, one after another
+abbrev pub types_in_each : ((i : Item) → ItemLabels i → List TypeAt) → (items : List Item) → ItemsLabels items
+    → List TypeAt
+types_in_each types [] labels = []
+types_in_each types (i ∷ rest) labels = types i labels.first ++ types_in_each types rest labels.rest
+
+-- the types of a module under a labelling
+abbrev pub types_under : (m : Module) → Labelling m → List TypeAt
+types_under m labels = types_in_each types_in_item m.items labels ++ types_in_each types_in_body m.items labels
+
+-- a row of types as what notes show of it: its place and its type
+abbrev pub as_pair : TypeAt → Place × Tree
+as_pair t = (t.place, t.type)
