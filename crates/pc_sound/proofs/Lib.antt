@@ -8,4 +8,5 @@ pub mod Calls
 pub mod Statements
 pub mod Settled
 pub mod Modules
+pub mod Border
 pub mod Examples

@@ -20,4 +20,6 @@ pub mod StoppedModules
 pub mod Premises
 pub mod WholeModule
 pub mod Soundness
+pub mod CallsFromOutside
+pub mod Loading
 pub mod NeededFlows

@@ -38,6 +38,7 @@ use Rattle.pc_machine.specs.Steps.{Parts}
 use Rattle.pc_machine.specs.Free.{Step, ◌>>=◌, comes, Emits, free}
 use Rattle.pc_machine.specs.Evaluation.{ordinary, eval_call, eval_node, eval_all, eval_keywords, call_callee}
 use Rattle.pc_sound.specs.Values.{HasType}
+use Rattle.pc_sound.specs.Loaded.{IsLoaded}
 use Rattle.pc_sound.proofs.Steps.Judgment.{Around, IsSafe, IsContextOf}
 use Rattle.pc_sound.proofs.Settled.KeyedLabels.{Keyed}
 use Rattle.pc_sound.proofs.Expressions.SimpleExpressions.{Covered, GoodEval}
@@ -47,7 +48,7 @@ use Rattle.pc_sound.proofs.Expressions.NameReads.{KnowsNames, meaning_outside, m
 use Rattle.pc_sound.proofs.Expressions.Forms.{NotReserved, OtherCalls}
 use Rattle.pc_sound.proofs.Calls.OverridesFit.{IsIn, Dispatched}
 use Rattle.pc_sound.proofs.Statements.WaysOut.{GoodExec}
-use Rattle.pc_sound.proofs.Modules.MainWorld.{World, world_later, Labelled, around_of, context_of}
+use Rattle.pc_sound.proofs.Modules.MainWorld.{world_later, Labelled, around_of, context_of}
 use Rattle.pc_sound.proofs.Calls.EnteredFunctions.{fits_of}
 use Rattle.pc_sound.proofs.Calls.FilledParameters.{Distinct}
 use Rattle.pc_sound.proofs.Modules.ModuleNames.{function_named, outside_class, class_named}
@@ -207,7 +208,7 @@ module _ (m : Module) (constants : List Tree) (listed : Place → Type 0) (facts
           (signature_at m i a.def a.at) in
           let l = facts.labelled (owners.Func i) a.def a.at in
           as_ordinary
-          (function_node_safe m facts.inherits listed (locals owner d) lab.labels.declared (World m constants)
+          (function_node_safe m facts.inherits listed (locals owner d) lab.labels.declared (IsLoaded m constants)
           (λ j j' made globals grows w. world_later m constants j j' made globals grows w) Ctx Fit parts good
           evaluates env constants (λ j made globals w. w)
           p n args kws k.arguments k.keywords k.here i a.def l (runs (owners.Func i) a.def l)
@@ -247,7 +248,7 @@ module _ (m : Module) (constants : List Tree) (listed : Place → Type 0) (facts
               let b = h.behind in
               let at : c ≡ h.at = omega arith in
               as_ordinary
-              (class_node_safe m facts.inherits listed (locals owner d) lab.labels.declared (World m constants)
+              (class_node_safe m facts.inherits listed (locals owner d) lab.labels.declared (IsLoaded m constants)
               (λ j j' made globals grows w. world_later m constants j j' made globals grows w) Ctx Fit parts good
               evaluates env
               p n args kws k.arguments k.keywords k.here c (λ j st stands. means_a_class Here Ctx Fit knows env n.text c

@@ -31,7 +31,8 @@ use Rattle.pc_machine.specs.Evaluation.{call_callee}
 use Rattle.pc_machine.specs.Free.{Step, free, act}
 use Rattle.pc_sound.specs.Values.{HeapTyping, HasType, Extends, a_list, AllHave, IsWell}
 use Rattle.pc_sound.specs.KeptHeaps.{OutcomeHas, ActsWell}
-use Rattle.pc_sound.proofs.Steps.Judgment.{Around, EndsWell, IsSafe}
+use Rattle.pc_sound.specs.Ends.{EndsWell}
+use Rattle.pc_sound.proofs.Steps.Judgment.{Around, IsSafe}
 use Rattle.pc_sound.proofs.Lists.{not_empty}
 use Rattle.pc_sound.proofs.Values.ValuesFlow.{later, of_static, extends_refl}
 use Rattle.pc_sound.proofs.Steps.SafeSteps.{Stays, bind_safe, looks_safe, weaken}

@@ -42,7 +42,8 @@ use Rattle.pc_machine.specs.Evaluation.{instance_test, ordinary, call_form, eval
 use Rattle.pc_machine.specs.Evaluation.{call_callee, do_reserved}
 use Rattle.pc_machine.specs.Free.{Step, free}
 use Rattle.pc_sound.specs.Values.{HeapTyping, HasType, IsWell}
-use Rattle.pc_sound.proofs.Steps.Judgment.{Around, EndsWell, IsSafe, IsContextOf}
+use Rattle.pc_sound.specs.Ends.{EndsWell}
+use Rattle.pc_sound.proofs.Steps.Judgment.{Around, IsSafe, IsContextOf}
 use Rattle.pc_sound.proofs.Lists.{not_empty, same_text_back}
 use Rattle.pc_sound.proofs.Steps.SafeSteps.{Stays, bind_safe, comes_safe, looks_safe, act_safe, may_stop_safe}
 use Rattle.pc_sound.proofs.Steps.SafeSteps.{emits_safe, weaken}

@@ -29,7 +29,10 @@ use Rattle.pc_machine.specs.Steps.{Parts}
 use Rattle.pc_machine.specs.Free.{Step, ◌>>=◌, Emits, free}
 use Rattle.pc_machine.specs.Evaluation.{eval_callee, eval_all, eval_keywords, call_callee, call_class}
 use Rattle.pc_sound.specs.Values.{HeapTyping, HasType, Extends}
-use Rattle.pc_sound.proofs.Steps.Judgment.{EndsWell, Around, IsWellTyped, IsSafe, IsContextOf}
+use Rattle.pc_sound.specs.Ends.{EndsWell}
+use Rattle.pc_sound.specs.Loaded.{MadeOf, ClassIs, IsLoaded}
+use Rattle.pc_sound.specs.Arguments.{Suits}
+use Rattle.pc_sound.proofs.Steps.Judgment.{Around, IsWellTyped, IsSafe, IsContextOf}
 use Rattle.pc_sound.proofs.Lists.{not_empty}
 use Rattle.pc_sound.proofs.Steps.SafeSteps.{Stays, bind_safe, looks_safe, emits_safe, may_stop_safe, weaken}
 use Rattle.pc_sound.proofs.Settled.KeyedLabels.{ItemsKeyed, KeywordsKeyed}
@@ -39,9 +42,9 @@ use Rattle.pc_sound.proofs.Heap.Fields.{Inherits}
 use Rattle.pc_sound.proofs.Calls.Arguments.{arguments_later, keywords_later}
 use Rattle.pc_sound.proofs.Calls.OrdinaryCalls.{equal_safe, impossible_safe, KnownCall, ordinary_safe}
 use Rattle.pc_sound.proofs.Statements.WaysOut.{GoodExec}
-use Rattle.pc_sound.proofs.Modules.MainWorld.{MadeOf, made_later, ClassIs, World, Labelled, around_of, context_of}
+use Rattle.pc_sound.proofs.Modules.MainWorld.{made_later, Labelled, around_of, context_of}
 use Rattle.pc_sound.proofs.Calls.FilledParameters.{Distinct}
-use Rattle.pc_sound.proofs.Calls.LabelledArguments.{Suits, suits, suited_bound}
+use Rattle.pc_sound.proofs.Calls.LabelledArguments.{suits, suited_bound}
 use Rattle.pc_sound.proofs.Calls.CallOffers.{all_quiet, suited_where_quiet, offered_called, suited_called, suited_gives}
 use Rattle.pc_sound.proofs.Calls.CallOffers.{gives_call_type, offer_quiet}
 use Rattle.pc_sound.proofs.Calls.SuitedCalls.{Caller, class_call_safe, function_call_safe}
@@ -208,7 +211,7 @@ module _ (m : Module) (inherits : Inherits (bases_of m) (classes_of m)) (listed 
     function_stays d (calls_builtin_method v b) k k' x h = h
 
     module _ (constants : List Tree) (world : (k : HeapTyping) (made : List Class) (globals : Globals)
-        → outside k made globals → World m constants k made globals) where
+        → outside k made globals → IsLoaded m constants k made globals) where
       -- a function called by its name
       pub function_node_safe :
           (p : Place) (n : Name) (args : Exprs) (kws : Keywords) (im : ItemsLabels args) (km : KeywordsLabels kws)

@@ -35,6 +35,7 @@ use Rattle.pc_machine.specs.Steps.{StatementEnd, next, breaking, continuing, lea
 use Rattle.pc_machine.specs.Free.{Step, enter}
 use Rattle.pc_machine.specs.Evaluation.{value_of_flow}
 use Rattle.pc_sound.specs.Values.{HeapTyping, HasType, IsWell}
+use Rattle.pc_sound.specs.Loaded.{IsLoaded}
 use Rattle.pc_sound.proofs.Steps.Judgment.{HasListed, Around, IsWellTyped, KeepsState, IsSafe, IsContextOf, Goes, Leads}
 use Rattle.pc_sound.proofs.Steps.Judgment.{IsWellTypedAnd, Ways, FlowEnds, IsLocal, Lasts}
 use Rattle.pc_sound.proofs.Lists.{among_first}
@@ -44,7 +45,7 @@ use Rattle.pc_sound.proofs.Steps.LeadingSteps.{ends_as, leads_from, leads_to}
 use Rattle.pc_sound.proofs.Statements.WaysOut.{GoodExec, ways_out}
 use Rattle.pc_sound.proofs.Calls.EntryFrames.{frame_names, names_of_append, names_of_unbound, bound_names, numbered}
 use Rattle.pc_sound.proofs.Calls.EntryFrames.{entry_has_names, ParametersHave, parameters_named, entry_holds}
-use Rattle.pc_sound.proofs.Modules.MainWorld.{World, Labelled, around_of, context_of}
+use Rattle.pc_sound.proofs.Modules.MainWorld.{Labelled, around_of, context_of}
 use Rattle.pc_sound.proofs.Steps.Frames.{local_injective, none_current}
 
 -- the module binds no local
@@ -178,7 +179,7 @@ module _ (m : Module) (constants : List Tree) (listed : Place → Type 0) where
     pub entry_stands : (k : HeapTyping) (s : State) (f : Function) (arguments : List Local) → f.body ≡ d.body
         → ParametersHave (bases_of m) k (entry_parameters m owner d) arguments
         → map (λ (p : TypedParameter). p.name) (entry_parameters m owner d) ≡ entry_texts owner d
-        → IsWell (bases_of m) (classes_of m) k s.heap → World m constants k s.classes s.globals
+        → IsWell (bases_of m) (classes_of m) k s.heap → IsLoaded m constants k s.classes s.globals
         → IsWellTyped (around_of m constants listed owner d lab) entry k (record s { frame = frame_of f arguments })
     entry_stands k s f arguments same args texts_are well world = record {
       well = well;

@@ -20,24 +20,12 @@ use Rattle.pc_machine.specs.State.{Local}
 use Rattle.pc_machine.specs.Calls.{NamedValue, value_named, is_parameter, are_parameters, first_some, value_taken}
 use Rattle.pc_machine.specs.Calls.{and_others, filled_parameters, bound_arguments}
 use Rattle.pc_sound.specs.Values.{HeapTyping, HasType}
+use Rattle.pc_sound.specs.Loaded.{DefaultHas, DefaultsHave}
+use Rattle.pc_sound.specs.Arguments.{TakesNamed, Fills, AllFor}
 use Rattle.pc_sound.proofs.TruthValues.{not_both, or_in_turn}
 use Rattle.pc_sound.proofs.Calls.EntryFrames.{ParametersHave}
-use Rattle.pc_sound.proofs.Modules.MainWorld.{DefaultHas, DefaultsHave}
 
 -- ---- what each parameter takes
-
--- a parameter left takes a value by name of its type, or it has a default
-abbrev pub TakesNamed : Bases → HeapTyping → TypedParameter → Option Value → Type 0
-TakesNamed bases k p (Some w) = HasType bases k p.type w
-TakesNamed bases k p None = p.has_default ≡ true
-
--- the first parameters take the values by position, and none by name; the others a value by name or their default
-abbrev pub Fills : Bases → HeapTyping → List TypedParameter → List Value → List NamedValue → Type 0
-Fills bases k [] [] named = Unit {0}
-Fills bases k [] (v ∷ vs) named = ⊥
-Fills bases k (p ∷ ps) (v ∷ vs) named = HasType bases k p.type v
-    × ((value_named p.name named ≡ None) × Fills bases k ps vs named)
-Fills bases k (p ∷ ps) [] named = TakesNamed bases k p (value_named p.name named) × Fills bases k ps [] named
 
 pub record Filled (bases : Bases) (k : HeapTyping) (ps : List TypedParameter) (o : Option (List Local)) : Type 0 where
   pub locals : List Local
@@ -65,7 +53,7 @@ module _ (bases : Bases) (k : HeapTyping) (named : List NamedValue) where
       go : (d : Option Value) → p.default ≡ d → DefaultHas bases k q.type true d
           → Filled bases k (q ∷ ps) (and_others p (first_some None p.default) rest)
       go None e h = absurd h
-      go (Some v) e h = one_filled p q ps p.default v rest same e h others
+      go (Some v) e h = one_filled p q ps p.default v rest same e h.1 others
 
   pub fills : (ps : List state.Parameter) (qs : List TypedParameter) (vs : List Value) → DefaultsHave bases k ps qs
       → Fills bases k qs vs named → Filled bases k qs (filled_parameters ps vs named)
@@ -81,11 +69,6 @@ module _ (bases : Bases) (k : HeapTyping) (named : List NamedValue) where
       (subst (λ w. TakesNamed bases k q (value_named w named)) (sym d.0) f.0) (fills ps qs [] d.1.1 f.1)
 
   -- ---- names
-
-  -- each argument by name is for a parameter
-  abbrev pub AllFor : List NamedValue → List TypedParameter → Type 0
-  AllFor [] qs = Unit {0}
-  AllFor (a ∷ rest) qs = (is_one_of a.name (parameter_names qs) ≡ true) × AllFor rest qs
 
   for_parameter : (word : List ℕ) (ps : List state.Parameter) (qs : List TypedParameter) → DefaultsHave bases k ps qs
       → is_one_of word (parameter_names qs) ≡ true → is_parameter word ps ≡ true
@@ -354,7 +337,7 @@ module _ (bases : Bases) (k : HeapTyping) (named : List NamedValue) (words : Lis
 
   pub all_for : (n : ℕ) (ps : List TypedParameter) (more : List NamedValue)
       → ((word : List ℕ) → is_one_of word (names_of more) ≡ true → is_free n (position_of ps word) ≡ true)
-      → AllFor bases k named more ps
+      → AllFor more ps
   all_for n ps [] free = tt
   all_for n ps (a ∷ more) free = (
     free_some n ps a.name (free a.name (ap (λ b. b || is_one_of a.name (names_of more))

@@ -31,7 +31,8 @@ use Rattle.pc_machine.specs.Steps.{Parts}
 use Rattle.pc_machine.specs.Evaluation.{instance_test, ordinary, call_form, eval_node, eval_call}
 use Rattle.pc_machine.specs.Free.{Step, free}
 use Rattle.pc_sound.specs.Values.{HeapTyping, HasType}
-use Rattle.pc_sound.proofs.Steps.Judgment.{Around, IsWellTyped, EndsWell, IsSafe, IsContextOf}
+use Rattle.pc_sound.specs.Ends.{EndsWell}
+use Rattle.pc_sound.proofs.Steps.Judgment.{Around, IsWellTyped, IsSafe, IsContextOf}
 use Rattle.pc_sound.proofs.Lists.{same_text_back}
 use Rattle.pc_sound.proofs.Values.ValuesFlow.{later}
 use Rattle.pc_sound.proofs.Steps.SafeSteps.{bind_safe, looks_safe, may_stop_safe, emits_safe, weaken}

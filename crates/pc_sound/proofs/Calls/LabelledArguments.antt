@@ -27,12 +27,13 @@ use Rattle.pc_value.specs.Texts.{same_text}
 use Rattle.pc_machine.specs.State as state
 use Rattle.pc_machine.specs.Calls.{NamedValue, value_named, bound_arguments}
 use Rattle.pc_sound.specs.Values.{HeapTyping}
+use Rattle.pc_sound.specs.Loaded.{DefaultHas, DefaultsHave}
+use Rattle.pc_sound.specs.Arguments.{TakesNamed, Fills, AllFor, Suits}
 use Rattle.pc_sound.proofs.TruthValues.{not_both, or_in_turn}
 use Rattle.pc_sound.proofs.Values.ValuesFlow.{of_static}
 use Rattle.pc_sound.proofs.Values.UnionMembers.{HasEach, each_left, each_right}
 use Rattle.pc_sound.proofs.Calls.Arguments.{ArgumentsHave, KeywordsHave}
-use Rattle.pc_sound.proofs.Modules.MainWorld.{DefaultHas, DefaultsHave}
-use Rattle.pc_sound.proofs.Calls.FilledParameters.{TakesNamed, Fills, Filled, AllFor, binds, Distinct, NamedBehind}
+use Rattle.pc_sound.proofs.Calls.FilledParameters.{Filled, binds, Distinct, NamedBehind}
 use Rattle.pc_sound.proofs.Calls.FilledParameters.{names_of, PositionalHave, once_among, all_at, suited_fills, all_for}
 
 -- one of several that are called
@@ -135,15 +136,10 @@ module _ (bases : Bases) (k : HeapTyping) where
 
   -- ---- a call that suits a signature
 
-  -- what the parameters of a signature take, and that each argument by name is for one of them
-  pub record Suits (params : List TypedParameter) (vs : List Value) (named : List NamedValue) : Type 0 where
-    pub fills : Fills bases k params vs named
-    pub all_for : AllFor bases k named named params
-
   pub suits : (offers : List CallOffer) (s : Signature) (es : Exprs) (kws : Keywords) (im : ItemsLabels es)
       (km : KeywordsLabels kws) (vs : List Value) (named : List NamedValue) → is_suited (arguments_given es kws) s
       ≡ true → Distinct [] s.parameters → IsOneOf s (signatures offers) → ArgumentsHave bases k (positional_seat offers)
-      es im vs → KeywordsHave bases k (named_seat offers) [] kws km named → Suits s.parameters vs named
+      es im vs → KeywordsHave bases k (named_seat offers) [] kws km named → Suits bases k s.parameters vs named
   suits offers s es kws im km vs named suited distinct one args kwargs = record {
     fills = suited_fills bases k named words given_are are_given [] s.parameters vs distinct positional free have
         (subst (λ n. are_filled words (parameter_names (take n s.parameters)) (drop n s.parameters) ≡ true)
@@ -244,7 +240,7 @@ module _ (bases : Bases) (k : HeapTyping) where
   names_into (p ∷ ps) (q ∷ qs) e = let s = same_shape p q ps qs e in λ i. s.0 i ∷ names_into ps qs s.1.1 i
 
   all_into : (ps qs : List TypedParameter) (named more : List NamedValue) → has_shape_of ps qs ≡ true
-      → AllFor bases k named more ps → AllFor bases k named more qs
+      → AllFor more ps → AllFor more qs
   all_into ps qs named [] e h = tt
   all_into ps qs named (a ∷ more) e h = (
     ap (is_one_of a.name) (sym (names_into ps qs e))
@@ -253,7 +249,7 @@ module _ (bases : Bases) (k : HeapTyping) where
   )
 
   pub suits_into : (ps qs : List TypedParameter) (vs : List Value) (named : List NamedValue) → has_shape_of ps qs ≡ true
-      → StaticInto ps qs → Suits ps vs named → Suits qs vs named
+      → StaticInto ps qs → Suits bases k ps vs named → Suits bases k qs vs named
   suits_into ps qs vs named e flows h = record {
     fills = fills_into ps qs vs named e flows h.fills;
     all_for =
@@ -280,13 +276,13 @@ module _ (bases : Bases) (k : HeapTyping) where
   names_untyped [] = refl
   names_untyped (p ∷ ps) = ap (λ l. p.name ∷ l) (names_untyped ps)
 
-  all_untyped : (ps : List TypedParameter) (named more : List NamedValue) → AllFor bases k named more ps
-      → AllFor bases k named more (map untyped ps)
+  all_untyped : (ps : List TypedParameter) (named more : List NamedValue) → AllFor more ps
+      → AllFor more (map untyped ps)
   all_untyped ps named [] h = tt
   all_untyped ps named (a ∷ more) h = (ap (is_one_of a.name) (names_untyped ps) ∙ h.0, all_untyped ps named more h.1)
 
-  pub suits_untyped : (ps : List TypedParameter) (vs : List Value) (named : List NamedValue) → Suits ps vs named
-      → Suits (map untyped ps) vs named
+  pub suits_untyped : (ps : List TypedParameter) (vs : List Value) (named : List NamedValue) → Suits bases k ps vs named
+      → Suits bases k (map untyped ps) vs named
   suits_untyped ps vs named h = record {
     fills = fills_untyped ps vs named h.fills;
     all_for =
@@ -294,7 +290,7 @@ module _ (bases : Bases) (k : HeapTyping) where
   }
 
   default_untyped : (t : Tree) (b : Test) (v : Option Value) → DefaultHas bases k t b v → DefaultHas bases k Any b v
-  default_untyped t true (Some v) h = tt
+  default_untyped t true (Some v) h = (h.0, tt)
   default_untyped t true None h = h
   default_untyped t false None h = h
   default_untyped t false (Some v) h = h
@@ -324,5 +320,5 @@ module _ (bases : Bases) (k : HeapTyping) where
 
   -- arguments that suit the parameters of what was called are bound to what was made of them
   pub suited_bound : (ps : List state.Parameter) (qs : List TypedParameter) (vs : List Value) (named : List NamedValue)
-      → DefaultsHave bases k ps qs → Suits qs vs named → Filled bases k qs (bound_arguments ps vs named)
+      → DefaultsHave bases k ps qs → Suits bases k qs vs named → Filled bases k qs (bound_arguments ps vs named)
   suited_bound ps qs vs named d h = binds bases k named ps qs vs d h.all_for h.fills

@@ -38,7 +38,9 @@ use Rattle.pc_machine.specs.Free.{Step, ◌>>=◌, Emits, free}
 use Rattle.pc_machine.specs.Evaluation.{eval_callee, callee_of_attribute, eval_all, eval_keywords, call_callee}
 use Rattle.pc_machine.specs.Evaluation.{call_method}
 use Rattle.pc_sound.specs.Values.{HeapTyping, HasType, IsWell}
-use Rattle.pc_sound.proofs.Steps.Judgment.{HasListed, EndsWell, Around, IsWellTyped, KeepsState, IsSafe, IsContextOf}
+use Rattle.pc_sound.specs.Ends.{EndsWell}
+use Rattle.pc_sound.specs.Loaded.{DefaultsHave, MadeOf, MethodIs, IsLoaded}
+use Rattle.pc_sound.proofs.Steps.Judgment.{HasListed, Around, IsWellTyped, KeepsState, IsSafe, IsContextOf}
 use Rattle.pc_sound.proofs.Lists.{front_empty, not_empty, rest_empty}
 use Rattle.pc_sound.proofs.Values.ValuesFlow.{later}
 use Rattle.pc_sound.proofs.Steps.SafeSteps.{Stays, bind_safe, comes_safe, looks_safe, emits_safe, may_stop_safe}
@@ -56,7 +58,7 @@ use Rattle.pc_sound.proofs.Calls.BuiltInMethods.{BuiltinCall, builtin_later, Nam
 use Rattle.pc_sound.proofs.Calls.BuiltInMethods.{dict_named, suited_performs, performs_safe}
 use Rattle.pc_sound.proofs.Calls.OverridesFit.{IsIn, Dispatched}
 use Rattle.pc_sound.proofs.Statements.WaysOut.{GoodExec}
-use Rattle.pc_sound.proofs.Modules.MainWorld.{DefaultsHave, MadeOf, made_later, MethodIs, World, world_later, Labelled}
+use Rattle.pc_sound.proofs.Modules.MainWorld.{made_later, world_later, Labelled}
 use Rattle.pc_sound.proofs.Modules.MainWorld.{around_of, context_of}
 use Rattle.pc_sound.proofs.Calls.FilledParameters.{Distinct}
 use Rattle.pc_sound.proofs.Calls.LabelledArguments.{suits, each_of_one, IsOneOf}
@@ -210,7 +212,7 @@ module _ (m : Module) (inherits : Inherits (bases_of m) (classes_of m)) (constan
   Names offers g v word k None = CallsField offers k v word
 
   module _ (k : HeapTyping) (s : State) (well : IsWell (bases_of m) (classes_of m) k s.heap)
-      (world : World m constants k s.classes s.globals) (g : GivenArguments) (offers : List CallOffer) (v : Value)
+      (world : IsLoaded m constants k s.classes s.globals) (g : GivenArguments) (offers : List CallOffer) (v : Value)
       (word : List ℕ) where
     field_named : (c : ℕ) (f : TypedParameter) → HasType (bases_of m) k (tree.Class c) v
         → field_by_name (class_facts_at (classes_of m) c).fields word ≡ Some f → (o : Option Callee)
@@ -315,12 +317,12 @@ module _ (m : Module) (inherits : Inherits (bases_of m) (classes_of m)) (constan
 
   module _ (names : List (List ℕ)) (declared : List Tree) where
     abbrev Here : Around
-    Here = Caller m inherits listed names declared (World m constants)
+    Here = Caller m inherits listed names declared (IsLoaded m constants)
         (λ k k' made globals grows w. world_later m constants k k' made globals grows w)
 
-    module _ (ctx : Context) (fits : IsContextOf (Caller m inherits listed names declared (World m constants)
+    module _ (ctx : Context) (fits : IsContextOf (Caller m inherits listed names declared (IsLoaded m constants)
         (λ k k' made globals grows w. world_later m constants k k' made globals grows w)) ctx) (parts : Parts Step)
-        (good : GoodEval (Caller m inherits listed names declared (World m constants)
+        (good : GoodEval (Caller m inherits listed names declared (IsLoaded m constants)
         (λ k k' made globals grows w. world_later m constants k k' made globals grows w)) ctx parts.eval)
         (evaluates : (e : Expr) → Evaluates (place_of e) (parts.eval e)) (env : Env) where
       field_read : (offers : List CallOffer) (g : GivenArguments) (v : Value) (word : List ℕ)
@@ -443,7 +445,7 @@ module _ (m : Module) (inherits : Inherits (bases_of m) (classes_of m)) (constan
             weaken Here env _ _ _ (λ k w. HasType (bases_of m) k c.old.returns w) _ (λ k h. h)
             (λ k w h. of_call (method_signature c.old) c.among (suited_offer (method_signature c.old) c.among) k w
             h)
-            (override_call_safe m inherits listed names declared (World m constants)
+            (override_call_safe m inherits listed names declared (IsLoaded m constants)
             (λ k k' made globals grows w. world_later m constants k k' made globals grows w) parts env _
             (λ k k' x h. (
               (made_later m x f c.is.def h.0.0, later (bases_of m) x (tree.Class c.new.owner) v h.0.1),

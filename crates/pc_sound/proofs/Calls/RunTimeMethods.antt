@@ -27,6 +27,8 @@ use Rattle.pc_machine.specs.Steps.{Parts}
 use Rattle.pc_machine.specs.Free.{Step, free}
 use Rattle.pc_machine.specs.Evaluation.{call_method}
 use Rattle.pc_sound.specs.Values.{HeapTyping, HasType, Extends, IsWell}
+use Rattle.pc_sound.specs.Loaded.{DefaultsHave, MethodIs, MethodsAre, IsLoaded}
+use Rattle.pc_sound.specs.Arguments.{Suits}
 use Rattle.pc_sound.proofs.Steps.Judgment.{IsSafe}
 use Rattle.pc_sound.proofs.Lists.{same_text_back}
 use Rattle.pc_sound.proofs.Values.ValuesFlow.{of_static}
@@ -35,10 +37,10 @@ use Rattle.pc_sound.proofs.Heap.SeenValues.{sees_instance}
 use Rattle.pc_sound.proofs.Heap.Fields.{Inherits}
 use Rattle.pc_sound.proofs.Calls.OverridesFit.{IsIn, found_in, Dispatched}
 use Rattle.pc_sound.proofs.Statements.WaysOut.{GoodExec}
-use Rattle.pc_sound.proofs.Modules.MainWorld.{DefaultsHave, MethodIs, MethodsAre, World, Labelled, around_of}
+use Rattle.pc_sound.proofs.Modules.MainWorld.{Labelled, around_of}
 use Rattle.pc_sound.proofs.Modules.MainWorld.{context_of}
 use Rattle.pc_sound.proofs.Calls.FilledParameters.{Filled}
-use Rattle.pc_sound.proofs.Calls.LabelledArguments.{Suits, StaticInto, untyped, suits_into, suits_untyped}
+use Rattle.pc_sound.proofs.Calls.LabelledArguments.{StaticInto, untyped, suits_into, suits_untyped}
 use Rattle.pc_sound.proofs.Calls.LabelledArguments.{shape_untyped, static_untyped, defaults_untyped, suited_bound}
 use Rattle.pc_sound.proofs.Calls.SuitedCalls.{Caller, method_call_safe, listed_call_safe}
 
@@ -106,7 +108,7 @@ module _ (m : Module) where
 
     -- an object whose type names a method has one by that name
     pub method_found : (k : HeapTyping) (s : State) (c : ℕ) (v : Value) (word : List ℕ) (old : Method)
-        → IsWell (bases_of m) (classes_of m) k s.heap → World m constants k s.classes s.globals
+        → IsWell (bases_of m) (classes_of m) k s.heap → IsLoaded m constants k s.classes s.globals
         → HasType (bases_of m) k (tree.Class c) v → method_by_name (class_facts_at (classes_of m) c).methods word
         ≡ Some old → FoundMethod listed k s v word old
     method_found k s c (location l) word old well world h e =
@@ -152,7 +154,7 @@ module _ (m : Module) where
       (outside_stays : (k k' : HeapTyping) (made : List Class) (globals : Globals) → Extends k k'
       → outside k made globals → outside k' made globals) (parts : Parts Step) (env : Env) (known : HeapTyping → Type 0)
       (stays : Stays known) (constants : List Tree) (world : (k : HeapTyping) (made : List Class) (globals : Globals)
-      → outside k made globals → World m constants k made globals) where
+      → outside k made globals → IsLoaded m constants k made globals) where
     -- a method that is entered in place of another one, with arguments that suit that one
     pub override_call_safe : (v : Value) (f : Function) (new old : Method) (d : FuncDef)
         (lab : Labelled m constants listed (owners.Method new.owner new.number) d)

@@ -19,13 +19,16 @@ use Rattle.pc_value.specs.Value.{Value, Out, Gives}
 use Rattle.pc_value.specs.Actions as action
 use Rattle.pc_machine.specs.State.{State, Frame, Local, Function, Class, Globals}
 use Rattle.pc_machine.specs.Names.{frame_of}
-use Rattle.pc_machine.specs.Calls.{NamedValue, bound_arguments, or_type_error, slot_before, slots_of}
+use Rattle.pc_machine.specs.Calls.{NamedValue, value_named, bound_arguments, or_type_error, slot_before, slots_of}
 use Rattle.pc_machine.specs.Calls.{class_at as made_at}
 use Rattle.pc_machine.specs.Steps.{Parts, StatementEnd}
 use Rattle.pc_machine.specs.Free.{Step, ◌>>=◌, Emits, enter, free}
 use Rattle.pc_machine.specs.Evaluation.{call_function, call_method, call_class, value_of_flow, self_local, fields_of}
 use Rattle.pc_sound.specs.Values.{HeapTyping, HasType, Extends, SlotsHave, IsWell}
-use Rattle.pc_sound.proofs.Steps.Judgment.{HasListed, EndsWell, Around, IsWellTyped, KeepsState, IsSafe, Leads}
+use Rattle.pc_sound.specs.Ends.{EndsWell}
+use Rattle.pc_sound.specs.Loaded.{DefaultsHave, ClassIs, IsLoaded}
+use Rattle.pc_sound.specs.Arguments.{TakesNamed, Fills, Suits}
+use Rattle.pc_sound.proofs.Steps.Judgment.{HasListed, Around, IsWellTyped, KeepsState, IsSafe, Leads}
 use Rattle.pc_sound.proofs.Steps.Judgment.{FlowEnds}
 use Rattle.pc_sound.proofs.Values.ValuesFlow.{later, extends_refl}
 use Rattle.pc_sound.proofs.Steps.SafeSteps.{Stays, bind_safe, comes_safe, looks_safe, ended, goes_well}
@@ -34,10 +37,10 @@ use Rattle.pc_sound.proofs.Heap.HeapActions.{acting_safe}
 use Rattle.pc_sound.proofs.Heap.Fields.{Inherits, instance_keeps}
 use Rattle.pc_sound.proofs.Statements.WaysOut.{GoodExec}
 use Rattle.pc_sound.proofs.Calls.EntryFrames.{ParametersHave}
-use Rattle.pc_sound.proofs.Modules.MainWorld.{DefaultsHave, defaults_later, ClassIs, World, Labelled, around_of}
+use Rattle.pc_sound.proofs.Modules.MainWorld.{defaults_later, Labelled, around_of}
 use Rattle.pc_sound.proofs.Modules.MainWorld.{context_of}
 use Rattle.pc_sound.proofs.Calls.FilledParameters.{Filled}
-use Rattle.pc_sound.proofs.Calls.LabelledArguments.{Suits, suited_bound}
+use Rattle.pc_sound.proofs.Calls.LabelledArguments.{suited_bound}
 use Rattle.pc_sound.proofs.Calls.EnteredFunctions.{enter_safe, entry, body_ways, entry_stands, body_leads}
 use Rattle.pc_sound.proofs.Calls.EnteredFunctions.{gives_returned, completing_listed}
 
@@ -52,6 +55,28 @@ parameters_later bases k k' (p ∷ ps) (l ∷ ls) x h = (
   record { value = h.0.value; is = h.0.is; same = h.0.same; has = later bases x p.type h.0.value h.0.has },
   parameters_later bases k k' ps ls x h.1,
 )
+
+takes_later : (bases : Bases) (k k' : HeapTyping) (p : TypedParameter) (o : Option Value) → Extends k k'
+    → TakesNamed bases k p o → TakesNamed bases k' p o
+takes_later bases k k' p (Some w) x h = later bases x p.type w h
+takes_later bases k k' p None x h = h
+
+fills_later : (bases : Bases) (k k' : HeapTyping) (ps : List TypedParameter) (vs : List Value)
+    (named : List NamedValue) → Extends k k' → Fills bases k ps vs named → Fills bases k' ps vs named
+fills_later bases k k' [] [] named x h = h
+fills_later bases k k' [] (v ∷ vs) named x h = h
+fills_later bases k k' (p ∷ ps) (v ∷ vs) named x h =
+    (later bases x p.type v h.0, (h.1.0, fills_later bases k k' ps vs named x h.1.1))
+fills_later bases k k' (p ∷ ps) [] named x h =
+    (takes_later bases k k' p (value_named p.name named) x h.0, fills_later bases k k' ps [] named x h.1)
+
+-- arguments that suit still do when the heap typing grows
+pub suits_later : (bases : Bases) (k k' : HeapTyping) (ps : List TypedParameter) (vs : List Value)
+    (named : List NamedValue) → Extends k k' → Suits bases k ps vs named → Suits bases k' ps vs named
+suits_later bases k k' ps vs named x h = record {
+  fills = fills_later bases k k' ps vs named x h.fills;
+  all_for = h.all_for;
+}
 
 suited_ends : (bases : Bases) (k : HeapTyping) (ps : List TypedParameter) (o : Option (List Local))
     → Filled bases k ps o → EndsWell (λ ls. ParametersHave bases k ps ls) (or_type_error o)
@@ -165,7 +190,7 @@ module _ (m : Module) (inherits : Inherits (bases_of m) (classes_of m)) (listed 
     -- ---- functions
 
     module _ (constants : List Tree) (world : (k : HeapTyping) (made : List Class) (globals : Globals)
-        → outside k made globals → World m constants k made globals) where
+        → outside k made globals → IsLoaded m constants k made globals) where
       -- a function runs from a frame of its own
       pub function_call_safe : (i : ℕ) (d : FuncDef) (lab : Labelled m constants listed (owners.Func i) d)
           → GoodExec (around_of m constants listed (owners.Func i) d lab)

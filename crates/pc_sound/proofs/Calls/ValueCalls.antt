@@ -31,7 +31,8 @@ use Rattle.pc_machine.specs.Free.{Step, ◌>>=◌, comes, Emits, look, free}
 use Rattle.pc_machine.specs.Evaluation.{call_form, instance_test, ordinary, eval_callee, eval_all, eval_keywords}
 use Rattle.pc_machine.specs.Evaluation.{call_callee}
 use Rattle.pc_sound.specs.Values.{HeapTyping, HasType}
-use Rattle.pc_sound.proofs.Steps.Judgment.{HasListed, EndsWell, Around, IsWellTyped, KeepsState, IsSafe, IsContextOf}
+use Rattle.pc_sound.specs.Ends.{EndsWell}
+use Rattle.pc_sound.proofs.Steps.Judgment.{HasListed, Around, IsWellTyped, KeepsState, IsSafe, IsContextOf}
 use Rattle.pc_sound.proofs.Lists.{same_text_back}
 use Rattle.pc_sound.proofs.Steps.SafeSteps.{bind_safe, comes_safe, may_stop_safe, weaken}
 use Rattle.pc_sound.proofs.Settled.KeyedLabels.{Keyed, ItemsKeyed, KeywordsKeyed}

@@ -28,7 +28,8 @@ use Rattle.pc_machine.specs.Steps.{Parts, value_out}
 use Rattle.pc_machine.specs.Evaluation.{eval_node, eval_over, steps}
 use Rattle.pc_machine.specs.Free.{Step, free}
 use Rattle.pc_sound.specs.Values.{HeapTyping, HasType, HaveTypes, AllHave, IsWell}
-use Rattle.pc_sound.proofs.Steps.Judgment.{HasListed, EndsWell, Around, IsWellTyped, KeepsState, IsSafe, IsContextOf}
+use Rattle.pc_sound.specs.Ends.{EndsWell}
+use Rattle.pc_sound.proofs.Steps.Judgment.{HasListed, Around, IsWellTyped, KeepsState, IsSafe, IsContextOf}
 use Rattle.pc_sound.proofs.Lists.{not_empty}
 use Rattle.pc_sound.proofs.Values.ValuesFlow.{later, of_static}
 use Rattle.pc_sound.proofs.Steps.SafeSteps.{bind_safe, emits_safe, act_safe, gives_injective, gives_not_stops}

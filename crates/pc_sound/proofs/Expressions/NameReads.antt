@@ -30,8 +30,9 @@ use Rattle.pc_machine.specs.Steps.{Parts}
 use Rattle.pc_machine.specs.Evaluation.{eval_node}
 use Rattle.pc_machine.specs.Free.{Step, free}
 use Rattle.pc_sound.specs.Values.{HeapTyping, HasType}
+use Rattle.pc_sound.specs.Ends.{EndsWell}
 use Rattle.pc_sound.proofs.Lists.{not_empty}
-use Rattle.pc_sound.proofs.Steps.Judgment.{Around, IsWellTyped, EndsWell, IsSafe, IsContextOf}
+use Rattle.pc_sound.proofs.Steps.Judgment.{Around, IsWellTyped, IsSafe, IsContextOf}
 use Rattle.pc_sound.proofs.Steps.SafeSteps.{bind_safe, emits_safe, looks_safe}
 use Rattle.pc_sound.proofs.Expressions.SimpleExpressions.{Covered, allowed}
 use Rattle.pc_sound.proofs.Expressions.LocalReads.{local_safe}

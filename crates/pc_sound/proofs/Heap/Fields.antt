@@ -26,7 +26,8 @@ use Rattle.pc_machine.specs.Evaluation.{eval_node}
 use Rattle.pc_machine.specs.Free.{Step, free}
 use Rattle.pc_sound.specs.Values.{HeapTyping, HasType, a_class, SlotsHave, IsWell}
 use Rattle.pc_sound.specs.KeptHeaps.{ActsWell}
-use Rattle.pc_sound.proofs.Steps.Judgment.{EndsWell, Around, IsSafe, IsContextOf}
+use Rattle.pc_sound.specs.Ends.{EndsWell}
+use Rattle.pc_sound.proofs.Steps.Judgment.{Around, IsSafe, IsContextOf}
 use Rattle.pc_sound.proofs.Lists.{get_at_end, not_empty, same_text_back}
 use Rattle.pc_sound.proofs.Values.ValuesFlow.{later, extends_refl}
 use Rattle.pc_sound.proofs.Steps.SafeSteps.{bind_safe, emits_safe, looks_safe, act_safe}

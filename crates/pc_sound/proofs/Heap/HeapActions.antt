@@ -14,7 +14,8 @@ use Rattle.pc_machine.specs.Steps.{value_out}
 use Rattle.pc_machine.specs.Free.{act}
 use Rattle.pc_sound.specs.Values.{HeapTyping, HasType, IsWell}
 use Rattle.pc_sound.specs.KeptHeaps.{OutcomeHas, ActsWell}
-use Rattle.pc_sound.proofs.Steps.Judgment.{HasListed, EndsWell, Around, IsWellTyped, KeepsState, IsSafe}
+use Rattle.pc_sound.specs.Ends.{EndsWell}
+use Rattle.pc_sound.proofs.Steps.Judgment.{HasListed, Around, IsWellTyped, KeepsState, IsSafe}
 use Rattle.pc_sound.proofs.Values.ValuesFlow.{extends_refl}
 
 -- an outcome of a type as an end in a value

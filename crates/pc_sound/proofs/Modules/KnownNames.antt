@@ -24,12 +24,13 @@ use Rattle.pc_machine.specs.State.{Class, Globals}
 use Rattle.pc_machine.specs.Calls.{descends_from, class_at}
 use Rattle.pc_rules.specs.Signatures.{initializer_context}
 use Rattle.pc_sound.specs.Values.{HeapTyping}
+use Rattle.pc_sound.specs.Loaded.{IsLoaded}
 use Rattle.pc_sound.proofs.Lists.{within}
 use Rattle.pc_sound.proofs.Expressions.NameReads.{KnowsNames}
 use Rattle.pc_sound.proofs.Values.InstanceTests.{Descends}
 use Rattle.pc_sound.proofs.Calls.KnownTests.{KnowsAncestors}
 use Rattle.pc_sound.proofs.Modules.ModuleNames.{class_named}
-use Rattle.pc_sound.proofs.Modules.MainWorld.{World, Labelled, around_of, context_of}
+use Rattle.pc_sound.proofs.Modules.MainWorld.{Labelled, around_of, context_of}
 use Rattle.pc_sound.proofs.Calls.EnteredFunctions.{module_local}
 use Rattle.pc_sound.proofs.Modules.ModuleOrder.{around_items}
 
@@ -130,7 +131,7 @@ module _ (m : Module) where
 
   module _ (constants : List Tree) where
     -- the ancestors of the classes made are those that are above them
-    pub descends : (k : HeapTyping) (made : List Class) (globals : Globals) → World m constants k made globals
+    pub descends : (k : HeapTyping) (made : List Class) (globals : Globals) → IsLoaded m constants k made globals
         → (c : ℕ) (t : ClassDef) → slice_get (classes_in m.items) c ≡ Some t → Descends (bases_of m) made c
     descends k made globals w c t is = record {
       below = λ d h. below d (slice_get (classes_in m.items) d) refl h;
@@ -175,7 +176,7 @@ module _ (m : Module) where
       }
         where
           descended : (word : List ℕ) (c : ℕ) → resolve_in_module m word ≡ res.Class c
-              → (k : HeapTyping) (made : List Class) (globals : Globals) → World m constants k made globals
+              → (k : HeapTyping) (made : List Class) (globals : Globals) → IsLoaded m constants k made globals
               → Descends (bases_of m) made c
           descended word c r k made globals w =
               let x = class_named m word c r in

@@ -47,7 +47,8 @@ use Rattle.pc_machine.specs.Evaluation.{make_members, exec_item, dataclass_found
 use Rattle.pc_machine.specs.Evaluation.{methods_of, ancestors_of, class_behind, all_have_defaults, defaults_last}
 use Rattle.pc_sound.specs.Values.{HeapTyping}
 use Rattle.pc_sound.specs.Silent.{default_place, param_defaults_in, field_defaults, field_defaults_in}
-use Rattle.pc_sound.proofs.Steps.Judgment.{EndsWell}
+use Rattle.pc_sound.specs.Ends.{EndsWell}
+use Rattle.pc_sound.specs.Loaded.{AncestorsAre, DefaultHas, DefaultsHave, MadeOf, MethodsAre, ClassIs}
 use Rattle.pc_sound.proofs.TruthValues.{neither}
 use Rattle.pc_sound.proofs.Lists.{get_at_end, get_left}
 use Rattle.pc_sound.proofs.Steps.LeadingSteps.{Known}
@@ -57,7 +58,6 @@ use Rattle.pc_sound.proofs.Modules.ModuleOrder.{BoundSoFar, bound_class, Between
 use Rattle.pc_sound.proofs.Modules.ModuleOrder.{function_made, OfDefaults}
 use Rattle.pc_sound.proofs.Modules.PlacesInModules.{function_places, field_places}
 use Rattle.pc_sound.proofs.Modules.ModuleItems.{ItemReady, GoodClasses}
-use Rattle.pc_sound.proofs.Modules.MainWorld.{AncestorsAre, DefaultHas, DefaultsHave, MadeOf, MethodsAre, ClassIs}
 
 -- ---- the order of fields
 

@@ -35,7 +35,10 @@ use Rattle.pc_machine.specs.Free.{Step, free}
 use Rattle.pc_machine.specs.Evaluation.{exec_item, exec_items, enter_main, call_callee}
 use Rattle.pc_sound.specs.Values.{HeapTyping, HasType}
 use Rattle.pc_sound.specs.Silent.{param_defaults_in, field_defaults_in}
-use Rattle.pc_sound.proofs.Steps.Judgment.{EndsWell, Around, IsWellTyped, IsSafe}
+use Rattle.pc_sound.specs.Ends.{EndsWell}
+use Rattle.pc_sound.specs.Loaded.{DefaultsHave, MadeOf, IsLoaded}
+use Rattle.pc_sound.specs.Arguments.{Suits}
+use Rattle.pc_sound.proofs.Steps.Judgment.{Around, IsWellTyped, IsSafe}
 use Rattle.pc_sound.proofs.TruthValues.{neither}
 use Rattle.pc_sound.proofs.Lists.{get_at_end, one_longer, within}
 use Rattle.pc_sound.proofs.Steps.SafeSteps.{bind_safe, looks_safe, weaken}
@@ -45,9 +48,9 @@ use Rattle.pc_sound.proofs.Settled.KeyedLabels.{Keyed}
 use Rattle.pc_sound.proofs.Heap.Fields.{Inherits}
 use Rattle.pc_sound.proofs.Calls.OrdinaryCalls.{impossible_safe}
 use Rattle.pc_sound.proofs.Statements.WaysOut.{GoodExec}
-use Rattle.pc_sound.proofs.Modules.MainWorld.{DefaultsHave, MadeOf, made_later, World, Labelled, around_of, context_of}
+use Rattle.pc_sound.proofs.Modules.MainWorld.{made_later, Labelled, around_of, context_of}
 use Rattle.pc_sound.proofs.Calls.FilledParameters.{Filled}
-use Rattle.pc_sound.proofs.Calls.LabelledArguments.{Suits, suited_bound}
+use Rattle.pc_sound.proofs.Calls.LabelledArguments.{suited_bound}
 use Rattle.pc_sound.proofs.Calls.SuitedCalls.{function_call_safe}
 use Rattle.pc_sound.proofs.Steps.ModuleSteps.{Proceeds, proceeds_bind, proceeds_comes}
 use Rattle.pc_sound.proofs.Modules.ModuleNames.{constants_append, classes_append, functions_append, constant_named}
@@ -182,7 +185,7 @@ module _ (m : Module) (constants : List Tree) (listed : Place → Type 0) where
   -- the world of `main`
   pub world_at_end : (types : List Tree) (n : ℕ) (names : List (List ℕ)) (k : HeapTyping) (made : List Class)
       (globals : Globals) → types ≡ constants → n ≡ length (classes_in m.items)
-      → BoundSoFar m types (functions_in m.items) n names k made globals → World m constants k made globals
+      → BoundSoFar m types (functions_in m.items) n names k made globals → IsLoaded m constants k made globals
   world_at_end types n names k made globals same count w = record {
     constant = λ word i t r e. w.constant word i t r (ap (λ l. slice_get l i) same ∙ e);
     function = w.function;

@@ -47,7 +47,9 @@ use Rattle.pc_machine.specs.Free.{Step, act, free}
 use Rattle.pc_machine.specs.Evaluation.{make_literal, make_default, make_parameters, make_function, binds_global}
 use Rattle.pc_machine.specs.Evaluation.{exec_item}
 use Rattle.pc_sound.specs.Values.{HeapTyping, HasType, Extends, IsWell}
-use Rattle.pc_sound.proofs.Steps.Judgment.{HasListed, EndsWell, Around, IsWellTyped, IsSafe}
+use Rattle.pc_sound.specs.Ends.{EndsWell}
+use Rattle.pc_sound.specs.Loaded.{IsPlain, DefaultHas, DefaultsHave, MadeOf, ClassIs, ConstantIs, FunctionIs}
+use Rattle.pc_sound.proofs.Steps.Judgment.{HasListed, Around, IsWellTyped, IsSafe}
 use Rattle.pc_sound.proofs.TruthValues.{not_both}
 use Rattle.pc_sound.proofs.Lists.{get_one_more, same_text_back}
 use Rattle.pc_sound.proofs.Values.ValuesFlow.{later, of_static}
@@ -56,8 +58,7 @@ use Rattle.pc_sound.proofs.Expressions.SimpleExpressions.{Covered, GoodEval}
 use Rattle.pc_sound.proofs.Values.Flows.{Evaluates, flow_safe}
 use Rattle.pc_sound.proofs.Settled.KeyedLabels.{Keyed}
 use Rattle.pc_sound.proofs.Statements.LocalBinding.{IsAtom, atom_flow, one_flow}
-use Rattle.pc_sound.proofs.Modules.MainWorld.{DefaultHas, DefaultsHave, MadeOf, made_later, ClassIs, class_later}
-use Rattle.pc_sound.proofs.Modules.MainWorld.{ConstantIs, FunctionIs}
+use Rattle.pc_sound.proofs.Modules.MainWorld.{made_later, class_later}
 use Rattle.pc_sound.proofs.Steps.ModuleSteps.{Arrives, Proceeds, proceeds_bind, proceeds_comes, proceeds_changes}
 use Rattle.pc_sound.proofs.Steps.ModuleSteps.{proceeds_charge}
 use Rattle.pc_sound.proofs.Modules.ModuleNames.{bound_more, bound_new, bound_other}
@@ -336,15 +337,15 @@ module _ (m : Module) where
 
     module _ (before : Known) where
       literal_made : (l : Literal) → Proceeds listed before (make_literal Step free l)
-          (λ k v s. before k s × HasType (bases_of m) k (literal_type l) v)
+          (λ k v s. before k s × (IsPlain v × HasType (bases_of m) k (literal_type l) v))
       literal_made (number_literal p digits) = proceeds_act before value_out (action.number (number_of_digits digits)) _
-          λ f k s b. (refl, (b, tt))
+          λ f k s b. (refl, (b, (tt, tt)))
       literal_made (negative_literal p digits) = proceeds_act before value_out
-          (action.number (negative_of_digits digits)) _ λ f k s b. (refl, (b, tt))
+          (action.number (negative_of_digits digits)) _ λ f k s b. (refl, (b, (tt, tt)))
       literal_made (text_literal p bytes) = proceeds_comes listed before (Gives (string (chars bytes))) _ λ k s b.
-          (b, tt)
-      literal_made (truth_literal p t) = proceeds_comes listed before (Gives (boolean t)) _ λ k s b. (b, tt)
-      literal_made (none_literal p) = proceeds_comes listed before (Gives value.none) _ λ k s b. (b, tt)
+          (b, (tt, tt))
+      literal_made (truth_literal p t) = proceeds_comes listed before (Gives (boolean t)) _ λ k s b. (b, (tt, tt))
+      literal_made (none_literal p) = proceeds_comes listed before (Gives value.none) _ λ k s b. (b, (tt, tt))
 
     -- ---- defs
 
@@ -381,10 +382,10 @@ module _ (m : Module) where
             found = e;
             is = refl;
           })).1 (default refl (here (literal_place l) (0, omega arith, refl)))) in
-          proceeds_bind listed before _ _ (λ k v s. before k s × HasType (bases_of m) k (literal_type l) v) _
-          (literal_made before l)
+          proceeds_bind listed before _ _
+          (λ k v s. before k s × (IsPlain v × HasType (bases_of m) k (literal_type l) v)) _ (literal_made before l)
           λ v. proceeds_comes listed _ (Gives (Some v)) _ λ k s b.
-          (b.0, of_static (bases_of m) k (literal_type l) t below v b.1)
+          (b.0, (b.1.0, of_static (bases_of m) k (literal_type l) t below v b.1.1))
 
     -- no parameter's name stands twice or is reserved
     abbrev pub ParametersBind : List (List ℕ) → List Param → Type 0

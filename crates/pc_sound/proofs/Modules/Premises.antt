@@ -236,7 +236,7 @@ module _ (m : Module) (labels : Labelling m) (lawful : IsLawful m labels) (clean
         → Labelled m (constant_types m m.items labels) (IsListedPlace m) owner d
     labelled = labelled_of m labels lawful clean body_keyed
 
-    facts : Facts m (constant_types m m.items labels) (IsListedPlace m)
+    pub facts : Facts m (constant_types m m.items labels) (IsListedPlace m)
     facts = record {
       inherits = inherits m;
       dispatched = λ d c below word old e. dispatched m (IsListedPlace m) judged d c below word old e;
@@ -293,7 +293,7 @@ module _ (m : Module) (labels : Labelling m) (lawful : IsLawful m labels) (clean
             (ap functions_in all ∙ functions_append done (def_item p f ∷ rest))
             ∙ get_at_end (functions_in done) f (functions_in rest)
 
-    premises : Premises m labels
+    pub premises : Premises m labels
     premises = record {
       forms = forms_of m labels facts (record { knows = knows; tests = tests });
       classes = λ n. classes_good m (constant_types m m.items labels) (IsListedPlace m) left.classes

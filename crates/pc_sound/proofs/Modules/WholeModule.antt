@@ -1,7 +1,7 @@
 -- The whole: where each form is safe in each body, a run of a module that ends in a fault has evaluated a listed
 -- place.
 use Rattle.std.proofs.Common.{◌≡◌, ℕ, List, [], length, refl, sym, subst, inl, inr, arith, Contains}
-use Rattle.std.specs.Prelude.{true, nat_lt, codes, Some}
+use Rattle.std.specs.Prelude.{◌⊎◌, true, nat_lt, codes, Some}
 use Rattle.std.proofs.lemmas.Bool.Decides.{nat_tests}
 use Rattle.std.proofs.lemmas.Option.{none-some}
 use Rattle.pc_source.specs.declared.place.Place.{Place}
@@ -22,20 +22,21 @@ use Rattle.pc_module_rules.proofs.Scopes.{said_is_found}
 use Rattle.pc_module_rules.specs.Modules.{Labelling, IsLawful, IsFinding, constant_types, BeforeItem, nothing_before}
 use Rattle.pc_module_rules.specs.Modules.{ItemsFind}
 use Rattle.pc_value.specs.Value.{Value, Raised, Other, Outside, Cut, Out, Gives, Stops}
-use Rattle.pc_machine.specs.State.{nothing_bound}
+use Rattle.pc_machine.specs.State.{State, nothing_bound}
 use Rattle.pc_machine.specs.Free.{Step, free}
-use Rattle.pc_machine.specs.Evaluation.{steps, exec_module, enter_main}
+use Rattle.pc_machine.specs.Evaluation.{steps, exec_items, exec_module, enter_main}
 use Rattle.pc_machine.specs.Runs.{Run, End, end_of, IsFaultyEnd}
-use Rattle.pc_sound.proofs.Steps.Judgment.{EndsWell, Around, IsContextOf}
+use Rattle.pc_sound.proofs.Steps.Judgment.{HasListed, Around, IsContextOf}
 use Rattle.pc_sound.specs.Silent.{HasNoSilentError}
 use Rattle.pc_sound.specs.Sound.{HasEvaluatedListed}
+use Rattle.pc_sound.specs.Ends.{EndsWell}
 use Rattle.pc_sound.proofs.Heap.Fields.{Inherits}
 use Rattle.pc_sound.proofs.Steps.NestedSteps.{Bodies, FormsGood, AllGood, all_good}
 use Rattle.pc_sound.proofs.Steps.Places.{steps_evaluate}
 use Rattle.pc_sound.proofs.Modules.StoppedModules.{never_stopped}
 use Rattle.pc_sound.proofs.Modules.MainWorld.{Labelled, around_of, context_of}
 use Rattle.pc_sound.proofs.Calls.EnteredFunctions.{fits_of, module_local}
-use Rattle.pc_sound.proofs.Steps.ModuleSteps.{Proceeds, proceeds_bind, proceeds_as}
+use Rattle.pc_sound.proofs.Steps.ModuleSteps.{Arrives, Proceeds, proceeds_bind, proceeds_as}
 use Rattle.pc_sound.proofs.Modules.ModuleOrder.{around_items, Between, Listed, proceeds_safe}
 use Rattle.pc_sound.proofs.Modules.ModuleItems.{ItemsReady, last_of, GoodClasses, items_proceed, MainIs, main_is}
 use Rattle.pc_sound.proofs.Modules.ModuleItems.{main_safe}
@@ -108,15 +109,21 @@ module _ (m : Module) (labels : Labelling m) where
     good : (n : ℕ) → AllGood m bodies n
     good n = all_good m bodies premises.forms n
 
+    -- the items, in any number of nested steps
+    items_in_turn : (n : ℕ) → Proceeds (IsListedPlace m) (λ k s. Between m (IsListedPlace m) [] [] 0 [] k s)
+        (exec_items Step free (steps Step free n) m.imports_dataclass m.items) (λ k u s. Between m (IsListedPlace m)
+        Last.constants (functions_in m.items) Last.classes Last.names k s)
+    items_in_turn n =
+        items_proceed m (constant_types m m.items labels) (IsListedPlace m) (steps Step free n)
+        (λ types defs c names. (good n).eval (of_items types defs c names)) (steps_evaluate n) (premises.classes n)
+        [] m.items nothing_before [] labels refl refl refl refl lawful listed_of premises.ready
+
     -- the items and `main`, in any number of nested steps
     module_proceeds : (n : ℕ) → Proceeds (IsListedPlace m) (λ k s. Between m (IsListedPlace m) [] [] 0 [] k s)
         (exec_module Step free (steps Step free n) m) (λ k v s. Unit {0})
     module_proceeds n =
         proceeds_bind (IsListedPlace m) _ _ _ (λ k u s. Between m (IsListedPlace m) Last.constants
-        (functions_in m.items) Last.classes Last.names k s) _
-        (items_proceed m (constant_types m m.items labels) (IsListedPlace m) (steps Step free n)
-        (λ types defs c names. (good n).eval (of_items types defs c names)) (steps_evaluate n) (premises.classes n)
-        [] m.items nothing_before [] labels refl refl refl refl lawful listed_of premises.ready)
+        (functions_in m.items) Last.classes Last.names k s) _ (items_in_turn n)
         λ u. proceeds_as (IsListedPlace m) _ (λ k s. Between m (IsListedPlace m) Last.constants (functions_in m.items)
         Last.classes Last.names k s) _ (λ k v s. Between m (IsListedPlace m) Last.constants (functions_in m.items)
         Last.classes Last.names k s × Unit {0}) _ (λ k s b. b) (λ k v s b. tt)
@@ -157,6 +164,13 @@ module _ (m : Module) (labels : Labelling m) where
         free = λ word e. refl;
       };
     }
+
+    -- from nothing bound the items evaluate a listed place, or they end well: in a state in which all is bound
+    pub items_run : (n : ℕ) (events : List Place) (out : Out (Unit {0})) (after : State)
+        → exec_items Step free (steps Step free n) m.imports_dataclass m.items nothing_bound events out after
+        → HasListed (IsListedPlace m) events ⊎ Arrives (λ k u s. Between m (IsListedPlace m) Last.constants
+        (functions_in m.items) Last.classes Last.names k s) out after
+    items_run n events out after r = (items_in_turn n).run [] nothing_bound after events out begins r
 
     -- a run that ends in a fault has evaluated a listed place
     pub sound_of : (events : List Place) (end : End) → Run m events end → IsFaultyEnd end → HasEvaluatedListed m events

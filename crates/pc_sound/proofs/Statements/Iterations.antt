@@ -19,7 +19,7 @@ use Rattle.pc_value.specs.Numbers.{number_below}
 use Rattle.pc_machine.specs.Steps.{iteration_out, item_out}
 use Rattle.pc_sound.specs.Values.{HeapTyping, a_list, a_dict, Extends, HasType, HaveTypes, AllHave, EntriesHave}
 use Rattle.pc_sound.specs.Values.{CellHas, CellAt, IsWell}
-use Rattle.pc_sound.proofs.Steps.Judgment.{EndsWell}
+use Rattle.pc_sound.specs.Ends.{EndsWell}
 use Rattle.pc_sound.proofs.Lists.{front_empty, not_empty, rest_empty}
 use Rattle.pc_sound.proofs.Values.ValuesFlow.{of_static, all_later}
 use Rattle.pc_sound.proofs.Values.Narrowing.{HasSome, to_members}

@@ -10,7 +10,8 @@ use Rattle.pc_value.specs.Outcomes.{action_result}
 use Rattle.pc_machine.specs.State.{State, Frame}
 use Rattle.pc_machine.specs.Free.{Step, ◌>>=◌, comes, may_end, may_stop, Emits, look, act}
 use Rattle.pc_sound.specs.Values.{HeapTyping, IsWell}
-use Rattle.pc_sound.proofs.Steps.Judgment.{HasListed, AreListedCodes, EndsWell, Around, IsWellTyped, KeepsState, IsSafe}
+use Rattle.pc_sound.specs.Ends.{EndsWell}
+use Rattle.pc_sound.proofs.Steps.Judgment.{HasListed, AreListedCodes, Around, IsWellTyped, KeepsState, IsSafe}
 use Rattle.pc_sound.proofs.Steps.Judgment.{Leads}
 use Rattle.pc_sound.proofs.Values.ValuesFlow.{extends_refl, extends_through}
 use Rattle.pc_sound.proofs.Steps.SafeSteps.{listed_left, listed_right, stands_after, goes_well, stopped_as}

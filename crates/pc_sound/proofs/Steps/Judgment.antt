@@ -13,12 +13,13 @@ use Rattle.pc_class.specs.Facts as facts
 use Rattle.pc_flow.specs.Environment.{Env, declared_type}
 use Rattle.pc_flow.specs.Narrowing.{narrow}
 use Rattle.pc_rules.specs.Context.{Context}
-use Rattle.pc_value.specs.Value.{Value, Out, Gives, Stops, Raised, Other, Outside, Cut, is_true}
+use Rattle.pc_value.specs.Value.{Value, Out, is_true}
 use Rattle.pc_machine.specs.State.{State, Class, Globals, Frame}
 use Rattle.pc_machine.specs.Names.{local_by_name, with_local}
 use Rattle.pc_machine.specs.Steps.{StatementEnd, next, breaking, continuing, leaves}
 use Rattle.pc_machine.specs.Free.{Step}
 use Rattle.pc_sound.specs.Values.{HeapTyping, HasType, Extends, IsWell}
+use Rattle.pc_sound.specs.Ends.{EndsWell}
 use Rattle.pc_sound.proofs.Steps.BoundLocals.{HasLocals}
 
 -- a listed place was evaluated
@@ -31,14 +32,6 @@ pub record HasListed (listed : Place → Type 0) (events : List Place) : Type 0 
 abbrev pub AreListedCodes : (Place → Type 0) → Place → List Code → Type 0
 AreListedCodes listed p [] = Unit {0}
 AreListedCodes listed p (c ∷ cs) = listed p
-
--- how a step may end: with a value that is as wanted, in another exception, or cut off
-abbrev pub EndsWell : {A : Type 0} → (A → Type 0) → Out A → Type 0
-EndsWell P (Gives a) = P a
-EndsWell P (Stops (Raised e)) = ⊥
-EndsWell P (Stops Outside) = ⊥
-EndsWell P (Stops Other) = Unit {0}
-EndsWell P (Stops Cut) = Unit {0}
 
 -- what is around a body: types, class facts, its locals with their declared types, the listed places,
 -- and what is known of the classes made and of the names that the module has bound

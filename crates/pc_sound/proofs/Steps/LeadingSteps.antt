@@ -11,7 +11,8 @@ use Rattle.pc_machine.specs.Names.{with_local}
 use Rattle.pc_machine.specs.Free.{Step, ◌>>=◌, comes, may_end, may_stop, look, Changes, act}
 use Rattle.pc_machine.specs.Evaluation.{binds_local}
 use Rattle.pc_sound.specs.Values.{HeapTyping, Extends, IsWell}
-use Rattle.pc_sound.proofs.Steps.Judgment.{HasListed, EndsWell, Around, IsSafe, Goes, Leads, IsWellTypedAnd}
+use Rattle.pc_sound.specs.Ends.{EndsWell}
+use Rattle.pc_sound.proofs.Steps.Judgment.{HasListed, Around, IsSafe, Goes, Leads, IsWellTypedAnd}
 use Rattle.pc_sound.proofs.Values.ValuesFlow.{extends_refl, extends_through}
 use Rattle.pc_sound.proofs.Steps.SafeSteps.{listed_left, listed_right, stands_after, stopped_as}
 

@@ -7,7 +7,8 @@ use Rattle.pc_value.specs.Value.{Out, Gives, Stops}
 use Rattle.pc_machine.specs.State.{State}
 use Rattle.pc_machine.specs.Free.{Step, ◌>>=◌, comes, may_stop, look, Changes}
 use Rattle.pc_sound.specs.Values.{HeapTyping}
-use Rattle.pc_sound.proofs.Steps.Judgment.{HasListed, EndsWell}
+use Rattle.pc_sound.specs.Ends.{EndsWell}
+use Rattle.pc_sound.proofs.Steps.Judgment.{HasListed}
 use Rattle.pc_sound.proofs.Steps.LeadingSteps.{Known, Promised, ends_as}
 use Rattle.pc_sound.proofs.Steps.SafeSteps.{stopped_as}
 

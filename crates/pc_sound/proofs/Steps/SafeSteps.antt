@@ -13,8 +13,9 @@ use Rattle.pc_value.specs.Outcomes.{action_result}
 use Rattle.pc_machine.specs.State.{State, Frame}
 use Rattle.pc_machine.specs.Free.{Step, ◌>>=◌, comes, may_end, may_stop, Emits, GoesOn, look, act}
 use Rattle.pc_sound.specs.Values.{HeapTyping, Extends, IsWell}
+use Rattle.pc_sound.specs.Ends.{EndsWell}
 use Rattle.pc_sound.proofs.Steps.BoundLocals.{HasLocals}
-use Rattle.pc_sound.proofs.Steps.Judgment.{HasListed, AreListedCodes, EndsWell, Around, HasNames, IsWellTyped}
+use Rattle.pc_sound.proofs.Steps.Judgment.{HasListed, AreListedCodes, Around, HasNames, IsWellTyped}
 use Rattle.pc_sound.proofs.Steps.Judgment.{KeepsState, IsSafe}
 use Rattle.pc_sound.proofs.Values.ValuesFlow.{later, extends_refl, extends_through}
 

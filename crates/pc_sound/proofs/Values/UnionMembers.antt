@@ -9,7 +9,7 @@ use Rattle.pc_flow.specs.Environment.{join_all}
 use Rattle.pc_rules.specs.Operations.{Label, Offer, found_of, offers_label, operand_types, has_error}
 use Rattle.pc_value.specs.Value.{Value, Out, Gives, Stops, Raised, Other, Outside, Cut}
 use Rattle.pc_sound.specs.Values.{HeapTyping, HasType, Extends}
-use Rattle.pc_sound.proofs.Steps.Judgment.{EndsWell}
+use Rattle.pc_sound.specs.Ends.{EndsWell}
 use Rattle.pc_sound.proofs.Lists.{front_empty, rest_empty}
 use Rattle.pc_sound.proofs.Values.ValuesFlow.{later}
 use Rattle.pc_sound.proofs.Values.Narrowing.{HasSome, to_members}
