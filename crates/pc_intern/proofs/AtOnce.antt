@@ -1,6 +1,6 @@
 -- The joins that two types tell at once.
 use Rattle.std.proofs.Common.{◌≡◌, ◌≤◌, Some, sym, ap, subst, ◌∙◌}
-use Rattle.pc_types.specs.Tree.{Tree, Never}
+use Rattle.pc_types.specs.Tree.{Tree, Never, Object}
 use Rattle.pc_types.specs.Below.{Bases}
 use Rattle.pc_types.specs.Shape.{nodes, node_limit}
 use Rattle.pc_types.specs.Join.{join}
@@ -19,6 +19,15 @@ never_box t h = go (out-BoxType t) (roll-out-BoxType t) h
     go : (o : BoxType-F BoxType) → roll-BoxType o ≡ t → tree_of t ≡ Never → t ≡ ty.Never
     go open-ty.Never e h = sym e
     go o e h = let q : tree_of (roll-BoxType o) ≡ Never = ap tree_of e ∙ h in cc
+
+-- a type in boxes that means object is object
+pub object_box : (t : BoxType) → tree_of t ≡ Object → t ≡ ty.Object
+unfolding roll-BoxType denote.Hole.Carrier.roll
+object_box t h = go (out-BoxType t) (roll-out-BoxType t) h
+  where
+    go : (o : BoxType-F BoxType) → roll-BoxType o ≡ t → tree_of t ≡ Object → t ≡ ty.Object
+    go open-ty.Object e h = sym e
+    go o e h = let q : tree_of (roll-BoxType o) ≡ Object = ap tree_of e ∙ h in cc
 
 -- Never joined with a type is that type, and the other way
 pub never_join : (bases : Bases) (t : Tree) → nodes t ≤ node_limit → join bases Never t ≡ Some t

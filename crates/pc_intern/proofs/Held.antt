@@ -4,7 +4,7 @@ use Rattle.std.proofs.Common.{take, get_or, replicate, All, Option, Some, None, 
 use Rattle.std.proofs.Common.{arith}
 use Rattle.std.specs.List.{slice_get}
 use Rattle.std.proofs.lemmas.List.{take_more, map-append}
-use Rattle.std.proofs.lemmas.List.Elements.{All-get_or, All-weaker, All-replicate}
+use Rattle.std.proofs.lemmas.List.Elements.{All-get_or, All-weaker, All-replicate, All-head, All-tail}
 use Rattle.std.proofs.lemmas.Option.{slice_get_within}
 use Rattle.pc_types.specs.Tree.{Tree, Never, Union}
 use Rattle.pc_types.specs.Below.{Bases, AreSmaller, Static}
@@ -23,9 +23,9 @@ use Rattle.pc_intern.specs.declared.memo.Joined.{Joined}
 use Rattle.pc_intern.specs.declared.store.TypeId.{TypeId}
 use Rattle.pc_intern.specs.declared.table.Node.{Node}
 use Rattle.pc_intern.specs.Table.{tree_at, IsNodeAt, Grows}
-use Rattle.pc_intern.specs.Store.{meaning, IsHeld, IsRightAt, AreRight, IsJoinedAt, AreJoined}
-use Rattle.pc_intern.proofs.Places.{map_at, at_map, each_push, same_items}
-use Rattle.pc_intern.proofs.Standing.{tree_stays}
+use Rattle.pc_intern.specs.Store.{meaning, number_of, IsHeld, IsRightAt, AreRight, IsJoinedAt, AreJoined}
+use Rattle.pc_intern.proofs.Places.{map_at, at_map, same_items}
+use Rattle.pc_intern.proofs.Standing.{tree_stays, trees_stay}
 use Rattle.pc_types.specs.Internal.Rebuilding.{rebuilt}
 use Rattle.pc_types.proofs.Rebuilt.{rebuilt_is}
 
@@ -69,9 +69,9 @@ joined_stays : (bases : Bases) (old new : List BoxType) → Grows old new → (o
 joined_stays bases old new g None h = tt
 joined_stays bases old new g (Some j) h =
     record {
-      whole = h.whole;
-      at_whole = rw g.is (tree_stays old g.added j.parts_of h.whole h.at_whole);
-      at_joined = rw g.is (tree_stays old g.added j.joined (types_joined bases (parts h.whole)) h.at_joined);
+      trees = h.trees;
+      at_types = rw g.is (trees_stay old g.added j.types.items h.trees h.at_types);
+      at_joined = rw g.is (tree_stays old g.added j.joined (types_joined bases h.trees) h.at_joined);
     }
 
 pub all_joined_stays : (bases : Bases) (old new : List BoxType) (places : List (Option Joined)) → Grows old new
@@ -129,19 +129,26 @@ as_many types (p ∷ ps) (u ∷ us) h =
     let g : map (tree_at types) ps ≡ map Some us = cc in
     ap suc (as_many types ps us g)
 
-meant_more : (tys : List TypeId) (k : ℕ) (x : TypeId) → k < length tys → x ≡ get_or tys k x
+pub meant_more : (tys : List TypeId) (k : ℕ) (x : TypeId) → k < length tys → x ≡ get_or tys k x
     → map meaning (take (k + 1) tys) ≡ map meaning (take k tys) ++ meaning x ∷ []
 meant_more tys k x l read = ap (map meaning) (take_more tys k x l ∙ ap (λ y. take k tys ++ y ∷ []) (sym read))
     ∙ map-append meaning (take k tys) (x ∷ [])
 
 -- one more type whose number is pushed
-pub numbered_more : (types : List BoxType) (tys : List TypeId) (ps : List ℕ) (k : ℕ) (x : TypeId)
-    → map (tree_at types) ps ≡ map Some (map meaning (take k tys)) → All (IsHeld types) tys → k < length tys
-    → x ≡ get_or tys k x → map (tree_at types) (ps ++ x.number ∷ []) ≡ map Some (map meaning (take (k + 1) tys))
-numbered_more types tys ps k x h all l read =
-    let g : IsHeld types x = subst (IsHeld types) (sym read) (All-get_or (IsHeld types) tys k x l all) in
-    let b = each_push (map tree_of types) ps x.number (map meaning (take k tys)) (meaning x) h g.at in
-    b ∙ ap (map Some) (sym (meant_more tys k x l read))
+pub numbered_more : (tys : List TypeId) (ps : List ℕ) (k : ℕ) (x : TypeId) → ps ≡ map number_of (take k tys)
+    → k < length tys → x ≡ get_or tys k x → ps ++ x.number ∷ [] ≡ map number_of (take (k + 1) tys)
+numbered_more tys ps k x h l read =
+    ap (λ l. l ++ x.number ∷ []) h ∙ sym (ap (map number_of) (take_more tys k x l
+    ∙ ap (λ y. take k tys ++ y ∷ []) (sym read)) ∙ map-append number_of (take k tys) (x ∷ []))
+
+-- the numbers of held types are those of what they mean
+pub numbered : (types : List BoxType) (tys : List TypeId) → All (IsHeld types) tys
+    → map (tree_at types) (map number_of tys) ≡ map Some (map meaning tys)
+numbered types [] h = refl
+numbered types (t ∷ ts) h =
+    let a : tree_at types t.number ≡ Some (meaning t) = (All-head (IsHeld types) t ts h).at in
+    let b = numbered types ts (All-tail (IsHeld types) t ts h) in
+    λ i. a i ∷ b i
 
 -- what a test of two held types says
 pub static_told : (bases : Bases) (types : List BoxType) (s t : TypeId) (r : Bool) → AreSmaller bases → IsHeld types s

@@ -1,9 +1,13 @@
+pub mod AddingNothing
 pub mod AtOnce
 pub mod Basic
 pub mod Held
 pub mod Itself
+pub mod Kept
 pub mod Keys
+pub mod NodeCounts
 pub mod Parts
 pub mod Places
+pub mod SameTypes
 pub mod Several
 pub mod Standing

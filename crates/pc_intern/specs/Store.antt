@@ -1,15 +1,17 @@
 -- What the types of an interned store mean, and when the answers that it remembers are right.
 -- Own rule of the profile.
-use Rattle.std.specs.Prelude.{◌≡◌, ◌≤◌, List, Option, Some, None, All}
-use Rattle.pc_types.specs.Tree.{Tree}
-use Rattle.pc_types.specs.Shape.{nodes, node_limit, parts}
+use Rattle.std.specs.Prelude.{◌≡◌, ◌≤◌, ℕ, List, Option, Some, None, All, Contains, map, unwrap_or}
+use Rattle.pc_types.specs.Tree.{Tree, Object}
+use Rattle.pc_types.specs.Shape.{nodes, node_limit}
 use Rattle.pc_types.specs.Normal.{IsNormal}
 use Rattle.pc_types.specs.Below.{Bases}
 use Rattle.pc_types.specs.Computed.{static_test, assignable_test}
-use Rattle.pc_types.specs.Boxed.{tree_of}
+use Rattle.pc_types.specs.Boxed.{tree_of, IsGiven}
+use Rattle.pc_types.specs.Join.{join}
 use Rattle.pc_types.specs.declared.boxed.BoxType.{BoxType}
 use Rattle.pc_intern.specs.Table.{tree_at}
 use Rattle.pc_types.specs.JoinedTypes.{types_joined}
+use Rattle.pc_intern.specs.declared.gathering.Gathered.{Gathered}
 use Rattle.pc_intern.specs.declared.memo.Answers.{Answers}
 use Rattle.pc_intern.specs.declared.memo.Joined.{Joined}
 use Rattle.pc_intern.specs.declared.store.TypeId.{TypeId}
@@ -17,6 +19,10 @@ use Rattle.pc_intern.specs.declared.store.TypeId.{TypeId}
 -- the tree that a type means
 abbrev pub meaning : TypeId → Tree
 meaning t = tree_of t.meaning.value
+
+-- the number of a type
+abbrev pub number_of : TypeId → ℕ
+number_of t = t.number
 
 -- the type's number stands for what it means, which is in normal form and has at most 256 nodes
 pub record IsHeld (types : List BoxType) (t : TypeId) : Type 0 where
@@ -42,11 +48,11 @@ IsRightAt bases types (Some a) = IsRight bases types a
 abbrev pub AreRight : Bases → List BoxType → List (Option Answers) → Type 0
 AreRight bases types places = All (IsRightAt bases types) places
 
--- the second number is that of the join of the parts of the first one's tree
+-- the last number is that of the join of the types of the others
 pub record IsJoined (bases : Bases) (types : List BoxType) (j : Joined) : Type 0 where
-  pub whole : Tree
-  pub at_whole : tree_at types j.parts_of ≡ Some whole
-  pub at_joined : tree_at types j.joined ≡ Some (types_joined bases (parts whole))
+  pub trees : List Tree
+  pub at_types : map (tree_at types) j.types.items ≡ map Some trees
+  pub at_joined : tree_at types j.joined ≡ Some (types_joined bases trees)
 
 -- a place that keeps a join keeps a right one
 abbrev pub IsJoinedAt : Bases → List BoxType → Option Joined → Type 0
@@ -56,3 +62,12 @@ IsJoinedAt bases types (Some j) = IsJoined bases types j
 -- each place that keeps a join keeps a right one
 abbrev pub AreJoined : Bases → List BoxType → List (Option Joined) → Type 0
 AreJoined bases types places = All (IsJoinedAt bases types) places
+
+-- a type stays as it is where the type of a number is joined to it
+abbrev pub AddsNothing : Bases → List BoxType → Tree → ℕ → Type 0
+AddsNothing bases types t n = (u : Tree) → tree_at types n ≡ Some u → unwrap_or (join bases t u) Object ≡ t
+
+-- a join in the making is one that a store may give, and what is known to add nothing to it does
+pub record IsGathered (bases : Bases) (types : List BoxType) (g : Gathered) : Type 0 where
+  pub given : IsGiven g.joined
+  pub settled : (n : ℕ) → Contains g.settled.items n → AddsNothing bases types (tree_of g.joined) n

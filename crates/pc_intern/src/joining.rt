@@ -1,17 +1,19 @@
 //! Joins of types of an interned store: of two that tell it at once, and of several.
 
-ghost use Rattle.std.specs.Prelude.{◌≡◌, ◌↔◌, All, IfOk, IfSome, IsTrue, Some, map};
-ghost use Rattle.pc_types.specs.Tree.{Never};
+ghost use Rattle.std.specs.Prelude.{◌≡◌, ◌↔◌, ◌∷◌, [], All, IfOk, IfSome, IsTrue, List, MatchOption, None, Some, map};
+ghost use Rattle.pc_types.specs.Tree.{Tree, Never, Object};
 ghost use Rattle.pc_types.specs.Below.{Bases};
 ghost use Rattle.pc_types.specs.Join.{join};
 ghost use Rattle.pc_types.specs.Boxed.{tree_of, IsGiven};
-ghost use Rattle.pc_types.specs.Shape.{parts};
-ghost use Rattle.pc_types.specs.Store.{Means, KeepsTypes};
+ghost use Rattle.pc_types.specs.Store.{Means, MeansAny, KeepsTypes};
 ghost use Rattle.pc_types.specs.JoinedTypes.{types_joined};
-ghost use Rattle.pc_intern.specs.Store.{IsHeld, meaning};
+ghost use Rattle.pc_intern.specs.Table.{tree_at};
+ghost use Rattle.pc_intern.specs.Store.{IsHeld, IsJoined, meaning};
 
+use crate::gathering::Gathered;
 use crate::memo::Joined;
 use crate::store::{InternStore, TypeId};
+use crate::table::Numbers;
 use pc_source::OutOfMemory;
 use pc_types::{BoxStore, BoxType, Parents, TypeStore};
 use std::alloc::Global;
@@ -20,8 +22,14 @@ use std::alloc::Global;
 /// two lists of parents are compared.
 const MANY_TYPES: usize = 8;
 
-/// A tuple whose parts have so many nodes has more than a type may have.
-const MOST_NODES: usize = 256;
+/// Up to how many types what they join to is kept, so that what is kept stays small.
+const MOST_TYPES: usize = 256;
+
+/// How many classes may be compared, of two lists of parents, for each part of the types that are joined.
+const CLASSES_FOR_A_NODE: usize = 16;
+
+/// From how many nodes of two types on their join is kept: smaller ones are joined sooner.
+const MANY_NODES: usize = 16;
 
 impl InternStore {
     /// Whether a type of the store is `Never`.
@@ -50,20 +58,41 @@ impl InternStore {
         None
     }
 
-    /// Whether what types join to is kept: they are many, or one has parts, and a tuple of them is not too large.
+    /// Whether the parents are few beside the members of types, so that comparing the lists of parents takes no longer than
+    /// a join of the types.
+    fn are_parents_few(&self, size: usize) -> bool {
+        self.parents.count() / CLASSES_FOR_A_NODE <= size
+    }
+
+    /// Whether what types join to is kept: they are many, or one has parts, and they are not too many.
     pub(crate) fn are_kept(&self, types: &[TypeId]) -> bool
         requires { All (IsHeld self.now) types.now }
     {
-        let mut nodes = 0usize;
-        let mut have_parts = false;
-        for ty in types {
-            nodes = nodes.saturating_add(BoxStore::new().nodes(self.table.ty(ty.number)));
-            if nodes >= MOST_NODES {
-                return false;
-            }
-            have_parts = have_parts || !self.table.is_simple(ty.number);
+        let count = types.len();
+        if count > MOST_TYPES {
+            return false;
         }
-        have_parts || types.len() >= MANY_TYPES
+        let mut size = count;
+        for ty in types {
+            size = size.saturating_add(self.table.parts(ty.number).len());
+        }
+        (size > count || count >= MANY_TYPES) && self.are_parents_few(size)
+    }
+
+    /// Whether what two types join to is kept: they are large.
+    pub(crate) fn is_pair_kept(&self, s: &TypeId, t: &TypeId) -> bool
+        requires left { IsHeld self.now s.now }
+        requires right { IsHeld self.now t.now }
+    {
+        let (left, right) = (self.table.parts(s.number), self.table.parts(t.number));
+        let mut size = left.len().saturating_add(right.len());
+        // Types of few parts may still be large: nodes are counted where that does not take long.
+        if size < MANY_NODES {
+            let store = BoxStore::new();
+            let nodes = store.nodes(self.table.ty(s.number));
+            size = nodes.saturating_add(store.nodes(self.table.ty(t.number)));
+        }
+        size >= MANY_NODES && self.are_parents_few(size)
     }
 
     /// The join of several types from the left, in boxes: what stands between is put into no table.
@@ -77,12 +106,11 @@ impl InternStore {
         ensures given { IfOk result IsGiven }
         ensures value { IfOk result (λ b. tree_of b ≡ types_joined parents.now (map meaning types.now)) }
     {
-        let store = BoxStore::new();
-        let mut joined = BoxType::Never;
+        let mut gathered = Gathered::new(alloc);
         for ty in types {
-            joined = store.join_onto(alloc, parents, joined, self.table.ty(ty.number))?;
+            gathered = self.gather(alloc, parents, gathered, ty)?;
         }
-        Ok(joined)
+        Ok(gathered.joined)
     }
 
     /// The join of several types from the left.
@@ -101,54 +129,132 @@ impl InternStore {
         self.made(alloc, &joined)
     }
 
-    /// The join of types, which are the parts of a tuple of the store; what is kept about it is taken.
-    pub(crate) fn parts_joined(
+    /// The join of several types from the left; what is kept about them is taken.
+    #[tactic(auto, using(crate::proofs::Kept::many_kept))]
+    pub(crate) fn joined_once(
         &mut self,
         alloc: Global,
         parents: &Parents,
-        tuple: &TypeId,
         types: &[TypeId],
     ) -> Result<TypeId, OutOfMemory>
-        requires tuple { IsHeld self.old tuple.now }
-        requires types { All (IsHeld self.old) types.now }
-        requires parts { parts (meaning tuple.now) ≡ map meaning types.now }
+        requires { All (IsHeld self.old) types.now }
         ensures value { IfOk result
             (λ t. Means IsHeld meaning self.new t (types_joined parents.now (map meaning types.now))) }
         ensures kept { KeepsTypes IsHeld self.old self.new }
     {
-        if let Some(kept) = self.kept_join(parents, tuple) {
+        let types_of = self.numbers(alloc, types)?;
+        if let Some(kept) = self.kept_join(parents, &types_of) {
             return Ok(kept);
         }
-        let joined = self.joined(alloc, parents, types)?;
-        self.keep_join(parents, tuple, &joined);
-        Ok(joined)
+        let ty = self.joined(alloc, parents, types)?;
+        let joined = ty.number;
+        self.keep_join(
+            parents,
+            Joined {
+                types: types_of,
+                joined,
+            },
+        );
+        Ok(ty)
     }
 
-    /// The join of a type's parts, where the store has kept it under the same parents.
-    fn kept_join(&self, parents: &Parents, ty: &TypeId) -> Option<TypeId>
-        requires { IsHeld self.now ty.now }
-        ensures held { IfSome result (IsHeld self.now) }
-        ensures value { IfSome result (λ t. meaning t ≡ types_joined parents.now (parts (meaning ty.now))) }
+    /// The join of two types, or none; what is kept about them is taken.
+    #[tactic(auto, using(crate::proofs::Kept::two_kept))]
+    pub(crate) fn pair_joined(
+        &mut self,
+        alloc: Global,
+        parents: &Parents,
+        s: &TypeId,
+        t: &TypeId,
+    ) -> Result<Option<TypeId>, OutOfMemory>
+        requires left { IsHeld self.old s.now }
+        requires right { IsHeld self.old t.now }
+        ensures value { IfOk result
+            (λ u. MeansAny IsHeld meaning self.new u (join parents.now (meaning s.now) (meaning t.now))) }
+        ensures kept { KeepsTypes IsHeld self.old self.new }
     {
-        let kept = self.joins.recall(ty.number)?;
+        let types = Numbers::from_slice(alloc, &[s.number, t.number])?;
+        if let Some(kept) = self.kept_pair(parents, s, t, &types) {
+            return Ok(Some(kept));
+        }
+        let Some(ty) = self.boxes_join(alloc, parents, s, t)? else {
+            return Ok(None);
+        };
+        let made = self.made(alloc, &ty)?;
+        let joined = made.number;
+        self.keep_join(parents, Joined { types, joined });
+        Ok(Some(made))
+    }
+
+    /// The join of two types in boxes, or none.
+    pub(crate) fn boxes_join(
+        &self,
+        alloc: Global,
+        parents: &Parents,
+        s: &TypeId,
+        t: &TypeId,
+    ) -> Result<Option<BoxType>, OutOfMemory>
+        requires left { IsHeld self.now s.now }
+        requires right { IsHeld self.now t.now }
+        ensures { IfOk result (λ o.
+            MatchOption o (join parents.now (meaning s.now) (meaning t.now) ≡ None)
+            (λ u. IsGiven u × (join parents.now (meaning s.now) (meaning t.now) ≡ Some (tree_of u)))) }
+    {
+        let (s, t) = (self.table.ty(s.number), self.table.ty(t.number));
+        Ok(BoxStore::new().join(alloc, parents, s, t)?)
+    }
+
+    /// Whether a type of the store is `object`.
+    fn is_object(&self, ty: &TypeId) -> bool
+        requires { IsHeld self.now ty.now }
+        ensures { meaning ty.now ≡ Object → IsTrue result }
+    {
+        matches!(self.table.ty(ty.number), BoxType::Object)
+    }
+
+    /// The join of types, told by their numbers, where the store has kept it under the same parents.
+    fn kept_join(&self, parents: &Parents, types: &Numbers) -> Option<TypeId>
+        ensures held { IfSome result (IsHeld self.now) }
+        ensures value { (us : List Tree) → map (tree_at self.now) types.now.items ≡ map Some us
+            → IfSome result (λ t. meaning t ≡ types_joined parents.now us) }
+    {
+        let joined = self.joins.recall(types)?;
         if !self.parents.is_same(parents) {
             return None;
         }
-        Some(self.held(kept.joined))
+        Some(self.held(joined))
     }
 
-    /// Keeps the join of a type's parts, if the parents are the store's.
-    fn keep_join(&mut self, parents: &Parents, ty: &TypeId, joined: &TypeId)
-        requires parts_of { IsHeld self.old ty.now }
-        requires joined { IsHeld self.old joined.now }
-        requires value { meaning joined.now ≡ types_joined parents.now (parts (meaning ty.now)) }
+    /// The join of two types, which are told by their numbers too, where the store has kept it under the same parents.
+    fn kept_pair(
+        &self,
+        parents: &Parents,
+        s: &TypeId,
+        t: &TypeId,
+        types: &Numbers,
+    ) -> Option<TypeId>
+        requires left { IsHeld self.now s.now }
+        requires right { IsHeld self.now t.now }
+        requires types { types.now.items ≡ s.now.number ∷ t.now.number ∷ [] }
+        ensures held { IfSome result (IsHeld self.now) }
+        ensures value { IfSome result
+            (λ u. join parents.now (meaning s.now) (meaning t.now) ≡ Some (meaning u)) }
+    {
+        let kept = self.kept_join(parents, types)?;
+        // Where two types have no join, `object` is what several types join to.
+        if self.is_object(&kept) {
+            return None;
+        }
+        Some(kept)
+    }
+
+    /// Keeps a join, if the parents are the store's.
+    fn keep_join(&mut self, parents: &Parents, joined: Joined)
+        requires { IsJoined parents.now self.old joined }
         ensures { self.new ≡ self.old }
     {
         if self.parents.is_same(parents) {
-            self.joins.keep(Joined {
-                parts_of: ty.number,
-                joined: joined.number,
-            });
+            self.joins.keep(joined);
         }
     }
 }

@@ -1,8 +1,12 @@
-//! Answers that a store remembers: about pairs of its types, and what the parts of a type join to.
+//! Answers that a store remembers: about pairs of its types, and what several of them join to.
 
 ghost use Rattle.std.specs.Prelude.{◌≡◌, All, ◌+◌, ◌*◌, ◌%◌, ◌^◌, ◌<◌, Contains, IfOk, IfSome, None, Some, slice_set};
-ghost use Rattle.std.specs.Prelude.{vec_len};
+ghost use Rattle.std.specs.Prelude.{List, vec_len};
+ghost use Rattle.pc_types.specs.Below.{Bases};
+ghost use Rattle.pc_types.specs.declared.boxed.BoxType.{BoxType};
+ghost use Rattle.pc_intern.specs.Store.{AreJoined, IsJoined};
 
+use crate::table::Numbers;
 use pc_source::OutOfMemory;
 use std::alloc::Global;
 
@@ -65,18 +69,32 @@ impl Memo {
     }
 }
 
-/// What the parts of a type join to, both told by their numbers.
-#[derive(Clone, Copy)]
+/// How many places the table of joins has.
+const JOIN_PLACES: usize = 1024;
+
+/// What types join to, all told by their numbers.
+#[derive(Drop)]
 pub(crate) struct Joined {
-    pub(crate) parts_of: usize,
+    pub(crate) types: Numbers,
     pub(crate) joined: usize,
 }
 
-/// A table of places, each of which keeps what the parts of one type join to, or nothing yet.
+/// A table of places, each of which keeps what some types join to, or nothing yet.
 #[derive(Drop)]
 pub(crate) struct Joins {
     places: Vec<Option<Joined>>,
-    pub ghost all_places: { vec_len places ≡ 4096 },
+    pub ghost all_places: { vec_len places ≡ 1024 },
+}
+
+/// The place of several numbers.
+fn place_of_all(numbers: &[usize]) -> usize
+    ensures { result < 1024 }
+{
+    let mut place = 0usize;
+    for number in numbers {
+        place = place.wrapping_mul(31).wrapping_add(*number);
+    }
+    place % JOIN_PLACES
 }
 
 impl Joins {
@@ -84,28 +102,31 @@ impl Joins {
     pub(crate) fn new(alloc: Global) -> Result<Joins, OutOfMemory>
         ensures { IfOk result (λ m. All (λ o. o ≡ None) m.places.items) }
     {
-        let mut places = Vec::with_capacity(alloc, PLACES)?;
-        places.resize(PLACES, None)?;
+        let mut places = Vec::with_capacity(alloc, JOIN_PLACES)?;
+        for place in 0..JOIN_PLACES {
+            places.push(None)?;
+        }
         Ok(Joins { places })
     }
 
-    /// What is kept about the parts of a type.
-    pub(crate) fn recall(&self, parts_of: usize) -> Option<Joined>
-        ensures told { IfSome result (λ j. j.parts_of ≡ parts_of) }
-        ensures kept { IfSome result (λ j. Contains self.now.places.items (Some j)) }
+    /// What is kept about types.
+    pub(crate) fn recall(&self, types: &Numbers) -> Option<usize>
+        ensures { (bases : Bases) (table : List BoxType) → AreJoined bases table self.now.places.items
+            → IfSome result (λ n. IsJoined bases table (record { types = types.now; joined = n })) }
     {
-        let joined = self.places[parts_of % PLACES]?;
-        if joined.parts_of != parts_of {
+        let joined = self.places[place_of_all(types.as_slice())].as_ref()?;
+        if joined.types.as_slice() != types.as_slice() {
             return None;
         }
-        Some(joined)
+        Some(joined.joined)
     }
 
-    /// Keeps what the parts of a type join to, in place of what is kept about another type of its place.
+    /// Keeps what types join to, in place of what is kept about others of their place.
     pub(crate) fn keep(&mut self, joined: Joined)
-        ensures { self.new.places.items
-            ≡ slice_set self.old.places.items (joined.parts_of % 4096) (Some joined) }
+        ensures { (bases : Bases) (table : List BoxType) → AreJoined bases table self.old.places.items
+            → IsJoined bases table joined → AreJoined bases table self.new.places.items }
     {
-        self.places[joined.parts_of % PLACES] = Some(joined);
+        let place = place_of_all(joined.types.as_slice());
+        self.places[place] = Some(joined);
     }
 }

@@ -9,7 +9,7 @@ ghost use Rattle.pc_types.specs.Store.{Means, KeepsTypes};
 ghost use Rattle.pc_types.specs.JoinedTypes.{types_joined};
 ghost use Rattle.pc_types.specs.Computed.{static_test, assignable_test};
 ghost use Rattle.pc_intern.specs.Table.{tree_at};
-ghost use Rattle.pc_intern.specs.Store.{IsHeld, IsRight, meaning};
+ghost use Rattle.pc_intern.specs.Store.{IsHeld, IsRight, meaning, number_of};
 
 use crate::memo::{Answers, Joins, Memo};
 use crate::table::{Node, Numbers, Table};
@@ -19,10 +19,6 @@ use pc_types::{BoxStore, BoxType, Head, Parents, TypeStore};
 use std::alloc::Global;
 use std::marker::Model;
 use std::snapshot::Snapshot;
-
-/// Up to how many classes the memo is asked. Whether parents are the store's is told by comparing the two lists, and of
-/// more classes that takes longer than most types take to be compared in boxes.
-const MEMO_CLASSES: usize = 256;
 
 /// A type of an interned store: its number, and what it means, of which only contracts know.
 #[derive(Drop)]
@@ -138,9 +134,10 @@ impl InternStore {
     }
 
     /// The numbers of types.
-    fn numbers(&self, alloc: Global, types: &[TypeId]) -> Result<Numbers, OutOfMemory>
+    pub(crate) fn numbers(&self, alloc: Global, types: &[TypeId]) -> Result<Numbers, OutOfMemory>
         requires { All (IsHeld self.now) types.now }
-        ensures { IfOk result (λ v. map (tree_at self.now) v.items ≡ map Some (map meaning types.now)) }
+        ensures numbers { IfOk result (λ v. v.items ≡ map number_of types.now) }
+        ensures trees { IfOk result (λ v. map (tree_at self.now) v.items ≡ map Some (map meaning types.now)) }
     {
         let mut numbers = Numbers::new(alloc);
         for ty in types {
@@ -186,7 +183,7 @@ impl InternStore {
         if self.table.is_simple(s.number) && self.table.is_simple(t.number) {
             return None;
         }
-        if self.parents.count() > MEMO_CLASSES || !self.parents.is_same(parents) {
+        if !self.is_memo_asked(s, t) || !self.parents.is_same(parents) {
             return None;
         }
         if let Some(answers) = self.memo.recall(s.number, t.number) {
@@ -276,6 +273,9 @@ impl TypeStore for InternStore {
         if let Some(known) = self.known(Head::Tuple(parts.len()), numbers) {
             return Ok(Some(known));
         }
+        if self.is_tuple_large(parts) {
+            return Ok(None);
+        }
         let boxes = self.boxes(alloc, parts)?;
         match BoxStore::new().tuple(alloc, &boxes)? {
             None => Ok(None),
@@ -288,7 +288,7 @@ impl TypeStore for InternStore {
     }
 
     fn head(&self, ty: &TypeId) -> Head {
-        BoxStore::new().head(self.table.ty(ty.number))
+        self.table.head(ty.number)
     }
 
     fn nodes(&self, ty: &TypeId) -> usize {
@@ -340,8 +340,10 @@ impl TypeStore for InternStore {
         if let Some(joined) = self.join_at_once(s, t) {
             return Ok(Some(joined));
         }
-        let (s, t) = (self.table.ty(s.number), self.table.ty(t.number));
-        match BoxStore::new().join(alloc, parents, s, t)? {
+        if self.is_pair_kept(s, t) {
+            return self.pair_joined(alloc, parents, s, t);
+        }
+        match self.boxes_join(alloc, parents, s, t)? {
             None => Ok(None),
             Some(ty) => Ok(Some(self.made(alloc, &ty)?)),
         }
@@ -359,10 +361,7 @@ impl TypeStore for InternStore {
         if !self.are_kept(types) {
             return self.joined(alloc, parents, types);
         }
-        match self.tuple(alloc, types)? {
-            Some(tuple) => self.parts_joined(alloc, parents, &tuple, types),
-            None => self.joined(alloc, parents, types),
-        }
+        self.joined_once(alloc, parents, types)
     }
 
     fn is_static(&mut self, parents: &Parents, s: &TypeId, t: &TypeId) -> bool {

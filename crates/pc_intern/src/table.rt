@@ -4,6 +4,7 @@ ghost use Rattle.std.specs.Prelude.{◌≡◌, ◌↔◌, ◌<◌, ◌++◌, ℕ
 ghost use Rattle.std.specs.Prelude.{IsTrue, OnOk, Some};
 ghost use Rattle.pc_types.specs.Tree.{Tree};
 ghost use Rattle.pc_types.specs.Boxed.{tree_of, IsGiven};
+ghost use Rattle.pc_types.specs.Head.{head_of};
 ghost use Rattle.pc_types.specs.Shape.{members, parts};
 ghost use Rattle.pc_intern.specs.Table.{tree_at, basic_types, IsNode, IsNodeAt, Grows};
 
@@ -88,6 +89,14 @@ impl Table {
         ensures given { IsGiven result.now }
     {
         &self.entries[number]
+    }
+
+    /// The head of a type, which its node has.
+    pub(crate) fn head(&self, number: usize) -> Head
+        requires { number < length self.now }
+        ensures { (b : _) → slice_get self.now number ≡ Some b → result ≡ head_of (tree_of b) }
+    {
+        self.entries.keys().as_slice()[number].head
     }
 
     /// The numbers of a type's parts in order.

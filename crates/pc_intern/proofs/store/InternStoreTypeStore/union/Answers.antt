@@ -7,4 +7,4 @@ pub returns-in-Some-clause-value : goal.returns-in-Some-clause-value
 returns-in-Some-clause-value c =
     let us = map meaning c.args.types.now in
     known_as c.args.self.now c.in-Some.known _ us c.in-Some.ensures.held c.in-Some.ensures.head
-    (c.in-Some.ensures.parts us c.in_ok-numbers.ensures)
+    (c.in-Some.ensures.parts us c.in_ok-numbers.ensures.trees)

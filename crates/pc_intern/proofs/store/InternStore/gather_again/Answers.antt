@@ -1,0 +1,30 @@
+use Rattle.std.proofs.Common.{◌≡◌, ap, ◌∙◌, unwrap_or}
+use Rattle.pc_types.specs.Tree.{Object}
+use Rattle.pc_types.specs.Join.{join}
+use Rattle.pc_types.specs.Boxed.{tree_of}
+use Rattle.pc_intern.specs.Store.{meaning}
+use Rattle.pc_intern.proofs.AddingNothing.{none_among, noted}
+use Rattle.pc_intern.proofs.Held.{means_now}
+use Rattle.pc_intern.proofs.store.InternStore.gather_again.Goals as goal
+use Rattle.pc_intern.proofs.store.InternStore.gather_again.Goals.{then-is_alike+in_ok-note, else-is_alike}
+
+pub returns-clause-value : goal.returns-clause-value
+returns-clause-value c =
+    let q : tree_of c.ty.result.now ≡ meaning c.args.ty.now = means_now c.self.inside.table c.args.self.now
+    c.args.ty.now c.ty.result.now c.self.view_is c.requires.ty c.ty.ensures.value in
+    c.in_ok-joined.ensures.value
+    ∙ ap (λ t. unwrap_or (join c.args.parents.now (tree_of c.args.gathered.joined) t) Object) q
+
+pub returns-clause-gathered : goal.returns-clause-gathered
+returns-clause-gathered c =
+    record {
+      given = c.in_ok-joined.ensures.given;
+      settled = elim c.if-is_alike.branch [
+        | then-is_alike+in_ok-note w ↦ λ n m. noted c.args.parents.now c.args.self.now
+            (tree_of c.args.gathered.joined) (tree_of c.in_ok-joined.joined) c.args.ty.now _ _ c.requires.ty
+            (returns-clause-value c) (c.is_alike.ensures w.if-is_alike.true ∙ c.in_ok-before.ensures.1)
+            c.requires.gathered.settled w.in_ok-note.ensures n (rw w.settled-is at m)
+        | else-is_alike w ↦ λ n m. absurd (none_among c.if-is_alike.settled.items n
+            (rw w.settled-is w.clear.ensures.items) m)
+      ];
+    }

@@ -1,0 +1,135 @@
+//! A join in the making, to which types are joined one after another.
+
+ghost use Rattle.std.specs.Prelude.{◌≡◌, ◌⊎◌, [], ℕ, Contains, IfOk, IsTrue, OnOk, unwrap_or};
+ghost use Rattle.pc_types.specs.Tree.{Never, Object};
+ghost use Rattle.pc_types.specs.Join.{join};
+ghost use Rattle.pc_types.specs.Boxed.{tree_of};
+ghost use Rattle.pc_intern.specs.Store.{IsGathered, IsHeld, meaning};
+
+use crate::alike::is_alike;
+use crate::store::{InternStore, TypeId};
+use crate::table::Numbers;
+use pc_source::OutOfMemory;
+use pc_types::{BoxStore, BoxType, Parents, TypeStore};
+use std::alloc::Global;
+
+/// How many numbers are kept of the types that add nothing, and of those that were joined before.
+const MANY: usize = 64;
+
+/// What types join to so far; some types that are known to add nothing to it; and some that were joined before. Types
+/// are told by their numbers.
+#[derive(Drop)]
+pub(crate) struct Gathered {
+    pub(crate) joined: BoxType,
+    pub(crate) settled: Numbers,
+    pub(crate) seen: Numbers,
+}
+
+impl Gathered {
+    /// What no types join to.
+    pub(crate) fn new(alloc: Global) -> Gathered
+        ensures joined { tree_of result.joined ≡ Never }
+        ensures settled { result.settled.items ≡ [] }
+    {
+        Gathered {
+            joined: BoxType::Never,
+            settled: Numbers::new(alloc),
+            seen: Numbers::new(alloc),
+        }
+    }
+}
+
+/// Whether a number is one of these.
+fn is_among(numbers: &Numbers, number: usize) -> bool
+    ensures { IsTrue result → Contains numbers.now.items number }
+{
+    let numbers = numbers.as_slice();
+    for i in 0..numbers.len() {
+        if numbers[i] == number {
+            return true;
+        }
+    }
+    false
+}
+
+/// Adds a number to others, which are forgotten where there are many.
+fn note(numbers: &mut Numbers, number: usize) -> Result<(), OutOfMemory>
+    ensures { OnOk result ((n : ℕ) → Contains numbers.new.items n → Contains numbers.old.items n ⊎ (number ≡ n)) }
+{
+    if numbers.len() >= MANY {
+        numbers.clear();
+    }
+    numbers.push(number)?;
+    Ok(())
+}
+
+impl InternStore {
+    /// A join in the making with one type more. A type that is known to add nothing is not looked at.
+    pub(crate) fn gather(
+        &self,
+        alloc: Global,
+        parents: &Parents,
+        gathered: Gathered,
+        ty: &TypeId,
+    ) -> Result<Gathered, OutOfMemory>
+        requires ty { IsHeld self.now ty.now }
+        requires gathered { IsGathered parents.now self.now gathered }
+        ensures gathered { IfOk result (IsGathered parents.now self.now) }
+        ensures value { IfOk result (λ g. tree_of g.joined
+            ≡ unwrap_or (join parents.now (tree_of gathered.joined) (meaning ty.now)) Object) }
+    {
+        if is_among(&gathered.settled, ty.number) {
+            return Ok(gathered);
+        }
+        if is_among(&gathered.seen, ty.number) {
+            return self.gather_again(alloc, parents, gathered, ty);
+        }
+        let Gathered {
+            joined,
+            mut seen,
+            ..
+        } = gathered;
+        note(&mut seen, ty.number)?;
+        let joined = BoxStore::new().join_onto(alloc, parents, joined, self.table.ty(ty.number))?;
+        let settled = Numbers::new(alloc);
+        Ok(Gathered {
+            joined,
+            settled,
+            seen,
+        })
+    }
+
+    /// A join in the making with one type more, which was joined before and so may add nothing.
+    fn gather_again(
+        &self,
+        alloc: Global,
+        parents: &Parents,
+        gathered: Gathered,
+        ty: &TypeId,
+    ) -> Result<Gathered, OutOfMemory>
+        requires ty { IsHeld self.now ty.now }
+        requires gathered { IsGathered parents.now self.now gathered }
+        ensures gathered { IfOk result (IsGathered parents.now self.now) }
+        ensures value { IfOk result (λ g. tree_of g.joined
+            ≡ unwrap_or (join parents.now (tree_of gathered.joined) (meaning ty.now)) Object) }
+    {
+        let Gathered {
+            joined,
+            mut settled,
+            seen,
+        } = gathered;
+        let store = BoxStore::new();
+        let before = store.copy(alloc, &joined)?;
+        let joined = store.join_onto(alloc, parents, joined, self.table.ty(ty.number))?;
+        if is_alike(&joined, &before) {
+            note(&mut settled, ty.number)?;
+        } else {
+            settled.clear();
+        }
+        Ok(Gathered {
+            joined,
+            settled,
+            seen,
+        })
+    }
+}

@@ -1,0 +1,48 @@
+//! Sizes of types that a store holds, by which it is decided how they are looked at.
+
+ghost use Rattle.std.specs.Prelude.{◌<◌, All, IsTrue, map};
+ghost use Rattle.pc_types.specs.Tree.{TupleOf};
+ghost use Rattle.pc_types.specs.Shape.{nodes, node_limit, trees};
+ghost use Rattle.pc_intern.specs.Store.{IsHeld, meaning};
+
+use crate::store::{InternStore, TypeId};
+use pc_types::{Head, TypeStore};
+
+/// How many nodes a type may have.
+const MOST_NODES: usize = 256;
+
+/// Up to how many classes the memo is asked of any two types. Whether parents are the store's is told by comparing the
+/// two lists, and of more classes that takes longer than most types take to be compared in boxes.
+const MEMO_CLASSES: usize = 256;
+
+impl InternStore {
+    /// Whether the memo is asked of two types: the parents are few classes, or no more than pairs of members.
+    pub(crate) fn is_memo_asked(&self, s: &TypeId, t: &TypeId) -> bool
+        requires left { IsHeld self.now s.now }
+        requires right { IsHeld self.now t.now }
+    {
+        let classes = self.parents.count();
+        match (self.table.head(s.number), self.table.head(t.number)) {
+            (Head::Union(left), Head::Union(right)) if classes > MEMO_CLASSES => {
+                classes <= left.saturating_mul(right)
+            }
+            _ => classes <= MEMO_CLASSES,
+        }
+    }
+
+    /// Whether a tuple of these types has more nodes than a type may have, so that none of them need be copied.
+    pub(crate) fn is_tuple_large(&self, types: &[TypeId]) -> bool
+        requires { All (IsHeld self.now) types.now }
+        ensures { IsTrue result → node_limit < nodes (TupleOf (trees (map meaning types.now))) }
+    {
+        let mut nodes = 1;
+        for ty in types {
+            let more = self.nodes(ty);
+            if more > MOST_NODES - nodes {
+                return true;
+            }
+            nodes += more;
+        }
+        false
+    }
+}
