@@ -2,7 +2,8 @@
 use Rattle.std.proofs.Common.{◌≡◌, ℕ, suc, ◌<◌, arith, All, Contains, map, List, [], ◌∷◌, ◌++◌, Bool, true, false, cond}
 use Rattle.std.proofs.Common.{Option, Some, None, refl, sym, ap, ◌∙◌, subst, Equal}
 use Rattle.std.specs.Prelude.{◌&&◌, nat_eq, if◌then◌else◌, option_map, is_some, IsSome, IfSome, MatchOption}
-use Rattle.std.specs.Prelude.{string_bytes, box_value}
+use Rattle.std.specs.Prelude.{box_value}
+use Rattle.std.specs.Rc.{rc_str_bytes}
 use Rattle.std.specs.Borrow.{Bor}
 use Rattle.std.proofs.lemmas.Cmp.{ranked}
 use Rattle.std.proofs.lemmas.Bool.{eqb-true, eq-eqb}
@@ -263,11 +264,11 @@ noted_pair flows notes has e is = sym (has.first e.0) ∙ ap (option_map (λ (f 
 -- one text more is that of the flow of its entry
 pub text_of_pair : (m : Module) (flows : BTreeMap Place (Bor Flow)) (notes : List Note) → HasFirstFlows notes flows
     → (e : Place × Bor Flow) → IsPairOf flows e
-    → (text : FlowText) → text.0 ≡ e.0 → string_bytes text.1 ≡ type_text m (tree_of e.1.now.from)
-    → string_bytes text.2 ≡ type_text m (tree_of e.1.now.into) → IsFlowText m notes text
+    → (text : FlowText) → text.0 ≡ e.0 → rc_str_bytes text.1 ≡ type_text m (tree_of e.1.now.from)
+    → rc_str_bytes text.2 ≡ type_text m (tree_of e.1.now.into) → IsFlowText m notes text
 text_of_pair m flows notes has e is text at from into =
-    subst (λ (o : Option (Tree × Tree)). MatchOption o ⊥ (λ f. (string_bytes text.1 ≡ type_text m f.0)
-    × (string_bytes text.2 ≡ type_text m f.1)))
+    subst (λ (o : Option (Tree × Tree)). MatchOption o ⊥ (λ f. (rc_str_bytes text.1 ≡ type_text m f.0)
+    × (rc_str_bytes text.2 ≡ type_text m f.1)))
     (sym (ap (λ p. flow_noted p notes) at ∙ noted_pair flows notes has e is)) (from, into)
 
 -- what holds of each, and of one more

@@ -1,7 +1,9 @@
 -- The dynamic flows that are noted, each place once, with the texts of their types.
 -- Own rule of the profile.
 use denote.Bor.{Bor}
-use Rattle.std.specs.Prelude.{◌≡◌, List, Contains, IsSome, IfSome, MatchOption, String, string_bytes, map, option_map}
+use Rattle.std.specs.Prelude.{◌≡◌, List, Contains, IsSome, IfSome, MatchOption, map, option_map}
+use Rattle.std.specs.Rc.{rc_str_bytes}
+use Rattle.std.specs.declared.rc.RcStr.{RcStr}
 use Rattle.std.specs.declared.alloc.Global.{Global}
 use Rattle.std.specs.declared.cmp.Ordering.{Ordering}
 use Rattle.std.specs.Ordering.{ordering_then, nat_cmp}
@@ -16,13 +18,13 @@ use Rattle.pc_notes.specs.Notes.{Note, flow_types, flow_noted, IsGivenFlow}
 
 -- a place, with the texts of the type that flows there and of the type that it flows into
 abbrev pub FlowText : Type 0
-FlowText = Place × String Global × String Global
+FlowText = Place × RcStr Global × RcStr Global
 
 -- the texts are those of the types of the first flow that is noted at the place
 abbrev pub IsFlowText : Module → List Note → FlowText → Type 0
 IsFlowText m notes text =
     MatchOption (flow_noted text.0 notes) ⊥
-    (λ f. (string_bytes text.1 ≡ type_text m f.0) × (string_bytes text.2 ≡ type_text m f.1))
+    (λ f. (rc_str_bytes text.1 ≡ type_text m f.0) × (rc_str_bytes text.2 ≡ type_text m f.1))
 
 -- the order of places
 abbrev pub place_cmp : Place → Place → Ordering

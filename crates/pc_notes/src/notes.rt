@@ -4,6 +4,9 @@ ghost use Rattle.std.specs.Prelude.{◌≡◌, ◌++◌, ◌∷◌, [], map, All
 ghost use Rattle.std.specs.Prelude.{if◌then◌else◌};
 ghost use Rattle.pc_tree.specs.Code.{finding};
 ghost use Rattle.pc_tree.specs.Tree.{module_of};
+ghost use Rattle.std.specs.Rc.{rc_str_bytes};
+ghost use Rattle.pc_ann.specs.Text.{type_text};
+ghost use Rattle.pc_types.specs.Boxed.{tree_of, IsGiven};
 ghost use Rattle.pc_types.specs.Store.{KeepsTypes};
 ghost use Rattle.pc_notes.specs.Notes.{IsGivenFlow, Note, note_of, notes_of, plain_note, dynamic, typed, findings_of};
 ghost use Rattle.pc_notes.specs.Notes.{is_same_place, entry_place, kept_flow, flow_noted, ExplainsFlow};
@@ -17,8 +20,9 @@ use pc_source::{OutOfMemory, Place};
 use pc_tree::{Code, Finding, Findings, Module};
 use pc_types::{BoxStore, BoxType, TypeStore};
 use std::alloc::Global;
-use std::collections::BTreeMap;
+use std::collections::{BTreeMap, BTreeSet};
 use std::marker::Model;
+use std::rc::RcStr;
 
 /// The two types of a dynamic flow: the one that flows, and the one that it flows into.
 #[derive(Drop)]
@@ -234,7 +238,7 @@ impl Notes {
         &self,
         alloc: Global,
         tree: &Module,
-    ) -> Result<Vec<(Place, String, String)>, OutOfMemory>
+    ) -> Result<Vec<(Place, RcStr, RcStr)>, OutOfMemory>
         ensures { IfOk result (λ v. AreFlowTexts (module_of tree.now) (notes_of self.now) v.items) }
     {
         let flows = self.first_flows(alloc)?;
@@ -267,18 +271,37 @@ fn texts_of(
     alloc: Global,
     tree: &Module,
     flows: &BTreeMap<Place, &Flow>,
-) -> Result<Vec<(Place, String, String)>, OutOfMemory>
+) -> Result<Vec<(Place, RcStr, RcStr)>, OutOfMemory>
     requires { HasGivenFlows flows.now }
     ensures { IfOk result (λ v. (notes : List Note) → HasFirstFlows notes flows.now
         → AreFlowTexts (module_of tree.now) notes v.items) }
 {
-    let store = BoxStore::new();
+    let mut known = BTreeSet::new(alloc);
     let mut texts = Vec::new(alloc);
     for entry in flows.iter() {
         let (place, flow) = entry;
-        let from = type_text(&store, alloc, tree, &flow.from)?;
-        let into = type_text(&store, alloc, tree, &flow.into)?;
+        let from = shared_text(&mut known, alloc, tree, &flow.from)?;
+        let into = shared_text(&mut known, alloc, tree, &flow.into)?;
         texts.push((*place, from, into))?;
     }
     Ok(texts)
+}
+
+/// The text of a type: the known one, where it is known.
+fn shared_text(
+    known: &mut BTreeSet<RcStr>,
+    alloc: Global,
+    tree: &Module,
+    ty: &BoxType,
+) -> Result<RcStr, OutOfMemory>
+    requires { IsGiven ty.now }
+    ensures { IfOk result (λ t. rc_str_bytes t ≡ type_text (module_of tree.now) (tree_of ty.now)) }
+{
+    let text = type_text(&BoxStore::new(), alloc, tree, ty)?;
+    if let Some(same) = known.get(text.as_str()) {
+        return Ok(same.clone()?);
+    }
+    let text = RcStr::from_string(text)?;
+    known.insert(text.clone()?)?;
+    Ok(text)
 }

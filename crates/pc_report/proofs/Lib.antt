@@ -3,3 +3,4 @@ pub mod Json
 pub mod Lines
 pub mod Listed
 pub mod Order
+pub mod Underway

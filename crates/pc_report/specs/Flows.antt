@@ -1,6 +1,8 @@
 -- The texts of explained flows, and which of them a row has. Own rule of the profile.
 use denote.Bor.{Bor}
-use Rattle.std.specs.Prelude.{◌≡◌, List, Contains, Option, MatchOption, String, string_bytes}
+use Rattle.std.specs.Prelude.{◌≡◌, List, Contains, Option, MatchOption}
+use Rattle.std.specs.Rc.{rc_str_bytes}
+use Rattle.std.specs.declared.rc.RcStr.{RcStr}
 use Rattle.std.specs.declared.alloc.Global.{Global}
 use Rattle.std.specs.declared.cmp.Ordering.{Ordering}
 use Rattle.std.specs.Ordering.{ordering_then, nat_cmp}
@@ -12,7 +14,7 @@ use Rattle.pc_report.specs.declared.flow.FlowTexts.{FlowTexts}
 
 -- a place, with the texts of the type that a value has there and of the type of where it goes
 abbrev pub FlowEntry : Type 0
-FlowEntry = Place × String Global × String Global
+FlowEntry = Place × RcStr Global × RcStr Global
 
 -- a flow of the list is at the place
 abbrev pub IsListed : List FlowEntry → Place → Type 0
@@ -21,7 +23,7 @@ IsListed flows place = (f : FlowEntry) × Contains flows f × (f.0 ≡ place)
 -- a flow of the list is at the place, with these texts
 abbrev pub ListsAt : List FlowEntry → Place → FlowTexts → Type 0
 ListsAt flows place texts = (f : FlowEntry) × Contains flows f × (f.0 ≡ place)
-    × (string_bytes texts.from ≡ string_bytes f.1) × (string_bytes texts.to ≡ string_bytes f.2)
+    × (rc_str_bytes texts.from ≡ rc_str_bytes f.1) × (rc_str_bytes texts.to ≡ rc_str_bytes f.2)
 
 -- a finding of a flow through `Any` has the texts that the list has at its place, where it has some; other findings
 -- have none

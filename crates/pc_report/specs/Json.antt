@@ -1,5 +1,6 @@
 -- The report as JSON: compact, with the keys in order. Own rule of the profile; RFC 8259.
-use Rattle.std.specs.Prelude.{◌<◌, ◌^◌, ℕ, List, [], ◌∷◌, ◌++◌, Option, None, Some, codes, decimal, map, string_bytes}
+use Rattle.std.specs.Prelude.{◌<◌, ◌^◌, ℕ, List, [], ◌∷◌, ◌++◌, Option, None, Some, codes, decimal, map}
+use Rattle.std.specs.Rc.{rc_str_bytes}
 use Rattle.json.specs.Print.{quoted}
 use Rattle.serde_json.specs.Data.{Data, number, string, array, object, unsigned, Items, Members, no_members, member}
 use Rattle.serde_json.specs.View.{items_of}
@@ -15,12 +16,12 @@ use Rattle.pc_report.specs.Report.{errors_of, dynamic_count, shown_flow}
 -- the first type of a flow that is shown
 abbrev pub from_json : Option FlowTexts → List ℕ
 from_json None = []
-from_json (Some flow) = codes ",\"from\":" ++ quoted (string_bytes flow.from)
+from_json (Some flow) = codes ",\"from\":" ++ quoted (rc_str_bytes flow.from)
 
 -- its second type
 abbrev pub to_json : Option FlowTexts → List ℕ
 to_json None = []
-to_json (Some flow) = codes ",\"to\":" ++ quoted (string_bytes flow.to)
+to_json (Some flow) = codes ",\"to\":" ++ quoted (rc_str_bytes flow.to)
 
 -- a finding, with the flow that is shown
 abbrev pub finding_json : Option FlowTexts → Row → List ℕ
@@ -63,10 +64,10 @@ finding_members (Some flow) row =
     member (codes "code") (string (text_of row.finding.code))
     (member (codes "column") (number (unsigned row.column))
     (member (codes "end") (number (unsigned row.finding.place.end))
-    (member (codes "from") (string (string_bytes flow.from))
+    (member (codes "from") (string (rc_str_bytes flow.from))
     (member (codes "line") (number (unsigned row.line))
     (member (codes "start") (number (unsigned row.finding.place.start))
-    (member (codes "to") (string (string_bytes flow.to)) no_members))))))
+    (member (codes "to") (string (rc_str_bytes flow.to)) no_members))))))
 
 -- a finding as an object
 abbrev pub finding_data : Format → Row → Data

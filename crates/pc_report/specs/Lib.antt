@@ -1,6 +1,7 @@
 pub mod Flows
 pub mod Format
 pub mod Json
+pub mod Pieces
 pub mod ReadBack
 pub mod Report
 pub mod Writing

@@ -1,6 +1,7 @@
 -- The report of findings: sorted, without repeats, with lines and columns; and its text. Own rule of the profile.
-use Rattle.std.specs.Prelude.{◌≡◌, ℕ, Option, None, Some, string_bytes, ◌<◌, ◌⊎◌, List, [], ◌∷◌, ◌++◌, ◌↔◌, map}
+use Rattle.std.specs.Prelude.{◌≡◌, ℕ, Option, None, Some, ◌<◌, ◌⊎◌, List, [], ◌∷◌, ◌++◌, ◌↔◌, map}
 use Rattle.std.specs.Prelude.{Contains, codes, count_by, not, option_map, box_value}
+use Rattle.std.specs.Rc.{rc_str_bytes}
 use Rattle.std.specs.declared.cmp.Ordering.TheVariants.{Less}
 use Rattle.std.specs.Ordering.{nat_cmp}
 use Rattle.std.specs.Cmp.Lexicographic.{slice_cmp}
@@ -58,7 +59,7 @@ shown_flow Two row = row_flow row
 -- the two types of a flow
 abbrev pub flow_text : Option FlowTexts → List ℕ
 flow_text None = []
-flow_text (Some flow) = 32 ∷ (string_bytes flow.from ++ (codes " -> " ++ string_bytes flow.to))
+flow_text (Some flow) = 32 ∷ (rc_str_bytes flow.from ++ (codes " -> " ++ rc_str_bytes flow.to))
 
 -- a row's line and column, its code and its label, and the flow that is shown
 abbrev pub row_text : Format → Row → List ℕ

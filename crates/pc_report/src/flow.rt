@@ -7,19 +7,20 @@ use pc_source::{OutOfMemory, Place};
 use pc_tree::{Code, Finding};
 use std::alloc::Global;
 use std::collections::BTreeMap;
+use std::rc::RcStr;
 
-/// The texts of the two types of a flow: the type of the value, and the type of where it goes.
+/// The texts of the two types of a flow: the type of the value, and the type of where it goes. Flows may share them.
 #[derive(Debug, Drop, PartialEq, Eq)]
 pub struct FlowTexts {
-    pub from: String,
-    pub to: String,
+    pub from: RcStr,
+    pub to: RcStr,
 }
 
 /// The flows of a list, each by its place.
 pub(crate) fn by_place<'a>(
     alloc: Global,
-    flows: &'a [(Place, String, String)],
-) -> Result<BTreeMap<Place, &'a (Place, String, String)>, OutOfMemory>
+    flows: &'a [(Place, RcStr, RcStr)],
+) -> Result<BTreeMap<Place, &'a (Place, RcStr, RcStr)>, OutOfMemory>
     ensures { IfOk result (λ m. HasFlows flows.now m) }
 {
     let mut map = BTreeMap::new(alloc);
@@ -33,7 +34,7 @@ pub(crate) fn by_place<'a>(
 pub(crate) fn texts_of(
     alloc: Global,
     finding: Finding,
-    flows: &BTreeMap<Place, &(Place, String, String)>,
+    flows: &BTreeMap<Place, &(Place, RcStr, RcStr)>,
 ) -> Result<Option<Box<FlowTexts>>, OutOfMemory>
     ensures { IfOk result (λ t. (listed : _) → HasFlows listed flows.now
         → IsExplained listed finding (option_map box_value t)) }

@@ -4,9 +4,12 @@
 
 mod flow;
 mod format;
+mod json_pieces;
 mod object;
+mod pieces;
 mod reading;
 mod report;
+mod text_pieces;
 mod writing;
 
 pub use flow::FlowTexts;

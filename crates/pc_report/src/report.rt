@@ -17,6 +17,7 @@ use pc_tree::Finding;
 use std::alloc::Global;
 use std::collections::BTreeMap;
 use std::marker::Model;
+use std::rc::RcStr;
 
 /// A finding, with the line and the column of its start, both from 1, and the two types of the
 /// flow that it tells of, where they were given.
@@ -199,7 +200,7 @@ fn rows(
     alloc: Global,
     source: &Source,
     findings: &[Finding],
-    flows: &BTreeMap<Place, &(Place, String, String)>,
+    flows: &BTreeMap<Place, &(Place, RcStr, RcStr)>,
 ) -> Result<Vec<Row>, OutOfMemory>
     ensures findings { IfOk result (λ v. row_findings v.items ≡ findings.now) }
     ensures placed { IfOk result (λ v. AllByRecursion (IsPlaced source.now) v.items) }
@@ -232,7 +233,7 @@ impl Report {
         alloc: Global,
         source: &Source,
         findings: &[Finding],
-        flows: &[(Place, String, String)],
+        flows: &[(Place, RcStr, RcStr)],
     ) -> Result<Report, OutOfMemory>
         ensures lists { IfOk result (Lists source.now (Contains findings.now)) }
         ensures explains { IfOk result (ExplainsRows flows.now) }

@@ -1,7 +1,8 @@
 -- The rows of a report, whose flows are those of the notes of a module, are explained.
 use Rattle.std.proofs.Common.{◌≡◌, zero, suc, List, [], ◌∷◌, refl, sym, ap, ◌∙◌, subst, inl, inr, arith, Contains}
 use Rattle.std.proofs.Common.{Option, Some, None}
-use Rattle.std.specs.Prelude.{◌⊎◌, MatchOption, IsSome, string_bytes}
+use Rattle.std.specs.Prelude.{◌⊎◌, MatchOption, IsSome}
+use Rattle.std.specs.Rc.{rc_str_bytes}
 use Rattle.std.specs.List.{AllByRecursion}
 use Rattle.pc_source.specs.declared.place.Place.{Place}
 use Rattle.pc_tree.specs.declared.code.Code.TheVariants.{A1}
@@ -77,8 +78,8 @@ module _ (m : Module) (notes : List Note) (texts : List FlowText) (are : AreFlow
     (flows : TellsFlows m notes) where
   -- texts of what notes tell of at a place are those of the dynamic flow there
   read_as : (p : Place) (o : Option (Tree × Tree)) (t : FlowText) (shown : FlowTexts) → flow_noted p notes ≡ o
-      → string_bytes shown.from ≡ string_bytes t.1 → string_bytes shown.to ≡ string_bytes t.2
-      → MatchOption o ⊥ (λ f. (string_bytes t.1 ≡ type_text m f.0) × (string_bytes t.2 ≡ type_text m f.1))
+      → rc_str_bytes shown.from ≡ rc_str_bytes t.1 → rc_str_bytes shown.to ≡ rc_str_bytes t.2
+      → MatchOption o ⊥ (λ f. (rc_str_bytes t.1 ≡ type_text m f.0) × (rc_str_bytes t.2 ≡ type_text m f.1))
       → AreTextsOfFlow m p shown
   read_as p None t shown is from to h = absurd h
   read_as p (Some f) t shown is from to h = record {
@@ -101,8 +102,8 @@ module _ (m : Module) (notes : List Note) (texts : List FlowText) (are : AreFlow
       let noted : flow_noted t.0 notes ≡ flow_noted finding.place notes = ap (λ p. flow_noted p notes) h.1.2 in (
         h.0,
         read_as finding.place (flow_noted finding.place notes) t shown refl h.1.3 h.1.4
-            (subst (λ (o : Option (Tree × Tree)). MatchOption o ⊥ (λ f. (string_bytes t.1 ≡ type_text m f.0)
-            × (string_bytes t.2 ≡ type_text m f.1))) noted own),
+            (subst (λ (o : Option (Tree × Tree)). MatchOption o ⊥ (λ f. (rc_str_bytes t.1 ≡ type_text m f.0)
+            × (rc_str_bytes t.2 ≡ type_text m f.1))) noted own),
       )
 
   pub rows_explained : (rows : List Row) → ((f : Finding) → Contains (row_findings rows) f → IsFinding m f)

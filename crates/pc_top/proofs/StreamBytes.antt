@@ -15,7 +15,6 @@ use Rattle.pc_report.specs.declared.report.Row.{Row}
 use Rattle.pc_report.specs.declared.writing.WriteFault.{WriteFault}
 use Rattle.pc_report.specs.declared.writing.WriteFault.TheVariants as write_fault
 use Rattle.pc_report.specs.Report.{errors_of, dynamic_count}
-use Rattle.pc_report.specs.Writing.{OnWriteFault}
 use Rattle.pc_top.specs.Headline.{Headline, OnCheckFault}
 use Rattle.pc_top.specs.Streaming.{AreBytesOf, IsRefusedStream, IsReported, IsBegun, IsWithinStream, WhenRefused}
 use Rattle.pc_top.specs.Streaming.{WhenWriteFails, most_read, report_bytes, write_checked}
@@ -117,10 +116,8 @@ module _ (told left : Option (List ℕ)) (given : List ℕ) (consumed : Consumes
       written = written;
     }
 
-    pub begun_stream : (e : WriteFault) → OnWriteFault e (new ≡ old)
-        (TakesBeginning contents (report_bytes json format rows) old new)
+    pub begun_stream : (e : WriteFault) → TakesBeginning contents (report_bytes json format rows) old new
         → WhenWriteFails (IsBegun contents told json format old new) (write_checked e)
-    begun_stream write_fault.OutOfMemory written = tt
     begun_stream write_fault.Write written = record {
       bytes = all_bytes told given;
       given = are_all told given;

@@ -1,5 +1,6 @@
 -- The main theorem's statement: what a report says of the bytes, and what a refusal does.
-use Rattle.std.specs.Prelude.{◌≡◌, ℕ, List, Contains, MatchOption, string_bytes}
+use Rattle.std.specs.Prelude.{◌≡◌, ℕ, List, Contains, MatchOption}
+use Rattle.std.specs.Rc.{rc_str_bytes}
 use Rattle.std.specs.List.{AllByRecursion}
 use Rattle.pc_source.specs.declared.place.Place.{Place}
 use Rattle.pc_source.specs.declared.fault.Fault.{Fault}
@@ -47,8 +48,8 @@ pub record AreTextsOfFlow (m : Module) (place : Place) (texts : FlowTexts) : Typ
   pub from : Tree
   pub into : Tree
   pub flows : FlowsDynamically m place from into
-  pub from_text : string_bytes texts.from ≡ type_text m from
-  pub into_text : string_bytes texts.to ≡ type_text m into
+  pub from_text : rc_str_bytes texts.from ≡ type_text m from
+  pub into_text : rc_str_bytes texts.to ≡ type_text m into
 
 -- a row of a dynamic flow has the texts of its two types, and no other row has texts
 abbrev pub IsExplainedRow : Module → Row → Type 0

@@ -24,7 +24,6 @@ read_checked read_fault.Read = check_fault.Read
 
 -- the fault of a check that a fault of writing is
 abbrev pub write_checked : WriteFault → CheckFault
-write_checked write_fault.OutOfMemory = check_fault.OutOfMemory
 write_checked write_fault.Write = check_fault.Write
 
 -- whether the answer is that the reader failed

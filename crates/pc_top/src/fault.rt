@@ -61,7 +61,6 @@ impl From<WriteFault> for CheckFault {
 
     fn from(fault: WriteFault) -> CheckFault {
         match fault {
-            WriteFault::OutOfMemory => CheckFault::OutOfMemory,
             WriteFault::Write => CheckFault::Write,
         }
     }

@@ -20,7 +20,6 @@ const MOST: usize = 1_048_577;
 
 /// Writes a report in a format, as JSON or as text.
 fn write_report<W: Write + Drop>(
-    alloc: Global,
     report: &Report,
     writer: &mut Counted<W>,
     json: bool,
@@ -29,9 +28,9 @@ fn write_report<W: Write + Drop>(
     ensures { IsWritten W.contents (report_bytes json format report.now) writer.old writer.new result }
 {
     if json {
-        report.write_json(alloc, format, writer)
+        report.write_json(format, writer)
     } else {
-        report.write_text(alloc, format, writer)
+        report.write_text(format, writer)
     }
 }
 
@@ -73,6 +72,6 @@ pub fn check_stream<R: Read + Drop, W: Write + Drop>(
 {
     let bytes = read_at_most(alloc, reader, MOST)?;
     let report = report_of(alloc, bytes.as_slice(), Memory::Left)?;
-    write_report(alloc, &report, writer, json, format)?;
+    write_report(&report, writer, json, format)?;
     Ok((report.errors(), report.dynamic()))
 }

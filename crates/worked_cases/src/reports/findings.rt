@@ -4,6 +4,7 @@ use pc_source::{Counted, Fault, Place, read_source};
 use pc_tree::{Code, Finding};
 use serde_json::Value;
 use std::alloc::{AllocError, Global};
+use std::rc::RcStr;
 use worked_rows::in_one_line;
 
 /// The codes that rows list.
@@ -43,7 +44,7 @@ fn finding_of(words: &str) -> Option<Finding> {
 #[derive(Drop)]
 struct Listed {
     findings: Vec<Finding>,
-    flows: Vec<(Place, String, String)>,
+    flows: Vec<(Place, RcStr, RcStr)>,
 }
 
 /// Adds a line of a row: a finding, `187 188 A1`, or with the types of its flow, `187 188 A1: list[int] -> list[Any]`.
@@ -54,8 +55,8 @@ fn add_line(alloc: Global, listed: &mut Listed, line: &str) -> Result<(), AllocE
     };
     listed.findings.push(finding)?;
     if let Some((from, into)) = types.split_once(" -> ") {
-        let from = String::from_str(alloc, from)?;
-        let into = String::from_str(alloc, into)?;
+        let from = RcStr::from_str(alloc, from)?;
+        let into = RcStr::from_str(alloc, into)?;
         listed.flows.push((finding.place, from, into))?;
     }
     Ok(())
@@ -77,7 +78,7 @@ fn report_of(alloc: Global, lines: &str, text: &str) -> Result<Report, Fault> {
 /// A report as JSON in a format, written to a device, when it was read again.
 fn read_again(alloc: Global, report: &Report, format: Format) -> Result<String, Fault> {
     let mut device = Counted::new(Vec::new(alloc));
-    let outcome = report.write_json(alloc, format, &mut device);
+    let outcome = report.write_json(format, &mut device);
     let json = report.to_json(alloc, format)?;
     let Ok(value) = Value::from_str(alloc, json.as_str()) else {
         return Ok(String::from_str(alloc, "no JSON\n")?);
@@ -92,7 +93,7 @@ fn read_again(alloc: Global, report: &Report, format: Format) -> Result<String, 
 /// A report as a text in a format, written to a device.
 fn written(alloc: Global, report: &Report, format: Format) -> Result<String, Fault> {
     let mut device = Counted::new(Vec::new(alloc));
-    let outcome = report.write_text(alloc, format, &mut device);
+    let outcome = report.write_text(format, &mut device);
     let text = report.to_text(alloc, format)?;
     if outcome.is_ok() && device.inner().as_slice() == text.as_bytes() {
         return Ok(text);

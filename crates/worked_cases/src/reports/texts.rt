@@ -44,7 +44,6 @@ pub fn fault_text<C: Checker>(
     checker: &C,
 ) -> Result<String, AllocError> {
     match name {
-        "report: OutOfMemory" => format!(in alloc; "{}", WriteFault::OutOfMemory),
         "report: Write" => format!(in alloc; "{}", WriteFault::Write),
         "input: OutOfMemory" => format!(in alloc; "{}", ReadFault::OutOfMemory),
         "input: Read" => format!(in alloc; "{}", ReadFault::Read),

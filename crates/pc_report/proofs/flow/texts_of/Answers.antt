@@ -1,6 +1,7 @@
 use Rattle.std.proofs.Common.{◌≡◌, sym, subst, Contains, Some, rules, ap, ◌∙◌}
-use Rattle.std.specs.Prelude.{MatchOption, Option, string_bytes}
+use Rattle.std.specs.Prelude.{MatchOption, Option}
 use Rattle.std.specs.Borrow.{Bor}
+use Rattle.std.specs.Rc.{rc_str_bytes}
 use Rattle.std.specs.BTreeMap.{get}
 use Rattle.pc_tree.specs.declared.code.Code.TheVariants.{A1}
 use Rattle.pc_report.specs.declared.flow.FlowTexts.{FlowTexts}
@@ -27,8 +28,8 @@ returns-in_ok-new-in-Some c = λ listed has.
         f.now,
         found.0,
         found.1,
-        ap (λ (t : FlowTexts). string_bytes t.from) value
+        ap (λ (t : FlowTexts). rc_str_bytes t.from) value
             ∙ c.in_ok-clone-in-Some.ensures.cases,
-        ap (λ (t : FlowTexts). string_bytes t.to) value ∙ c.in_ok-clone-in-Some-2.ensures.cases,
+        ap (λ (t : FlowTexts). rc_str_bytes t.to) value ∙ c.in_ok-clone-in-Some-2.ensures.cases,
       ),
     )
