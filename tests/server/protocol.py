@@ -2,6 +2,7 @@
 import json
 import os
 import re
+import resource
 import subprocess
 from typing import Any, Dict, List, Optional, Tuple
 
@@ -89,18 +90,21 @@ def notification(method: str, params: Optional[Any] = None) -> Message:
     return message if params is None else {**message, "params": params}
 
 
-def initialize(encodings: Optional[List[str]] = None, options: Optional[Message] = None) -> Message:
-    """The request that begins a session."""
-    general = {} if encodings is None else {"general": {"positionEncodings": encodings}}
-    params: Message = {"processId": None, "rootUri": None, "capabilities": general}
+def initialize(encodings: Optional[List[str]] = None, options: Optional[Message] = None,
+               pulls: bool = False) -> Message:
+    """The request that begins a session; the client may say that it pulls diagnostics."""
+    capabilities: Message = {} if encodings is None else {"general": {"positionEncodings": encodings}}
+    if pulls:
+        capabilities["textDocument"] = {"diagnostic": {"dynamicRegistration": False}}
+    params: Message = {"processId": 1, "rootUri": None, "capabilities": capabilities}
     if options is not None:
         params["initializationOptions"] = options
     return request(1, "initialize", params)
 
 
-def did_open(text: str, version: int = 1, uri: str = URI) -> Message:
+def did_open(text: str, version: int = 1, uri: str = URI, language: str = "python") -> Message:
     """The notification that a document is open."""
-    document = {"uri": uri, "languageId": "python", "version": version, "text": text}
+    document = {"uri": uri, "languageId": language, "version": version, "text": text}
     return notification("textDocument/didOpen", {"textDocument": document})
 
 
@@ -142,14 +146,20 @@ def read_frames(output: bytes) -> List[Any]:
 class Server:
     """Runs the program on whole inputs."""
 
-    def __init__(self, program: str) -> None:
+    def __init__(self, program: str, most: Optional[int] = None) -> None:
         self.program = program
+        self.most = most  # the most bytes of memory that it may take, if there is such a limit
 
     def run(self, given: bytes, words: Optional[List[str]] = None) -> Tuple[int, bytes]:
         """The exit status and the output for an input."""
         done = subprocess.run([self.program] + (words or []), input=given, stdout=subprocess.PIPE,
-                              stderr=subprocess.DEVNULL, timeout=SECONDS)
+                              stderr=subprocess.DEVNULL, timeout=SECONDS, preexec_fn=self.bound)
         return done.returncode, done.stdout
+
+    def bound(self) -> None:
+        """Bounds the memory that this process may take for data, where there is a limit."""
+        if self.most is not None:
+            resource.setrlimit(resource.RLIMIT_DATA, (self.most, self.most))
 
     def replies(self, messages: List[Any], status: int = 0) -> List[Any]:
         """The replies to messages; the server has to end with this status."""
@@ -183,6 +193,11 @@ def diagnostic(code: str, place: Message, before: str = "", severity: Optional[i
             "severity": usual if severity is None else severity}
 
 
+def note(message: str) -> Message:
+    """A diagnostic that tells of a whole text, at its first character."""
+    return {"message": message, "range": span(0, 0, 1), "source": "pycheck", "severity": 2}
+
+
 def published(diagnostics: List[Message], version: Optional[int] = None, uri: str = URI) -> Message:
     """The notification of the diagnostics of a document."""
     params: Message = {"uri": uri, "diagnostics": diagnostics}
@@ -206,4 +221,5 @@ def logged(word: str, reply: Any) -> None:
         raise Failure(f"no {word!r} in {reply!r}")
 
 
+UNKNOWN = [note("not checked: the text of this document is not known until it changes")]
 AGES_FOUND = [diagnostic("E12", span(3, 11, 25)), diagnostic("A2", span(6, 11, 18))]

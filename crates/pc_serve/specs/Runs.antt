@@ -1,37 +1,46 @@
 -- What a list of messages comes to. Own rule of the server, over Language Server Protocol 3.17.
-use Rattle.std.specs.Prelude.{◌≡◌, ◌⊎◌, ℕ, List, [], ◌∷◌, ◌++◌, codes, Option, None, Some}
-use Rattle.std.specs.Io.KnownBytes.{IsAtEnd}
+use Rattle.std.specs.Prelude.{◌≡◌, ◌⊎◌, ℕ, List, [], ◌∷◌, ◌++◌, take, codes, Option, None, Some}
+use Rattle.std.specs.Io.KnownBytes.{Appends, IsAtEnd}
 use Rattle.pc_source.specs.declared.counted.Counted.{Counted}
 use Rattle.pc_source.specs.Taken.{TakesAll}
 use Rattle.pc_wire.specs.Faults.{Gives, IsBroken}
-use Rattle.pc_wire.specs.Frames.{IsFrame, AreFrames}
+use Rattle.pc_wire.specs.Frames.{IsFrame, AreFrames, IsShort, IsLong}
 use Rattle.pc_session.specs.declared.checker.Found.{Found}
 use Rattle.pc_session.specs.declared.session.Stage.{Stage}
 use Rattle.pc_session.specs.declared.session.Stage.TheVariants.{Ended}
-use Rattle.pc_session.specs.Sent.{SendsStep}
+use Rattle.pc_session.specs.Sent.{SendsStep, SendsRefusal}
+use Rattle.pc_session.specs.Sessions.{forgot}
 use Rattle.pc_session.specs.States.{State, fresh}
 use Rattle.pc_serve.specs.declared.serving.End.{End}
 use Rattle.pc_serve.specs.declared.serving.End.TheVariants as the_end
 
 -- what is written where memory was wanting: a framed message for the client's log
 abbrev pub no_memory : List ℕ
-no_memory = codes "Content-Length: 114\r\n\r\n{\"jsonrpc\":\"2.0\",\"method\":\"window/logMessage\","
-    ++ codes "\"params\":{\"message\":\"out of memory: a message was let be\",\"type\":1}}"
+no_memory = codes "Content-Length: 151\r\n\r\n{\"jsonrpc\":\"2.0\",\"method\":\"window/logMessage\","
+    ++ (codes "\"params\":{\"message\":\"out of memory: a message was lost, and no text is known until it changes"
+    ++ codes "\",\"type\":1}}")
 
 -- the status with which the program ends, once `exit` came
 abbrev pub ended_with : Stage → Option ℕ
 ended_with (Ended status) = Some status
 ended_with stage = None
 
+module _ {W : Type 0} (contents : W → Option (List ℕ)) where
+  -- a beginning of the bytes was written, or all of them
+  abbrev pub TakesSome : List ℕ → Counted W → Counted W → Type 0
+  TakesSome bytes output after = (n : ℕ) × Appends (contents output.device) (contents after.device) (take n bytes)
+
 module _ (finds : List ℕ → Found → Type 0) where
-  -- memory was wanting: the session stays the same, and the client is told
+  -- memory was wanting: no text is known from now on, and the client is told
   pub record IsLost (old : State) (sent : List ℕ) (new : State) : Type 0 where
-    pub unchanged : new ≡ old
+    pub forgets : new ≡ forgot old
     pub told : sent ≡ no_memory
 
-  -- what a message comes to: the replies of a step are sent, or memory was wanting
+  -- what a message comes to: the replies of a step are sent, where it is within the limit, or the refusal of one that is
+  -- not; or memory was wanting
   abbrev pub Turn : State → List ℕ → List ℕ → State → Type 0
-  Turn old message sent new = SendsStep finds old message sent new ⊎ IsLost old sent new
+  Turn old message sent new = (IsShort message × SendsStep finds old message sent new)
+      ⊎ ((IsLong message × SendsRefusal old sent new) ⊎ IsLost old sent new)
 
   -- what a list of messages comes to: what each comes to, one after the other; none comes after `exit`
   abbrev pub Run : State → List (List ℕ) → List ℕ → State → Type 0
@@ -41,6 +50,13 @@ module _ (finds : List ℕ → Found → Type 0) where
       × (sent ≡ first ++ rest)
 
   module _ {W : Type 0} (contents : W → Option (List ℕ)) where
+    -- of what a message comes to a beginning was written, or all of it
+    pub record IsBegun (message : List ℕ) (old : State) (output after : Counted W) : Type 0 where
+      pub sent : List ℕ
+      pub new : State
+      pub turn : Turn old message sent new
+      pub taken : TakesSome contents sent output after
+
     -- what a message comes to is written, and no call failed
     pub record IsWritten (message : List ℕ) (old new : State) (output after : Counted W) : Type 0 where
       pub sent : List ℕ
@@ -66,8 +82,20 @@ module _ (finds : List ℕ → Found → Type 0) where
       pub run : Run fresh messages sent final
       pub taken : TakesAll contents sent output after
 
-    -- How it ended: at `exit`, after which nothing is read; at the end of the input, between two messages; or where the
-    -- input is broken, after whole messages. Of a failed device nothing is said.
+    -- a device failed: a list of messages was read, and a beginning of what they come to is written
+    pub record IsCutShort (input : Counted R) (output after : Counted W) : Type 0 where
+      pub messages : List (List ℕ)
+      pub bytes : List ℕ
+      pub sent : List ℕ
+      pub read : Counted R
+      pub final : State
+      pub given : Gives remaining bytes input read
+      pub framed : AreFrames bytes messages
+      pub run : Run fresh messages sent final
+      pub taken : TakesSome contents sent output after
+
+    -- How it ended: at `exit`, after which nothing is read; at the end of the input, between two messages; where the
+    -- input is broken, after whole messages; or where a device failed.
     abbrev pub OnEnd : Counted R → Counted R → Counted W → Counted W → End → Type 0
     OnEnd input rest output after (the_end.Exited status) = (final : State) × IsServed input rest output after final
         × (ended_with final.stage ≡ Some status)
@@ -76,13 +104,20 @@ module _ (finds : List ℕ → Found → Type 0) where
     OnEnd input rest output after (the_end.Broken fault) = (final : State) × (between : Counted R)
         × IsServed input between output after final × (ended_with final.stage ≡ None)
         × IsBroken remaining fault between rest
-    OnEnd input rest output after the_end.Failed = Unit {0}
+    OnEnd input rest output after the_end.Failed = IsCutShort input output after
 
--- For private clauses: why no message was answered: the input ended, it is broken, or a device failed.
-module _ {R W : Type 0} (remaining : R → Option (List ℕ)) where
-  abbrev pub OnStop : Counted R → Counted R → Counted W → Counted W → End → Type 0
-  OnStop input rest output after (the_end.Exited status) = ⊥
-  OnStop input rest output after the_end.Ended = (after ≡ output) × Gives remaining [] input rest
-      × IsAtEnd (remaining rest.device)
-  OnStop input rest output after (the_end.Broken fault) = (after ≡ output) × IsBroken remaining fault input rest
-  OnStop input rest output after the_end.Failed = Unit {0}
+    -- For private clauses: a message was read, and a device failed before all was written that it comes to
+    pub record IsHalted (old : State) (input rest : Counted R) (output after : Counted W) : Type 0 where
+      pub message : List ℕ
+      pub bytes : List ℕ
+      pub given : Gives remaining bytes input rest
+      pub framed : IsFrame bytes message
+      pub begun : IsBegun contents message old output after
+
+    -- For private clauses: why no message was answered: the input ended, it is broken, or a device failed.
+    abbrev pub OnStop : State → Counted R → Counted R → Counted W → Counted W → End → Type 0
+    OnStop old input rest output after (the_end.Exited status) = ⊥
+    OnStop old input rest output after the_end.Ended = (after ≡ output) × Gives remaining [] input rest
+        × IsAtEnd (remaining rest.device)
+    OnStop old input rest output after (the_end.Broken fault) = (after ≡ output) × IsBroken remaining fault input rest
+    OnStop old input rest output after the_end.Failed = (after ≡ output) ⊎ IsHalted old input rest output after

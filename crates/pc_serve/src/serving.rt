@@ -1,12 +1,12 @@
 //! Messages from a device, and replies to another.
 
-ghost use Rattle.std.specs.Prelude.{◌≡◌, ℕ, List, OnOk, IfErr};
+ghost use Rattle.std.specs.Prelude.{◌≡◌, ℕ, List, OnOk, OnErr, IfErr};
 ghost use Rattle.pc_source.specs.Taken.{TakesAll};
+ghost use Rattle.pc_wire.specs.Frames.{IsShort, IsLong};
 ghost use Rattle.pc_session.specs.States.{state_of};
-ghost use Rattle.pc_serve.specs.Runs.{no_memory, ended_with, IsWritten, IsTurned, OnStop, OnEnd};
-ghost use Rattle.pc_serve.specs.declared.serving.End.TheVariants as the_end;
+ghost use Rattle.pc_serve.specs.Runs.{no_memory, ended_with, TakesSome, IsBegun, IsWritten, IsTurned, OnStop, OnEnd};
 
-use pc_session::{Checker, Session, Stage, step};
+use pc_session::{Checker, Session, Stage, refuse_long, step};
 use pc_source::{Counted, OutOfMemory};
 use pc_wire::{FrameFault, SendFault, read_message, write_whole};
 use std::alloc::Global;
@@ -29,8 +29,8 @@ pub enum End {
 fn without_memory() -> &'static str
     ensures { result.now ≡ no_memory }
 {
-    "Content-Length: 114\r\n\r\n{\"jsonrpc\":\"2.0\",\"method\":\"window/logMessage\",\
-    \"params\":{\"message\":\"out of memory: a message was let be\",\"type\":1}}"
+    "Content-Length: 151\r\n\r\n{\"jsonrpc\":\"2.0\",\"method\":\"window/logMessage\",\
+    \"params\":{\"message\":\"out of memory: a message was lost, and no text is known until it changes\",\"type\":1}}"
 }
 
 /// The status with which the program ends, once `exit` came.
@@ -44,8 +44,10 @@ fn ended_with(stage: Stage) -> Option<u8>
 }
 
 /// Writes bytes, and has the device pass them on.
+#[tactic(auto, using(crate::proofs::Turns::some_none, crate::proofs::Turns::some_all))]
 fn written<W: Write + Drop>(output: &mut Counted<W>, bytes: &[u8]) -> Result<(), SendFault>
-    ensures { OnOk result (TakesAll W.contents bytes.now output.old output.new) }
+    ensures written { OnOk result (TakesAll W.contents bytes.now output.old output.new) }
+    ensures begun { OnErr result (TakesSome W.contents bytes.now output.old output.new) }
 {
     write_whole(output, bytes)?;
     match output.flush() {
@@ -56,13 +58,30 @@ fn written<W: Write + Drop>(output: &mut Counted<W>, bytes: &[u8]) -> Result<(),
 
 /// Tells the client that memory was wanting.
 fn told<W: Write + Drop>(output: &mut Counted<W>) -> Result<(), SendFault>
-    ensures { OnOk result (TakesAll W.contents no_memory output.old output.new) }
+    ensures written { OnOk result (TakesAll W.contents no_memory output.old output.new) }
+    ensures begun { OnErr result (TakesSome W.contents no_memory output.old output.new) }
 {
-    written(output, without_memory().as_bytes())?;
-    Ok(())
+    written(output, without_memory().as_bytes())
 }
 
-/// Answers a message.
+/// What comes of a message that is lost, since memory was wanting: no text is known, and the client is told.
+fn lost<C: Checker, W: Write + Drop>(
+    checker: &C,
+    session: &mut Session,
+    output: &mut Counted<W>,
+) -> Result<(), SendFault>
+    ensures written { OnOk result ((message : List ℕ) → IsWritten (C.finds checker.now) W.contents message
+        (state_of session.old) (state_of session.new) output.old output.new) }
+    ensures begun { OnErr result ((message : List ℕ) → IsBegun (C.finds checker.now) W.contents message
+        (state_of session.old) output.old output.new) }
+{
+    let _ = checker;
+    session.forget();
+    told(output)
+}
+
+/// Answers a message that is within the limit.
+#[tactic(auto, using(crate::proofs::Turns::some_of_step))]
 fn answered<C: Checker, W: Write + Drop>(
     alloc: Global,
     checker: &C,
@@ -70,40 +89,39 @@ fn answered<C: Checker, W: Write + Drop>(
     message: &[u8],
     output: &mut Counted<W>,
 ) -> Result<(), SendFault>
-    ensures { OnOk result (IsWritten (C.finds checker.now) W.contents message.now (state_of session.old)
+    requires { IsShort message.now }
+    ensures written { OnOk result (IsWritten (C.finds checker.now) W.contents message.now (state_of session.old)
         (state_of session.new) output.old output.new) }
+    ensures begun { OnErr result (IsBegun (C.finds checker.now) W.contents message.now (state_of session.old)
+        output.old output.new) }
 {
     match step(session, checker, alloc, message) {
-        Ok(bytes) => {
-            written(output, &bytes)?;
-            Ok(())
-        }
-        Err(OutOfMemory) => {
-            told(output)?;
-            Ok(())
-        }
+        Ok(bytes) => written(output, &bytes),
+        Err(OutOfMemory) => lost(checker, session, output),
     }
 }
 
-/// What is answered where a message had no room in memory, and is lost.
-fn lost<C: Checker, W: Write + Drop>(
+/// Answers a message that is over the limit, of which nothing is known.
+#[tactic(auto, using(crate::proofs::Turns::some_of_refusal))]
+fn refused<C: Checker, W: Write + Drop>(
+    alloc: Global,
     checker: &C,
-    session: &Session,
+    session: &mut Session,
     output: &mut Counted<W>,
-) -> Result<(), End>
-    ensures lost { OnOk result ((message : List ℕ) → IsWritten (C.finds checker.now) W.contents message
-        (state_of session.now) (state_of session.now) output.old output.new) }
-    ensures stop { IfErr result (λ end. end ≡ the_end.Failed) }
+) -> Result<(), SendFault>
+    ensures written { OnOk result ((message : List ℕ) → IsLong message → IsWritten (C.finds checker.now) W.contents
+        message (state_of session.old) (state_of session.new) output.old output.new) }
+    ensures begun { OnErr result ((message : List ℕ) → IsLong message → IsBegun (C.finds checker.now) W.contents
+        message (state_of session.old) output.old output.new) }
 {
-    let _ = checker;
-    let _ = session;
-    match told(output) {
-        Ok(()) => Ok(()),
-        Err(_) => Err(End::Failed),
+    match refuse_long(session, alloc) {
+        Ok(refusal) => written(output, &refusal),
+        Err(OutOfMemory) => lost(checker, session, output),
     }
 }
 
 /// Reads a message, and answers it. One that has no room in memory is lost, and the client is told.
+#[tactic(auto, using(crate::proofs::Turns::halted))]
 fn turn<C: Checker, R: Read + Drop, W: Write + Drop>(
     alloc: Global,
     checker: &C,
@@ -113,19 +131,18 @@ fn turn<C: Checker, R: Read + Drop, W: Write + Drop>(
 ) -> Result<(), End>
     ensures turn { OnOk result (IsTurned (C.finds checker.now) R.remaining W.contents (state_of session.old)
         (state_of session.new) input.old input.new output.old output.new) }
-    ensures stop { IfErr result (OnStop R.remaining input.old input.new output.old output.new) }
+    ensures stop { IfErr result (OnStop (C.finds checker.now) R.remaining W.contents (state_of session.old) input.old
+        input.new output.old output.new) }
 {
-    let message = match read_message(alloc, input) {
-        Ok(Some(message)) => message,
+    let done = match read_message(alloc, input) {
+        Ok(Some(message)) => answered(alloc, checker, session, &message, output),
         Ok(None) => return Err(End::Ended),
-        Err(FrameFault::OutOfMemory) => {
-            lost(checker, session, output)?;
-            return Ok(());
-        }
+        Err(FrameFault::OutOfMemory) => lost(checker, session, output),
+        Err(FrameFault::LongMessage) => refused(alloc, checker, session, output),
         Err(FrameFault::Read) => return Err(End::Failed),
         Err(fault) => return Err(End::Broken(fault)),
     };
-    match answered(alloc, checker, session, &message, output) {
+    match done {
         Ok(()) => Ok(()),
         Err(_) => Err(End::Failed),
     }

@@ -1,55 +1,48 @@
 -- What is replied to a new text of a document, from the relation of steps.
-use Rattle.std.proofs.Common.{◌≡◌, ℕ, List, [], ◌∷◌, map, Option, None, Some, true, refl, sym, ap, ap₂, ◌∙◌}
-use Rattle.std.proofs.Common.{subst, inl, inr}
-use Rattle.std.specs.Prelude.{codes, option_map, string_bytes, ◌++◌}
+use Rattle.std.proofs.Common.{◌≡◌, ℕ, ◌<◌, ◌≤◌, List, [], ◌∷◌, length, map, Option, None, Some, refl, sym, ap, ap₂}
+use Rattle.std.proofs.Common.{◌∙◌, inl, inr, Bool, true, false, arith}
+use Rattle.std.specs.Prelude.{codes, option_map}
 use Rattle.serde_json.specs.Data.{Data}
-use Rattle.pc_report.specs.declared.flow.FlowTexts.{FlowTexts}
+use Rattle.pc_source.specs.declared.fault.Refusal.{Refusal}
+use Rattle.pc_source.specs.declared.fault.RefusalCode.TheVariants.{S1}
+use Rattle.pc_source.specs.Text.{source_limit}
+use Rattle.pc_front.specs.Bytes.{IsRefusalOf, of_source}
+use Rattle.pc_front.proofs.OneRefusal.{one_refusal}
 use Rattle.pc_report.specs.declared.report.Row.{Row}
-use Rattle.pc_report.specs.Report.{row_flow}
+use Rattle.pc_top.specs.Headline.{Headline}
 use Rattle.pc_session.specs.declared.checker.Flow.{Flow}
 use Rattle.pc_session.specs.declared.checker.Found.{Found}
 use Rattle.pc_session.specs.declared.checker.Found.TheVariants.{Items, Refused}
 use Rattle.pc_session.specs.declared.checker.Item.{Item}
 use Rattle.pc_session.specs.declared.session.Stage.TheVariants.{Running}
-use Rattle.pc_session.specs.Checked.{IsChecked, IsPublished, AreDiagnostics, told_data}
+use Rattle.pc_session.specs.Checked.{IsChecked, IsSentWhere, AreDiagnostics, is_sent}
 use Rattle.pc_session.specs.Diagnostics.{item_data, found_data, message_text, range_data, severity_of, diagnostic_data}
-use Rattle.pc_session.specs.Documents.{is_open}
-use Rattle.pc_session.specs.Messages.{version_in, opened_text, changed_text}
-use Rattle.pc_session.specs.Replies.{publish_data, log_data}
-use Rattle.pc_session.specs.Sessions.{Step, IsKept}
+use Rattle.pc_session.specs.Diagnostics.{refusal_data, limited}
+use Rattle.pc_session.specs.Documents.{document_at}
+use Rattle.pc_session.specs.Messages.{version_in, is_older}
+use Rattle.pc_session.specs.Sessions.{Step, IsKept, opened_in, changed_in}
 use Rattle.pc_session.specs.States.{Agreed, State, OpenDocument}
-use Rattle.pc_help.specs.Findings.{meaning_of}
 use Rattle.pc_tree.specs.declared.code.Code.{Code}
 use Rattle.pc_tree.specs.declared.code.Finding.{Finding}
 use Rattle.pc_tree.specs.Code.{text_of}
-use Rattle.pc_server.specs.Found.{Said, said_by_item, said_by_row, IsFoundIn}
-use Rattle.pc_server.specs.Published.{row_message, row_data, AreOfText, IsPublishedOf}
+use Rattle.pc_server.specs.Found.{Said, types_of, said_by_item, said_by_row, IsFoundIn}
+use Rattle.pc_server.specs.Published.{row_message, row_data, AreOfText, AreOfDocument, PublishesWhere, IsPublishedOf}
 use Rattle.pc_session.specs.Notices.{IsNoticeOf}
 use Rattle.pc_session.proofs.Notices.{opened_is_kept, changed_is_kept}
 
 -- ---- rows
-
--- the message of what is said: what its code means, after the two types of its flow
-abbrev said_text : Code → Option (List ℕ × List ℕ) → List ℕ
-said_text code None = meaning_of code
-said_text code (Some types) = types.0 ++ (codes " -> " ++ (types.1 ++ (codes ": " ++ meaning_of code)))
 
 -- the diagnostic of what is said at a place
 abbrev said_data : Agreed → List ℕ → Said → Data
 said_data agreed text said = diagnostic_data agreed.codes_page
     (range_data agreed.encoding text said.finding.place.start said.finding.place.end)
     (severity_of agreed.dynamic_severity said.finding.code)
-    (text_of said.finding.code) (said_text said.finding.code said.flow)
+    (text_of said.finding.code) (row_message said.finding.code said.flow)
 
 item_text : (code : Code) (flow : Option Flow) → message_text code flow
-    ≡ said_text code (option_map (λ f. (string_bytes f.from, string_bytes f.to)) flow)
+    ≡ row_message code (option_map types_of flow)
 item_text code None = refl
 item_text code (Some flow) = refl
-
-row_text : (code : Code) (flow : Option FlowTexts) → row_message code flow
-    ≡ said_text code (option_map (λ f. (string_bytes f.from, string_bytes f.to)) flow)
-row_text code None = refl
-row_text code (Some flow) = refl
 
 module _ (agreed : Agreed) (text : List ℕ) where
   -- a diagnostic of this code, by its message
@@ -66,8 +59,7 @@ module _ (agreed : Agreed) (text : List ℕ) where
 
   rows_said : (rows : List Row) → map (row_data agreed text) rows ≡ map (said_data agreed text) (map said_by_row rows)
   rows_said [] = refl
-  rows_said (row ∷ rows) =
-      ap₂ (λ x xs. x ∷ xs) (ap (of_finding row.finding) (row_text row.finding.code (row_flow row))) (rows_said rows)
+  rows_said (row ∷ rows) = ap (λ xs. row_data agreed text row ∷ xs) (rows_said rows)
 
   -- items and rows that say the same have the same diagnostics
   same_data : (items : List Item) (rows : List Row) → map said_by_item items ≡ map said_by_row rows
@@ -78,7 +70,11 @@ module _ (agreed : Agreed) (text : List ℕ) where
   of_found : (diagnostics : List Data) (found : Found) → IsFoundIn text found
       → diagnostics ≡ found_data agreed text found → AreOfText agreed text diagnostics
   of_found diagnostics (Items items) finds are =
-      inl (record { rows = finds.0; headline = finds.1; are = are ∙ same_data items.items finds.0 finds.2 })
+      inl (record {
+        rows = finds.0;
+        headline = finds.1;
+        are = are ∙ ap limited (same_data items.items finds.0 finds.2);
+      })
   of_found diagnostics (Refused refusal) finds are =
       inr (record { refusal = refusal; of_text = finds; are = are })
 
@@ -87,57 +83,59 @@ pub diagnostics_are : (agreed : Agreed) (text : List ℕ) (diagnostics : List Da
 diagnostics_are agreed text diagnostics checked =
     of_found agreed text diagnostics checked.found checked.finds_it checked.are
 
--- ---- texts
+-- ---- documents
 
-module _ (uri : List ℕ) (version : Option ℕ) (agreed : Agreed) where
-  of_text : (text : Option (List ℕ)) (diagnostics : List Data) (told : Option (List ℕ)) (replies : List Data)
-      → IsChecked IsFoundIn agreed text diagnostics told
-      → replies ≡ publish_data uri version diagnostics ∷ told_data told → IsPublishedOf uri version agreed text replies
-  of_text None diagnostics None replies checked are = absurd checked
-  of_text None diagnostics (Some told) replies checked are =
-      are ∙ ap₂ (λ ds line. publish_data uri version ds ∷ log_data line ∷ []) checked.1 checked.0
-  of_text (Some text) diagnostics None replies checked are = inl (record {
-    short = checked.short;
-    diagnostics = diagnostics;
-    of_text = diagnostics_are agreed text diagnostics checked;
-    are = are;
-  })
-  of_text (Some text) diagnostics (Some told) replies checked are = inr (
-    checked.2,
-    are ∙ ap₂ (λ ds line. publish_data uri version ds ∷ log_data line ∷ []) checked.1 checked.0,
-  )
+of_checked : (agreed : Agreed) (text : Option (List ℕ)) (diagnostics : List Data)
+    → IsChecked IsFoundIn agreed text diagnostics → AreOfDocument agreed text diagnostics
+of_checked agreed None diagnostics checked = checked
+of_checked agreed (Some text) diagnostics checked = diagnostics_are agreed text diagnostics checked
 
--- what is published of a document is what is published of its text
-of_document : (document : OpenDocument) (uri : List ℕ) (version : Option ℕ) (agreed : Agreed)
-    (text : Option (List ℕ)) (replies : List Data) → document.uri ≡ uri → document.version ≡ version
-    → document.text ≡ text → IsPublished IsFoundIn agreed document replies
-    → IsPublishedOf uri version agreed text replies
-of_document document uri version agreed text replies uri_is version_is text_is published =
-    let Checked : Option (List ℕ) → Type 0 =
-    λ t. IsChecked IsFoundIn agreed t published.diagnostics published.told in
-    of_text uri version agreed text published.diagnostics published.told replies
-    (subst Checked text_is published.is_checked)
-    (published.are ∙ ap₂ (λ u v. publish_data u v published.diagnostics ∷ told_data published.told) uri_is version_is)
+of_sent : (sent : Bool) (agreed : Agreed) (document : OpenDocument) (replies : List Data)
+    → IsSentWhere IsFoundIn agreed sent document replies → PublishesWhere sent agreed document replies
+of_sent false agreed document replies none = none
+of_sent true agreed document replies sent = record {
+  diagnostics = sent.diagnostics;
+  of_document = of_checked agreed document.text sent.diagnostics sent.is_checked;
+  are = sent.are;
+}
 
-of_kept : (uri : List ℕ) (version : Option ℕ) (text : Option (List ℕ)) (old new : State) (replies : List Data)
-    → IsKept IsFoundIn uri version text old replies new → IsPublishedOf uri version old.agreed text replies
-of_kept uri version text old new replies kept =
-    of_document kept.document uri version old.agreed text replies kept.uri_is kept.version_is kept.text_is
-    kept.published
+of_kept : (document : OpenDocument) (old new : State) (replies : List Data)
+    → IsKept IsFoundIn document old replies new → IsPublishedOf old.agreed document replies
+of_kept document old new replies kept =
+    of_sent (is_sent old.agreed document) old.agreed document replies kept.published
 
 -- ---- messages
 
 pub opened : (old new : State) (uri bytes : List ℕ) (message : Data) (replies : List Data) → old.stage ≡ Running
     → IsNoticeOf (codes "textDocument/didOpen") uri bytes message → Step IsFoundIn old bytes replies new
-    → IsPublishedOf uri (version_in message) old.agreed (opened_text message) replies
+    → IsPublishedOf old.agreed (opened_in message uri) replies
 opened old new uri bytes message replies running notice step =
-    of_kept uri (version_in message) (opened_text message) old new replies
+    of_kept (opened_in message uri) old new replies
     (opened_is_kept IsFoundIn old new uri bytes message replies running notice step)
 
-pub changed : (old new : State) (uri bytes : List ℕ) (message : Data) (replies : List Data) → old.stage ≡ Running
-    → is_open uri old.documents ≡ true → IsNoticeOf (codes "textDocument/didChange") uri bytes message
-    → Step IsFoundIn old bytes replies new
-    → IsPublishedOf uri (version_in message) old.agreed (changed_text message) replies
-changed old new uri bytes message replies running was_open notice step =
-    of_kept uri (version_in message) (changed_text message) old new replies
-    (changed_is_kept IsFoundIn old new uri bytes message replies running was_open notice step)
+pub changed : (old new : State) (uri bytes : List ℕ) (message : Data) (document : OpenDocument) (replies : List Data)
+    → old.stage ≡ Running → document_at uri old.documents ≡ Some document
+    → is_older (version_in message) document.version ≡ false
+    → IsNoticeOf (codes "textDocument/didChange") uri bytes message → Step IsFoundIn old bytes replies new
+    → IsPublishedOf old.agreed (changed_in message document) replies
+changed old new uri bytes message document replies running was_open in_order notice step =
+    of_kept (changed_in message document) old new replies
+    (changed_is_kept IsFoundIn old new uri bytes message document replies running was_open in_order notice step)
+
+-- ---- long texts
+
+-- a text over the limit spells no module
+none_spelled : (text : List ℕ) (rows : List Row) → source_limit < length text → Headline text rows → ⊥
+none_spelled text rows long headline =
+    let short : length text ≤ source_limit = headline.spelled.laid_out.lined.text.short in
+    omega arith
+
+pub long_texts : (agreed : Agreed) (text : List ℕ) (diagnostics : List Data) → source_limit < length text
+    → AreOfText agreed text diagnostics
+    → diagnostics ≡ refusal_data agreed text (record { code = S1; byte = source_limit }) ∷ []
+long_texts agreed text diagnostics long (inl rows) = absurd (none_spelled text rows.rows long rows.headline)
+long_texts agreed text diagnostics long (inr alone) =
+    let refusal : Refusal = record { code = S1; byte = source_limit } in
+    let is : IsRefusalOf text refusal = of_source (long, refl) in
+    let same : alone.refusal ≡ refusal = one_refusal text alone.refusal refusal alone.of_text is in
+    alone.are ∙ ap (λ r. refusal_data agreed text r ∷ []) same

@@ -1,9 +1,13 @@
 -- What the proved check finds in a text. Own rule of the server.
-use Rattle.std.specs.Prelude.{◌≡◌, ℕ, List, Option, string_bytes, map, option_map}
+use Rattle.std.specs.Prelude.{◌≡◌, ℕ, nat_lt, ◌||◌, Bool, not, List, length, Option, None, Some, string_bytes, map, option_map}
+use Rattle.std.specs.Prelude.{if◌then◌else◌}
+use Rattle.std.specs.Rc.{rc_str_bytes}
 use Rattle.pc_tree.specs.declared.code.Finding.{Finding}
 use Rattle.pc_front.specs.Bytes.{IsRefusalOf}
+use Rattle.pc_report.specs.declared.flow.FlowTexts.{FlowTexts}
 use Rattle.pc_report.specs.declared.report.Row.{Row}
 use Rattle.pc_report.specs.Report.{row_flow}
+use Rattle.pc_session.specs.declared.checker.Flow.{Flow}
 use Rattle.pc_session.specs.declared.checker.Item.{Item}
 use Rattle.pc_session.specs.declared.checker.Found.{Found}
 use Rattle.pc_session.specs.declared.checker.Found.TheVariants.{Items, Refused}
@@ -14,19 +18,34 @@ pub record Said : Type 0 where
   pub finding : Finding
   pub flow : Option (List ℕ × List ℕ)
 
+-- the most bytes that the text of a type may have to be shown
+abbrev pub shown_limit : ℕ
+shown_limit = 200
+
+-- the texts of two types are short enough to be shown: none of them is over the limit
+abbrev pub are_shown : List ℕ → List ℕ → Bool
+are_shown from to = not (nat_lt shown_limit (length from) || nat_lt shown_limit (length to))
+
+-- the texts of the two types of a flow, where they are short enough to be shown
+abbrev pub shown : List ℕ → List ℕ → Option (List ℕ × List ℕ)
+shown from to = if are_shown from to then Some (from, to) else None
+
+-- the same of a flow of a row, where it has one
+abbrev pub shown_flow : Option FlowTexts → Option (List ℕ × List ℕ)
+shown_flow None = None
+shown_flow (Some texts) = shown (rc_str_bytes texts.from) (rc_str_bytes texts.to)
+
 -- what a row says
 abbrev pub said_by_row : Row → Said
-said_by_row row = record {
-  finding = row.finding;
-  flow = option_map (λ texts. (string_bytes texts.from, string_bytes texts.to)) (row_flow row);
-}
+said_by_row row = record { finding = row.finding; flow = shown_flow (row_flow row) }
+
+-- the texts of the two types of an item's flow
+abbrev pub types_of : Flow → List ℕ × List ℕ
+types_of flow = (string_bytes flow.from, string_bytes flow.to)
 
 -- what an item says
 abbrev pub said_by_item : Item → Said
-said_by_item item = record {
-  finding = item.finding;
-  flow = option_map (λ flow. (string_bytes flow.from, string_bytes flow.to)) item.flow;
-}
+said_by_item item = record { finding = item.finding; flow = option_map types_of item.flow }
 
 -- what is found in a text: items that say, in order, what the rows do of which the headline holds; or its refusal
 abbrev pub IsFoundIn : List ℕ → Found → Type 0

@@ -5,6 +5,9 @@ mod laws;
 mod proved;
 mod status;
 
-pub use laws::{changed_texts_are_published, diagnostics_are_rows, opened_texts_are_published};
+pub use laws::{
+    changed_texts_are_published, diagnostics_are_rows, long_texts_are_refused,
+    opened_texts_are_published,
+};
 pub use proved::answer;
 pub use status::status_of;

@@ -1,8 +1,8 @@
 //! The proved check as the checker of a session, and the answering of messages over it.
 
-ghost use Rattle.std.specs.Prelude.{◌≡◌, IfOk, map};
+ghost use Rattle.std.specs.Prelude.{◌≡◌, IfOk, map, option_map};
 ghost use Rattle.pc_serve.specs.Runs.{OnEnd};
-ghost use Rattle.pc_server.specs.Found.{said_by_item, said_by_row, IsFoundIn};
+ghost use Rattle.pc_server.specs.Found.{types_of, shown, said_by_item, said_by_row, IsFoundIn};
 
 use pc_serve::{End, serve};
 use pc_session::{Checker, Flow, Found, Item};
@@ -14,16 +14,30 @@ use std::io::{Read, Write};
 /// The proved check, as the checker of a session.
 struct Proved;
 
+/// The most bytes that the text of a type may have to be shown. A report has as many flows as its text has places, and a
+/// type may be as long as the text, so that all of them take more memory than there is.
+const SHOWN_LIMIT: usize = 200;
+
+/// The texts of two types as a flow, where they are short enough to be shown.
+fn shown(alloc: Global, from: &str, to: &str) -> Result<Option<Flow>, AllocError>
+    ensures { IfOk result (λ flow. option_map types_of flow ≡ shown from.now to.now) }
+{
+    if from.len() > SHOWN_LIMIT || to.len() > SHOWN_LIMIT {
+        return Ok(None);
+    }
+    Ok(Some(Flow {
+        from: String::from_str(alloc, from)?,
+        to: String::from_str(alloc, to)?,
+    }))
+}
+
 /// A row as an item.
-fn item_of(row: &Row) -> Result<Item, AllocError>
+fn item_of(alloc: Global, row: &Row) -> Result<Item, AllocError>
     ensures { IfOk result (λ item. said_by_item item ≡ said_by_row row.now) }
 {
     let flow = match &row.flow {
         None => None,
-        Some(flow) => Some(Flow {
-            from: flow.from.clone()?,
-            to: flow.to.clone()?,
-        }),
+        Some(flow) => shown(alloc, flow.from.as_str(), flow.to.as_str())?,
     };
     Ok(Item {
         finding: row.finding,
@@ -37,7 +51,7 @@ fn items_of(alloc: Global, rows: &[Row]) -> Result<Vec<Item>, AllocError>
 {
     let mut items = Vec::with_capacity(alloc, rows.len())?;
     for row in rows {
-        items.push(item_of(row)?)?;
+        items.push(item_of(alloc, row)?)?;
     }
     Ok(items)
 }

@@ -1,9 +1,9 @@
 -- No reply nests deep, so the text of each reads back.
 use Rattle.std.proofs.Common.{◌≡◌, ℕ, ◌≤◌, suc, List, [], ◌∷◌, ◌++◌, map, Option, None, Some, true, refl, sym, subst}
-use Rattle.std.proofs.Common.{inl, inr, arith}
-use Rattle.std.proofs.Math.Nat.{max-le}
+use Rattle.std.proofs.Common.{inl, inr, arith, zero, cond, take, length, ◌-◌}
+use Rattle.std.proofs.Math.Nat.{max-le, le-max_left, le-max_right, le_trans}
 use Rattle.std.proofs.lemmas.Bool.{false≢true}
-use Rattle.std.specs.Prelude.{codes}
+use Rattle.std.specs.Prelude.{codes, ℤ, Bool, false, filter, nat_le}
 use Rattle.std.specs.List.{AllZip}
 use Rattle.serde_json.specs.Data.{Data, null, boolean, number, string, array, object, no_items, depth, items_depth}
 use Rattle.serde_json.specs.Find.{get}
@@ -22,18 +22,19 @@ use Rattle.pc_session.specs.declared.messages.Method.TheVariants.{DidChange, Did
 use Rattle.pc_session.specs.declared.messages.Method.TheVariants.{CodeAction, Other}
 use Rattle.pc_session.specs.declared.replies.ErrorCode.{ErrorCode}
 use Rattle.pc_session.specs.declared.replies.ErrorCode.TheVariants.{ParseError, InvalidRequest, MethodNotFound}
-use Rattle.pc_session.specs.declared.replies.ErrorCode.TheVariants.{InvalidParams, ServerNotInitialized}
+use Rattle.pc_session.specs.declared.replies.ErrorCode.TheVariants.{InvalidParams, ServerNotInitialized, TooLong}
 use Rattle.pc_session.specs.declared.session.Stage.{Stage}
 use Rattle.pc_session.specs.declared.session.Stage.TheVariants.{Fresh, Running, ShutDown, Ended}
-use Rattle.pc_session.specs.Checked.{IsChecked, IsPublished, told_data}
+use Rattle.pc_session.specs.Checked.{IsChecked, IsCheckedAs, IsPublished, IsSentWhere, is_sent}
 use Rattle.pc_session.specs.Diagnostics.{range_data, diagnostic_data, item_data, refusal_data, found_data, severity_of}
-use Rattle.pc_session.specs.Diagnostics.{message_text}
+use Rattle.pc_session.specs.Diagnostics.{message_text, limited, more_data, unknown_data, start_of, end_of}
 use Rattle.pc_session.specs.Messages.{is_identifier, agreed_in}
 use Rattle.pc_session.specs.Replies.{publish_data, result_data, full_data, hover_data, capabilities_data, refusal_of}
-use Rattle.pc_session.specs.Sent.{IsTextOf, AreSent}
+use Rattle.pc_session.specs.Sent.{IsTextOf, AreSent, SendsRefusal}
 use Rattle.pc_session.specs.Sessions.{IsTurn, OnOpen, OnChange, OnClose, OnNoMethod, OnFresh, OnRunning, OnRequest}
 use Rattle.pc_session.specs.Sessions.{OnNotice, OnStage, OnNotification, OnMethod, OnMessage, IsUnreadable, Step}
-use Rattle.pc_session.specs.Sessions.{IsPulled, IsHovered, RepliesWith, nothing_of, told_of, identifier_or_null}
+use Rattle.pc_session.specs.Sessions.{IsPulled, IsHovered, RepliesWith, unknown_of, unknown_all, told_of, cleared}
+use Rattle.pc_session.specs.Sessions.{OnSpoiled, opened_in, changed_in, identifier_or_null}
 use Rattle.pc_session.specs.Spelled.{IsSpelled, AreSpelled}
 use Rattle.pc_session.specs.States.{Agreed, OpenDocument, State}
 
@@ -71,17 +72,35 @@ items_low agreed text (item ∷ items) =
     let first : depth (item_data agreed text item) ≤ 3 = omega (arith, is) in
     max-le first (items_low agreed text items)
 
+-- the first items, and one more
+first_low : (n : ℕ) (ds : List Data) (last : Data) → items_depth (items_of ds) ≤ 3 → depth last ≤ 3
+    → items_depth (items_of (take n ds ++ last ∷ [])) ≤ 3
+first_low zero ds last low one = max-le one (z 3)
+first_low (suc n) [] last low one = max-le one (z 3)
+first_low (suc n) (d ∷ ds) last low one =
+    let first : depth d ≤ 3 = le_trans (le-max_left (depth d) (items_depth (items_of ds))) low in
+    let others : items_depth (items_of ds) ≤ 3 = le_trans (le-max_right (depth d) (items_depth (items_of ds))) low in
+    max-le first (first_low n ds last others one)
+
+limited_low : (ds : List Data) → items_depth (items_of ds) ≤ 3 → items_depth (items_of (limited ds)) ≤ 3
+limited_low ds low =
+    let Low : List Data → Type 0 = λ l. items_depth (items_of l) ≤ 3 in
+    let M : Bool → Type 0 = λ b. Low (cond b ds (take 999 ds ++ more_data (length ds - 999) ∷ [])) in
+    let one : depth (more_data (length ds - 999)) ≤ 3 = omega arith in
+    elim (nat_le (length ds) 1000) as M [ true ↦ low | false ↦ first_low 999 ds (more_data (length ds - 999)) low one ]
+
 found_low : (agreed : Agreed) (text : List ℕ) (found : Found)
     → items_depth (items_of (found_data agreed text found)) ≤ 3
-found_low agreed text (Items items) = items_low agreed text items.items
+found_low agreed text (Items items) =
+    limited_low (map (item_data agreed text) items.items) (items_low agreed text items.items)
 found_low agreed text (Refused refusal) =
     let is : depth (refusal_data agreed text refusal) ≡ 3 =
-    diagnostic_depth agreed.codes_page agreed.encoding text refusal.byte refusal.byte 1 (code_text refusal.code)
-    (refusal_meaning_of refusal.code) in
+    diagnostic_depth agreed.codes_page agreed.encoding text (start_of text refusal.byte) (end_of text refusal.byte) 1
+    (code_text refusal.code) (refusal_meaning_of refusal.code) in
     let first : depth (refusal_data agreed text refusal) ≤ 3 = omega (arith, is) in
     max-le first (z 3)
 
-publish_low : (uri : List ℕ) (version : Option ℕ) (ds : List Data) → items_depth (items_of ds) ≤ 3
+publish_low : (uri : List ℕ) (version : Option ℤ) (ds : List Data) → items_depth (items_of ds) ≤ 3
     → depth (publish_data uri version ds) ≤ max_depth
 publish_low uri None ds h =
     let listed : suc (items_depth (items_of ds)) ≤ 4 = up _ 3 h in
@@ -151,59 +170,74 @@ answered : {reply : Data} {next new : State} {replies : List Data} → IsTurn (r
     → depth reply ≤ max_depth → AreShallow replies
 answered turn low = turned turn (low, tt)
 
-told_shallow : (told : Option (List ℕ)) → AreShallow (told_data told)
-told_shallow None = tt
-told_shallow (Some text) = (log_low, tt)
+unknown_low : items_depth (items_of (unknown_data ∷ [])) ≤ 3
+unknown_low = omega arith
 
-nothing_shallow : (documents : List OpenDocument) → AreShallow (map nothing_of documents)
-nothing_shallow [] = tt
-nothing_shallow (document ∷ documents) =
-    (publish_low document.uri document.version [] (z 3), nothing_shallow documents)
+unknown_shallow : (documents : List OpenDocument) → AreShallow (map unknown_of documents)
+unknown_shallow [] = tt
+unknown_shallow (document ∷ documents) =
+    (publish_low document.uri document.version (unknown_data ∷ []) unknown_low, unknown_shallow documents)
+
+cleared_shallow : (pulls : Bool) (uri : List ℕ) → AreShallow (cleared pulls uri)
+cleared_shallow true uri = tt
+cleared_shallow false uri = (publish_low uri None [] (z 3), tt)
 
 told_of_shallow : (documents : List OpenDocument) → AreShallow (told_of documents)
 told_of_shallow [] = tt
 told_of_shallow (document ∷ documents) = (log_low, tt)
 
-unreadable : (old new : State) (replies : List Data) → IsUnreadable old replies new → AreShallow replies
-unreadable old new replies turn = turned turn (
-  refusal_low ParseError null refl,
-  shallow_append (map nothing_of old.documents) (told_of old.documents) (nothing_shallow old.documents)
-      (told_of_shallow old.documents),
+unreadable : (code : ErrorCode) (old new : State) (replies : List Data) → IsUnreadable code old replies new
+    → AreShallow replies
+unreadable code old new replies turn = turned turn (
+  refusal_low code null refl,
+  shallow_append (unknown_all old) (told_of old.documents)
+      (unknown_shallow (filter (is_sent old.agreed) old.documents)) (told_of_shallow old.documents),
 )
 
 module _ (finds : List ℕ → Found → Type 0) where
-  checked_low : (agreed : Agreed) (text : Option (List ℕ)) (ds : List Data) (told : Option (List ℕ))
-      → IsChecked finds agreed text ds told → items_depth (items_of ds) ≤ 3
-  checked_low agreed None ds None checked = absurd checked
-  checked_low agreed None ds (Some told) checked =
-      subst (λ (l : List Data). items_depth (items_of l) ≤ 3) (sym checked.1) (z 3)
-  checked_low agreed (Some text) ds None checked =
+  checked_low : (agreed : Agreed) (text : Option (List ℕ)) (ds : List Data) → IsChecked finds agreed text ds
+      → items_depth (items_of ds) ≤ 3
+  checked_low agreed None ds checked =
+      subst (λ (l : List Data). items_depth (items_of l) ≤ 3) (sym checked) unknown_low
+  checked_low agreed (Some text) ds checked =
       subst (λ (l : List Data). items_depth (items_of l) ≤ 3) (sym checked.are) (found_low agreed text checked.found)
-  checked_low agreed (Some text) ds (Some told) checked =
-      subst (λ (l : List Data). items_depth (items_of l) ≤ 3) (sym checked.1) (z 3)
+
+  checked_as_low : (agreed : Agreed) (python : Bool) (text : Option (List ℕ)) (ds : List Data)
+      → IsCheckedAs finds agreed python text ds → items_depth (items_of ds) ≤ 3
+  checked_as_low agreed false text ds checked =
+      subst (λ (l : List Data). items_depth (items_of l) ≤ 3) (sym checked) (z 3)
+  checked_as_low agreed true text ds checked = checked_low agreed text ds checked
+
+  sent_where : (agreed : Agreed) (sent : Bool) (document : OpenDocument) (replies : List Data)
+      → IsSentWhere finds agreed sent document replies → AreShallow replies
+  sent_where agreed false document replies it = subst AreShallow (sym it) tt
+  sent_where agreed true document replies it = subst AreShallow (sym it.are) (
+    publish_low document.uri document.version it.diagnostics
+        (checked_low agreed document.text it.diagnostics it.is_checked),
+    tt,
+  )
 
   published : (agreed : Agreed) (document : OpenDocument) (replies : List Data)
       → IsPublished finds agreed document replies → AreShallow replies
-  published agreed document replies it = subst AreShallow (sym it.are) (
-    publish_low document.uri document.version it.diagnostics
-        (checked_low agreed document.text it.diagnostics it.told it.is_checked),
-    told_shallow it.told,
-  )
+  published agreed document replies it = sent_where agreed (is_sent agreed document) document replies it
 
   opened : (message : Data) (old new : State) (replies : List Data) → OnOpen finds message old replies new
       → AreShallow replies
-  opened message old new replies (inl it) = published old.agreed it.kept.document replies it.kept.published
+  opened message old new replies (inl it) =
+      published old.agreed (opened_in message it.uri) replies it.kept.published
   opened message old new replies (inr it) = answered it.answered log_low
 
   changed : (message : Data) (old new : State) (replies : List Data) → OnChange finds message old replies new
       → AreShallow replies
-  changed message old new replies (inl it) = published old.agreed it.kept.document replies it.kept.published
+  changed message old new replies (inl it) =
+      published old.agreed (changed_in message it.document) replies it.kept.published
   changed message old new replies (inr (inl it)) = answered it.answered log_low
-  changed message old new replies (inr (inr it)) = answered it.answered log_low
+  changed message old new replies (inr (inr (inl it))) = answered it.answered log_low
+  changed message old new replies (inr (inr (inr it))) = answered it.answered log_low
 
   closed : (message : Data) (old new : State) (replies : List Data) → OnClose message old replies new
       → AreShallow replies
-  closed message old new replies (inl it) = answered it.turn (publish_low it.uri None [] (z 3))
+  closed message old new replies (inl it) = turned it.turn (cleared_shallow old.agreed.pulls it.uri)
   closed message old new replies (inr (inl it)) = answered it.answered log_low
   closed message old new replies (inr (inr it)) = answered it.answered log_low
 
@@ -251,7 +285,7 @@ module _ (finds : List ℕ → Found → Type 0) where
       let low_reply : Low it.reply = elim it.is_reply [
         | inl of_it ↦
             let listed : items_depth (items_of of_it.diagnostics) ≤ 3 =
-            checked_low old.agreed of_it.document.text of_it.diagnostics of_it.told of_it.is_checked in
+            checked_as_low old.agreed of_it.document.python of_it.document.text of_it.diagnostics of_it.is_checked in
             subst Low (sym of_it.replied) (result_low id (full_data of_it.diagnostics) flat
             (full_low of_it.diagnostics listed))
         | inr none ↦ subst Low (sym none.1) (refusal_low InvalidParams id flat)
@@ -332,10 +366,15 @@ module _ (finds : List ℕ → Found → Type 0) where
   messaged message old new replies (inr it) = without_method (get (codes "id") message) message old new replies
       it.answered
 
+  spoiled : (document : Option OpenDocument) (old new : State) (replies : List Data)
+      → OnSpoiled finds document old replies new → AreShallow replies
+  spoiled None old new replies h = unreadable ParseError old new replies h
+  spoiled (Some document) old new replies h = published old.agreed document replies h.published
+
   stepped : (old new : State) (bytes : List ℕ) (replies : List Data) → Step finds old bytes replies new
       → AreShallow replies
   stepped old new bytes replies (inl it) = messaged it.message old new replies it.answered
-  stepped old new bytes replies (inr it) = unreadable old new replies it.unreadable
+  stepped old new bytes replies (inr it) = spoiled it.document old new replies it.spoiled
 
 -- ---- texts
 
@@ -349,11 +388,26 @@ texts_of (reply ∷ replies) (text ∷ texts) shallow spelled = (
   texts_of replies texts shallow.1 spelled.1,
 )
 
+-- shallow replies are sent where they are spelled
+sent_of : (replies : List Data) (bytes : List ℕ) → AreShallow replies → AreSpelled replies bytes
+    → AreSent replies bytes
+sent_of replies bytes shallow spelled = record {
+  texts = spelled.texts;
+  each = texts_of replies spelled.texts shallow spelled.each;
+  framed = spelled.framed;
+}
+
 -- what a step replies is sent where it is spelled
 pub sent : (finds : List ℕ → Found → Type 0) (old new : State) (message bytes : List ℕ) (replies : List Data)
     → Step finds old message replies new → AreSpelled replies bytes → AreSent replies bytes
-sent finds old new message bytes replies step spelled = record {
-  texts = spelled.texts;
-  each = texts_of replies spelled.texts (stepped finds old new message replies step) spelled.each;
-  framed = spelled.framed;
+sent finds old new message bytes replies step spelled =
+    sent_of replies bytes (stepped finds old new message replies step) spelled
+
+-- what is replied to a message that is not read is sent where it is spelled
+pub refused_sent : (old new : State) (bytes : List ℕ) (replies : List Data) → IsUnreadable TooLong old replies new
+    → AreSpelled replies bytes → SendsRefusal old bytes new
+refused_sent old new bytes replies refused spelled = record {
+  replies = replies;
+  refused = refused;
+  are_sent = sent_of replies bytes (unreadable TooLong old new replies refused) spelled;
 }

@@ -1,6 +1,8 @@
 pub mod Depths
 pub mod Finding
 pub mod Keeping
+pub mod Limits
+pub mod Mending
 pub mod Notices
 pub mod Reading
 pub mod Rulesets

@@ -1,17 +1,18 @@
 -- What comes of a notification about a document in a session that runs.
-use Rattle.std.proofs.Common.{◌≡◌, ℕ, List, Option, None, Some, true, sym, ap, ◌∙◌, subst, inl, inr, true≢false, arith}
-use Rattle.std.specs.Prelude.{codes, option_map}
+use Rattle.std.proofs.Common.{◌≡◌, ℕ, List, Option, None, Some, sym, ap, ◌∙◌, subst, inl, inr, true≢false, arith}
+use Rattle.std.specs.Prelude.{codes, option_map, option_and_then, is_some, false}
 use Rattle.serde_json.specs.Data.{Data}
 use Rattle.serde_json.specs.Find.{get}
 use Rattle.pc_session.specs.declared.checker.Found.{Found}
 use Rattle.pc_session.specs.declared.messages.Method.{Method}
 use Rattle.pc_session.specs.declared.session.Stage.{Stage}
 use Rattle.pc_session.specs.declared.session.Stage.TheVariants.{Running}
-use Rattle.pc_session.specs.Documents.{is_open}
-use Rattle.pc_session.specs.Messages.{method_in, method_named, version_in, opened_text, changed_text}
+use Rattle.pc_session.specs.Documents.{is_open, document_at}
+use Rattle.pc_session.specs.Messages.{method_in, method_named, version_in, is_older}
 use Rattle.pc_session.specs.Notices.{IsNoticeOf}
-use Rattle.pc_session.specs.Sessions.{Step, OnMessage, OnMethod, OnNotification, OnOpen, OnChange, IsKept}
-use Rattle.pc_session.specs.States.{State}
+use Rattle.pc_session.specs.Sessions.{Step, OnMessage, OnMethod, OnNotification, OnOpen, OnChange, IsKept, opened_in}
+use Rattle.pc_session.specs.Sessions.{changed_in, named_document}
+use Rattle.pc_session.specs.States.{State, OpenDocument}
 
 some_inj : {A : Type 0} {x y : A} → Some x ≡ Some y → x ≡ y
 some_inj e = grind arith
@@ -39,15 +40,14 @@ module _ (finds : List ℕ → Found → Type 0) where
             subst Asks notice.no_request (subst Does same named.answered)
       ]
 
-  -- after `didOpen` the document has the text that is opened
+  -- after `didOpen` the document is the one that is opened
   pub opened_is_kept : (old new : State) (uri bytes : List ℕ) (message : Data) (replies : List Data)
       → old.stage ≡ Running → IsNoticeOf (codes "textDocument/didOpen") uri bytes message
-      → Step finds old bytes replies new
-      → IsKept finds uri (version_in message) (opened_text message) old replies new
+      → Step finds old bytes replies new → IsKept finds (opened_in message uri) old replies new
   opened_is_kept old new uri bytes message replies running notice step =
       let Comes : Stage → Type 0 = λ s.
       OnNotification finds (method_named (codes "textDocument/didOpen")) s message old replies new in
-      let Names : List ℕ → Type 0 = λ u. IsKept finds u (version_in message) (opened_text message) old replies new in
+      let Names : List ℕ → Type 0 = λ u. IsKept finds (opened_in message u) old replies new in
       let comes : OnOpen finds message old replies new =
       subst Comes running (of_notice (codes "textDocument/didOpen") uri bytes message old new replies notice step) in
       elim comes [
@@ -55,21 +55,35 @@ module _ (finds : List ℕ → Found → Type 0) where
         | inr other ↦ absurd (some_none (sym notice.of_document ∙ other.none))
       ]
 
-  -- after `didChange` an open document has the text that it changed to
-  pub changed_is_kept : (old new : State) (uri bytes : List ℕ) (message : Data) (replies : List Data)
-      → old.stage ≡ Running → is_open uri old.documents ≡ true
+  -- the open document that a notification names
+  named_is : (old : State) (uri bytes method : List ℕ) (message : Data) → IsNoticeOf method uri bytes message
+      → named_document message old ≡ document_at uri old.documents
+  named_is old uri bytes method message notice =
+      ap (option_and_then (λ u. document_at u old.documents)) notice.of_document
+
+  -- after `didChange` to no older version an open document is the one that it changed to
+  pub changed_is_kept : (old new : State) (uri bytes : List ℕ) (message : Data) (document : OpenDocument)
+      (replies : List Data) → old.stage ≡ Running → document_at uri old.documents ≡ Some document
+      → is_older (version_in message) document.version ≡ false
       → IsNoticeOf (codes "textDocument/didChange") uri bytes message → Step finds old bytes replies new
-      → IsKept finds uri (version_in message) (changed_text message) old replies new
-  changed_is_kept old new uri bytes message replies running was_open notice step =
+      → IsKept finds (changed_in message document) old replies new
+  changed_is_kept old new uri bytes message document replies running was_open in_order notice step =
       let Comes : Stage → Type 0 = λ s.
       OnNotification finds (method_named (codes "textDocument/didChange")) s message old replies new in
-      let Names : List ℕ → Type 0 = λ u. IsKept finds u (version_in message) (changed_text message) old replies new in
+      let Keeps : OpenDocument → Type 0 = λ d. IsKept finds (changed_in message d) old replies new in
+      let named : named_document message old ≡ Some document =
+      named_is old uri bytes (codes "textDocument/didChange") message notice ∙ was_open in
       let comes : OnChange finds message old replies new =
       subst Comes running (of_notice (codes "textDocument/didChange") uri bytes message old new replies notice step) in
       elim comes [
-        | inl it ↦ subst Names (some_inj (sym it.names ∙ notice.of_document)) it.kept
+        | inl it ↦ subst Keeps (some_inj (sym it.named ∙ named)) it.kept
         | inr (inl it) ↦
+            let same : it.document ≡ document = some_inj (sym it.named ∙ named) in
+            absurd (true≢false (sym it.older
+            ∙ (ap (λ d. is_older (version_in message) d.version) same ∙ in_order)))
+        | inr (inr (inl it)) ↦
             let same : it.uri ≡ uri = some_inj (sym it.names ∙ notice.of_document) in
-            absurd (true≢false (sym was_open ∙ (ap (λ u. is_open u old.documents) (sym same) ∙ it.closed)))
-        | inr (inr other) ↦ absurd (some_none (sym notice.of_document ∙ other.none))
+            absurd (true≢false (sym (ap is_some was_open)
+            ∙ (ap (λ u. is_open u old.documents) (sym same) ∙ it.closed)))
+        | inr (inr (inr other)) ↦ absurd (some_none (sym notice.of_document ∙ other.none))
       ]

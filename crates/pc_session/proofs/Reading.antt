@@ -2,11 +2,11 @@
 use Rattle.std.proofs.Common.{◌≡◌, ℕ, ◌+◌, ◌-◌, ◌<◌, ◌≤◌, suc, false, ◌||◌, List, [], ◌∷◌, length, map, drop}
 use Rattle.std.proofs.Common.{get_or, refl, ap, sym, ◌∙◌}
 use Rattle.std.proofs.Common.{arith}
-use Rattle.std.specs.Prelude.{codes, option_map, slice_get}
+use Rattle.std.specs.Prelude.{Option, None, Some, codes, option_map, option_and_then, slice_get}
 use Rattle.std.proofs.lemmas.List.{drop_more, drop_all}
 use Rattle.serde_json.specs.declared.value.Value.{Value}
 use Rattle.serde_json.specs.View.{view, items_view}
-use Rattle.pc_session.specs.Messages.{last_item, is_text, has_text}
+use Rattle.pc_session.specs.Messages.{last_item, is_text, has_text, whole_text, text_after}
 use Rattle.pc_session.specs.declared.documents.Document.{Document}
 use Rattle.pc_session.specs.Replies.{log_data}
 use Rattle.pc_session.specs.Sessions.{told_of}
@@ -20,6 +20,30 @@ last_is (v ∷ w ∷ vs) =
     let further : suc (suc (length vs)) - 1 ≡ suc (length vs) = omega arith in
     let near : suc (length vs) - 1 ≡ length vs = omega arith in
     rw further (rw near at (last_is (w ∷ vs)))
+
+-- the text after changes, by the last of them
+abbrev after_last : Option (List ℕ) → Option Value → Option (List ℕ)
+after_last before None = before
+after_last before (Some change) = whole_text (view change)
+
+-- there is a last item where there is one
+last_some : (v : Value) (vs : List Value) → (w : Value) × (slice_get (v ∷ vs) (length (v ∷ vs) - 1) ≡ Some w)
+last_some v [] = (v, refl)
+last_some v (w ∷ vs) =
+    let further : suc (suc (length vs)) - 1 ≡ suc (length vs) = omega arith in
+    let near : suc (length vs) - 1 ≡ length vs = omega arith in
+    rw further (rw near at (last_some w vs))
+
+mapped : (before : Option (List ℕ)) (last : Option Value) → ((w : Value) × (last ≡ Some w))
+    → option_and_then whole_text (option_map view last) ≡ after_last before last
+mapped before None some = absurd (grind arith)
+mapped before (Some change) some = refl
+
+pub text_after_is : (before : Option (List ℕ)) (vs : List Value)
+    → text_after before (items_view vs) ≡ after_last before (slice_get vs (length vs - 1))
+text_after_is before [] = refl
+text_after_is before (v ∷ vs) = ap (option_and_then whole_text) (last_is (v ∷ vs))
+    ∙ mapped before (slice_get (v ∷ vs) (length (v ∷ vs) - 1)) (last_some v vs)
 
 -- what the items from a place on say, by the item there
 pub has_text_drop : (text : List ℕ) (vs : List Value) (i : ℕ) (v : Value) → i < length vs → v ≡ get_or vs i v
@@ -35,7 +59,7 @@ has_text_end text vs i past = ap (λ l. has_text text (items_view l)) (drop_all 
 
 -- the log is told something where a document is open, and nothing where none is
 pub told_some : (documents : List Document) → 0 < length documents → told_of (map opened_of documents)
-    ≡ log_data (codes "after a message that is no JSON the texts of the open documents are not known") ∷ []
+    ≡ log_data (codes "a message was not read: the texts of the open documents are not known until they change") ∷ []
 told_some [] some = absurd (omega arith)
 told_some (other ∷ others) some = refl
 

@@ -1,10 +1,10 @@
 -- For private clauses: what a change makes of a session.
-use Rattle.std.specs.Prelude.{map, remove}
+use Rattle.std.specs.Prelude.{remove}
 use Rattle.pc_session.specs.declared.session.Change.{Change}
 use Rattle.pc_session.specs.declared.session.Change.TheVariants.{Nothing, ToStage, Begin, Put, Remove, Forget}
 use Rattle.pc_session.specs.declared.session.Stage.TheVariants.{Running}
-use Rattle.pc_session.specs.Documents.{with_document, forgotten}
-use Rattle.pc_session.specs.Sessions.{at_stage, with_documents}
+use Rattle.pc_session.specs.Documents.{with_document}
+use Rattle.pc_session.specs.Sessions.{at_stage, with_documents, forgot}
 use Rattle.pc_session.specs.States.{State, agreed_of, opened_of}
 
 -- the session after a change
@@ -14,4 +14,4 @@ after (ToStage stage) old = at_stage stage old
 after (Begin settings) old = record { stage = Running; agreed = agreed_of settings; documents = old.documents }
 after (Put document) old = with_documents (with_document (opened_of document) old.documents) old
 after (Remove place) old = with_documents (remove old.documents place) old
-after Forget old = with_documents (map forgotten old.documents) old
+after Forget old = forgot old

@@ -1,6 +1,7 @@
 -- Diagnostics as data. Language Server Protocol 3.17, "Diagnostic".
-use Rattle.std.specs.Prelude.{ℕ, List, ◌++◌, Option, None, Some, codes, string_bytes, map}
-use Rattle.std.specs.Prelude.{[], ◌∷◌, if◌then◌else◌}
+use Rattle.std.specs.Prelude.{ℕ, ◌+◌, ◌-◌, ◌==◌, ◌&&◌, nat_le, nat_lt, Bool, List, [], ◌∷◌, ◌++◌, length, map, take}
+use Rattle.std.specs.Prelude.{Option, None, Some, codes, decimal, string_bytes, slice_get, if◌then◌else◌}
+use Rattle.std.specs.List.{suffix_len}
 use Rattle.serde_json.specs.Data.{Data, number, string, object, unsigned, no_members, member}
 use Rattle.pc_source.specs.declared.fault.Refusal.{Refusal}
 use Rattle.pc_source.specs.Refusals.{code_text}
@@ -66,13 +67,66 @@ item_data agreed text item = diagnostic_data agreed.codes_page
     (severity_of agreed.dynamic_severity item.finding.code)
     (text_of item.finding.code) (message_text item.finding.code item.flow)
 
--- the diagnostic of a refusal, at its byte
+-- how many bytes the character takes that begins with this byte, a carriage return with its line feed
+abbrev pub width_of : ℕ → ℕ
+width_of byte = if byte == 13 then 2 else (if nat_lt byte 192 then 1 else (if nat_lt byte 224 then 2 else (
+    if nat_lt byte 240 then 3 else 4)))
+
+-- a byte that goes on with a character of UTF-8
+abbrev pub is_continuation : ℕ → Bool
+is_continuation byte = nat_le 128 byte && nat_lt byte 192
+
+-- where a byte's character ends
+abbrev pub end_after : ℕ → Option ℕ → ℕ
+end_after byte None = byte
+end_after byte (Some first) = byte + width_of first
+
+-- where the character of a byte begins: at the byte, or that of the last character where the text ends before the byte
+abbrev pub start_of : List ℕ → ℕ → ℕ
+start_of text byte =
+    if nat_lt byte (length text) then byte else length text - (1 + suffix_len is_continuation text)
+
+-- where it ends
+abbrev pub end_of : List ℕ → ℕ → ℕ
+end_of text byte = end_after (start_of text byte) (slice_get text (start_of text byte))
+
+-- the diagnostic of a refusal, at the character of its byte
 abbrev pub refusal_data : Agreed → List ℕ → Refusal → Data
 refusal_data agreed text refusal = diagnostic_data agreed.codes_page
-    (range_data agreed.encoding text refusal.byte refusal.byte)
+    (range_data agreed.encoding text (start_of text refusal.byte) (end_of text refusal.byte))
     1 (code_text refusal.code) (refusal_meaning_of refusal.code)
 
--- the diagnostics of what was found in a text: one for each finding, in order, or exactly one
+-- a position in the first line
+abbrev pub first_line : ℕ → Data
+first_line character = position_data (record { line = 0; character = character })
+
+-- a diagnostic that is of no code and tells of the whole text, as a warning at its first character
+abbrev pub note_data : List ℕ → Data
+note_data message =
+    object (member (codes "message") (string message)
+    (member (codes "range")
+    (object (member (codes "end") (first_line 1) (member (codes "start") (first_line 0) no_members)))
+    (member (codes "severity") (number (unsigned 2))
+    (member (codes "source") (string (codes "pycheck")) no_members))))
+
+-- the diagnostic that stands alone where the text of a document is not known
+abbrev pub unknown_data : Data
+unknown_data = note_data (codes "not checked: the text of this document is not known until it changes")
+
+-- how many diagnostics of a text there are at most
+abbrev pub diagnostics_limit : ℕ
+diagnostics_limit = 1000
+
+-- the diagnostic that says how many findings more there are
+abbrev pub more_data : ℕ → Data
+more_data left = note_data (decimal left ++ codes " more findings are not shown")
+
+-- all diagnostics where they are within the limit, otherwise the first ones, and last one that says how many more there are
+abbrev pub limited : List Data → List Data
+limited all = if nat_le (length all) diagnostics_limit then all
+    else take 999 all ++ more_data (length all - 999) ∷ []
+
+-- the diagnostics of what was found in a text: one for each finding, in order and within the limit, or exactly one
 abbrev pub found_data : Agreed → List ℕ → Found → List Data
-found_data agreed text (Items items) = map (item_data agreed text) items.items
+found_data agreed text (Items items) = limited (map (item_data agreed text) items.items)
 found_data agreed text (Refused refusal) = refusal_data agreed text refusal ∷ []

@@ -32,4 +32,9 @@ without_document uri (other ∷ others) = if has_uri uri other then others else 
 
 -- the document, of which the text is not known
 abbrev pub forgotten : OpenDocument → OpenDocument
-forgotten document = record { uri = document.uri; version = document.version; text = None }
+forgotten document = record {
+  uri = document.uri;
+  version = document.version;
+  python = document.python;
+  text = None;
+}

@@ -14,7 +14,7 @@ use Rattle.pc_session.specs.declared.checker.Flow.{Flow}
 use Rattle.pc_session.specs.declared.checker.Item.{Item}
 use Rattle.pc_session.specs.declared.checker.Found.{Found}
 use Rattle.pc_session.specs.declared.checker.Found.TheVariants.{Items, Refused}
-use Rattle.pc_session.specs.Diagnostics.{position_at}
+use Rattle.pc_session.specs.Diagnostics.{position_at, start_of}
 use Rattle.pc_session.specs.States.{Agreed}
 
 -- a position stands before another
@@ -57,9 +57,10 @@ ruled (byte ∷ bytes) = (byte ∷ bytes) ++ codes "\n\n---\n\n"
 abbrev pub said_after : List ℕ → Item → List ℕ
 said_after told item = ruled told ++ item_text item
 
--- what is said at a position of a text: of each finding whose place has it, in order, or of the refusal on its line
+-- what is said at a position of a text: of each finding whose place has it, in order, or of the refusal on the line of its
+-- character
 abbrev pub hover_text : Agreed → List ℕ → Found → Position → List ℕ
 hover_text agreed text (Items items) position =
     fold said_after [] (filter (has_position agreed.encoding text position) items.items)
 hover_text agreed text (Refused refusal) position =
-    if line_at text refusal.byte == position.line then refusal_text refusal else []
+    if line_at text (start_of text refusal.byte) == position.line then refusal_text refusal else []

@@ -9,4 +9,5 @@ pub mod Replies
 pub mod Sent
 pub mod Sessions
 pub mod Spelled
+pub mod Spoiled
 pub mod States

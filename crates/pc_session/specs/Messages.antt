@@ -1,8 +1,9 @@
 -- What messages say. Language Server Protocol 3.17.
-use Rattle.std.specs.Prelude.{ℕ, Bool, false, ◌||◌, List, codes, Option, None, Some, bytes_eq, if◌then◌else◌}
+use Rattle.std.specs.Prelude.{ℕ, ℤ, int_lt, Bool, true, false, ◌||◌, List, codes, Option, None, Some, bytes_eq}
+use Rattle.std.specs.Prelude.{if◌then◌else◌}
 use Rattle.std.specs.Prelude.{is_some, unwrap_or, option_map, option_and_then}
 use Rattle.serde_json.specs.Data.{Data, Items, no_items, item}
-use Rattle.serde_json.specs.Find.{get, as_str, as_number, as_null, as_array, as_u64}
+use Rattle.serde_json.specs.Find.{get, as_str, as_number, as_null, as_array, as_object, as_u64, as_i64}
 use Rattle.pc_position.specs.declared.positions.Encoding.TheVariants.{Utf8, Utf16}
 use Rattle.pc_position.specs.declared.positions.Position.{Position}
 use Rattle.pc_session.specs.declared.messages.Method.{Method}
@@ -51,10 +52,16 @@ inside name inner message = option_and_then (get inner) (parameter name message)
 abbrev pub uri_in : Data → Option (List ℕ)
 uri_in message = option_and_then as_str (inside (codes "textDocument") (codes "uri") message)
 
--- the version of the document that a message gives
-abbrev pub version_in : Data → Option ℕ
+-- the version of the document that a message gives: a whole number, which may be negative
+abbrev pub version_in : Data → Option ℤ
 version_in message =
-    option_and_then as_u64 (option_and_then as_number (inside (codes "textDocument") (codes "version") message))
+    option_and_then as_i64 (option_and_then as_number (inside (codes "textDocument") (codes "version") message))
+
+-- the first version is older than the second; where one is not known, it is not
+abbrev pub is_older : Option ℤ → Option ℤ → Bool
+is_older None known = false
+is_older (Some version) None = false
+is_older (Some version) (Some known) = int_lt version known
 
 -- the text of the document that is opened
 abbrev pub opened_text : Data → Option (List ℕ)
@@ -71,10 +78,15 @@ abbrev pub whole_text : Data → Option (List ℕ)
 whole_text change =
     if is_some (get (codes "range") change) then None else option_and_then as_str (get (codes "text") change)
 
--- the whole text that the last change of a message gives
-abbrev pub changed_text : Data → Option (List ℕ)
-changed_text message = option_and_then whole_text
-    (option_and_then last_item (option_and_then as_array (parameter (codes "contentChanges") message)))
+-- the text after changes: the whole text that the last of them gives, or the text before where there are none
+abbrev pub text_after : Option (List ℕ) → Items → Option (List ℕ)
+text_after before no_items = before
+text_after before (item change changes) = option_and_then whole_text (last_item (item change changes))
+
+-- the text that a message makes of the text before
+abbrev pub changed_text : Option (List ℕ) → Data → Option (List ℕ)
+changed_text before message =
+    option_and_then (text_after before) (option_and_then as_array (parameter (codes "contentChanges") message))
 
 -- the position that two numbers make
 abbrev pub position_from : Option ℕ → Option ℕ → Option Position
@@ -105,16 +117,27 @@ offers name message = unwrap_or (option_map (has_text name) (option_and_then as_
     (get (codes "positionEncodings")) (option_and_then (get (codes "general"))
     (parameter (codes "capabilities") message))))) false
 
+-- the document that is opened is Python: its language is, or none is named
+abbrev pub is_python : Data → Bool
+is_python message = unwrap_or (option_map (is_text (codes "python"))
+    (inside (codes "textDocument") (codes "languageId") message)) true
+
+-- the client can pull diagnostics
+abbrev pub pulls_in : Data → Bool
+pulls_in message = is_some (option_and_then as_object (option_and_then (get (codes "diagnostic"))
+    (inside (codes "capabilities") (codes "textDocument") message)))
+
 -- an option of the client
 abbrev pub option_in : List ℕ → Data → Option Data
 option_in name message = inside (codes "initializationOptions") name message
 
 -- what `initialize` agrees on: UTF-8 where the client offers it, otherwise UTF-16; dynamic places are information where
--- the client asks for it, otherwise warnings; and the page that explains the codes
+-- the client asks for it, otherwise warnings; the page that explains the codes; and whether the client pulls diagnostics
 abbrev pub agreed_in : Data → Agreed
 agreed_in message = record {
   encoding = if offers (codes "utf-8") message then Utf8 else Utf16;
   dynamic_severity = if unwrap_or (option_map (is_text (codes "information"))
       (option_in (codes "dynamicPlaces") message)) false then 3 else 2;
   codes_page = option_and_then as_str (option_in (codes "codesPage") message);
+  pulls = pulls_in message;
 }

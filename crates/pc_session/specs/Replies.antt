@@ -7,7 +7,7 @@ use Rattle.pc_position.specs.declared.positions.Encoding.{Encoding}
 use Rattle.pc_position.specs.declared.positions.Encoding.TheVariants.{Utf8, Utf16, Utf32}
 use Rattle.pc_session.specs.declared.replies.ErrorCode.{ErrorCode}
 use Rattle.pc_session.specs.declared.replies.ErrorCode.TheVariants.{ParseError, InvalidRequest, MethodNotFound}
-use Rattle.pc_session.specs.declared.replies.ErrorCode.TheVariants.{InvalidParams, ServerNotInitialized}
+use Rattle.pc_session.specs.declared.replies.ErrorCode.TheVariants.{InvalidParams, ServerNotInitialized, TooLong}
 
 -- a notification
 abbrev pub notification_data : List ℕ → Data → Data
@@ -17,17 +17,17 @@ notification_data method params =
     (member (codes "params") params no_members)))
 
 -- the diagnostics of a document and, where it has one, of its version
-abbrev pub published_data : List ℕ → Option ℕ → List Data → Data
+abbrev pub published_data : List ℕ → Option ℤ → List Data → Data
 published_data uri None diagnostics =
     object (member (codes "diagnostics") (array (items_of diagnostics))
     (member (codes "uri") (string uri) no_members))
 published_data uri (Some version) diagnostics =
     object (member (codes "diagnostics") (array (items_of diagnostics))
     (member (codes "uri") (string uri)
-    (member (codes "version") (number (unsigned version)) no_members)))
+    (member (codes "version") (number (of_integer version)) no_members)))
 
 -- the notification of the diagnostics of a document
-abbrev pub publish_data : List ℕ → Option ℕ → List Data → Data
+abbrev pub publish_data : List ℕ → Option ℤ → List Data → Data
 publish_data uri version diagnostics =
     notification_data (codes "textDocument/publishDiagnostics") (published_data uri version diagnostics)
 
@@ -96,6 +96,7 @@ number_of InvalidRequest = negsuc 32599
 number_of MethodNotFound = negsuc 32600
 number_of InvalidParams = negsuc 32601
 number_of ServerNotInitialized = negsuc 32001
+number_of TooLong = negsuc 32599
 
 -- the text of an error of the protocol
 abbrev pub error_text : ErrorCode → List ℕ
@@ -104,6 +105,7 @@ error_text InvalidRequest = codes "the message is no request"
 error_text MethodNotFound = codes "the method is not known"
 error_text InvalidParams = codes "the parameters do not fit the method"
 error_text ServerNotInitialized = codes "the session has not begun"
+error_text TooLong = codes "the message is longer than 16,777,216 bytes"
 
 -- the reply to the request with this identifier, with an error of the protocol
 abbrev pub refusal_of : ErrorCode → Data → Data

@@ -6,7 +6,8 @@ use Rattle.serde_json.specs.Read.{read}
 use Rattle.serde_json.specs.Written.{has_float, compact_text}
 use Rattle.pc_wire.specs.Frames.{frame}
 use Rattle.pc_session.specs.declared.checker.Found.{Found}
-use Rattle.pc_session.specs.Sessions.{Step}
+use Rattle.pc_session.specs.declared.replies.ErrorCode.TheVariants.{TooLong}
+use Rattle.pc_session.specs.Sessions.{Step, IsUnreadable}
 use Rattle.pc_session.specs.States.{State}
 
 -- the text spells the value: it reads back as the value, and is the compact text of one without floats
@@ -25,4 +26,10 @@ pub record SendsStep (finds : List ℕ → Found → Type 0) (old : State) (mess
     : Type 0 where
   pub replies : List Data
   pub step : Step finds old message replies new
+  pub are_sent : AreSent replies bytes
+
+-- the bytes are the frames of what is replied to a message that is too long, and this is the session after it
+pub record SendsRefusal (old : State) (bytes : List ℕ) (new : State) : Type 0 where
+  pub replies : List Data
+  pub refused : IsUnreadable TooLong old replies new
   pub are_sent : AreSent replies bytes

@@ -1,6 +1,6 @@
 -- What messages change in a session, and what is replied. Own rule of the server, over Language Server Protocol 3.17.
-use Rattle.std.specs.Prelude.{◌≡◌, ◌⊎◌, ℕ, ◌<◌, ◌≤◌, List, [], ◌∷◌, ◌++◌, map, codes, true, false, if◌then◌else◌}
-use Rattle.std.specs.Prelude.{Option, None, Some, option_and_then, length, IsUtf8}
+use Rattle.std.specs.Prelude.{◌≡◌, ◌⊎◌, ℕ, Bool, List, [], ◌∷◌, ◌++◌, map, filter, codes, true, false}
+use Rattle.std.specs.Prelude.{Option, None, Some, option_and_then, IsUtf8, if◌then◌else◌}
 use Rattle.serde_json.specs.Data.{Data, null, array, no_items}
 use Rattle.serde_json.specs.Find.{get}
 use Rattle.serde_json.specs.Read.{read}
@@ -10,17 +10,20 @@ use Rattle.pc_session.specs.declared.messages.Method.{Method}
 use Rattle.pc_session.specs.declared.messages.Method.TheVariants.{Initialize, Shutdown, Exit, DidOpen, DidChange}
 use Rattle.pc_session.specs.declared.messages.Method.TheVariants.{DidClose}
 use Rattle.pc_session.specs.declared.messages.Method.TheVariants.{Hover, Diagnostic, CodeAction}
+use Rattle.pc_session.specs.declared.replies.ErrorCode.{ErrorCode}
 use Rattle.pc_session.specs.declared.replies.ErrorCode.TheVariants.{ParseError, InvalidRequest, MethodNotFound}
 use Rattle.pc_session.specs.declared.replies.ErrorCode.TheVariants.{InvalidParams, ServerNotInitialized}
 use Rattle.pc_session.specs.declared.session.Stage.{Stage}
 use Rattle.pc_session.specs.declared.session.Stage.TheVariants.{Fresh, Running, ShutDown, Ended}
-use Rattle.pc_session.specs.Checked.{IsChecked, IsPublished, text_limit}
+use Rattle.pc_session.specs.Checked.{IsCheckedAs, IsPublished, is_sent}
+use Rattle.pc_session.specs.Diagnostics.{unknown_data}
 use Rattle.pc_session.specs.Documents.{document_at, is_open, with_document, without_document, forgotten}
 use Rattle.pc_session.specs.Hovers.{hover_text}
 use Rattle.pc_session.specs.Messages.{method_in, is_identifier, is_reply, uri_in, version_in, opened_text, changed_text}
-use Rattle.pc_session.specs.Messages.{position_in, agreed_in}
+use Rattle.pc_session.specs.Messages.{position_in, agreed_in, is_older, is_python}
 use Rattle.pc_session.specs.Replies.{publish_data, log_data, result_data, full_data, hover_data, capabilities_data}
 use Rattle.pc_session.specs.Replies.{refusal_of}
+use Rattle.pc_session.specs.Spoiled.{Spoils}
 use Rattle.pc_session.specs.States.{Agreed, OpenDocument, State}
 
 -- the same session, at another stage
@@ -49,21 +52,28 @@ abbrev pub exit_status : Stage → ℕ
 exit_status ShutDown = 0
 exit_status stage = 1
 
--- the client shows no diagnostics of a document
-abbrev pub nothing_of : OpenDocument → Data
-nothing_of document = publish_data document.uri document.version []
+-- the same session, in which no text is known
+abbrev pub forgot : State → State
+forgot old = with_documents (map forgotten old.documents) old
+
+-- the client shows of a document that its text is not known
+abbrev pub unknown_of : OpenDocument → Data
+unknown_of document = publish_data document.uri document.version (unknown_data ∷ [])
+
+-- the client is told of each document whose diagnostics are sent that its text is not known
+abbrev pub unknown_all : State → List Data
+unknown_all old = map unknown_of (filter (is_sent old.agreed) old.documents)
 
 -- what the log is told where texts are forgotten: nothing where no document is open
 abbrev pub told_of : List OpenDocument → List Data
 told_of [] = []
 told_of (document ∷ documents) =
-    log_data (codes "after a message that is no JSON the texts of the open documents are not known") ∷ []
+    log_data (codes "a message was not read: the texts of the open documents are not known until they change") ∷ []
 
--- a message that is no JSON: an error, and nothing is known of any text from now on
-abbrev pub IsUnreadable : State → List Data → State → Type 0
-IsUnreadable old replies new = IsTurn
-    (refusal_of ParseError null ∷ (map nothing_of old.documents ++ told_of old.documents))
-    (with_documents (map forgotten old.documents) old) replies new
+-- a message that is not read: this error, and nothing is known of any text from now on
+abbrev pub IsUnreadable : ErrorCode → State → List Data → State → Type 0
+IsUnreadable code old replies new = IsTurn
+    (refusal_of code null ∷ (unknown_all old ++ told_of old.documents)) (forgot old) replies new
 
 -- the open document that a message names
 abbrev pub named_document : Data → State → Option OpenDocument
@@ -81,12 +91,16 @@ pub record IsNotOpen (told : List ℕ) (message : Data) (old : State) (replies :
   pub closed : is_open uri old.documents ≡ false
   pub answered : IsAnswered (log_data told) old replies new
 
+-- the client shows no diagnostics of a document, unless it pulls them
+abbrev pub cleared : Bool → List ℕ → List Data
+cleared pulls uri = if pulls then [] else publish_data uri None [] ∷ []
+
 -- an open document is closed: nothing is left of it, and the client shows no diagnostics of it
 pub record IsClosed (message : Data) (old : State) (replies : List Data) (new : State) : Type 0 where
   pub uri : List ℕ
   pub names : uri_in message ≡ Some uri
   pub was_open : is_open uri old.documents ≡ true
-  pub turn : IsTurn (publish_data uri None [] ∷ [])
+  pub turn : IsTurn (cleared old.agreed.pulls uri)
       (with_documents (without_document uri old.documents) old) replies new
 
 -- `didClose`: of an open document, of one that is not open, or of none
@@ -118,15 +132,34 @@ OnFresh Initialize id message old replies new =
     (record { stage = Running; agreed = agreed_in message; documents = old.documents }) replies new
 OnFresh method id message old replies new = IsAnswered (refusal_of ServerNotInitialized id) old replies new
 
+-- the document that a message opens
+abbrev pub opened_in : Data → List ℕ → OpenDocument
+opened_in message uri = record {
+  uri = uri;
+  version = version_in message;
+  python = is_python message;
+  text = opened_text message;
+}
+
+-- the document that a message makes of an open one
+abbrev pub changed_in : Data → OpenDocument → OpenDocument
+changed_in message document = record {
+  uri = document.uri;
+  version = version_in message;
+  python = document.python;
+  text = changed_text document.text message;
+}
+
+-- a message gives an older version than an open document has: the log says so, and nothing changes
+pub record IsOutdated (message : Data) (old : State) (replies : List Data) (new : State) : Type 0 where
+  pub document : OpenDocument
+  pub named : named_document message old ≡ Some document
+  pub older : is_older (version_in message) document.version ≡ true
+  pub answered : IsAnswered (log_data (codes "didChange gives an older version: it was let be")) old replies new
+
 module _ (finds : List ℕ → Found → Type 0) where
-  -- the document of this address has this version and this text from now on, and its diagnostics are published: nothing
-  -- else changes
-  pub record IsKept (uri : List ℕ) (version : Option ℕ) (text : Option (List ℕ)) (old : State) (replies : List Data)
-      (new : State) : Type 0 where
-    pub document : OpenDocument
-    pub uri_is : document.uri ≡ uri
-    pub version_is : document.version ≡ version
-    pub text_is : document.text ≡ text
+  -- this is the document of its address from now on, and its diagnostics are published: nothing else changes
+  pub record IsKept (document : OpenDocument) (old : State) (replies : List Data) (new : State) : Type 0 where
     pub published : IsPublished finds old.agreed document replies
     pub new_is : new ≡ with_documents (with_document document old.documents) old
 
@@ -134,33 +167,32 @@ module _ (finds : List ℕ → Found → Type 0) where
   pub record IsOpened (message : Data) (old : State) (replies : List Data) (new : State) : Type 0 where
     pub uri : List ℕ
     pub names : uri_in message ≡ Some uri
-    pub kept : IsKept uri (version_in message) (opened_text message) old replies new
+    pub kept : IsKept (opened_in message uri) old replies new
 
-  -- an open document has the new text that the message gives
+  -- an open document has the text that the message makes of its text; the version that the message gives is no older one
   pub record IsChanged (message : Data) (old : State) (replies : List Data) (new : State) : Type 0 where
-    pub uri : List ℕ
-    pub names : uri_in message ≡ Some uri
-    pub was_open : is_open uri old.documents ≡ true
-    pub kept : IsKept uri (version_in message) (changed_text message) old replies new
+    pub document : OpenDocument
+    pub named : named_document message old ≡ Some document
+    pub in_order : is_older (version_in message) document.version ≡ false
+    pub kept : IsKept (changed_in message document) old replies new
 
   -- `didOpen`: of the document that the message names, or of none
   abbrev pub OnOpen : Data → State → List Data → State → Type 0
   OnOpen message old replies new = IsOpened message old replies new
       ⊎ IsUnnamed (codes "didOpen names no document") message old replies new
 
-  -- `didChange`: of an open document, of one that is not open, or of none
+  -- `didChange`: of an open document, to an older version of one, of one that is not open, or of none
   abbrev pub OnChange : Data → State → List Data → State → Type 0
-  OnChange message old replies new = IsChanged message old replies new
+  OnChange message old replies new = IsChanged message old replies new ⊎ (IsOutdated message old replies new
       ⊎ (IsNotOpen (codes "didChange names a document that is not open") message old replies new
-      ⊎ IsUnnamed (codes "didChange names no document") message old replies new)
+      ⊎ IsUnnamed (codes "didChange names no document") message old replies new))
 
   -- the reply to a pull has the diagnostics of the open document that the message names
   pub record IsPulledOf (message id : Data) (old : State) (reply : Data) : Type 0 where
     pub document : OpenDocument
     pub named : named_document message old ≡ Some document
     pub diagnostics : List Data
-    pub told : Option (List ℕ)
-    pub is_checked : IsChecked finds old.agreed document.text diagnostics told
+    pub is_checked : IsCheckedAs finds old.agreed document.python document.text diagnostics
     pub replied : reply ≡ result_data id (full_data diagnostics)
 
   -- the reply to a pull: the diagnostics of the document, or an error where the message names none that is open
@@ -168,18 +200,21 @@ module _ (finds : List ℕ → Found → Type 0) where
   IsPulled message id old reply = IsPulledOf message id old reply
       ⊎ ((named_document message old ≡ None) × (reply ≡ refusal_of InvalidParams id))
 
-  -- the text is within the limit, and this is said of what is found in it
+  -- this is said of what is found in the text
   pub record IsSaidOf (text : List ℕ) (position : Position) (agreed : Agreed) (told : List ℕ) : Type 0 where
-    pub short : length text ≤ text_limit
     pub found : Found
     pub finds_it : finds text found
     pub are : told ≡ hover_text agreed text found position
 
-  -- what is said at a position of a text: nothing of one that is not known or too long
+  -- what is said at a position of a text: nothing of one that is not known
   abbrev pub IsToldOf : Option (List ℕ) → Position → Agreed → List ℕ → Type 0
   IsToldOf None position agreed told = told ≡ []
   IsToldOf (Some text) position agreed told = IsSaidOf text position agreed told
-      ⊎ ((text_limit < length text) × (told ≡ []))
+
+  -- what is said at a position of a document: nothing where it is not Python
+  abbrev pub IsToldAs : Bool → Option (List ℕ) → Position → Agreed → List ℕ → Type 0
+  IsToldAs false text position agreed told = told ≡ []
+  IsToldAs true text position agreed told = IsToldOf text position agreed told
 
   -- the reply to `hover` has what is said at the position of the open document that the message names
   pub record IsHoveredOf (message id : Data) (old : State) (reply : Data) : Type 0 where
@@ -188,7 +223,7 @@ module _ (finds : List ℕ → Found → Type 0) where
     pub position : Position
     pub placed : position_in message ≡ Some position
     pub told : List ℕ
-    pub is_told : IsToldOf document.text position old.agreed told
+    pub is_told : IsToldAs document.python document.text position old.agreed told
     pub replied : reply ≡ result_data id (hover_data told)
 
   -- the reply to `hover`: what is said at the position, or an error where the message names no open document or no
@@ -260,10 +295,17 @@ module _ (finds : List ℕ → Found → Type 0) where
     pub spelled : read bytes ≡ Some message
     pub answered : OnMessage message old replies new
 
+  -- what comes of bytes that are no JSON: a document has a text that is not known, or all have
+  abbrev pub OnSpoiled : Option OpenDocument → State → List Data → State → Type 0
+  OnSpoiled None old replies new = IsUnreadable ParseError old replies new
+  OnSpoiled (Some document) old replies new = IsKept document old replies new
+
   -- the bytes are no JSON, and this comes of them
   pub record IsNotRead (bytes : List ℕ) (old : State) (replies : List Data) (new : State) : Type 0 where
     pub no_json : IsUtf8 bytes → read bytes ≡ None
-    pub unreadable : IsUnreadable old replies new
+    pub document : Option OpenDocument
+    pub spoils : Spoils bytes old document
+    pub spoiled : OnSpoiled document old replies new
 
   -- what is replied to a message, and the session after it
   abbrev pub Step : State → List ℕ → List Data → State → Type 0

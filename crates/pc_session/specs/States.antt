@@ -1,5 +1,5 @@
 -- Sessions as data. Own rule of the server.
-use Rattle.std.specs.Prelude.{ℕ, List, [], Option, None, string_bytes, map, option_map}
+use Rattle.std.specs.Prelude.{ℕ, ℤ, Bool, false, List, [], Option, None, string_bytes, map, option_map}
 use Rattle.pc_position.specs.declared.positions.Encoding.{Encoding}
 use Rattle.pc_position.specs.declared.positions.Encoding.TheVariants.{Utf16}
 use Rattle.pc_session.specs.declared.documents.Document.{Document}
@@ -8,16 +8,18 @@ use Rattle.pc_session.specs.declared.session.Stage.{Stage}
 use Rattle.pc_session.specs.declared.session.Stage.TheVariants.{Fresh}
 use Rattle.pc_session.specs.declared.settings.Settings.{Settings}
 
--- what was agreed at `initialize`
+-- what was agreed at `initialize`; the client pulls diagnostics where it says so, and is sent none then
 pub record Agreed : Type 0 where
   pub encoding : Encoding
   pub dynamic_severity : ℕ
   pub codes_page : Option (List ℕ)
+  pub pulls : Bool
 
--- an open document: its address, its version where it has one, and its text where it is known
+-- an open document: its address, its version where it has one, whether it is Python, and its text where it is known
 pub record OpenDocument : Type 0 where
   pub uri : List ℕ
-  pub version : Option ℕ
+  pub version : Option ℤ
+  pub python : Bool
   pub text : Option (List ℕ)
 
 -- a session: how far it has come, what was agreed, and the open documents
@@ -32,6 +34,7 @@ agreed_of settings = record {
   encoding = settings.encoding;
   dynamic_severity = settings.dynamic_severity;
   codes_page = option_map string_bytes settings.codes_page;
+  pulls = settings.pulls;
 }
 
 -- what a document says
@@ -39,6 +42,7 @@ abbrev pub opened_of : Document → OpenDocument
 opened_of document = record {
   uri = string_bytes document.uri;
   version = document.version;
+  python = document.python;
   text = option_map string_bytes document.text;
 }
 
@@ -50,10 +54,11 @@ state_of session = record {
   documents = map opened_of session.documents.items;
 }
 
--- the session that has not begun: UTF-16 until something is agreed, dynamic places as warnings, and no document
+-- the session that has not begun: UTF-16 until something is agreed, dynamic places as warnings, diagnostics are sent, and
+-- no document is open
 abbrev pub fresh : State
 fresh = record {
   stage = Fresh;
-  agreed = record { encoding = Utf16; dynamic_severity = 2; codes_page = None };
+  agreed = record { encoding = Utf16; dynamic_severity = 2; codes_page = None; pulls = false };
   documents = [];
 }

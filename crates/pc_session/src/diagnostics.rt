@@ -1,10 +1,12 @@
 //! Diagnostics of what was found.
 
-ghost use Rattle.std.specs.Prelude.{◌≡◌, ◌∷◌, [], IfOk, map, option_map, string_bytes};
+ghost use Rattle.std.specs.Prelude.{◌≡◌, ◌≤◌, ◌∷◌, [], IfOk, length, map, option_map, string_bytes, take};
+ghost use Rattle.std.specs.List.{suffix_len};
 ghost use Rattle.serde_json.specs.View.{view};
 ghost use Rattle.pc_position.specs.Positions.{IsPositionOf};
 ghost use Rattle.pc_session.specs.Diagnostics.{position_data, range_data, severity_of, message_text, diagnostic_data};
-ghost use Rattle.pc_session.specs.Diagnostics.{item_data, refusal_data, found_data};
+ghost use Rattle.pc_session.specs.Diagnostics.{item_data, refusal_data, found_data, width_of, is_continuation};
+ghost use Rattle.pc_session.specs.Diagnostics.{start_of, end_of, first_line, note_data, unknown_data, more_data, limited};
 ghost use Rattle.pc_session.specs.States.{agreed_of};
 
 use crate::checker::{Found, Item};
@@ -147,7 +149,141 @@ fn item_values(
     Ok(values)
 }
 
-/// The diagnostic of a refusal, at its byte.
+/// How many diagnostics of a text there are at most.
+const DIAGNOSTICS_LIMIT: usize = 1000;
+
+/// How many of them are of findings where there are more.
+const SHOWN: usize = 999;
+
+/// A position in the first line, as a value.
+fn first_line(alloc: Global, character: u64) -> Result<Value, AllocError>
+    ensures { IfOk result (λ v. view v ≡ first_line character) }
+{
+    position_value(alloc, Position { line: 0, character })
+}
+
+/// A diagnostic that tells of the whole text.
+fn note(alloc: Global, message: &str) -> Result<Value, AllocError>
+    ensures { IfOk result (λ v. view v ≡ note_data message.now) }
+{
+    let start = first_line(alloc, 0)?;
+    let end = first_line(alloc, 1)?;
+    json!(in alloc; {
+        "message": message,
+        "range": {"end": end, "start": start},
+        "severity": 2u64,
+        "source": "pycheck"
+    })
+}
+
+/// The diagnostics of a document of which the text is not known.
+pub(crate) fn unknown_values(alloc: Global) -> Result<Vec<Value>, AllocError>
+    ensures { IfOk result (λ v. map view v.items ≡ unknown_data ∷ []) }
+{
+    let text = "not checked: the text of this document is not known until it changes";
+    let mut values = Vec::with_capacity(alloc, 1)?;
+    values.push(note(alloc, text)?)?;
+    Ok(values)
+}
+
+/// The diagnostic that says how many findings more there are.
+fn more(alloc: Global, left: usize) -> Result<Value, AllocError>
+    ensures { IfOk result (λ v. view v ≡ more_data left) }
+{
+    let text = format!(in alloc; "{left} more findings are not shown")?;
+    note(alloc, text.as_str())
+}
+
+/// The diagnostics of the first findings, so many, in their order.
+fn first_values(
+    alloc: Global,
+    settings: &Settings,
+    text: &[u8],
+    items: &[Item],
+    most: usize,
+) -> Result<Vec<Value>, AllocError>
+    requires { most ≤ length items.now }
+    ensures { IfOk result (λ v. map view v.items
+        ≡ map (item_data (agreed_of settings.now) text.now) (take most items.now)) }
+{
+    let first = &items[..most];
+    item_values(alloc, settings, text, first)
+}
+
+/// The diagnostics of findings, in their order and within the limit.
+#[tactic(auto, using(crate::proofs::Limits::within, crate::proofs::Limits::beyond))]
+fn limited_values(
+    alloc: Global,
+    settings: &Settings,
+    text: &[u8],
+    items: &[Item],
+) -> Result<Vec<Value>, AllocError>
+    ensures { IfOk result (λ v. map view v.items
+        ≡ limited (map (item_data (agreed_of settings.now) text.now) items.now)) }
+{
+    if items.len() <= DIAGNOSTICS_LIMIT {
+        return item_values(alloc, settings, text, items);
+    }
+    let mut values = first_values(alloc, settings, text, items, SHOWN)?;
+    values.push(more(alloc, items.len() - SHOWN)?)?;
+    Ok(values)
+}
+
+/// How many bytes the character takes that begins with a byte, a carriage return with its line feed.
+fn width_of(byte: u8) -> usize
+    ensures width { result ≡ width_of byte }
+    ensures small { result ≤ 4 }
+{
+    match byte {
+        b'\r' => 2,
+        0..=191 => 1,
+        192..=223 => 2,
+        224..=239 => 3,
+        240..=255 => 4,
+    }
+}
+
+/// Whether a byte goes on with a character.
+fn is_continuation(byte: u8) -> bool
+    ensures { result ≡ is_continuation byte }
+{
+    byte >= 128 && byte < 192
+}
+
+/// How many bytes at the end go on with a character.
+fn continued(text: &[u8]) -> usize
+    ensures count { result ≡ suffix_len is_continuation text.now }
+    ensures within { result ≤ length text.now }
+{
+    text.iter()
+        .rev()
+        .take_while(|b| is_continuation(**b))
+        .count()
+}
+
+/// Where the character of a byte begins: that of the last one where the text ends before the byte.
+pub(crate) fn start_of(text: &[u8], byte: usize) -> usize
+    ensures { result ≡ start_of text.now byte }
+{
+    if byte < text.len() {
+        byte
+    } else {
+        text.len().saturating_sub(1 + continued(text))
+    }
+}
+
+/// Where the character of a byte ends.
+fn end_of(text: &[u8], byte: usize) -> usize
+    ensures { result ≡ end_of text.now byte }
+{
+    let start = start_of(text, byte);
+    match text.get(start) {
+        None => start,
+        Some(first) => start + width_of(*first),
+    }
+}
+
+/// The diagnostic of a refusal, at the character of its byte.
 fn refusal_value(
     alloc: Global,
     settings: &Settings,
@@ -156,8 +292,10 @@ fn refusal_value(
 ) -> Result<Value, AllocError>
     ensures { IfOk result (λ v. view v ≡ refusal_data (agreed_of settings.now) text.now refusal) }
 {
-    let at = mark_after(text, settings.encoding, Mark::start(), refusal.byte).position;
-    let range = range_value(alloc, at, at)?;
+    let start = start_of(text, refusal.byte);
+    let end = end_of(text, refusal.byte);
+    let (start, end) = ends_of(text, settings.encoding, Mark::start(), start, end);
+    let range = range_value(alloc, start.position, end.position)?;
     let message = refusal_meaning(refusal.code);
     diagnostic(
         alloc,
@@ -179,7 +317,7 @@ pub(crate) fn found_values(
     ensures { IfOk result (λ v. map view v.items ≡ found_data (agreed_of settings.now) text.now found.now) }
 {
     match found {
-        Found::Items(items) => item_values(alloc, settings, text, items),
+        Found::Items(items) => limited_values(alloc, settings, text, items),
         Found::Refused(refusal) => {
             let mut values = Vec::with_capacity(alloc, 1)?;
             values.push(refusal_value(alloc, settings, text, *refusal)?)?;

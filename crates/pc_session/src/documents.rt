@@ -6,11 +6,14 @@ ghost use Rattle.pc_session.specs.States.{opened_of};
 
 use std::alloc::AllocFailed;
 
-/// An open document: its text is not known after a message that was no JSON, or a change that gave no whole text.
+/// An open document.
 #[derive(Debug, Drop)]
 pub struct Document {
     pub uri: String,
-    pub version: Option<u64>,
+    pub version: Option<i64>,
+    /// Whether it is checked.
+    pub python: bool,
+    /// Not known after a message that was lost or could not be read, or a change that gave no whole text.
     pub text: Option<String>,
 }
 

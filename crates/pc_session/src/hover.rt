@@ -7,7 +7,7 @@ ghost use Rattle.pc_session.specs.Hovers.{ruled, said_after, hover_text};
 ghost use Rattle.pc_session.specs.States.{agreed_of};
 
 use crate::checker::{Flow, Found, Item};
-use crate::diagnostics::ends_of;
+use crate::diagnostics::{ends_of, start_of};
 use crate::settings::Settings;
 use pc_help::{meaning, mending, refusal_meaning, refusal_mending, refusal_title};
 use pc_position::{Encoding, Mark, Position, mark_after};
@@ -139,7 +139,8 @@ pub(crate) fn hover_text(
     match found {
         Found::Items(items) => items_text(alloc, settings.encoding, text, items, position),
         Found::Refused(refusal) => {
-            let at = mark_after(text, settings.encoding, Mark::start(), refusal.byte).position;
+            let start = start_of(text, refusal.byte);
+            let at = mark_after(text, settings.encoding, Mark::start(), start).position;
             if at.line == position.line {
                 refusal_text(alloc, *refusal)
             } else {

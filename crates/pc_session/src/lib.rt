@@ -11,6 +11,7 @@ mod replies;
 mod requests;
 mod session;
 mod settings;
+mod spoiled;
 mod steps;
 mod texts;
 
@@ -18,4 +19,4 @@ pub use checker::{Checker, Flow, Found, Item};
 pub use documents::Document;
 pub use session::{Session, Stage};
 pub use settings::Settings;
-pub use steps::step;
+pub use steps::{refuse_long, step};

@@ -4,7 +4,7 @@ ghost use Rattle.std.specs.Prelude.{◌≡◌, Option, option_map};
 ghost use Rattle.serde_json.specs.View.{view};
 ghost use Rattle.pc_session.specs.Messages.{method_named, method_in, is_identifier, is_reply, parameter, inside};
 ghost use Rattle.pc_session.specs.Messages.{uri_in, version_in, opened_text, whole_text, changed_text, place_in};
-ghost use Rattle.pc_session.specs.Messages.{position_in};
+ghost use Rattle.pc_session.specs.Messages.{position_in, is_older};
 
 use pc_position::Position;
 use serde_json::Value;
@@ -92,10 +92,20 @@ pub(crate) fn uri_in(message: &Value) -> Option<&str>
 }
 
 /// The version of the document that a message gives.
-pub(crate) fn version_in(message: &Value) -> Option<u64>
+pub(crate) fn version_in(message: &Value) -> Option<i64>
     ensures { result ≡ version_in (view message.now) }
 {
-    inside(message, "textDocument", "version")?.as_u64()
+    inside(message, "textDocument", "version")?.as_i64()
+}
+
+/// Whether the first version is older than the second; where one is not known, it is not.
+pub(crate) fn is_older(version: Option<i64>, known: Option<i64>) -> bool
+    ensures { result ≡ is_older version known }
+{
+    match (version, known) {
+        (None, _) | (Some(_), None) => false,
+        (Some(version), Some(known)) => version < known,
+    }
 }
 
 /// The text of the document that is opened.
@@ -115,13 +125,18 @@ fn whole_text(change: &Value) -> Option<&str>
     change.get("text")?.as_str()
 }
 
-/// The whole text that the last change of a message gives.
-#[tactic(auto, using(crate::proofs::Reading::last_is))]
-pub(crate) fn changed_text(message: &Value) -> Option<&str>
-    ensures { option_map (λ text. text.now) result ≡ changed_text (view message.now) }
+/// The text that a message makes of the text before: the whole text that its last change gives, or the text before where
+/// it gives no change.
+#[tactic(auto, using(crate::proofs::Reading::text_after_is))]
+pub(crate) fn changed_text<'a>(before: Option<&'a str>, message: &'a Value) -> Option<&'a str>
+    ensures { option_map (λ text. text.now) result
+        ≡ changed_text (option_map (λ text. text.now) before.entry) (view message.now) }
 {
     let changes = parameter(message, "contentChanges")?.as_array()?;
-    whole_text(changes.as_slice().last()?)
+    match changes.as_slice().last() {
+        None => before,
+        Some(change) => whole_text(change),
+    }
 }
 
 /// One number of the position that a message names.

@@ -1,19 +1,20 @@
 //! What is replied to notifications, and what they change.
 
-ghost use Rattle.std.specs.Prelude.{◌≡◌, ◌∷◌, [], IfOk, map, option_map};
+ghost use Rattle.std.specs.Prelude.{◌≡◌, ◌∷◌, [], IfOk, None, map, option_map, string_bytes};
 ghost use Rattle.serde_json.specs.View.{view};
 ghost use Rattle.pc_session.specs.Answers.{after};
 ghost use Rattle.pc_session.specs.Replies.{log_data};
 ghost use Rattle.pc_session.specs.Sessions.{IsLetBe, IsAnswered, IsKept, OnOpen, OnChange, OnClose, OnNotice, OnStage};
-ghost use Rattle.pc_session.specs.Sessions.{OnNotification, exit_status};
-ghost use Rattle.pc_session.specs.States.{state_of};
+ghost use Rattle.pc_session.specs.Sessions.{OnNotification, changed_in, cleared, exit_status, named_document};
+ghost use Rattle.pc_session.specs.States.{opened_of, state_of};
 
 use crate::checker::Checker;
 use crate::documents::{Document, place_of};
-use crate::messages::{Method, changed_text, opened_text, uri_in, version_in};
+use crate::messages::{Method, changed_text, is_older, opened_text, uri_in, version_in};
 use crate::replies::{log, publish};
+use crate::requests::named;
 use crate::session::{Answer, Change, Session, Stage};
-use crate::settings::owned;
+use crate::settings::{is_python, owned};
 use crate::texts::published;
 use pc_source::OutOfMemory;
 use serde_json::Value;
@@ -51,23 +52,16 @@ fn told(session: &Session, alloc: Global, text: &str) -> Result<Answer, OutOfMem
     Ok(answer)
 }
 
-/// The document of an address has a text from now on, and its diagnostics are published.
-fn kept<C: Checker>(
+/// A document is that of its address from now on, and its diagnostics are published.
+pub(crate) fn kept<C: Checker>(
     session: &Session,
     checker: &C,
     alloc: Global,
-    uri: &str,
-    version: Option<u64>,
-    text: Option<&str>,
+    document: Document,
 ) -> Result<Answer, OutOfMemory>
-    ensures { IfOk result (λ a. IsKept (C.finds checker.now) uri.now version (option_map (λ t. t.now) text.entry)
+    ensures { IfOk result (λ a. IsKept (C.finds checker.now) (opened_of document)
         (state_of session.now) (map view a.replies.items) (after a.change (state_of session.now))) }
 {
-    let document = Document {
-        uri: String::from_str(alloc, uri)?,
-        version,
-        text: owned(alloc, text)?,
-    };
     let replies = published(checker, alloc, &session.settings, &document)?;
     Ok(Answer {
         replies,
@@ -91,16 +85,66 @@ fn opened<C: Checker>(
             Ok(answer)
         }
         Some(uri) => {
-            let version = version_in(message);
-            let text = opened_text(message);
-            let answer = kept(session, checker, alloc, uri, version, text)?;
+            let document = Document {
+                uri: String::from_str(alloc, uri)?,
+                version: version_in(message),
+                python: is_python(message),
+                text: owned(alloc, opened_text(message))?,
+            };
+            let answer = kept(session, checker, alloc, document)?;
             Ok(answer)
         }
     }
 }
 
-/// A document gets a new text.
+/// The text of a document, where it is known.
+fn text_of(document: &Document) -> Option<&str>
+    ensures { option_map (λ text. text.now) result ≡ option_map string_bytes document.now.text }
+{
+    match &document.text {
+        None => None,
+        Some(text) => Some(text.as_str()),
+    }
+}
+
+/// The document that a message makes of an open one.
+fn changed_in(alloc: Global, message: &Value, document: &Document) -> Result<Document, OutOfMemory>
+    ensures { IfOk result (λ d. opened_of d ≡ changed_in (view message.now) (opened_of document.now)) }
+{
+    let text = changed_text(text_of(document), message);
+    Ok(Document {
+        uri: String::from_str(alloc, document.uri.as_str())?,
+        version: version_in(message),
+        python: document.python,
+        text: owned(alloc, text)?,
+    })
+}
+
+/// What comes of a change of a document that is not open, or of none.
 #[tactic(auto, using(crate::proofs::Rulesets::opens))]
+fn unchanged<C: Checker>(
+    session: &Session,
+    checker: &C,
+    alloc: Global,
+    message: &Value,
+) -> Result<Answer, OutOfMemory>
+    requires { named_document (view message.now) (state_of session.now) ≡ None }
+    ensures { IfOk result (λ a. OnChange (C.finds checker.now) (view message.now) (state_of session.now)
+        (map view a.replies.items) (after a.change (state_of session.now))) }
+{
+    let _ = checker;
+    let answer = match uri_in(message) {
+        None => told(session, alloc, "didChange names no document")?,
+        Some(_) => told(
+            session,
+            alloc,
+            "didChange names a document that is not open",
+        )?,
+    };
+    Ok(answer)
+}
+
+/// A document gets a new text, unless its version is older than that of the document.
 fn changed<C: Checker>(
     session: &Session,
     checker: &C,
@@ -110,23 +154,36 @@ fn changed<C: Checker>(
     ensures { IfOk result (λ a. OnChange (C.finds checker.now) (view message.now) (state_of session.now)
         (map view a.replies.items) (after a.change (state_of session.now))) }
 {
-    let Some(uri) = uri_in(message) else {
-        let answer = told(session, alloc, "didChange names no document")?;
+    let Some(document) = named(session, message) else {
+        let answer = unchanged(session, checker, alloc, message)?;
         return Ok(answer);
     };
-    match place_of(&session.documents, uri) {
-        None => {
-            let text = "didChange names a document that is not open";
-            let answer = told(session, alloc, text)?;
-            Ok(answer)
-        }
-        Some(_) => {
-            let version = version_in(message);
-            let text = changed_text(message);
-            let answer = kept(session, checker, alloc, uri, version, text)?;
-            Ok(answer)
-        }
+    if is_older(version_in(message), document.version) {
+        let answer = told(
+            session,
+            alloc,
+            "didChange gives an older version: it was let be",
+        )?;
+        return Ok(answer);
     }
+    let answer = kept(
+        session,
+        checker,
+        alloc,
+        changed_in(alloc, message, document)?,
+    )?;
+    Ok(answer)
+}
+
+/// What is replied to the end of a document: no diagnostics are left of it.
+fn cleared(alloc: Global, pulls: bool, uri: &str) -> Result<Vec<Value>, OutOfMemory>
+    ensures { IfOk result (λ v. map view v.items ≡ cleared pulls uri.now) }
+{
+    let mut replies = Vec::new(alloc);
+    if !pulls {
+        replies.push(publish(alloc, uri, None, Vec::new(alloc))?)?;
+    }
+    Ok(replies)
 }
 
 /// A document is closed: no diagnostics are left of it.
@@ -145,9 +202,11 @@ fn closed(session: &Session, alloc: Global, message: &Value) -> Result<Answer, O
             Ok(answer)
         }
         Some(place) => {
-            let none = publish(alloc, uri, None, Vec::new(alloc))?;
-            let answer = one(alloc, none, Change::Remove(place))?;
-            Ok(answer)
+            let replies = cleared(alloc, session.settings.pulls, uri)?;
+            Ok(Answer {
+                replies,
+                change: Change::Remove(place),
+            })
         }
     }
 }

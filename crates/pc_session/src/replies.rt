@@ -18,6 +18,7 @@ pub(crate) enum ErrorCode {
     MethodNotFound,
     InvalidParams,
     ServerNotInitialized,
+    TooLong,
 }
 
 impl ErrorCode {
@@ -27,7 +28,7 @@ impl ErrorCode {
     {
         match self {
             ErrorCode::ParseError => -32700,
-            ErrorCode::InvalidRequest => -32600,
+            ErrorCode::InvalidRequest | ErrorCode::TooLong => -32600,
             ErrorCode::MethodNotFound => -32601,
             ErrorCode::InvalidParams => -32602,
             ErrorCode::ServerNotInitialized => -32002,
@@ -44,6 +45,7 @@ impl ErrorCode {
             ErrorCode::MethodNotFound => "the method is not known",
             ErrorCode::InvalidParams => "the parameters do not fit the method",
             ErrorCode::ServerNotInitialized => "the session has not begun",
+            ErrorCode::TooLong => "the message is longer than 16,777,216 bytes",
         }
     }
 }
@@ -73,7 +75,7 @@ pub(crate) fn error_reply(alloc: Global, id: &Value, code: ErrorCode) -> Result<
 fn published(
     alloc: Global,
     uri: &str,
-    version: Option<u64>,
+    version: Option<i64>,
     diagnostics: Vec<Value>,
 ) -> Result<Value, AllocError>
     ensures { IfOk result (λ v. view v ≡ published_data uri.now version (map view diagnostics.items)) }
@@ -91,7 +93,7 @@ fn published(
 pub(crate) fn publish(
     alloc: Global,
     uri: &str,
-    version: Option<u64>,
+    version: Option<i64>,
     diagnostics: Vec<Value>,
 ) -> Result<Value, AllocError>
     ensures { IfOk result (λ v. view v ≡ publish_data uri.now version (map view diagnostics.items)) }

@@ -4,8 +4,8 @@ ghost use Rattle.std.specs.Prelude.{◌≡◌, IfOk, map, option_map, string_byt
 ghost use Rattle.serde_json.specs.View.{view};
 ghost use Rattle.pc_session.specs.Answers.{after};
 ghost use Rattle.pc_session.specs.Replies.{refusal_of};
-ghost use Rattle.pc_session.specs.Sessions.{IsAnswered, IsPulled, IsToldOf, IsHovered, OnRunning, OnFresh, OnRequest};
-ghost use Rattle.pc_session.specs.Sessions.{named_document};
+ghost use Rattle.pc_session.specs.Sessions.{IsAnswered, IsPulled, IsToldOf, IsToldAs, IsHovered, OnRunning, OnFresh};
+ghost use Rattle.pc_session.specs.Sessions.{OnRequest, named_document};
 ghost use Rattle.pc_session.specs.States.{agreed_of, opened_of, state_of};
 
 use crate::checker::Checker;
@@ -18,7 +18,7 @@ use crate::replies::{
 };
 use crate::session::{Answer, Change, Session, Stage};
 use crate::settings::{Settings, settings_in};
-use crate::texts::{TEXT_LIMIT, checked};
+use crate::texts::checked_as;
 use pc_position::Position;
 use pc_source::OutOfMemory;
 use serde_json::Value;
@@ -40,7 +40,7 @@ pub(crate) fn refused(
 }
 
 /// The open document that a message names.
-fn named<'a>(session: &'a Session, message: &Value) -> Option<&'a Document>
+pub(crate) fn named<'a>(session: &'a Session, message: &Value) -> Option<&'a Document>
     ensures { option_map (λ d. opened_of d.now) result ≡ named_document (view message.now) (state_of session.now) }
 {
     let uri = uri_in(message)?;
@@ -62,11 +62,27 @@ fn said_of<C: Checker>(
         return Ok(String::new(alloc));
     };
     let text = text.as_str();
-    if TEXT_LIMIT < text.len() {
-        return Ok(String::new(alloc));
-    }
     let found = checker.find(alloc, text)?;
     Ok(hover_text(alloc, settings, text.as_bytes(), &found, position)?)
+}
+
+/// What is said at a position of a document: nothing where it is not Python.
+fn said_as<C: Checker>(
+    checker: &C,
+    alloc: Global,
+    settings: &Settings,
+    document: &Document,
+    position: Position,
+) -> Result<String, OutOfMemory>
+    ensures { IfOk result (λ s. IsToldAs (C.finds checker.now) document.now.python
+        (option_map string_bytes document.now.text) position (agreed_of settings.now) (string_bytes s)) }
+{
+    if document.python {
+        let said = said_of(checker, alloc, settings, &document.text, position)?;
+        Ok(said)
+    } else {
+        Ok(String::new(alloc))
+    }
 }
 
 /// The reply to a request for what stands at a position.
@@ -88,7 +104,7 @@ fn hovered<C: Checker>(
         let refused = error_reply(alloc, id, ErrorCode::InvalidParams)?;
         return Ok(refused);
     };
-    let said = said_of(checker, alloc, &session.settings, &document.text, position)?;
+    let said = said_as(checker, alloc, &session.settings, document, position)?;
     let result = hover_result(alloc, said.as_str())?;
     let reply = result_reply(alloc, id, result)?;
     Ok(reply)
@@ -109,7 +125,7 @@ fn pulled<C: Checker>(
         let refused = error_reply(alloc, id, ErrorCode::InvalidParams)?;
         return Ok(refused);
     };
-    let (diagnostics, _) = checked(checker, alloc, &session.settings, &document.text)?;
+    let diagnostics = checked_as(checker, alloc, &session.settings, document)?;
     let result = full_report(alloc, diagnostics)?;
     let reply = result_reply(alloc, id, result)?;
     Ok(reply)

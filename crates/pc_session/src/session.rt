@@ -50,6 +50,7 @@ pub(crate) struct Answer {
 
 impl Session {
     ghost use Rattle.pc_session.specs.Answers.{after};
+    ghost use Rattle.pc_session.specs.Sessions.{forgot};
     ghost use Rattle.pc_session.specs.States.{state_of, fresh};
 
     /// A session that has not begun.
@@ -62,9 +63,17 @@ impl Session {
                 encoding: Encoding::Utf16,
                 dynamic_severity: WARNING,
                 codes_page: None,
+                pulls: false,
             },
             documents: Vec::new(alloc),
         }
+    }
+
+    /// Forgets the texts of all open documents, as after a message that is lost. It takes no memory.
+    pub fn forget(&mut self)
+        ensures { state_of self.new ≡ forgot (state_of self.old) }
+    {
+        forget(&mut self.documents);
     }
 
     /// Changes the session.
@@ -81,7 +90,7 @@ impl Session {
             }
             Change::Put(document) => put(&mut self.documents, document)?,
             Change::Remove(place) => remove(&mut self.documents, place),
-            Change::Forget => forget(&mut self.documents),
+            Change::Forget => self.forget(),
         }
         Ok(())
     }

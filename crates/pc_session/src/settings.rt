@@ -2,7 +2,7 @@
 
 ghost use Rattle.std.specs.Prelude.{◌≡◌, IfOk, option_map, string_bytes};
 ghost use Rattle.serde_json.specs.View.{view, items_view};
-ghost use Rattle.pc_session.specs.Messages.{is_text, has_text, offers, option_in, agreed_in};
+ghost use Rattle.pc_session.specs.Messages.{is_text, has_text, offers, option_in, agreed_in, is_python, pulls_in};
 ghost use Rattle.pc_session.specs.States.{agreed_of};
 
 use crate::messages::{inside, parameter};
@@ -19,6 +19,8 @@ pub struct Settings {
     pub dynamic_severity: u64,
     /// The address of the page that explains the codes, where the client named one.
     pub codes_page: Option<String>,
+    /// Whether the client pulls diagnostics; none are sent to it then.
+    pub pulls: bool,
 }
 
 /// The severity of a warning. Language Server Protocol 3.17, "DiagnosticSeverity".
@@ -104,6 +106,29 @@ fn page_in(message: &Value) -> Option<&str>
     option_in(message, "codesPage")?.as_str()
 }
 
+/// Whether the document that a message opens is Python: its language is, or none is named.
+pub(crate) fn is_python(message: &Value) -> bool
+    ensures { result ≡ is_python (view message.now) }
+{
+    match inside(message, "textDocument", "languageId") {
+        None => true,
+        Some(language) => is_text(language, "python"),
+    }
+}
+
+/// Whether the client can pull diagnostics.
+fn pulls_in(message: &Value) -> bool
+    ensures { result ≡ pulls_in (view message.now) }
+{
+    let Some(documents) = inside(message, "capabilities", "textDocument") else {
+        return false;
+    };
+    match documents.get("diagnostic") {
+        None => false,
+        Some(pulled) => pulled.is_object(),
+    }
+}
+
 /// What a request `initialize` agrees on.
 pub(crate) fn settings_in(alloc: Global, message: &Value) -> Result<Settings, AllocError>
     ensures { IfOk result (λ settings. agreed_of settings ≡ agreed_in (view message.now)) }
@@ -113,6 +138,7 @@ pub(crate) fn settings_in(alloc: Global, message: &Value) -> Result<Settings, Al
         encoding: encoding_in(message),
         dynamic_severity: severity_in(message),
         codes_page,
+        pulls: pulls_in(message),
     })
 }
 

@@ -1,38 +1,60 @@
 //! What is replied to a message, and what it changes.
 
-ghost use Rattle.std.specs.Prelude.{◌≡◌, ◌++◌, IfOk, OnOk, OnErr, map, option_map};
+ghost use Rattle.std.specs.Prelude.{◌≡◌, ◌++◌, IfOk, OnOk, OnErr, None, ◌∷◌, [], filter, map, option_map, IsUtf8};
+ghost use Rattle.serde_json.specs.Read.{read};
 ghost use Rattle.serde_json.specs.View.{view};
 ghost use Rattle.pc_session.specs.Answers.{after};
-ghost use Rattle.pc_session.specs.Sent.{SendsStep};
-ghost use Rattle.pc_session.specs.Sessions.{nothing_of, told_of, OnNoMethod, OnMethod, OnMessage, IsUnreadable, Step};
+ghost use Rattle.pc_session.specs.Checked.{is_sent};
+ghost use Rattle.pc_session.specs.Sent.{SendsStep, SendsRefusal};
+ghost use Rattle.pc_session.specs.Sessions.{unknown_of, unknown_all, told_of, OnNoMethod, OnMethod, OnMessage};
+ghost use Rattle.pc_session.specs.Sessions.{IsUnreadable, IsNotRead, Step};
 ghost use Rattle.pc_session.specs.Spelled.{AreSpelled};
 ghost use Rattle.pc_session.specs.States.{opened_of, state_of};
 
 use crate::checker::Checker;
+use crate::diagnostics::unknown_values;
 use crate::documents::Document;
 use crate::messages::{Method, is_identifier, is_reply, method_in};
-use crate::notifications::{nothing, notified};
+use crate::notifications::{kept, nothing, notified};
 use crate::replies::{ErrorCode, error_reply, log, publish};
 use crate::requests::{refused, request};
 use crate::session::{Answer, Change, Session};
+use crate::spoiled::spoiled;
+use crate::texts::is_sent;
 use pc_source::OutOfMemory;
 use pc_wire::framed;
 use serde_json::Value;
 use std::alloc::Global;
 
-/// Adds that nothing is known of documents.
-fn add_nothing(
+/// Adds that the text of a document is not known, for the client to show.
+fn add_unknown(
     alloc: Global,
-    documents: &[Document],
+    document: &Document,
     replies: &mut Vec<Value>,
 ) -> Result<(), OutOfMemory>
     ensures { OnOk result (map view replies.new.items
-        ≡ map view replies.old.items ++ map nothing_of (map opened_of documents.now)) }
+        ≡ map view replies.old.items ++ unknown_of (opened_of document.now) ∷ []) }
 {
-    for document in documents {
-        let uri = document.uri.as_str();
-        let none = publish(alloc, uri, document.version, Vec::new(alloc))?;
-        replies.push(none)?;
+    let uri = document.uri.as_str();
+    let unknown = publish(alloc, uri, document.version, unknown_values(alloc)?)?;
+    replies.push(unknown)?;
+    Ok(())
+}
+
+/// Adds that no text is known, for each document whose diagnostics are sent.
+fn add_all_unknown(
+    session: &Session,
+    alloc: Global,
+    replies: &mut Vec<Value>,
+) -> Result<(), OutOfMemory>
+    ensures { OnOk result (map view replies.new.items
+        ≡ map view replies.old.items ++ unknown_all (state_of session.now)) }
+{
+    let settings = &session.settings;
+    for document in &session.documents {
+        if is_sent(settings, document) {
+            add_unknown(alloc, document, replies)?;
+        }
     }
     Ok(())
 }
@@ -50,19 +72,20 @@ fn add_told(
     if documents.is_empty() {
         return Ok(());
     }
-    let text = "after a message that is no JSON the texts of the open documents are not known";
+    let text =
+        "a message was not read: the texts of the open documents are not known until they change";
     replies.push(log(alloc, text)?)?;
     Ok(())
 }
 
-/// What is replied to a message that is no JSON: an error, and for each open document that nothing is known of it.
-fn unreadable(session: &Session, alloc: Global) -> Result<Answer, OutOfMemory>
-    ensures { IfOk result (λ a. IsUnreadable (state_of session.now) (map view a.replies.items)
+/// What is replied to a message that is not read: an error, and for each open document that its text is not known.
+fn unreadable(session: &Session, alloc: Global, code: ErrorCode) -> Result<Answer, OutOfMemory>
+    ensures { IfOk result (λ a. IsUnreadable code (state_of session.now) (map view a.replies.items)
         (after a.change (state_of session.now))) }
 {
     let mut replies = Vec::new(alloc);
-    replies.push(error_reply(alloc, &Value::Null, ErrorCode::ParseError)?)?;
-    add_nothing(alloc, &session.documents, &mut replies)?;
+    replies.push(error_reply(alloc, &Value::Null, code)?)?;
+    add_all_unknown(session, alloc, &mut replies)?;
     add_told(alloc, &session.documents, &mut replies)?;
     Ok(Answer {
         replies,
@@ -145,6 +168,29 @@ fn answered<C: Checker>(
     }
 }
 
+/// What is replied to bytes that are no JSON: a document has a text that is not known, or all have.
+fn unread<C: Checker>(
+    session: &Session,
+    checker: &C,
+    alloc: Global,
+    message: &[u8],
+) -> Result<Answer, OutOfMemory>
+    requires { IsUtf8 message.now → read message.now ≡ None }
+    ensures { IfOk result (λ a. IsNotRead (C.finds checker.now) message.now (state_of session.now)
+        (map view a.replies.items) (after a.change (state_of session.now))) }
+{
+    match spoiled(session, alloc, message)? {
+        None => {
+            let answer = unreadable(session, alloc, ErrorCode::ParseError)?;
+            Ok(answer)
+        }
+        Some(document) => {
+            let answer = kept(session, checker, alloc, document)?;
+            Ok(answer)
+        }
+    }
+}
+
 /// What is replied to the bytes of a message, and what they change.
 fn read<C: Checker>(
     session: &Session,
@@ -162,7 +208,7 @@ fn read<C: Checker>(
         }
         Err(error) if error.is_memory() => Err(OutOfMemory),
         Err(_) => {
-            let answer = unreadable(session, alloc)?;
+            let answer = unread(session, checker, alloc, message)?;
             Ok(answer)
         }
     }
@@ -197,6 +243,22 @@ pub fn step<C: Checker>(
     ensures unchanged { OnErr result (state_of session.new ≡ state_of session.old) }
 {
     let Answer { replies, change } = read(session, checker, alloc, message)?;
+    let bytes = frames(alloc, &replies)?;
+    session.apply(change)?;
+    Ok(bytes)
+}
+
+/// The frames of what is replied to a message that is longer than one may be, and the session after it: an error, and no
+/// text of an open document is known.
+///
+/// # Errors
+///
+/// `OutOfMemory` only when an allocation failed; the session is unchanged then.
+pub fn refuse_long(session: &mut Session, alloc: Global) -> Result<Vec<u8>, OutOfMemory>
+    ensures refused { IfOk result (λ bytes. SendsRefusal (state_of session.old) bytes.items (state_of session.new)) }
+    ensures unchanged { OnErr result (state_of session.new ≡ state_of session.old) }
+{
+    let Answer { replies, change } = unreadable(session, alloc, ErrorCode::TooLong)?;
     let bytes = frames(alloc, &replies)?;
     session.apply(change)?;
     Ok(bytes)

@@ -11,7 +11,7 @@ use Rattle.pc_wire.specs.declared.fault.FrameFault.{FrameFault}
 use Rattle.pc_wire.specs.declared.fault.FrameFault.TheVariants.{OutOfMemory, Read, Cut, LongHeader, Header, LongMessage}
 use Rattle.pc_wire.specs.Fields.{length_in}
 use Rattle.pc_wire.specs.Faults.{Gives, GivesFrame, IsBroken}
-use Rattle.pc_wire.specs.Frames.{IsHeader, ends_header, message_limit}
+use Rattle.pc_wire.specs.Frames.{IsHeader, ends_header, IsShort, IsLong, message_limit}
 use Rattle.pc_wire.specs.Reading.{IsHeaderRead, OnHeaderFault, IsBodyRead, OnBodyFault}
 
 -- one byte more of a header that has not ended
@@ -78,16 +78,33 @@ module _ {D : Type 0} (remaining : D → Option (List ℕ)) where
   body_broken header part len old mid new LongMessage given is_header named h = absurd h
 
   pub whole_frame : (header message : List ℕ) (len : ℕ) (old mid new : Counted D)
-      → Gives remaining header old mid → IsHeader header → length_in header ≡ Ok len → len ≤ message_limit
+      → Gives remaining header old mid → IsHeader header → length_in header ≡ Ok len
       → IsBodyRead remaining len message mid new → GivesFrame remaining message old new
-  whole_frame header message len old mid new given is_header named short read = (
+  whole_frame header message len old mid new given is_header named read = (
     header ++ message,
     gives_trans header message old mid new given read.0,
     record {
       header = header;
       is_header = is_header;
       named = subst (λ (n : ℕ). length_in header ≡ Ok n) (sym read.1) named;
-      short = subst (λ (n : ℕ). n ≤ message_limit) (sym read.1) short;
       spelled = refl;
     },
+  )
+
+  -- a message within the limit was read whole
+  pub short_frame : (header message : List ℕ) (len : ℕ) (old mid new : Counted D)
+      → Gives remaining header old mid → IsHeader header → length_in header ≡ Ok len → len ≤ message_limit
+      → IsBodyRead remaining len message mid new → GivesFrame remaining message old new × IsShort message
+  short_frame header message len old mid new given is_header named short read = (
+    whole_frame header message len old mid new given is_header named read,
+    subst (λ (n : ℕ). n ≤ message_limit) (sym read.1) short,
+  )
+
+  -- a message over the limit was read whole
+  pub long_frame : (header message : List ℕ) (len : ℕ) (old mid new : Counted D)
+      → Gives remaining header old mid → IsHeader header → length_in header ≡ Ok len → message_limit < len
+      → IsBodyRead remaining len message mid new → GivesFrame remaining message old new × IsLong message
+  long_frame header message len old mid new given is_header named long read = (
+    whole_frame header message len old mid new given is_header named read,
+    subst (λ (n : ℕ). message_limit < n) (sym read.1) long,
   )

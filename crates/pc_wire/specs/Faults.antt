@@ -7,7 +7,7 @@ use Rattle.pc_wire.specs.declared.fault.FrameFault.{FrameFault}
 use Rattle.pc_wire.specs.declared.fault.FrameFault.TheVariants.{OutOfMemory, Read, Cut, LongHeader, Header, LongMessage}
 use Rattle.pc_wire.specs.declared.fault.HeaderFault.{HeaderFault}
 use Rattle.pc_wire.specs.Fields.{length_in}
-use Rattle.pc_wire.specs.Frames.{IsFrame, IsHeader, IsUnended, header_limit, message_limit}
+use Rattle.pc_wire.specs.Frames.{IsFrame, IsHeader, IsUnended, IsShort, IsLong, header_limit}
 
 -- a header, and then less than the message that it names
 pub record IsCutMessage (bytes : List ℕ) : Type 0 where
@@ -19,26 +19,19 @@ pub record IsCutMessage (bytes : List ℕ) : Type 0 where
   pub less : length part < named
   pub spelled : bytes ≡ header ++ part
 
--- a header that names a message over the limit
-pub record NamesLongMessage (bytes : List ℕ) : Type 0 where
-  pub named : ℕ
-  pub is_header : IsHeader bytes
-  pub names : length_in bytes ≡ Ok named
-  pub long : message_limit < named
-
 -- a header that names no message, for this fault
 pub record NamesNone (fault : HeaderFault) (bytes : List ℕ) : Type 0 where
   pub is_header : IsHeader bytes
   pub none : length_in bytes ≡ Err fault
 
 -- The fault of the bytes that were read: a header or a message that the end cuts off, a header that goes on at the
--- limit, a message over the limit, or a header that names none. Of memory and of the device nothing is said here.
+-- limit, or a header that names none. Of memory, of the device and of long messages nothing is said here.
 abbrev pub IsFaultOf : List ℕ → FrameFault → Type 0
 IsFaultOf bytes OutOfMemory = Unit {0}
 IsFaultOf bytes Read = Unit {0}
 IsFaultOf bytes Cut = (IsUnended bytes × (0 < length bytes)) ⊎ IsCutMessage bytes
 IsFaultOf bytes LongHeader = IsUnended bytes × (length bytes ≡ header_limit)
-IsFaultOf bytes LongMessage = NamesLongMessage bytes
+IsFaultOf bytes LongMessage = Unit {0}
 IsFaultOf bytes (Header fault) = NamesNone fault bytes
 
 module _ {D : Type 0} (remaining : D → Option (List ℕ)) where
@@ -54,15 +47,17 @@ module _ {D : Type 0} (remaining : D → Option (List ℕ)) where
   abbrev pub GivesFrame : List ℕ → Counted D → Counted D → Type 0
   GivesFrame message old new = (bytes : List ℕ) × Gives bytes old new × IsFrame bytes message
 
-  -- Why no message was read: an allocation failed, and the device gave a framed message whole, which is lost; the last
-  -- call of the device failed; the device has no more, and what it gave is cut off; or what it gave has the fault.
+  -- Why no message was read: an allocation failed, or a message is over the limit, and the device gave it whole, framed,
+  -- and it is lost; the last call of the device failed; the device has no more, and what it gave is cut off; or what it
+  -- gave has the fault.
   abbrev pub IsBroken : FrameFault → Counted D → Counted D → Type 0
-  IsBroken OutOfMemory old new = (message : List ℕ) × GivesFrame message old new
+  IsBroken OutOfMemory old new = (message : List ℕ) × GivesFrame message old new × IsShort message
+  IsBroken LongMessage old new = (message : List ℕ) × GivesFrame message old new × IsLong message
   IsBroken Read old new = new.failures ≡ failures_after true old.failures
   IsBroken Cut old new = GivesFaulty Cut old new × IsAtEnd (remaining new.device)
   IsBroken fault old new = GivesFaulty fault old new
 
-  -- what a read found: a message, or none at the end
+  -- what a read found: a message within the limit, or none at the end
   abbrev pub IsFound : Option (List ℕ) → Counted D → Counted D → Type 0
   IsFound None old new = Gives [] old new × IsAtEnd (remaining new.device)
-  IsFound (Some message) old new = GivesFrame message old new
+  IsFound (Some message) old new = GivesFrame message old new × IsShort message

@@ -26,13 +26,20 @@ pub record IsHeader (header : List ℕ) : Type 0 where
   pub first : (k : ℕ) → k < length header → ends_header (take k header) ≡ false
   pub short : length header ≤ header_limit
 
--- a framed message: a header that names the message's length, within the limit, and then the message
+-- a framed message: a header that names the message's length, and then the message
 pub record IsFrame (bytes message : List ℕ) : Type 0 where
   pub header : List ℕ
   pub is_header : IsHeader header
   pub named : length_in header ≡ Ok (length message)
-  pub short : length message ≤ message_limit
   pub spelled : bytes ≡ header ++ message
+
+-- the message is within the limit
+abbrev pub IsShort : List ℕ → Type 0
+IsShort message = length message ≤ message_limit
+
+-- the message is over the limit
+abbrev pub IsLong : List ℕ → Type 0
+IsLong message = message_limit < length message
 
 -- the bytes are these framed messages, one after the other
 abbrev pub AreFrames : List ℕ → List (List ℕ) → Type 0

@@ -42,7 +42,7 @@ pub enum FrameFault {
     /// The header names no length.
     #[error("{0}")]
     Header(HeaderFault),
-    /// The message is longer than 16,777,216 bytes.
+    /// The message is longer than 16,777,216 bytes. It was read whole, and is lost.
     #[error("a message of more than 16,777,216 bytes")]
     LongMessage,
 }

@@ -91,10 +91,10 @@ fn skip_body<R: Read + Drop>(device: &mut Counted<R>, len: usize) -> Result<(), 
 ///
 /// # Errors
 ///
-/// `Cut` where the device ends inside a message, `LongHeader` and `LongMessage` past the limits, `Header` where a
-/// header names no length, `Read` where a call of the device failed, an interruption included; no call follows it.
-/// `OutOfMemory` only when an allocation failed: then the message was read whole and is lost, and the next one can be
-/// read.
+/// `Cut` where the device ends inside a message, `LongHeader` past the limit of a header, `Header` where a header names
+/// no length, `Read` where a call of the device failed, an interruption included; no call follows it. `LongMessage` past
+/// the limit of a message, and `OutOfMemory` only when an allocation failed: then the message was read whole and is lost,
+/// and the next one can be read.
 pub fn read_message<R: Read + Drop>(
     alloc: Global,
     device: &mut Counted<R>,
@@ -109,6 +109,7 @@ pub fn read_message<R: Read + Drop>(
     }
     let len = length_in(&header)?;
     if len > MESSAGE_LIMIT {
+        skip_body(device, len)?;
         return Err(FrameFault::LongMessage);
     }
     let Ok(mut message) = Vec::with_capacity(alloc, len) else {

@@ -4,16 +4,17 @@
 use pc_serve::End;
 use pc_server::{answer, status_of};
 use pc_source::Counted;
-use std::io::{BufReader, BufWriter};
+use std::io::{BufReader, BufWriter, ErrorKind};
 use std::process::ExitCode;
 use std::rt::Env;
 use std::{env, io};
 
 /// What is printed for help.
-const HELP: &str =
-    "Usage: pycheck_server [--stdio]\n\nAnswers the Language Server Protocol over standard input and output.\n\n\
-    Options:\n      --stdio    Use standard input and output, as always\n  -h, --help     Print help\n\
-    \x20 -V, --version  Print version\n";
+const HELP: &str = "Usage: pycheck_server [--stdio] [--clientProcessId=N]\n\n\
+    Answers the Language Server Protocol over standard input and output.\n\n\
+    Options:\n      --stdio              Use standard input and output, as always\n\
+    \x20     --clientProcessId=N  Taken, and not used: the server ends with its input\n\
+    \x20 -h, --help               Print help\n  -V, --version            Print version\n";
 
 /// What is printed for the version.
 const VERSION: &str = "pycheck_server 1.0.0\n";
@@ -24,27 +25,55 @@ enum Asked {
     Help,
     Version,
     Mistake,
+    /// A word is not UTF-8.
+    NoText,
     /// Memory was wanting for the words.
     OutOfMemory,
 }
 
-/// What the words of the command line ask for.
-fn asked_for<R: Env + AllocGlobal>(rt: &R) -> Asked {
-    let Ok(words) = env::args(rt) else {
-        return Asked::OutOfMemory;
-    };
-    let Ok(given) = words.skip(1).collect::<Vec<String>>(rt.alloc()) else {
-        return Asked::OutOfMemory;
-    };
-    match given.as_slice() {
+/// Whether a word names the process of the client, as editors have it: nothing is done with it.
+fn names_client(word: &str) -> bool {
+    match word.strip_prefix("--clientProcessId=") {
+        None => false,
+        Some(number) => !number.is_empty() && number.bytes().all(|byte| byte.is_ascii_digit()),
+    }
+}
+
+/// What words of the command line ask for that are UTF-8.
+fn asked_in(given: &[String]) -> Asked {
+    match given {
         [] => Asked::Serve,
         [word] => match word.as_str() {
             "--stdio" => Asked::Serve,
             "--help" | "-h" => Asked::Help,
             "--version" | "-V" => Asked::Version,
+            word if names_client(word) => Asked::Serve,
             _ => Asked::Mistake,
         },
+        [first, second] => {
+            let (first, second) = (first.as_str(), second.as_str());
+            if first == "--stdio" && names_client(second)
+                || names_client(first) && second == "--stdio"
+            {
+                Asked::Serve
+            } else {
+                Asked::Mistake
+            }
+        }
         _ => Asked::Mistake,
+    }
+}
+
+/// What the words of the command line ask for.
+fn asked_for<R: Env + AllocGlobal>(rt: &R) -> Asked {
+    let words = match env::args(rt) {
+        Ok(words) => words,
+        Err(error) if error.kind() == ErrorKind::OutOfMemory => return Asked::OutOfMemory,
+        Err(_) => return Asked::NoText,
+    };
+    match words.skip(1).collect::<Vec<String>>(rt.alloc()) {
+        Ok(given) => asked_in(&given),
+        Err(_) => Asked::OutOfMemory,
     }
 }
 
@@ -94,6 +123,10 @@ fn run<R: Print + Eprint + Input + Env + AllocGlobal>(rt: &R) -> u8 {
         Asked::Help => told(rt, HELP),
         Asked::Version => told(rt, VERSION),
         Asked::OutOfMemory => out_of_memory(rt),
+        Asked::NoText => {
+            let _ = eprint!(rt; "error: a word of the command line is not UTF-8\n");
+            3
+        }
         Asked::Mistake => {
             let _ = eprint!(rt; "error: unexpected words\n\n{HELP}");
             3

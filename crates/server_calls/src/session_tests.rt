@@ -1,8 +1,8 @@
 //! Sessions from memory to memory.
 use pc_serve::{End, serve};
-use pc_session::{Checker, Found, Session, Stage, step};
+use pc_session::{Checker, Found, Session, Stage, refuse_long, step};
 use pc_source::{Counted, OutOfMemory, Refusal, RefusalCode};
-use pc_wire::framed;
+use pc_wire::{MESSAGE_LIMIT, framed};
 use std::alloc::Global;
 use std::test::Fail;
 
@@ -29,6 +29,9 @@ const BEGIN: &str = "{\"id\":1,\"method\":\"initialize\",\"params\":{}}";
 const OPEN: &str =
     "{\"method\":\"textDocument/didOpen\",\"params\":{\"textDocument\":{\"uri\":\"a\",\"version\":3,\"text\":\"xy\"}}}";
 
+const TOO_LONG: &str =
+    "{\"error\":{\"code\":-32600,\"message\":\"the message is longer than 16,777,216 bytes\"},\"id\":null,\"jsonrpc\":\"2.0\"}";
+
 const EXIT: &str = "{\"method\":\"exit\"}";
 
 /// The frames of messages.
@@ -51,6 +54,68 @@ fn a_new_text_is_published_and_kept(rt: HostRuntime) -> Result<(), Fail> {
     assert!(rt; told.ends_with(b"\"source\":\"pycheck\"}],\"uri\":\"a\",\"version\":3}}"));
     assert_eq!(rt; session.documents.len(), 1);
     assert!(rt; session.stage == Stage::Running);
+    Ok(())
+}
+
+#[test]
+fn texts_are_forgotten(rt: HostRuntime) -> Result<(), Fail> {
+    let alloc = rt.alloc();
+    let mut session = Session::new(alloc);
+    step(&mut session, &Refusing, alloc, BEGIN.as_bytes())?;
+    step(&mut session, &Refusing, alloc, OPEN.as_bytes())?;
+    assert!(rt;
+        session
+            .documents
+            .first()
+            .is_some_and(|document| document.text.is_some())
+    );
+    session.forget();
+    assert_eq!(rt; session.documents.len(), 1);
+    assert!(rt;
+        session
+            .documents
+            .first()
+            .is_some_and(|document| document.text.is_none())
+    );
+    assert!(rt;
+        session
+            .documents
+            .first()
+            .is_some_and(|document| document.version == Some(3))
+    );
+    Ok(())
+}
+
+#[test]
+fn a_long_message_is_refused(rt: HostRuntime) -> Result<(), Fail> {
+    let alloc = rt.alloc();
+    let mut session = Session::new(alloc);
+    step(&mut session, &Refusing, alloc, BEGIN.as_bytes())?;
+    step(&mut session, &Refusing, alloc, OPEN.as_bytes())?;
+    let told = refuse_long(&mut session, alloc)?;
+    assert!(rt; told.starts_with(&framed(alloc, TOO_LONG.as_bytes())?));
+    assert!(rt;
+        session
+            .documents
+            .first()
+            .is_some_and(|document| document.text.is_none())
+    );
+    Ok(())
+}
+
+#[test]
+fn a_long_message_is_read_away(rt: HostRuntime) -> Result<(), Fail> {
+    let alloc = rt.alloc();
+    let mut given = frames(alloc, &[BEGIN])?;
+    let mut long = Vec::new(alloc);
+    long.resize(MESSAGE_LIMIT + 1, b' ')?;
+    given.extend_from_slice(&framed(alloc, &long)?)?;
+    given.extend_from_slice(&frames(alloc, &[EXIT])?)?;
+    let mut input = Counted::new(given.as_slice());
+    let mut output = Counted::new(Vec::new(alloc));
+    let end = serve(alloc, &Refusing, &mut input, &mut output);
+    assert!(rt; matches!(end, End::Exited(1)));
+    assert!(rt; output.inner().ends_with(TOO_LONG.as_bytes()));
     Ok(())
 }
 

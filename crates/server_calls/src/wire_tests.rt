@@ -1,6 +1,8 @@
 //! Framed messages, read from memory and written to it.
 use pc_source::Counted;
-use pc_wire::{FrameFault, HeaderFault, framed, read_message, write_message, write_whole};
+use pc_wire::{
+    FrameFault, HeaderFault, MESSAGE_LIMIT, framed, read_message, write_message, write_whole,
+};
 use std::alloc::Global;
 use std::test::Fail;
 
@@ -32,8 +34,23 @@ fn tells_what_is_wrong_with_a_message(rt: HostRuntime) {
     assert!(rt; matches!(cut, Some(FrameFault::Cut)));
     let none = fault_of(alloc, b"Content-Type: x\r\n\r\n{}");
     assert!(rt; matches!(none, Some(FrameFault::Header(HeaderFault::NoLength))));
-    let long = fault_of(alloc, b"Content-Length: 16777217\r\n\r\n{}");
-    assert!(rt; matches!(long, Some(FrameFault::LongMessage)));
+    let cut_and_long = fault_of(alloc, b"Content-Length: 16777217\r\n\r\n{}");
+    assert!(rt; matches!(cut_and_long, Some(FrameFault::Cut)));
+}
+
+#[test]
+fn reads_on_after_a_long_message(rt: HostRuntime) -> Result<(), Fail> {
+    let alloc = rt.alloc();
+    let mut long = Vec::new(alloc);
+    long.resize(MESSAGE_LIMIT + 1, b' ')?;
+    let mut given = framed(alloc, &long)?;
+    given.extend_from_slice(TWO)?;
+    let mut device = Counted::new(given.as_slice());
+    let fault = read_message(alloc, &mut device).err();
+    assert!(rt; matches!(fault, Some(FrameFault::LongMessage)));
+    let next = read_message(alloc, &mut device)?;
+    assert!(rt; next.is_some_and(|message| message.as_slice() == b"{}".as_slice()));
+    Ok(())
 }
 
 #[test]

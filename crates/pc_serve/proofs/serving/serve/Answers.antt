@@ -1,6 +1,6 @@
 use Rattle.std.proofs.Common.{◌∙◌, rules, sym}
 use Rattle.pc_session.specs.States.{state_of}
-use Rattle.pc_serve.proofs.Turns.{served_more, stopped}
+use Rattle.pc_serve.proofs.Turns.{served_more, stopped, cut_after}
 use Rattle.pc_serve.proofs.serving.serve.Goals as goal
 
 pub returns-in-Err : goal.returns-in-Err
@@ -26,3 +26,8 @@ messages-preserved g c = record {
       c.messages.invariant.going c.in-Ok.ensures.turn;
   going = search rules;
 }
+
+pub returns : goal.returns
+returns g c =
+    cut_after (g.C.Checker.finds c.args.checker.now) g.R.Read.remaining g.W.Write.contents c.args.input.now
+    c.messages.input c.args.output.now c.messages.output (state_of c.messages.session) c.messages.invariant.served
