@@ -1,0 +1,44 @@
+# The core of a shop: what is in stock, and what an order takes out of it.
+from __future__ import annotations
+from dataclasses import dataclass
+
+@dataclass
+class Item:
+    price: int
+    count: int
+
+@dataclass
+class Shop:
+    items: dict[str, Item]
+
+@dataclass
+class Refused:
+    name: str
+    reason: str
+
+# Takes an order out of the stock, and gives what it costs. Where one line cannot be served nothing is taken.
+def sell(shop: Shop, order: dict[str, int]) -> int | Refused:
+    cost = 0
+    for name in order:
+        price = price_of(shop, name, order[name])
+        if isinstance(price, Refused):
+            return price
+        cost = cost + price
+    for name in order:
+        item = shop.items[name]
+        item.count = item.count - order[name]
+    return cost
+
+# What so many of an item cost, or why they cannot be had.
+def price_of(shop: Shop, name: str, count: int) -> int | Refused:
+    item = shop.items.get(name)
+    if item is None:
+        return Refused(name, "unknown")
+    if count < 1 or count > item.count:
+        return Refused(name, "not so many")
+    return item.price * count
+
+def main() -> None:
+    pass
+
+main()
