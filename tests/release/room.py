@@ -22,8 +22,9 @@ MORE_TOOLS = "touch cp cmp basename env bash tee sed wc tail".split()
 # The parts of the tree that the commands need
 PARTS = (
     "HANDLES", "LICENSE", "README.md", "CHANGELOG.md", "crates.txt", "pycheck", "pycheck_server", "pyrun",
-    "test", ".ci", "action.yml", ".pre-commit-hooks.yaml", "crates/pycheck", "crates/pycheck_server", "crates/pyrun",
-    "crates/pc_commands", "docs", "examples", "release", "tools",
+    "test", ".ci", "action.yml", ".pre-commit-hooks.yaml", "pyproject.toml", "crates/pycheck",
+    "crates/pycheck_server", "crates/pyrun",
+    "cookbook", "crates/pc_commands", "docs", "examples", "release", "tools",
 )
 NOT_IN_CLONES = {".git", "out", "__pycache__"}
 # Seconds until a command is stopped, since a wrong program could let the tests hang

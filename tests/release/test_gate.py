@@ -19,7 +19,8 @@ exit {status}
 SLOW_STEPS = ("tools/check_definitions", "tools/check_edits", "tools/check_tested", "tools/check_pages",
               "tools/architecture", "tools/check_help", "tests/tools/run", "tools/check_codes", "tools/compare_rows",
               "tools/generated", "tests/memory/run", "tests/depth/run", "tests/search/run", "tests/speed/run",
-              "tests/growth/run", "tests/mypy/run")
+              "tests/python_runs/run", "tests/fuzz/run", "tests/python_texts/run",
+              "tests/growth/run", "tests/cookbook/run", "tests/mypy/run", "tools/check_commands")
 
 
 class Gate(RoomCase):
@@ -89,8 +90,12 @@ class Gate(RoomCase):
                     "tools/check_tested": "tested", "tools/check_pages": "links",
                     "tools/architecture": "architecture", "tools/check_help": "help",
                     "tests/tools/run": "tools", "tools/check_codes": "pages", "tools/compare_rows": "examples left_out",
+                    "tools/check_commands": "commands", "tests/cookbook/run": "cookbook",
                     "tools/generated": "generated", "tests/memory/run": "memory", "tests/depth/run": "depth",
-                    "tests/search/run": "search", "tests/speed/run": "speed", "tests/growth/run": "growth", "tests/mypy/run": "mypy",
+                    "tests/search/run": "search",
+                    "tests/python_runs/run": "python_runs", "tests/fuzz/run": "fuzz",
+                    "tests/python_texts/run": "python_texts",
+                    "tests/speed/run": "speed", "tests/growth/run": "growth", "tests/mypy/run": "mypy",
                     "tests/release/run": "release",
                     "tests/reports/run": "reports", "tests/server/run": "server", "tools/editors/neovim": "editors",
                     "tools/wrong_bodies": "wrong_bodies"}

@@ -15,7 +15,9 @@ repos:
   rev: {revision}
   hooks:
   - id: pycheck
+    args: [{args}]
 """
+ORDINARY = "import json\n\nprint(json.dumps([1]))\n"
 
 
 class Hook(RoomCase):
@@ -31,13 +33,24 @@ class Hook(RoomCase):
         for who in ("AUTHOR", "COMMITTER"):
             self.environment.update({f"GIT_{who}_NAME": "A", f"GIT_{who}_EMAIL": "a@b"})
         self.commit(self.clone)
-        revision = self.command("git", "rev-parse", "HEAD", cwd=self.clone).stdout.strip()
+        self.revision = self.command("git", "rev-parse", "HEAD", cwd=self.clone).stdout.strip()
         self.project = self.room / "project"
         self.project.mkdir()
-        config = CONFIG.format(clone=self.clone, revision=revision)
-        (self.project / ".pre-commit-config.yaml").write_text(config, encoding="utf-8")
+        self.configure("")
         (self.project / "notes.txt").write_text("def is no module\n", encoding="utf-8")
         shutil.copy(ROOT / "examples" / "clean.py", self.project)
+
+    def configure(self, args: str, own: bool = True) -> None:
+        """Writes the configuration of the project, with words of its own for the hook, or those that the hook has."""
+        config = CONFIG.format(clone=self.clone, revision=self.revision, args=args)
+        config = config if own else config.partition("    args:")[0]
+        (self.project / ".pre-commit-config.yaml").write_text(config, encoding="utf-8")
+
+    def write(self, name: str, text: str) -> None:
+        """Writes a file of the project."""
+        path = self.project / name
+        path.parent.mkdir(exist_ok=True)
+        path.write_text(text, encoding="utf-8")
 
     def command(self, *words: str, cwd: Path) -> "Done[str]":
         """Runs a command of git or of pre-commit."""
@@ -67,6 +80,38 @@ class Hook(RoomCase):
         done = self.run_hook()
         self.assertEqual(done.returncode, 0, done.stdout + done.stderr)
 
+    def assert_hook(self, status: int, *said: str) -> None:
+        """The hook ends with a status of pre-commit, and shows these texts."""
+        done = self.run_hook()
+        self.assertEqual(done.returncode, status, done.stdout + done.stderr)
+        for text in said:
+            self.assertIn(text, done.stdout)
+
+    def test_without_words_of_its_own_it_checks_marked_files_alone(self) -> None:
+        self.configure("", own=False)
+        self.write("web.py", ORDINARY)
+        self.assert_hook(0, "0 files: 0 errors, 0 dynamic places, 2 left out as not marked")
+        ages = (ROOT / "examples" / "ages.py").read_text(encoding="utf-8")
+        self.write("core/ages.py", "# pycheck: core\n" + ages)
+        self.assert_hook(1, "core/ages.py:5:12: E12 flow", "2 left out as not marked")
+
+    def test_with_a_core_it_checks_that_alone(self) -> None:
+        self.configure("", own=False)
+        self.write("web.py", ORDINARY)
+        self.write("pyproject.toml", '[tool.pycheck]\ncore = ["core"]\n')
+        self.write("core/ages.py", (ROOT / "examples" / "ages.py").read_text(encoding="utf-8"))
+        self.assert_hook(1, "core/ages.py:4:12: E12 flow", "2 left out as outside the core")
+        self.write("core/ages.py", (ROOT / "examples" / "ages_mended.py").read_text(encoding="utf-8"))
+        self.assert_hook(0, "1 file: 0 errors, 0 dynamic places, 2 left out as outside the core")
+
+    def test_it_is_tried_without_a_configuration(self) -> None:
+        self.write("ages.py", "# pycheck: core\n" + (ROOT / "examples" / "ages.py").read_text(encoding="utf-8"))
+        self.commit(self.project)
+        done = self.command("pre-commit", "try-repo", str(self.clone), "pycheck", "--all-files", cwd=self.project)
+        self.assertEqual(done.returncode, 1, done.stdout + done.stderr)
+        self.assertIn(self.revision, done.stdout)
+        self.assertIn("ages.py:5:12: E12 flow", done.stdout)
+
 
 class Action(RoomCase):
     """The step of the action, as a runner gives it to bash."""
@@ -78,16 +123,18 @@ class Action(RoomCase):
         self.step = textwrap.dedent(step)
         self.assertEqual(head.count("default: .\n"), 1)
         self.assertEqual(head.count("default: github\n"), 1)
-        for name, given in (("PYCHECK_FILES", "files"), ("PYCHECK_OUTPUT", "output")):
+        self.assertEqual(head.count('default: "false"\n'), 1)
+        inputs = (("PYCHECK_FILES", "files"), ("PYCHECK_OUTPUT", "output"), ("PYCHECK_ONLY_MARKED", "only-marked"))
+        for name, given in inputs:
             self.assertIn(f"        {name}: ${{{{ inputs.{given} }}}}\n", head)
         self.assertNotIn("${{", self.step)
 
-    def run_step(self, files: str, output: str) -> "Done[str]":
+    def run_step(self, files: str, output: str, only_marked: str = "false") -> "Done[str]":
         """Runs the step with these inputs, in the examples."""
         file = self.room / "step"
         file.write_text(self.step, encoding="utf-8")
         environment = {"PATH": os.environ["PATH"], "HOME": str(self.room), "GITHUB_ACTION_PATH": str(self.clone),
-                       "PYCHECK_FILES": files, "PYCHECK_OUTPUT": output}
+                       "PYCHECK_FILES": files, "PYCHECK_OUTPUT": output, "PYCHECK_ONLY_MARKED": only_marked}
         words = ["bash", "--noprofile", "--norc", "-e", "-o", "pipefail", str(file)]
         return run(words, self.clone / "examples", environment)
 
@@ -97,6 +144,8 @@ class Action(RoomCase):
         done = self.run_step("a  b.py\n\n$(exit 9)\n-c\n", "sarif")
         words = "<--output><sarif><--><a  b.py><$(exit 9)><-c>"
         self.assertEqual((done.returncode, done.stdout), (4, words), done.stderr)
+        done = self.run_step(".", "github", "true")
+        self.assertEqual(done.stdout, "<--output><github><--only-marked><--><.>")
 
     def test_it_fails_with_an_error_and_passes_without(self) -> None:
         done = self.run_step("ages_mended.py\nages.py\n", "github")
@@ -104,3 +153,13 @@ class Action(RoomCase):
         self.assertIn("E12", done.stdout)
         done = self.run_step("ages_mended.py\nclean.py\n", "github")
         self.assertEqual(done.returncode, 0, done.stdout + done.stderr)
+
+    def test_with_a_core_it_checks_that_alone(self) -> None:
+        settings = self.clone / "examples" / "pyproject.toml"
+        settings.write_text('[tool.pycheck]\ncore = ["ages_mended.py"]\n', encoding="utf-8")
+        done = self.run_step(".", "github")
+        self.assertEqual(done.returncode, 0, done.stdout + done.stderr)
+        self.assertRegex(done.stdout, r"^1 file: 0 errors, 0 dynamic places, \d+ left out as outside the core\n$")
+        settings.unlink()
+        done = self.run_step(".", "github", "true")
+        self.assertRegex(done.stdout, r"^0 files: 0 errors, 0 dynamic places, \d+ left out as not marked\n$")

@@ -86,6 +86,7 @@ class Bytes(Wheel):
         package = [it.relative_to(ROOT / "tools").as_posix() for it in (ROOT / "tools" / "pycheck_all").rglob("*")
                    if it.is_file() and "__pycache__" not in it.parts]
         self.assertIn("pycheck_all/command.py", package)
+        package += [f"pycheck_all/cookbook/{name}" for name in ("lists_of_int.py", "lists_of_str.py", "texts.py")]
         self.assertEqual([it for it in names if it.startswith("pycheck_all/")], sorted(package))
 
     def test_a_stray_file_is_not_packed(self) -> None:

@@ -13,6 +13,7 @@ from support import COMMAND, ROOT, Test, variables
 
 PAGE = ROOT / "docs" / "PROJECTS.md"
 FIRST = ROOT / "README.md"
+GUARDS = ROOT / "docs" / "GUARDS.md"
 BLOCK = re.compile(r"(?:^(?:    .*)?\n)+", re.MULTILINE)
 
 
@@ -36,18 +37,25 @@ def calls(lines: List[str]) -> Iterator[Tuple[str, List[str]]]:
 
 
 class Document(Test):
-    """The page, from its top to its end, in one folder."""
+    """A page, from its top to its end, in one folder."""
 
     def test_what_the_page_shows(self) -> None:
+        self.assertGreaterEqual(self.shown_by(PAGE), 8)
+
+    def test_what_the_page_of_guards_shows(self) -> None:
+        self.assertEqual(self.shown_by(GUARDS), 3)
+
+    def shown_by(self, page: Path) -> int:
+        """Tries what a page shows, and counts the commands."""
         shutil.copytree(ROOT / "examples", self.folder / "examples")
         shown = 0
-        for lines in blocks(PAGE):
+        for lines in blocks(page):
             if re.fullmatch(r"# \w+\.py", lines[0]):
                 self.write(lines[0][2:], "\n".join(lines) + "\n")
             for call, wanted in calls(lines):
                 self.assert_prints(call, wanted)
                 shown += 1
-        self.assertGreaterEqual(shown, 8)
+        return shown
 
     def test_what_the_first_page_shows(self) -> None:
         shutil.copytree(ROOT / "examples", self.folder / "examples")
@@ -62,7 +70,8 @@ class Document(Test):
             words = shlex.split(call)
             words[:1] = [sys.executable, str(COMMAND)] if words[0] == "tools/check_all" else words[:1]
             done = subprocess.run(words, cwd=self.folder, capture_output=True, env=variables({}), timeout=60)
-            self.assertEqual(done.stdout.decode().splitlines(), wanted)
+            # A page has no blanks at the end of a line
+            self.assertEqual([line.rstrip() for line in done.stdout.decode().splitlines()], wanted)
             self.assertEqual(done.stderr, b"")
 
     def test_options_are_those_of_the_command(self) -> None:

@@ -161,7 +161,7 @@ class Files(Test):
         import concurrent.futures.thread  # noqa: F401
 
         import pycheck_all
-        from pycheck_all import concise, statistics  # noqa: F401
+        from pycheck_all import command, concise, statistics  # noqa: F401
 
         ours, theirs = os.pipe()
         process = os.fork()

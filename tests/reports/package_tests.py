@@ -43,7 +43,8 @@ class Package(Test):
         self.assertEqual((done.returncode, done.stdout, done.stderr), (0, b"", b""))
 
     def test_texts_that_are_old_are_told(self) -> None:
-        for name in ("docs/CODES.md", "tools/codes_as_data", "tools/pycheck_all/codes.json"):
+        data = [f"tools/pycheck_all/{name}.json" for name in ("codes", "left_out", "cases")]
+        for name in ("docs/CODES.md", "docs/PROFILE.md", "tools/codes_as_data", *data):
             self.write(name, (ROOT / name).read_bytes())
         words = [sys.executable, str(self.folder / "tools" / "codes_as_data"), "--check"]
         self.assertEqual(subprocess.run(words, capture_output=True).returncode, 0)
@@ -52,6 +53,11 @@ class Package(Test):
             page.read_text(encoding="utf-8").replace("Save the file as UTF-8.", "Save it."), encoding="utf-8"
         )
         self.assertEqual(subprocess.run(words, capture_output=True).returncode, 1)
+        self.write("docs/CODES.md", (ROOT / "docs" / "CODES.md").read_bytes())
+        self.write("docs/PROFILE.md", (ROOT / "docs" / "PROFILE.md").read_bytes().replace(b"rounded down", b"rounded"))
+        done = subprocess.run(words, capture_output=True)
+        self.assertEqual(done.stdout, b"left_out.json is not what tools/codes_as_data writes; run it\n")
+        self.assertEqual(done.returncode, 1)
 
     def test_an_error_that_does_not_say_what_it_is_in_a_run_is_told(self) -> None:
         page = (ROOT / "docs" / "CODES.md").read_text(encoding="utf-8")
@@ -59,6 +65,7 @@ class Package(Test):
         for other in ("", said.replace("heard", "loud"), said.replace(",", "")):
             self.write("docs/CODES.md", page.replace(said, other))
             self.write("tools/codes_as_data", (ROOT / "tools" / "codes_as_data").read_bytes())
+            self.write("docs/PROFILE.md", (ROOT / "docs" / "PROFILE.md").read_bytes())
             self.write("tools/pycheck_all/codes.json", "{}")
             words = [sys.executable, str(self.folder / "tools" / "codes_as_data")]
             done = subprocess.run(words, capture_output=True)
@@ -74,13 +81,6 @@ class Package(Test):
                 self.assertRegex(entry.mend, r"^[A-Z].*[^.]\.$")
                 self.assertLess(len(entry.mend), 120)
                 self.assertTrue(entry.meaning)
-
-    def test_forms_that_are_looked_for_stand_on_the_page(self) -> None:
-        from pycheck_all import codes, forms
-
-        rows = {row[0] for entry in codes.entries().values() for row in entry.rows}
-        self.assertEqual({name for name, *_ in forms.FORMS} - rows, set())
-        self.assertIn(forms.NO_HEADER, rows)
 
     @unittest.skipUnless(hasattr(sys, "stdlib_module_names"), "this Python does not tell the names of its library")
     def test_standard_library_alone_and_old_grammar(self) -> None:

@@ -205,7 +205,10 @@ class Command(Test):
 
     def test_usage(self) -> None:
         for words, said in (
-            ((), "the following arguments are required: FILE"),
+            (("--core", "nowhere", "a.py"), "argument --core: there is no nowhere"),
+            (("--select", "E12,E99", "a.py"), "argument --select: there is no code E99"),
+            (("--ignore", "", "a.py"), "argument --ignore: there is no code \n"),
+            (("--watch", "-"), "argument --watch: not with standard input, nor with --write-baseline"),
             (("--foo", "a.py"), "unrecognized arguments: --foo"),
             (("--output", "xml", "a.py"), "argument --output: invalid choice: 'xml' "),
             (("--explain", "E99"), "argument --explain: there is no code E99"),

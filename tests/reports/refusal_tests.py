@@ -56,7 +56,7 @@ if __name__ == "__main__":
 '''
 # Line and column of each refused statement, with its code: of two in one statement, that of the earlier layer. N1 to N5
 # come before G1. Line 6, `class`, has a G1 twice, at one place: there is no header, and no @dataclass. Line 32 has a G1
-# at `return` too, of a later layer than its N2
+# at `return` too, of a later layer than its N2. `except`, `finally` and `case` stand beside their `try` and `match`
 WANTED = [
     (1, 1, "L2"),
     (2, 1, "N1"),
@@ -72,15 +72,12 @@ WANTED = [
     (19, 9, "N3"),
     (24, 5, "N1"),
     (25, 9, "N1"),
-    (27, 5, "N1"),
     (28, 9, "N1"),
-    (29, 5, "N1"),
     (30, 15, "L2"),
     (32, 23, "N2"),
     (33, 11, "G1"),
     (35, 16, "N2"),
     (36, 11, "G1"),
-    (37, 14, "G1"),
     (39, 1, "L7"),
     (40, 28, "L1"),
     (43, 1, "N1"),
@@ -120,13 +117,12 @@ class Refusals(Test):
         lines = self.lines("--all-refusals", "a.py")
         self.assertEqual(
             lines[0],
-            "a.py:1:1: L2 refused: bad string. Write plain strings, each on one line; join them with `+`,"
-            " and turn other values into strings with `str`.",
+            'a.py:1:1: L2 refused: bad string. Instead of `"""What it does."""` at the top write `# What it does.`.',
         )
         self.assertEqual(
             lines[1],
-            "a.py:2:1: N1 guide: excluded keyword. Instead of `import` write the functions and classes"
-            " that are needed, in this module.",
+            "a.py:2:1: N1 guide: excluded keyword. Instead of `import math` write the functions that you need, in this"
+            " module.",
         )
         self.assertEqual(sum(" guide: " in it for it in lines), len(WANTED) - 1)
         self.assertEqual(
@@ -208,37 +204,67 @@ class Refusals(Test):
         lines = self.lines("--all-refusals", "a.py")
         self.assertEqual(len(lines), 103)
         self.assertEqual(
-            lines[100], "a.py:104:11: N2 guide: excluded operator. Instead of `/` write `//`, which rounds down."
+            lines[100], "a.py:104:11: N2 guide: excluded operator. Instead of `a / b` write `a // b`, rounded down."
         )
         self.assertEqual(lines[101], "a.py: there may be more refusals: only the first 100 are listed")
 
-    def test_what_to_write(self) -> None:
-        for line, wanted in (
-            ("x = 1 if True else 2", "Instead of `a if c else b` write an `if` statement."),
-            ("x = [n for n in []]", "Instead of `[f(x) for x in xs]` write a loop with `append`."),
-            ("x = [1, 2][1:]", "Write it in a form that the grammar has."),
-            ("y = x[1:]", "Instead of `xs[1:]` write a loop with `append`."),
-            ("x = 1 < 2 < 3", "Instead of `a < b < c` write `a < b and b < c`."),
-            ("x = a is b", "Instead of `x is y` write `x == y`; `is` is for `None` alone."),
-            ("a, b = c", "Instead of `a, b = pair` write `a = pair[0]`, and `b = pair[1]` on the next line."),
-            ("a = 1, 2", "Instead of `x = 1, 2` write `x = (1, 2)`."),
-            ("if a: return", "Instead of `if c: return` write the statement on a line of its own."),
-            ("yield 1", "Instead of `yield` write a list that collects the items."),
-            ("x = (y := 1)", "Instead of `:=` write an assignment on a line before."),
-            ("x = 1 @ 2", "Write it in a form that the grammar has."),
+    def test_forms_without_a_row_have_the_sentence_of_the_code(self) -> None:
+        self.write("a.py", self.body("x = 1 @ 2"))
+        line = self.lines("--all-refusals", "a.py")[0]
+        self.assertEqual(line, "a.py:4:11: G1 refused: no module. Write it in a form that the grammar has.")
+
+    def test_what_is_no_refusal_is_no_guide(self) -> None:
+        clauses = ["try:", "    x = 1", "except A:", "    x = 1 / 2", "else:", "    x = 2", "finally:", "    x = 1.5"]
+        self.assertEqual(self.places(self.body(*clauses)), [(4, 5, "N1"), (7, 15, "N2"), (11, 13, "L3")])
+        nested = ["try:", "    try:", "        pass", "    finally:", "        pass", "except A: pass", "except B: pass"]
+        self.assertEqual(self.places(self.body(*nested)), [(4, 5, "N1"), (5, 9, "N1")])
+        two = ["try: pass", "except A: pass", "try: pass", "except A: pass"]
+        self.assertEqual(self.places(self.body(*two)), [(4, 5, "N1"), (6, 5, "N1")])
+        cases = ["match x:", "    case 1:", "        y = 1 / 2", "    case _:", "        pass"]
+        self.assertEqual(self.places(self.body(*cases)), [(4, 11, "G1"), (6, 19, "N2")])
+        members = "class C(A):\n    '''About it.'''\n    pass\n\ndef main():\n    pass\n\nmain()\n"
+        self.assertEqual(self.places(HEADER + members), [(3, 1, "G1"), (4, 5, "L2")])
+        both = members.replace("    pass\n\ndef", "    x: int\n    pass\n\ndef")
+        self.assertEqual(self.places(HEADER + both), [(3, 1, "G1"), (4, 5, "L2"), (6, 5, "G1")])
+
+    def test_the_sentence_on_guides_stands_once(self) -> None:
+        self.write("a.py", self.body("x = 1 / 2", "y = 1 / 2", "z = 1 / 2"))
+        for form in ("full", "github", "sarif"):
+            with self.subTest(form):
+                shown = self.check("--all-refusals", "--output", form, "a.py").output
+                self.assertEqual(" ".join(shown.split()).count("A guide is not the program's answer on the file"), 1)
+                alone = self.check("--output", form, "a.py").output
+                self.assertNotIn("A guide is", alone)
+        full = self.lines("--all-refusals", "--output", "full", "a.py")
+        self.assertTrue(full[-4].startswith("A guide is not "), full[-4:])
+        self.check("--all-refusals", "--page", "page.html", "a.py")
+        page = (self.folder / "page.html").read_text(encoding="utf-8")
+        self.assertEqual(page.count("A guide is not the program"), 1)
+
+    def test_an_open_bracket(self) -> None:
+        said = "Close each bracket with one of its own kind. The bracket that is open is `{}` at {}."
+        for lines, place, bracket, at in (
+            (["x = [1,", "     2", "y = (3)"], (9, 1), "[", (4, 9)),
+            (["print(f(1)", "", "# (", 'y = "("'], (10, 1), "(", (4, 10)),
+            (["x = {1: (2}"], (4, 15), "(", (4, 13)),
+            (["x = [1, 2, 3)"], (4, 17), "[", (4, 9)),
         ):
-            with self.subTest(line):
-                self.write("a.py", self.body(line))
-                self.assertTrue(
-                    self.lines("--all-refusals", "a.py")[0].endswith(f". {wanted}"),
-                    self.lines("--all-refusals", "a.py"),
-                )
-        self.write("a.py", CLEAN.partition("\n")[2])
-        self.assertTrue(
-            self.lines("--all-refusals", "a.py")[0].endswith(
-                "There is no `from __future__ import annotations`: write this header, as the first line."
-            )
-        )
+            with self.subTest(lines):
+                self.write("a.py", self.body(*lines))
+                refusal = json.loads(self.check("--output", "json", "a.py").output)["files"][0]["refusal"]
+                self.assertEqual(refusal["code"], "L5")
+                self.assertEqual((refusal["start"]["line"], refusal["start"]["column"]), place)
+                self.assertEqual((refusal["opened"]["line"], refusal["opened"]["column"]), at)
+                self.assertEqual(refusal["instead"], said.format(bracket, f"{at[0]}:{at[1]}"))
+        self.write("a.py", self.body("x = 1)"))
+        refusal = json.loads(self.check("--output", "json", "a.py").output)["files"][0]["refusal"]
+        self.assertNotIn("opened", refusal)
+        self.write("a.py", self.body("x = [1,", "     2"))
+        shown = self.lines("--output", "full", "a.py")
+        self.assertEqual(shown[1:3], ["  4 |     x = [1,", "    |         ^ open"])
+        self.assertEqual(sum(" |" in it for it in shown), 2)
+        related = json.loads(self.check("--output", "sarif", "a.py").output)["runs"][0]["results"][0]["relatedLocations"]
+        self.assertEqual(related[0]["physicalLocation"]["region"]["startLine"], 4)
 
     def test_a_program_that_fails_meanwhile(self) -> None:
         self.write("a.py", REFUSED)

@@ -7,22 +7,21 @@ import re
 from pathlib import Path
 from typing import Dict, List, NamedTuple, Optional
 
-from . import forms
-from .source import Spot
+from . import left_out
+from .spots import Spot
 
 TEXTS = Path(__file__).with_name("codes.json")
 LINK = re.compile(r"\[([^\]]+)\]\([^)]*\)")
 
 
 class Entry(NamedTuple):
-    """What the page says of a code; the rows say what to write instead of what, `run` what an error is in a run."""
+    """What the page says of a code; `run` says what an error is in a run."""
 
     title: str
     kind: str
     meaning: str
     run: str
     mend: str
-    rows: List[List[str]]
     entry: str
 
 
@@ -33,6 +32,14 @@ def entries() -> Dict[str, Entry]:
         return {code: Entry(**it) for code, it in json.loads(TEXTS.read_text(encoding="utf-8")).items()}
     except OSError:
         return {}
+
+
+def named(word: str) -> str:
+    """The code that a word names: itself, or its label or title, in small or capital letters; empty where it names
+    none."""
+    if word.upper() in entries():
+        return word.upper()
+    return next((code for code, it in entries().items() if it.title.lower() == word.lower()), "")
 
 
 def title_of(code: str) -> str:
@@ -51,16 +58,15 @@ def meaning_of(code: str) -> str:
 
 
 def mending_of(code: str, spot: Optional[Spot] = None) -> str:
-    """A sentence that says how to mend the code, as the page says it; at a spot that the entry's table has, its row."""
+    """A sentence that says how to mend the code; where a form stands at the spot that the page of the profile says is
+    left out, what it says to write instead."""
     entry = entries().get(code)
     if entry is None:
         return ""
-    row = forms.row_of(entry.rows, spot) if spot else None
+    row = left_out.row_of(code, spot) if spot else None
     if row is None:
         return entry.mend
-    if row[0].startswith("no "):
-        return f"There is {row[0]}: write {row[1]}."
-    return f"Instead of {row[0]} write {row[1]}."
+    return left_out.sentence(row)
 
 
 def explained(code: str, width: int) -> str:

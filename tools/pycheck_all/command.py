@@ -7,7 +7,7 @@ import signal
 import sys
 from typing import Iterator, List, Optional, Sequence
 
-from . import baseline, codes, program, running, texts, words
+from . import baseline, explaining, guards, hiding, program, running, scope, settings, texts, words
 from .files import Files
 from .findings import Project, summary
 from .outputs import Links
@@ -19,6 +19,10 @@ DOCUMENTS = ("json", "gitlab", "sarif", "junit")
 
 class Failure(Exception):
     """The run cannot go on; the text says why."""
+
+
+# What is told in a line, without more
+FAULTS = (Failure, program.NoProgram, baseline.NoBaseline, guards.NoGuards, settings.NoSettings)
 
 
 def main() -> int:
@@ -33,7 +37,7 @@ def run(given: Optional[Sequence[str]] = None, name: str = "pycheck-all") -> int
         return answered(found)
     except KeyboardInterrupt:
         return INTERRUPTED
-    except (Failure, program.NoProgram, baseline.NoBaseline) as fault:
+    except FAULTS as fault:
         tell(f"{name}: error: {fault}")
     except BrokenPipeError:
         # Nobody reads on; what Python would still write at its end goes nowhere
@@ -53,40 +57,111 @@ def answered(asked: words.Words) -> int:
     """Does what the words ask for."""
     width = shutil.get_terminal_size((100, 24)).columns
     if asked.explain:
-        write(codes.explained(asked.explain, min(width, 100)).splitlines())
+        write(explaining.lines(asked.explain, asked.output, min(width, 100)))
         return 0
     used = program.Program(program.chosen(asked.program))
     if asked.version:
         write([f"{used.version() or 'pycheck of unknown version'} at {used.path}"])
         return 0
-    project = checked(asked, used)
+    if asked.guards:
+        return guarded(asked, used, width)
+    if asked.fix:
+        return fixed(asked, used, width)
+    if asked.watch:
+        from . import watch
+
+        return watch.Watch(asked, used, width).run()
+    return once(asked, used, width)
+
+
+def once(given: words.Words, used: program.Program, width: int) -> int:
+    """Checks the files once, and shows what was found; the exit status."""
+    asked, ours = settings.applied(given)
+    project = checked(asked, used, ours)
     if asked.output in ("json", "sarif"):
         project.version = used.version()
     show(asked, project, width)
     return project.status
 
 
-def checked(asked: words.Words, used: program.Program) -> Project:
-    """Checks the files, and marks what is known."""
-    known = baseline.read(asked.baseline) if asked.baseline else None
+def guarded(asked: words.Words, used: program.Program, width: int) -> int:
+    """Has guards of a core written, or shows what the promise excludes."""
+    made = guards.make(guards.Asked(asked.guards, asked.guards_to, asked.guards_anyway), used, asked.timeout)
+    project = Project([made.checked], strict=True)
+    if made.checked.findings or made.checked.failure:
+        show(asked, project, width)
+    if made.withheld:
+        tell(made.withheld)
+        return project.status
+    write([made.written])
+    return 0
+
+
+def fixed(asked: words.Words, used: program.Program, width: int) -> int:
+    """Fixes the files, and shows what is left to do by hand."""
+    from . import fix_command
+
     links = Links(asked.files)
-    for path in filter(None, (asked.page, asked.write_baseline)):
-        refuse_links(path, links)
     named = Files(asked.exclude, asked.stdin_name)
+    shown = asked._replace(all_refusals=True)
     try:
         found = named.find(asked.files)
         if not found.sources:
-            raise Failure(f"no module to check in {', '.join(asked.files)}")
+            raise Failure(f"no module to fix in {', '.join(asked.files)}")
+        project = Project([], asked.strict)
+        project.left[scope.EXCLUDED] = found.excluded
+        for source in found.sources:
+            outcome = fix_command.fix_file(fix_command.fixer(used, asked.timeout, source), source, links, asked.write)
+            write(outcome.lines)
+            project.files.append(outcome.checked)
+    finally:
+        named.close()
+    show(shown, project, width)
+    return project.status
+
+
+def looked_for(asked: words.Words, ours: Optional[settings.Settings], named: Files) -> scope.Chosen:
+    """The files to check; a project of which nothing is to be checked is a failure."""
+    limits = scope.of(asked, ours)
+    paths = limits.words(asked.files)
+    found = named.find(paths)
+    chosen = limits.chosen(found, paths)
+    core = [it for it in paths if it not in (asked.files or [os.curdir])]
+    if not found.sources or (core and not chosen.sources):
+        raise Failure(f"no module to check in {', '.join(core or paths)}")
+    chosen.left[scope.EXCLUDED] += found.excluded
+    return chosen
+
+
+def files_of(asked: words.Words, ours: Optional[settings.Settings]) -> Files:
+    """What finds the files."""
+    if asked.exclude or ours is None:
+        return Files(asked.exclude, asked.stdin_name)
+    return Files(ours.exclude, asked.stdin_name, ours.folder)
+
+
+def checked(asked: words.Words, used: program.Program, ours: Optional[settings.Settings]) -> Project:
+    """Checks the files, and marks what is known and what is not shown."""
+    known = baseline.read(asked.baseline) if asked.baseline else None
+    links = Links(asked.files or [os.curdir])
+    for path in filter(None, (asked.page, asked.write_baseline)):
+        refuse_links(path, links)
+    named = files_of(asked, ours)
+    try:
+        found = looked_for(asked, ours, named)
         files = running.Run(used, asked.timeout, asked.all_refusals, bool(asked.page)).all(found.sources)
     finally:
         named.close()
-    project = Project(files, asked.strict, found.excluded)
+    project = Project(files, asked.strict, left=found.left)
+    if named.base:
+        project.excluding = "exclude"
     if asked.write_baseline:
         written(asked.write_baseline, links, baseline.text_of(asked.write_baseline, files))
         if not known:
             known = baseline.read(asked.write_baseline)
     if known:
         project.gone = known.mark(files)
+    hiding.hide(files, hiding.hidden_codes(asked.select, asked.ignore))
     return project
 
 
@@ -111,7 +186,7 @@ def show(asked: words.Words, project: Project, width: int) -> None:
     if asked.page:
         from . import page
 
-        written(asked.page, Links(asked.files), page.document(project))
+        written(asked.page, Links(asked.files or [os.curdir]), page.document(project))
     form = asked.output or ("full" if is_terminal() else "concise")
     rest = closing(asked, project)
     if form in DOCUMENTS:

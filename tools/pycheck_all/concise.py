@@ -3,7 +3,7 @@ from __future__ import annotations
 
 from typing import Iterator
 
-from . import codes
+from . import codes, messages
 from .findings import GUIDE, REFUSED, Checked, Finding, Project
 from .texts import plain
 
@@ -14,7 +14,7 @@ def line_of(file: Checked, finding: Finding, mending: bool) -> str:
     if finding.kind in (REFUSED, GUIDE):
         title = finding.kind + (f": {title}" if title else "")
         if mending:
-            title += ". " + codes.mending_of(finding.code, file.spot_of(finding))
+            title += ". " + messages.advice_of(file, finding)
     if finding.flow:
         title = f"{title} {finding.flow[0]} -> {finding.flow[1]}"
     return f"{plain(file.path)}:{start.line}:{start.column}: {finding.code} {title}".rstrip()

@@ -13,6 +13,10 @@ from . import ignored, reading
 
 LIMIT = 1024 * 1024 + 4096
 STANDARD_INPUT = "-"
+# Folders of what is made or installed, which have modules that nobody wrote there
+MADE = ("build", "dist", "node_modules")
+# What lies in the folder of a virtual environment
+ENVIRONMENT = "pyvenv.cfg"
 # Where a path may mean another file to another process
 OF_PROCESSES = ("/dev/", "/proc/")
 
@@ -45,15 +49,18 @@ def reason(fault: OSError) -> str:
 class Walk:
     """A walk through a folder, in the order of the names. Links to folders are not followed."""
 
-    def __init__(self, excluding: Sequence[str]) -> None:
+    def __init__(self, excluding: Sequence[str], base: str = "") -> None:
         self.excluding = excluding
+        self.base = base
         self.excluded = 0
 
     def excludes(self, path: str, top: str) -> bool:
-        """Whether a pattern names it: one without a slash its name, one with a slash its path, as it is shown or from
-        the folder that is named."""
+        """Whether a pattern names it: one without a slash its name, one with a slash its path, as it is shown, from
+        the folder that is named, or from the base of the patterns."""
         for pattern in (it.rstrip("/") for it in self.excluding):
-            paths = [path, os.path.relpath(path, top)] if "/" in pattern else [os.path.basename(path)]
+            tops = filter(None, (top, self.base))
+            paths = [path, *(os.path.relpath(path, it) for it in tops)]
+            paths = paths if "/" in pattern else [os.path.basename(path)]
             if any(fnmatch.fnmatchcase(it, pattern) for it in paths):
                 return True
         return False
@@ -80,6 +87,8 @@ class Walk:
             yield Source(folder, folder, reason(fault))
             return
         rules = rules_for(any(it.name == ".git" for it in inside))
+        if folder != top and is_made(folder, inside) and not has_tracked(rules):
+            return
         for entry in inside:
             path = os.path.normpath(os.path.join(folder, entry.name))
             is_folder = is_folder_itself(entry)
@@ -93,6 +102,16 @@ class Walk:
                 yield self.entries(path, top, functools.partial(ignored.rules_in, rules, entry.name, path))
             else:
                 yield Source(path, path)
+
+
+def is_made(folder: str, inside: Sequence[os.DirEntry[str]]) -> bool:
+    """Whether a folder is one of what is made or installed, by its name, or as one of a virtual environment."""
+    return os.path.basename(folder) in MADE or any(it.name == ENVIRONMENT for it in inside)
+
+
+def has_tracked(rules: Optional[ignored.Rules]) -> bool:
+    """Whether git tracks something of the folder with these rules; then somebody wrote it."""
+    return rules is not None and bool(rules.path) and rules.repository.tracks(rules.path[:-1], True)
 
 
 def is_folder_itself(entry: os.DirEntry[str]) -> bool:
@@ -121,8 +140,9 @@ def is_utf8(path: str) -> bool:
 class Files:
     """The files of a run. Texts that have no path that can be read twice are kept in a folder until `close`."""
 
-    def __init__(self, excluding: Sequence[str], stdin_name: str) -> None:
+    def __init__(self, excluding: Sequence[str], stdin_name: str, base: str = "") -> None:
         self.excluding = excluding
+        self.base = base
         self.stdin_name = stdin_name
         self._folder: Optional[tempfile.TemporaryDirectory[str]] = None
         self._kept = 0
@@ -134,7 +154,7 @@ class Files:
 
     def find(self, words: Sequence[str]) -> Found:
         """The files that the words of the command line name, each once, where it is named first."""
-        walk = Walk(self.excluding)
+        walk = Walk(self.excluding, self.base)
         sources: List[Source] = []
         met: Set[Tuple[bool, str]] = set()
         for word in words:

@@ -7,7 +7,8 @@ import functools
 from typing import Counter, List, NamedTuple, Optional, Tuple
 
 from . import silent
-from .source import Place, Spot, Text
+from .source import Place, Text
+from .spots import Spot
 
 ERROR, DYNAMIC, REFUSED, GUIDE = "error", "dynamic", "refused", "guide"
 
@@ -18,7 +19,8 @@ class Finding:
 
     A guide is a refusal that the program gave after what it refused before was replaced; `headless` says that it is for
     want of the first header. `flow` has the two types of a dynamic flow: of the value, and of the place where it goes.
-    `known` says that it stands in the baseline."""
+    `opened` is the bracket that is open where one is not closed, or is closed by another. `known` says that it stands
+    in the baseline."""
 
     kind: str
     code: str
@@ -26,6 +28,7 @@ class Finding:
     flow: Optional[Tuple[str, str]] = None
     known: bool = False
     headless: bool = False
+    opened: Optional[Place] = None
 
     def fails(self, strict: bool) -> int:
         """The exit status that it asks for."""
@@ -38,7 +41,8 @@ class Finding:
 class Checked:
     """What came of a file: its findings in the order of its text, or why it could not be checked.
 
-    Where all refusals were asked for, `complete` says that they are listed, and else `unlisted` says why not."""
+    Where all refusals were asked for, `complete` says that they are listed, and else `unlisted` says why not. What is
+    found and not shown stands apart, in `hidden`."""
 
     path: str
     findings: List[Finding] = dataclasses.field(default_factory=list)
@@ -46,15 +50,21 @@ class Checked:
     failure: str = ""
     complete: bool = False
     unlisted: str = ""
+    hidden: List[Finding] = dataclasses.field(default_factory=list)
+
+    @property
+    def everything(self) -> List[Finding]:
+        """The findings that are shown, and then those that are not."""
+        return [*self.findings, *self.hidden]
 
     def status(self, strict: bool) -> int:
         """The exit status of the file."""
-        return 3 if self.failure else max((it.fails(strict) for it in self.findings), default=0)
+        return 3 if self.failure else max((it.fails(strict) for it in self.everything), default=0)
 
     @property
     def refused(self) -> bool:
         """Whether the file is refused, known or not."""
-        return any(it.kind == REFUSED for it in self.findings)
+        return any(it.kind == REFUSED for it in self.everything)
 
     @property
     def new(self) -> List[Finding]:
@@ -65,7 +75,7 @@ class Checked:
     def suspended(self) -> str:
         """The sentence that says which lines suspend the promise, known findings included; empty where none does."""
         tells = silent.Silent(self.text.data)
-        starts = [(it.code, it.place.start) for it in self.findings if it.kind == ERROR]
+        starts = [(it.code, it.place.start) for it in self.everything if it.kind == ERROR]
         lines = [start.line for code, start in starts if tells.kind(code, start.byte)]
         return silent.sentence(lines) if lines else ""
 
@@ -78,7 +88,7 @@ class Checked:
         if finding.kind not in (REFUSED, GUIDE):
             return None
         spot = self.text.spot(finding.place.start.byte)
-        return spot._replace(first=True) if finding.headless else spot
+        return dataclasses.replace(spot, first=True) if finding.headless else spot
 
 
 class Known(NamedTuple):
@@ -92,11 +102,13 @@ class Known(NamedTuple):
 
 @dataclasses.dataclass
 class Project:
-    """Everything that a run has to show. `excluded` counts the files and folders that --exclude left out."""
+    """Everything that a run has to show. `left` counts what was left out: `excluded` the files and folders that
+    --exclude names, or the settings of the project, and `outside` and `unmarked` the modules outside its core."""
 
     files: List[Checked]
     strict: bool = False
-    excluded: int = 0
+    excluding: str = "--exclude"
+    left: Counter[str] = dataclasses.field(default_factory=collections.Counter)
     gone: List[Known] = dataclasses.field(default_factory=list)
     version: str = ""
 
@@ -110,19 +122,26 @@ class Project:
         files whose silent errors suspend the promise.
 
         What is known counts as known alone; `refused` counts files, `guide` the refusals after the first."""
-        counts: Counter[str] = collections.Counter(files=len(self.files), excluded=self.excluded)
+        counts: Counter[str] = collections.Counter(self.left)
+        counts["files"] = len(self.files)
         for file in self.files:
             counts["failed"] += bool(file.failure)
             counts["unlisted"] += bool(file.unlisted)
             counts["suspended"] += bool(file.suspended)
-            for finding in file.findings:
+            counts["hidden"] += sum(not it.known for it in file.hidden)
+            for finding in file.everything:
                 counts["known" if finding.known else finding.kind] += 1
         counts["gone"] = sum(it.times for it in self.gone)
         return counts
 
     def codes(self) -> Counter[str]:
         """How often each code stands, known findings included."""
-        return collections.Counter(finding.code for file in self.files for finding in file.findings)
+        return collections.Counter(finding.code for file in self.files for finding in file.everything)
+
+
+def has_guides(project: Project) -> bool:
+    """Whether a guide that is not known is listed."""
+    return any(it.kind == GUIDE for file in project.files for it in file.new)
 
 
 def amount(number: int, one: str, many: str = "") -> str:
@@ -140,9 +159,19 @@ def summary(project: Project) -> str:
         ("failed", "not checked"),
         ("known", "known"),
         ("gone", "known but gone"),
-        ("excluded", "left out by --exclude"),
+        ("excluded", f"left out by {project.excluding}"),
+        ("outside", "left out as outside the core"),
+        ("unmarked", "left out as not marked"),
     ]
     parts += [f"{counts[name]} {words}" for name, words in rest if counts[name]]
     if counts["suspended"]:
         parts.append(f"the promise suspended in {amount(counts['suspended'], 'file')}")
+    if counts["hidden"]:
+        parts.append(not_shown(project))
     return f"{amount(counts['files'], 'file')}: {', '.join(parts)}"
+
+
+def not_shown(project: Project) -> str:
+    """How often each code is not shown; what is known is not told."""
+    hidden = collections.Counter(it.code for file in project.files for it in file.hidden if not it.known)
+    return "not shown: " + " ".join(f"{count} {code}" for code, count in sorted(hidden.items()))

@@ -6,7 +6,8 @@ from typing import Iterator, List, Tuple
 
 from . import codes, concise, widths
 from .colours import Colours
-from .findings import GUIDE, Checked, Finding, Project
+from .findings import Checked, Finding, Project, has_guides
+from .messages import GUIDES, advice_of
 from .source import Place
 from .texts import plain
 
@@ -38,6 +39,9 @@ class Full:
             if file.unlisted:
                 yield f"{name}: there may be more refusals: {plain(file.unlisted)}"
                 yield ""
+        if has_guides(project):
+            yield from textwrap.wrap(GUIDES, self.width, break_long_words=False, break_on_hyphens=False)
+            yield ""
         yield from concise.gone(project)
 
     def finding(self, file: Checked, finding: Finding) -> Iterator[str]:
@@ -47,10 +51,12 @@ class Full:
         where = self.colours("path", f"{plain(file.path)}:{start.line}:{start.column}:")
         what = self.colours(finding.kind, f"{finding.kind} {finding.code} {title}".rstrip())
         yield f"{where} {what}" + (f": {meaning}" if meaning else "")
-        yield from self.excerpt(file, finding)
-        mending = plain(codes.mending_of(finding.code, file.spot_of(finding)))
-        if finding.kind == GUIDE:
-            mending += " This is a guide: the program was asked again without the refusals before."
+        if finding.opened:
+            yield from self.excerpt(file, finding.opened, finding.kind, " open")
+        if not finding.opened or start.byte < len(file.text.data):
+            beside = plain(f" {finding.flow[0]} -> {finding.flow[1]}") if finding.flow else ""
+            yield from self.excerpt(file, finding.place, finding.kind, beside)
+        mending = plain(advice_of(file, finding))
         before = " " * (3 + len(str(finding.place.end.line)))
         room = self.width - len(before) - 2
         lines = textwrap.wrap(mending.strip(), room, break_long_words=False, break_on_hyphens=False)
@@ -58,12 +64,10 @@ class Full:
             sign = " " if at else self.colours("number", "=")
             yield f"{before}{sign} {self.colours('mend', line)}"
 
-    def excerpt(self, file: Checked, finding: Finding) -> Iterator[str]:
-        """The lines in which a finding stands, each with its number, and with its part underlined."""
-        place = finding.place
+    def excerpt(self, file: Checked, place: Place, kind: str, beside: str) -> Iterator[str]:
+        """The lines of a place, each with its number, and with its part underlined; a text is beside the last one."""
         numbers = self.numbers(place)
         gutter = len(str(place.end.line))
-        beside = plain(f" {finding.flow[0]} -> {finding.flow[1]}") if finding.flow else ""
         for at, number in enumerate(numbers):
             if at and numbers[at - 1] != number - 1:
                 yield self.colours("number", f"  {'.' * gutter} |")
@@ -71,10 +75,10 @@ class Full:
             start, end = part_of(line, number, place)
             shown = widths.cut(line, start, end, self.width - gutter - 5)
             yield f"{self.colours('number', f'  {number:>{gutter}} |')} {shown.text}".rstrip()
-            mark = self.colours(finding.kind, "^" * (shown.end - shown.start))
+            mark = self.colours(kind, "^" * (shown.end - shown.start))
             under = f"{self.colours('number', '  ' + ' ' * gutter + ' |')} {' ' * shown.start}{mark}"
             if number == place.end.line:
-                under += self.colours(finding.kind, beside)
+                under += self.colours(kind, beside)
             yield under
 
     def numbers(self, place: Place) -> List[int]:

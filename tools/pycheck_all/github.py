@@ -3,8 +3,8 @@ from __future__ import annotations
 
 from typing import Iterator
 
-from .findings import DYNAMIC, GUIDE, Finding, Project
-from .messages import message_of, name_of
+from .findings import DYNAMIC, GUIDE, Finding, Project, has_guides
+from .messages import GUIDES, message_of, name_of
 from .texts import Command, plain
 
 
@@ -42,5 +42,7 @@ def texts_of(project: Project) -> Iterator[str]:
             yield f"::{level_of(it, project.strict)} {where},title={value(name_of(it))}::{data(message_of(file, it))}"
         if file.unlisted:
             yield f"::notice file={path},title=there may be more refusals::{data(file.unlisted)}"
+    if has_guides(project):
+        yield f"::notice title=guides::{data(GUIDES)}"
     for entry in project.gone:
         yield f"::notice title=known but gone::{data(f'{entry.path}: {entry.code}: {entry.line}')}"

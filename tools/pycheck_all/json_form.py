@@ -4,7 +4,8 @@ from __future__ import annotations
 from typing import Any, Dict
 
 from . import codes
-from .findings import GUIDE, REFUSED, Checked, Finding, Known, Project
+from .findings import DYNAMIC, ERROR, GUIDE, REFUSED, Checked, Finding, Known, Project
+from .messages import advice_of
 from .source import Point
 from .texts import json_of, plain
 
@@ -19,11 +20,14 @@ def point(it: Point) -> Dict[str, int]:
 def of_finding(file: Checked, it: Finding) -> Dict[str, Any]:
     """A finding or a refusal."""
     found: Dict[str, Any] = {"code": it.code, "kind": it.kind, "title": codes.title_of(it.code)}
+    if it.kind in (ERROR, DYNAMIC):
+        found["label"] = found["title"]
     found.update(start=point(it.place.start), end=point(it.place.end), known=it.known)
     if it.flow:
         found.update({"from": it.flow[0], "to": it.flow[1]})
-    if it.kind in (REFUSED, GUIDE):
-        found["instead"] = codes.mending_of(it.code, file.spot_of(it))
+    found["instead"] = advice_of(file, it)
+    if it.opened:
+        found["opened"] = point(it.opened.start)
     return found
 
 
@@ -59,6 +63,9 @@ def document(project: Project) -> str:
         "known": "known",
         "gone": "gone",
         "excluded": "excluded",
+        "outside": "outside",
+        "unmarked": "unmarked",
+        "hidden": "hidden",
     }
     whole = {
         "format": FORMAT,

@@ -38,8 +38,10 @@ def cases_of(file: Checked, strict: bool) -> Iterator[Tuple[str, List[str]]]:
     path = plain(file.path)
     if file.failure:
         yield "error", case_of(path, "not checked", "error", file.failure)
-    elif not file.findings:
+    elif not file.everything:
         yield "", case_of(path, "no finding", "", "")
+    elif not file.findings:
+        yield "skipped", case_of(path, "findings that are not shown", "skipped", f"{len(file.hidden)} not shown")
     for it in file.findings:
         start, outcome = it.place.start, outcome_of(it, strict)
         known = " Known in the baseline." if it.known else ""

@@ -6,8 +6,11 @@ import hashlib
 import os
 from typing import Counter, List, Tuple
 
-from . import codes
+from . import cases, codes
 from .findings import GUIDE, REFUSED, Checked, Finding
+
+
+GUIDES = "A guide is not the program's answer on the file as it is: it was asked again without the refusals before."
 
 
 def name_of(finding: Finding) -> str:
@@ -20,9 +23,18 @@ def message_of(file: Checked, finding: Finding) -> str:
     """What is found and how to mend it, in a line."""
     flow = f" ({finding.flow[0]} -> {finding.flow[1]})" if finding.flow else ""
     meaning = codes.meaning_of(finding.code) or finding.code
-    mending = codes.mending_of(finding.code, file.spot_of(finding))
-    guide = " This is a guide, not the program's answer on the file as it is." if finding.kind == GUIDE else ""
-    return f"{meaning}{flow}. {mending}{guide}".strip()
+    return f"{meaning}{flow}. {advice_of(file, finding)}".strip()
+
+
+def advice_of(file: Checked, finding: Finding) -> str:
+    """What to write instead, and where the bracket is that does not match."""
+    advice = cases.sentence(finding.code, file.text, finding.place)
+    advice = advice or codes.mending_of(finding.code, file.spot_of(finding))
+    if finding.opened:
+        start, end = finding.opened
+        bracket = file.text.data[start.byte : end.byte].decode("utf-8", "replace")
+        advice += f" The bracket that is open is `{bracket}` at {start.line}:{start.column}."
+    return advice.strip()
 
 
 def fingerprints(file: Checked) -> List[str]:

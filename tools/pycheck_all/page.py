@@ -9,8 +9,8 @@ import re
 from typing import Iterator, List, NamedTuple, Sequence, Set, Tuple
 
 from . import codes, full
-from .findings import DYNAMIC, ERROR, GUIDE, REFUSED, Checked, Finding, Project, summary
-from .messages import name_of
+from .findings import DYNAMIC, ERROR, GUIDE, REFUSED, Checked, Finding, Project, has_guides, summary
+from .messages import GUIDES, advice_of, name_of
 from .texts import plain
 from .widths import REPLACEMENT, UNFIT
 
@@ -154,7 +154,7 @@ class Module:
             link = f'<a href="#{self.name}-l{start.line}">{start.line}:{start.column}</a>'
             flow = f" <code>{escaped(it.flow[0])} -&gt; {escaped(it.flow[1])}</code>" if it.flow else ""
             known = ' <span class="soft">known</span>' if it.known else ""
-            words = f"{codes.meaning_of(it.code)}. {codes.mending_of(it.code, self.file.spot_of(it))}"
+            words = f"{codes.meaning_of(it.code)}. {advice_of(self.file, it)}"
             name = f'<b class="{it.kind}">{escaped(name_of(it))}</b>'
             yield f'<li id="{self.name}-n{at}">{link} {name}{flow}{known}: {worded(words)}</li>'
 
@@ -240,6 +240,7 @@ def document(project: Project) -> str:
         f"</tbody>\n<tfoot>{total(project.files)}</tfoot>\n</table>",
         *gone_list(project),
         *(line for module in modules for line in module.section()),
+        *([f"<p>{html.escape(GUIDES)}</p>"] if has_guides(project) else []),
         "</body>\n</html>\n",
     ]
     return "\n".join(lines)

@@ -86,11 +86,20 @@ def in_checkout() -> str:
     raise kind(said[-1] if said else f"{FINDER} ended with status {done.returncode}")
 
 
+def is_in_user_site() -> bool:
+    """Whether this package is installed for one user alone."""
+    folder = sysconfig.get_path("purelib", f"{os.name}_user")
+    return bool(folder) and os.path.realpath(folder) == os.path.realpath(FINDER.parent)
+
+
 def beside() -> str:
-    """The program in the folder of the interpreter's scripts, or beside this command; empty where there is none."""
+    """The program in the folder of the interpreter's scripts, beside this command, or in that of the scripts with which
+    this package was installed; empty where there is none."""
     # A command of one line has no folder
     own = os.path.dirname(os.path.abspath(sys.argv[0])) if os.path.basename(sys.argv[0]) not in ("", "-c", "-m") else ""
-    for folder in (sysconfig.get_path("scripts"), own):
+    # Where `pip install --user` puts scripts, and where `pip install --target` does
+    user = sysconfig.get_path("scripts", f"{os.name}_user") if is_in_user_site() else ""
+    for folder in (sysconfig.get_path("scripts"), own, user, str(FINDER.parent / "bin")):
         path = shutil.which(os.path.join(folder, NAME)) if folder else None
         if path:
             return os.path.abspath(path)

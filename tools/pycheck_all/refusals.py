@@ -14,26 +14,24 @@ import keyword
 import os
 import re
 import tempfile
-from typing import Callable, Iterator, List, NamedTuple, Optional, Tuple
+from typing import Callable, List, NamedTuple, Optional, Tuple
 
 from .findings import GUIDE, Finding
 from .source import Text
+from .statements import CLASS, FUNCTION, MODULE, Statement, around, place_in, statements
 
 LIMIT = 100
 HEADER = b"from __future__ import annotations"
-MODULE, CLASS, FUNCTION = "module", "class", "function"
-OPENERS = b"if elif else for while try except finally with def class async match case".split()
-UNCLOSED_TRIES = 20
-# How much is read, at most twice this, for brackets that are never closed
-UNCLOSED_BYTES = 1 << 20
 # How often a statement is replaced at most, one more than this
 MOST_TRIES = 2
-PIECE = re.compile(
-    rb"""#[^\n]*|\"\"\"(?:[^\\]|\\.)*?\"\"\"|'''(?:[^\\]|\\.)*?'''|"(?:[^"\\\n]|\\.)*"|'(?:[^'\\\n]|\\.)*'"""
-    rb"""|["'][^\n]*|\\\r?\n|[^#"'()\[\]{}\\\n:]+|.""",
-    re.DOTALL,
-)
-BLANK = re.compile(rb"[ \t]*(?:#[^\n]*)?\r?\n")
+# What belongs to a statement, in its suite for `match`, and else beside it
+CLAUSES = {
+    b"try": (b"except", b"finally", b"else"),
+    b"match": (b"case",),
+    b"if": (b"elif", b"else"),
+    b"for": (b"else",),
+    b"while": (b"else",),
+}
 NAME = re.compile(rb"(?:async\s+)?(?:def|class)\s+(\w+)")
 Refusal = Callable[[str], Optional[Tuple[str, int]]]
 
@@ -47,101 +45,6 @@ class Rest(NamedTuple):
 
     findings: List[Finding]
     unlisted: str
-
-
-@dataclasses.dataclass
-class Statement:
-    """A logical line with the blank and comment lines before it.
-
-    `start` is its first byte in the file, `cut` how many bytes of the file are left out in front (less than 0: put in).
-    `tries` counts how often it was replaced; one that was replaced or put in is no text of the file. `colon` is the
-    byte after the colon that opens a suite, from its own first byte, 0 without one."""
-
-    text: bytes
-    start: int
-    cut: int = 0
-    tries: int = 0
-    colon: int = 0
-    unclosed: bool = False
-
-    @property
-    def code(self) -> bytes:
-        """Its text without the blank and comment lines before it and without its end."""
-        return self.text[self.lead :].strip()
-
-    @property
-    def lead(self) -> int:
-        """The byte of its first word."""
-        at = 0
-        while True:
-            found = BLANK.match(self.text, at)
-            if not found:
-                break
-            at = found.end()
-        return at + len(self.text[at:]) - len(self.text[at:].lstrip(b" \t"))
-
-    @property
-    def indent(self) -> int:
-        """The columns before its first word; a tab counts to the next multiple of 8."""
-        before = self.text[: self.lead].rpartition(b"\n")[2]
-        return len(before.expandtabs(8))
-
-    @property
-    def word(self) -> bytes:
-        """Its first word, or b"@" of a decorator."""
-        found = re.match(rb"\w+|@", self.code)
-        return found[0] if found else b""
-
-    @property
-    def opens(self) -> bool:
-        """Whether it begins as a statement that has a suite."""
-        return self.colon > 0 and self.word in OPENERS
-
-    @property
-    def awaits(self) -> bool:
-        """Whether it ends in the colon that opens a suite."""
-        if self.tries:
-            return self.code.endswith(b":")
-        return self.opens and not re.sub(rb"#[^\n]*", b"", self.text[self.colon :]).strip()
-
-
-def statements(data: bytes) -> Iterator[Statement]:
-    """The statements of a text. Of a bracket that is never closed, the line in which its statement begins is one; after
-    some of those, each line is one."""
-    at, tries, read = 0, 0, 0
-    while at < len(data):
-        found = statement_at(data, at) if tries <= UNCLOSED_TRIES and read <= UNCLOSED_BYTES else None
-        if found is None:
-            tries, read = tries + 1, read + len(data) - at
-            found = Statement(data[at : line_end(data, at)], at, unclosed=True)
-        yield found
-        at += len(found.text)
-
-
-def line_end(data: bytes, at: int) -> int:
-    """The end of the line with the next word after a byte."""
-    while True:
-        blank = BLANK.match(data, at)
-        if not blank:
-            return data.find(b"\n", at) + 1 or len(data)
-        at = blank.end()
-
-
-def statement_at(data: bytes, at: int) -> Optional[Statement]:
-    """The statement at a byte; none where its brackets are not closed."""
-    depth, colon, begun, end = 0, 0, False, at
-    for piece in PIECE.finditer(data, at):
-        sign, end = piece[0], piece.end()
-        if sign in (b"(", b"[", b"{"):
-            depth += 1
-        elif sign in (b")", b"]", b"}"):
-            depth = max(0, depth - 1)
-        elif sign == b":" and depth == 0 and not colon:
-            colon = end - at
-        elif sign == b"\n" and depth == 0 and begun:
-            break
-        begun = begun or not (sign.isspace() or sign.startswith(b"#"))
-    return Statement(data[at:end], at, colon=colon) if depth == 0 else None
 
 
 class Draft:
@@ -177,21 +80,18 @@ class Draft:
 
     def around(self, at: int) -> Optional[Statement]:
         """The statement in whose suite a statement stands."""
-        indent = self.statements[at].indent
-        outer = (it for it in reversed(self.statements[:at]) if it.code and it.indent < indent)
-        return next(outer, None)
+        outer = around(self.statements, at)
+        return None if outer is None else self.statements[outer]
 
     def context(self, at: int) -> str:
         """Where a statement stands: in the module, or in the suite of a class or of something else."""
-        outer = self.around(at)
-        if self.statements[at].indent == 0 or outer is None:
-            return MODULE
-        return CLASS if outer.word == b"class" else FUNCTION
+        return place_in(self.statements, around(self.statements, at))
 
     def has_suite(self, at: int) -> bool:
         """Whether the next statement is indented more."""
-        rest = self.statements[at + 1 : at + 2]
-        return bool(rest and rest[0].code and rest[0].indent > self.statements[at].indent)
+        rest = itertools.islice(self.statements, at + 1, None)
+        found = next((it for it in rest if it.code), None)
+        return found is not None and found.indent > self.statements[at].indent
 
     def mend(self, code: str, byte: int) -> bool:
         """Changes the draft where it is refused, so that it is not refused there; whether something was changed."""
@@ -324,7 +224,7 @@ class Draft:
     def replace(self, at: int) -> None:
         """Replaces a statement by one that is allowed where it stands; the second time also its suite."""
         found = self.statements[at]
-        place, spaces = self.context(at), b" " * found.indent
+        place, spaces, word = self.context(at), b" " * found.indent, found.word
         if found.tries and place == FUNCTION and found.code.startswith(b"def ") and self.has_suite(at):
             # It stood in for a method, of a class that is itself no class any more
             lines = [spaces + b"if True:"]
@@ -334,15 +234,49 @@ class Draft:
             if self.unseen is None:
                 self.unseen = next((it.start for it in suite if it.code and not it.tries), None)
             del self.statements[at + 1 : at + 1 + len(suite)]
-            lines = [] if place == MODULE else [spaces + SIMPLE[place]]
+            lines = self.simple(at, place)
         elif found.opens or self.has_suite(at):
             lines = self.opener(at, place)
         elif found.word == b"@":
             lines = [spaces + b"@dataclass"] if place == MODULE and self.before_class(at) else []
         else:
-            lines = [] if place == MODULE else [spaces + SIMPLE[place]]
+            lines = self.simple(at, place)
         found.text = b"".join(line + b"\n" for line in lines) or b"\n"
         found.tries += 1
+        if found.tries == 1 and word in CLAUSES and (place != FUNCTION or word in (b"try", b"match")):
+            self.replace_clauses(found, word, place)
+
+    def replace_clauses(self, head: Statement, word: bytes, place: str) -> None:
+        """Replaces what belongs to a statement that was replaced. An `else` may follow what stands in for `except`
+        where that is an `if`."""
+        at = self.statements.index(head) + 1
+        while at < len(self.statements):
+            found = self.statements[at]
+            if found.code and found.indent < head.indent + (word == b"match"):
+                break
+            is_beside = found.indent == head.indent or word == b"match" and self.around(at) is head
+            if found.code and is_beside and found.word not in CLAUSES[word]:
+                break
+            if found.code and is_beside and not found.tries and (found.word != b"else" or place != FUNCTION):
+                self.replace(at)
+                at = self.statements.index(found)
+            at += 1
+
+    def simple(self, at: int, place: str) -> List[bytes]:
+        """The lines that stand in for a statement without a suite: none where others are in the same suite of a class,
+        so that a `pass` among them is no second fault."""
+        if place == MODULE or place == CLASS and self.has_neighbour(at):
+            return []
+        return [b" " * self.statements[at].indent + b"pass"]
+
+    def has_neighbour(self, at: int) -> bool:
+        """Whether another statement stands in the same suite."""
+        own = self.statements[at].indent
+        for rest in (self.statements[at + 1 :], reversed(self.statements[:at])):
+            nearest = next((it.indent for it in rest if it.code and it.indent <= own), -1)
+            if nearest == own:
+                return True
+        return False
 
     def before_class(self, at: int) -> bool:
         """Whether a class follows a decorator."""
@@ -366,9 +300,6 @@ class Draft:
         if place == CLASS:
             return [spaces + b"def " + name + b"(self):"] + suite
         return [spaces + b"if True:"] + suite
-
-
-SIMPLE = {CLASS: b"refused: int = 0", FUNCTION: b"pass"}
 
 
 def is_plain(name: bytes) -> bool:
@@ -411,7 +342,7 @@ def rest_of(text: Text, first: Finding, refusal: Refusal) -> Rest:
             listed = origin is not None and (code, origin) not in met
             if origin is not None and listed:
                 met.add((code, origin))
-                found.append(Finding(GUIDE, code, text.token(origin)))
+                found.append(Finding(GUIDE, code, text.token(origin), opened=text.opening(code, origin)))
             if len(found) >= LIMIT:
                 break
     return Rest(found, f"only the first {len(found)} are listed")

@@ -158,7 +158,7 @@ def refusal_of(code: str, byte: int, text: Text) -> Finding:
     """The refusal of a file, at the word or sign that it names."""
     if byte > len(text.data):
         raise NotUnderstood(CHANGED)
-    return Finding(REFUSED, code, text.token(byte))
+    return Finding(REFUSED, code, text.token(byte), opened=text.opening(code, byte))
 
 
 def content(path: str) -> bytes:

@@ -6,8 +6,9 @@ import urllib.parse
 from typing import Any, Dict, List
 
 from . import codes
-from .findings import DYNAMIC, GUIDE, Checked, Finding, Project
-from .messages import fingerprints, message_of, name_of
+from .findings import DYNAMIC, GUIDE, Checked, Finding, Project, has_guides
+from .messages import GUIDES, fingerprints, message_of, name_of
+from .source import Place
 from .texts import json_of, plain
 
 SCHEMA = "https://json.schemastore.org/sarif-2.1.0.json"
@@ -42,9 +43,9 @@ def rule_of(code: str, strict: bool) -> Dict[str, Any]:
     return rule
 
 
-def location_of(file: Checked, finding: Finding) -> Dict[str, Any]:
-    """The place of a finding."""
-    start, end = finding.place
+def location_of(file: Checked, place: Place) -> Dict[str, Any]:
+    """A place of a file."""
+    start, end = place
     region = {
         "startLine": start.line,
         "startColumn": start.column,
@@ -65,9 +66,11 @@ def results_of(file: Checked, rules: List[str], project: Project) -> List[Dict[s
             "ruleIndex": rules.index(it.code),
             "level": level_of(it.kind, project.strict),
             "message": {"text": f"{name_of(it)}: {message_of(file, it)}"},
-            "locations": [location_of(file, it)],
+            "locations": [location_of(file, it.place)],
             "partialFingerprints": {"pathCodeLine/v1": mark},
         }
+        if it.opened:
+            result["relatedLocations"] = [{**location_of(file, it.opened), "message": {"text": "the open bracket"}}]
         if it.known:
             result["suppressions"] = [{"kind": "external", "justification": "known in the baseline"}]
         results.append(result)
@@ -85,6 +88,8 @@ def notifications(project: Project) -> List[Dict[str, Any]]:
         if file.unlisted:
             text = f"there may be more refusals: {file.unlisted}"
             found.append({"level": "note", "message": {"text": text}, "locations": [location]})
+    if has_guides(project):
+        found.append({"level": "note", "message": {"text": GUIDES}})
     for entry in project.gone:
         text = f"known but gone: {plain(entry.path)}: {entry.code}: {entry.line}"
         found.append({"level": "note", "message": {"text": text}})
@@ -93,7 +98,7 @@ def notifications(project: Project) -> List[Dict[str, Any]]:
 
 def document(project: Project) -> str:
     """The log."""
-    rules = sorted(project.codes())
+    rules = sorted({it.code for file in project.files for it in file.findings})
     driver = {
         "name": "pycheck",
         "version": project.version.rpartition(" ")[2] or "unknown",

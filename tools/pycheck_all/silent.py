@@ -17,8 +17,9 @@ BARE, PARAMETER, FIELD = "E12 of a bare return", "E12 of a parameter's default",
 FUNCTION = "E21 of a function"
 KINDS = (*BY_CODE, DECORATOR, TESTED, SHAPE, BARE, PARAMETER, FIELD, FUNCTION)
 OF_CODE = {kind[:3]: tuple(it for it in KINDS if it[:3] == kind[:3]) for kind in KINDS}
+# A string without an end is a token up to the end of its line, so that no byte is read again for each of its quotes
 TOKEN = re.compile(
-    rb"""#[^\n]*|"(?:[^"\\\n]|\\.)*"|'(?:[^'\\\n]|\\.)*'|[0-9A-Za-z_\x80-\xff]+|[ \t\r]+|\n|.""", re.DOTALL
+    rb"""#[^\n]*|"(?:[^"\\\n]|\\.)*"?|'(?:[^'\\\n]|\\.)*'?|[0-9A-Za-z_\x80-\xff]+|[ \t\r]+|\n|.""", re.DOTALL
 )
 OPENING, CLOSING = (b"(", b"[", b"{"), (b")", b"]", b"}")
 # How many methods of ancestors are looked at; where there are more, the errors left count as silent

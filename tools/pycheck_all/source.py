@@ -3,11 +3,15 @@ from __future__ import annotations
 
 import bisect
 import re
-from typing import List, NamedTuple, Optional, Tuple
+from typing import FrozenSet, List, NamedTuple, Optional, Tuple
+
+from .spots import Spot, spot_at
+from .statements import Outline, opened
 
 TOKEN = re.compile(r"\w+|\*\*=?|//=?|<<=?|>>=?|\.\.\.|:=|->|[-+*/%@&|^<>=!]=|\S")
 
-CODE = re.compile(rb"^[ \t]*[^#\s]", re.MULTILINE)
+CLASS = re.compile(rb"^[ \t]*class[ \t]+([\w\x80-\xff]+)", re.MULTILINE)
+UNMATCHED = "L5"
 
 
 class Point(NamedTuple):
@@ -25,15 +29,6 @@ class Place(NamedTuple):
     end: Point
 
 
-class Spot(NamedTuple):
-    """A word or sign of a text, with what stands before and after it in its line. `first`: no code is before."""
-
-    before: str
-    word: str
-    after: str
-    first: bool
-
-
 def characters(data: bytes) -> int:
     """The number of characters of the bytes: of those that begin one in UTF-8."""
     return len(data) if data.isascii() else sum(byte & 0xC0 != 0x80 for byte in data)
@@ -45,8 +40,24 @@ class Text:
     def __init__(self, data: bytes) -> None:
         self.data = data
         self._starts: Optional[List[int]] = None
+        self._outline: Optional[Outline] = None
+        self._classes: Optional[FrozenSet[str]] = None
         # The line that was asked for last, which many findings may share
         self._kept: Tuple[int, str] = (0, "")
+
+    @property
+    def outline(self) -> Outline:
+        """The logical lines of the text."""
+        if self._outline is None:
+            self._outline = Outline(self.data)
+        return self._outline
+
+    @property
+    def classes(self) -> FrozenSet[str]:
+        """The names of the classes of the text."""
+        if self._classes is None:
+            self._classes = frozenset(it.decode("utf-8", "replace") for it in CLASS.findall(self.data))
+        return self._classes
 
     @property
     def starts(self) -> List[int]:
@@ -76,12 +87,20 @@ class Text:
         return found[0] if found else line[:1].strip("\r\n")
 
     def spot(self, byte: int) -> Spot:
-        """The word or sign that begins at a byte, with its line."""
-        start = self.starts[self.point(byte).line - 1]
-        before = self.data[start:byte].decode("utf-8", "replace")
-        word = self.word(byte)
-        after = self.data[byte : self.after(byte)].decode("utf-8", "surrogateescape")[len(word) :]
-        return Spot(before, word, after, not CODE.search(self.data[:byte]))
+        """The word or sign that begins at a byte, with its logical line."""
+        rest = self.data[byte : self.after(byte)].decode("utf-8", "surrogateescape")
+        return spot_at(self.data, self.outline, byte, self.word(byte), rest)
+
+    def opening(self, code: str, byte: int) -> Optional[Place]:
+        """The bracket that is open where brackets do not match, of which only this code speaks; none where none is."""
+        if code != UNMATCHED:
+            return None
+        if byte < len(self.data):
+            start = self.outline.starts[self.outline.at(byte)]
+        else:
+            start = next((it.start for it in self.outline.statements if it.unclosed), len(self.data))
+        found = opened(self.data[start:], byte - start)
+        return self.token(start + found[-1]) if found else None
 
     def after(self, byte: int) -> int:
         """The byte after the last one of the line that a byte stands in; its line end counts to it."""

@@ -2,13 +2,15 @@
 from __future__ import annotations
 
 import argparse
+import os
 import re
 import sys
 from typing import List, NamedTuple, NoReturn, Optional, Sequence
 
-from . import codes, texts
+from . import codes, explaining, hiding, texts
 from .files import STANDARD_INPUT
 
+UNNAMED = "<stdin>"
 FORMS = ("concise", "full", "json", "github", "gitlab", "sarif", "junit")
 USAGE = 3
 MOST_SECONDS = 86_400
@@ -33,8 +35,19 @@ class Words(NamedTuple):
     write_baseline: str
     all_refusals: bool
     page: str
+    guards: str
+    guards_to: str
+    guards_anyway: bool
+    fix: bool
+    write: bool
     explain: str
     version: bool
+    core: List[str]
+    only_marked: bool
+    no_project: bool
+    select: List[str]
+    ignore: List[str]
+    watch: bool
 
 
 def seconds_of(word: str) -> float:
@@ -61,7 +74,7 @@ def parser_of(name: str) -> Parser:
         allow_abbrev=False,
     )
     add = parser.add_argument
-    add("files", nargs="*", metavar="FILE", help="a module, a folder with modules (*.py), or - for standard input")
+    add("files", nargs="*", metavar="FILE", help="a module, a folder (without one, this one), or - for standard input")
     add("--program", default="", metavar="PYCHECK", help="the program; else the variable PYCHECK names it")
     add(
         "--exclude",
@@ -70,7 +83,7 @@ def parser_of(name: str) -> Parser:
         metavar="GLOB",
         help="leave out what has this name in a folder; with a slash, what has this path; may stand several times",
     )
-    add("--stdin-name", default="<stdin>", metavar="NAME", help="the path that reports show for standard input")
+    add("--stdin-name", default=UNNAMED, metavar="NAME", help="the path that reports show for standard input")
     add("--output", default="", choices=FORMS, help="the form; full on a terminal, else concise")
     add("--color", default="auto", choices=("auto", "always", "never"), help="colours in the form full")
     add(
@@ -88,9 +101,61 @@ def parser_of(name: str) -> Parser:
         "--all-refusals", action="store_true", help="list all refusals of a file, as a guide, and what to write instead"
     )
     add("--page", default="", metavar="FILE.html", help="write a page that shows the modules with their findings")
-    add("--explain", default="", metavar="CODE", help="explain a code, and check nothing")
+    add_guards(parser)
+    add_fixes(parser)
     add("--version", action="store_true", help="say the version of the program that is used, and check nothing")
+    add_choices(parser)
     return parser
+
+
+def add_guards(parser: Parser) -> None:
+    """Adds the words that ask for guards."""
+    add = parser.add_argument
+    add("--guards", default="", metavar="CORE.py", help="write guards of a core, through which other code calls it")
+    add("--guards-to", default="", metavar="FILE.py", help="where to write them (default: CORE_api.py)")
+    add("--guards-anyway", action="store_true", help="write them of a core that is not clean too")
+
+
+def add_fixes(parser: Parser) -> None:
+    """Adds the words that ask for rewrites into the profile."""
+    add = parser.add_argument
+    add("--fix", action="store_true", help="show as a diff how to bring the files nearer to the profile")
+    add("--write", action="store_true", help="with --fix: write it into the files")
+
+
+def add_choices(parser: Parser) -> None:
+    """Adds the options that choose what is checked of a project, and what is shown or explained."""
+    add = parser.add_argument
+    add(
+        "--core",
+        action="append",
+        default=[],
+        metavar="PATH",
+        help="check what is this file or in this folder alone, and count the rest; may stand several times",
+    )
+    add(
+        "--only-marked",
+        action="store_true",
+        help="where no core is named, check files whose first line is `# pycheck: core` alone, and count the rest",
+    )
+    add("--no-project", action="store_true", help="do not read the settings of the project, in pyproject.toml")
+    for name, what in (("--select", "these codes alone"), ("--ignore", "all but these codes")):
+        add(
+            name,
+            action="append",
+            default=[],
+            metavar="CODE,..",
+            help=f"show {what}: codes, labels, or letters of families; the exit status stays",
+        )
+    add(
+        "--explain",
+        nargs="?",
+        default="",
+        const=explaining.ALL,
+        metavar="CODE",
+        help="explain a code or a label, or list them all, and check nothing",
+    )
+    add("--watch", action="store_true", help="check again whenever a file changes, until it is interrupted")
 
 
 def read(name: str, words: Optional[Sequence[str]]) -> Words:
@@ -98,12 +163,55 @@ def read(name: str, words: Optional[Sequence[str]]) -> Words:
     parser = parser_of(name)
     found = Words(**vars(parser.parse_args(words)))
     if found.explain:
-        code = found.explain.upper()
-        if code not in codes.entries():
+        code = codes.named(found.explain) or found.explain
+        if code != explaining.ALL and code not in codes.entries():
             parser.error(f"argument --explain: there is no code {found.explain}")
         return found._replace(explain=code)
-    if not found.files and not found.version:
-        parser.error("the following arguments are required: FILE")
+    if found.guards:
+        refuse_others(parser, found)
+    elif found.guards_to or found.guards_anyway:
+        parser.error("arguments --guards-to and --guards-anyway: there is no --guards")
+    elif found.write and not found.fix:
+        parser.error("argument --write: there is no --fix")
+    elif found.fix and not found.files:
+        parser.error("argument --fix: there is no FILE")
+    if found.fix:
+        refuse_beside_fix(parser, found)
     if found.files.count(STANDARD_INPUT) and found.stdin_name == "":
         parser.error("argument --stdin-name: the name is empty")
+    for path in found.core:
+        if not os.path.exists(path):
+            parser.error(f"argument --core: there is no {path}")
+    if found.watch and (STANDARD_INPUT in found.files or found.write_baseline):
+        parser.error("argument --watch: not with standard input, nor with --write-baseline")
+    select, ignore = (chosen(parser, name, getattr(found, name)) for name in ("select", "ignore"))
+    return found._replace(select=select, ignore=ignore)
+
+
+def chosen(parser: Parser, name: str, words: Sequence[str]) -> List[str]:
+    """The codes, labels and letters of an option, each by itself."""
+    found = [it for word in words for it in word.split(",")]
+    for word in found:
+        if not hiding.codes_of(word):
+            parser.error(f"argument --{name}: there is no code {word}")
     return found
+
+
+def refuse_others(parser: Parser, found: Words) -> None:
+    """Ends the process where guards are asked for together with what they do not go with."""
+    names = ("baseline", "write_baseline", "page", "exclude", "all_refusals", "strict", "statistics", "fix")
+    others = [f"--{name.replace('_', '-')}" for name in names if getattr(found, name)]
+    if found.files or others:
+        parser.error(f"argument --guards: it goes alone, without {[*found.files, *others][0]}")
+    if found.output not in ("", "concise", "full", "github"):
+        parser.error(f"argument --guards: not in the form {found.output}")
+
+
+def refuse_beside_fix(parser: Parser, found: Words) -> None:
+    """Ends the process where files are fixed together with what that does not go with."""
+    names = ("baseline", "write_baseline", "page", "all_refusals", "statistics")
+    others = [f"--{name.replace('_', '-')}" for name in names if getattr(found, name)]
+    if others:
+        parser.error(f"argument --fix: it goes without {others[0]}")
+    if found.output not in ("", "concise", "full"):
+        parser.error(f"argument --fix: not in the form {found.output}")

@@ -1,0 +1,167 @@
+"""Rewrites of annotations, of targets, of expressions and of loops."""
+from __future__ import annotations
+
+import random
+
+from fix_support import MAIN, FixTest
+from support import HEADER
+
+# What random bodies are made of: all names are of numbers, but for `xs`
+LINES = [
+    "a, b = b, a",
+    "a, b = show(1), a",
+    "a = b = show(2)",
+    "a = xs[b % 3] = c = show(b)",
+    "xs[a % 3], a = a + 1, b",
+    "a = show(1) if show(b) > 2 else show(3)",
+    "show(a + (b if a < b else c))",
+    "xs = [show(n) for n in xs if n > b]",
+    "ys = [n * m for n in xs for m in [1, a]]\nshow(len(ys))",
+    "show(len([n for n in xs]))",
+    "if a < b <= c: show(4)",
+    "show(0 <= a < b != c)",
+    "for n in xs:\n    if n == c: break\n    show(n)\nelse:\n    show(9)",
+    "while a < 5:\n    a = a + 1\n    if a == b: break\nelse: show(8)",
+    "show(1 if isinstance(a, (str, bool)) else 2)",
+    "for n in [n + 1 for n in xs]: show(n if n > 2 else -n)",
+    "if show(a) < 2 if b > 1 else c > 2: show(7)",
+    "b = a and (1 if c else 2)",
+    "c = [n if n > 1 else 0 for n in xs] == xs",
+    "xs = xs if xs else [1, 2, 3]",
+    "for n in a, b: show(n)",
+]
+
+
+class Annotations(FixTest):
+    """Annotations of `typing`, and quoted ones."""
+
+    def test_typing(self) -> None:
+        text = "from typing import Any, Dict, List, Optional, Tuple, Union\n\n"
+        text += 'def f(a: Optional[List[int]], b: Union[int, "str"], c: Dict[str, Any]) -> Tuple[int, str]:\n'
+        text += "    return a\n"
+        wanted = "from typing import Any\n\n"
+        wanted += "def f(a: list[int] | None, b: int | str, c: dict[str, Any]) -> tuple[int, str]:\n    return a\n"
+        self.assert_fixed(HEADER + text + MAIN, HEADER + wanted + MAIN)
+        text = "from typing import Optional\ndef f():\n    a: 'Optional[int]' = None\n"
+        self.assert_fixed(HEADER + text + MAIN, HEADER + "def f():\n    a: int | None = None\n" + MAIN)
+
+    def test_quotes(self) -> None:
+        self.assert_fixed(
+            HEADER + "def f(a: 'int', b: \"list['str']\") -> 'int | None':\n    pass\n" + MAIN,
+            HEADER + "def f(a: int, b: list[str]) -> int | None:\n    pass\n" + MAIN,
+        )
+
+    def test_order(self) -> None:
+        one, other = "from typing import Any\n", "from dataclasses import dataclass\n"
+        self.assert_fixed(HEADER + one + other + MAIN, HEADER + other + one + MAIN)
+
+    def test_what_is_left(self) -> None:
+        self.assert_left(
+            HEADER + "from typing import Optional\nx = Optional[int]\n" + MAIN,
+            HEADER + "from typing import List\ndef f(a: List[int]):\n    pass\nx = f.__annotations__\n" + MAIN,
+            HEADER + "from typing import Optional as O\ndef f(a: O[int]):\n    pass\n" + MAIN,
+            HEADER + "from typing import List, Iterator\ndef f(a: List[int]):\n    pass\n" + MAIN,
+            HEADER + "from typing import (List,  # why\n Dict)\ndef f(a: List[int]):\n    pass\n" + MAIN,
+            HEADER + "from typing import List\nList = 3\ndef f(a: List[int]):\n    pass\n" + MAIN,
+            HEADER + 'def f(a: Literal["int"]):\n    pass\n' + MAIN,
+            HEADER + 'def f(a: "not one!"):\n    pass\n' + MAIN,
+        )
+
+
+class Statements(FixTest):
+    """Targets and loops."""
+
+    def test_targets(self) -> None:
+        self.assert_body("x, y = 1, a", "x = 1\ny = a")
+        self.assert_body("a, b = b, a", "value = b\nvalue_2 = a\na = value\nb = value_2")
+        self.assert_body("x = y = 0  # why", "x = 0\ny = 0  # why")
+        self.assert_body("x = a.y = [b]", "x = [b]\na.y = x")
+        self.assert_body("a.x = a.y = [b]", "value = [b]\na.x = value\na.y = value")
+
+    def test_tuples(self) -> None:
+        self.assert_body("return a, b", "return (a, b)")
+        self.assert_body("x = (a), (b)", "x = ((a), (b))")
+        self.assert_body("for x in a, b:\n    pass", "for x in (a, b):\n    pass")
+        self.assert_bodies_left("x = (a, b)", "x = a[b, c]", "x = ()")
+
+    def test_targets_that_are_left(self) -> None:
+        self.assert_bodies_left("x, y = a", "x, *y = 1, 2", "x, y = *a, 1", "(x, y), c = 1, 2")
+        self.assert_bodies_left("x, y = (1,  # why\n    2)")
+        self.assert_bodies_left("x = y, c = a", "x, y = y, x\nlocals()", "x = (y := 1), 2")
+        self.assert_left(HEADER + "x, y = f(), g()\n" + MAIN)
+
+    def test_loops(self) -> None:
+        lines = "for x in a:\n    if x:\n        break\nelse:\n    print(b)"
+        wanted = "ended = True\nfor x in a:\n    if x:\n        ended = False\n        break\nif ended:\n    print(b)"
+        self.assert_body(lines, wanted)
+        lines = "while a:\n    for x in b:\n        break\n    else:\n        break\nelse:\n    print(b)"
+        self.assertEqual(self.fixed(HEADER + "for x in []:\n    pass\nelse:\n    pass\n" + MAIN).count("ended"), 0)
+        text = self.fixed(HEADER + "def f(a, b):\n    " + lines.replace("\n", "\n    ") + "\n" + MAIN)
+        self.assertEqual((text.count("= True"), text.count("= False")), (2, 2))
+        self.assert_bodies_left(lines + "\nlocals()")
+
+
+class Expressions(FixTest):
+    """Comparisons, conditional expressions and comprehensions."""
+
+    def test_comparisons(self) -> None:
+        self.assert_body("return 0 < a < 9", "return 0 < a and a < 9")
+        self.assert_body("return not (a) < (b) <= c", "return not ((a) < (b) and b <= c)")
+        self.assert_bodies_left("return 0 < a.x < 9", "return 0 < a() < 9", "return 0 < a + 1 < 9")
+        self.assert_left(HEADER + "def f(a):\n    return 0 < a < 9\nx = '__lt__'\n" + MAIN)
+
+    def test_conditionals(self) -> None:
+        self.assert_body("return a if b else c", "if b:\n    return a\nelse:\n    return c")
+        self.assert_body("x = (a if b\n    else c)  # why", "if b:\n    x = a\nelse:\n    x = c  # why")
+        wanted = "if b:\n    chosen = a\nelse:\n    chosen = c\nprint(chosen, 1)"
+        self.assert_body("print(a if b else c, 1)", wanted)
+        self.assert_body("return(a if b else c)", "if b:\n    return a\nelse:\n    return c")
+        wanted = "if b:\n    chosen = 1\nelse:\n    chosen = c\na.append(chosen)"
+        self.assert_body("a.append(1 if b else c)", wanted)
+        self.assert_bodies_left(
+            "print(a(), 1 if b else c)",
+            "return a and (1 if b else c)",
+            "return a.x + (1 if b else c)",
+            "a.append(b() if b else c)",
+            "assert a if b else c",
+            "while a if b else c:\n    pass",
+            "if a:\n    pass\nelif a if b else c:\n    pass",
+            "return a(x := 1, 1 if b else x)",
+            "return (a if b else  # why\n    c)",
+            "return lambda: a if b else c",
+            "print(a if b else c, locals())",
+        )
+        self.assert_left(HEADER + "def f(a):\n    global b\n    print(1 if a else b)\n" + MAIN)
+
+    def test_comprehensions(self) -> None:
+        wanted = "x = []\nfor n in a:\n    if n > b:\n        x.append(n + 1)"
+        self.assert_body("x = [n + 1 for n in a if n > b]", wanted)
+        self.assert_body("a = [n for n in a]", "items = []\nfor n in a:\n    items.append(n)\na = items")
+        wanted = "items = []\nfor n_2 in a:\n    items.append(n_2)\nfor n in items:\n    pass"
+        self.assert_body("for n in [n for n in a]:\n    pass", wanted)
+        self.assert_bodies_left(
+            "x = [n for n, m in a]",
+            "x = [lambda: n for n in a]",
+            "x = {n for n in a}",
+            "x = [n for n in a for n in n]",
+            "return a and [n for n in b]",
+            "print(a(), [n for n in b])",
+        )
+        self.assert_left(HEADER + "x = [n for n in [1]]\n" + MAIN)
+
+    def test_isinstance(self) -> None:
+        self.assert_body("print(isinstance(a, (int, str)))", "print(isinstance(a, int) or isinstance(a, str))")
+        wanted = "return not (isinstance(a, int) or isinstance(a, str))"
+        self.assert_body("return not isinstance(a, (int, str))", wanted)
+        self.assert_bodies_left("return isinstance(a.b, (int, str))", "return isinstance(a, (int, b))")
+        self.assert_bodies_left("return isinstance(a, ())")
+
+    def test_random_bodies(self) -> None:
+        source = random.Random(21)
+        texts = []
+        for _ in range(30):
+            body = "\n".join(source.choice(LINES) for _ in range(5))
+            lines = ["a, b, c = n, 2, 3", "xs = [3, n, 1]", *body.split("\n"), "show(a)", "print(b, c, xs)"]
+            text = "def show(x):\n    print(x)\n    return x\n\ndef f(n):\n" + "\n".join(f"    {it}" for it in lines)
+            texts.append(HEADER + text + "\n\ndef main():\n    f(1)\n    f(4)\n\nmain()\n")
+        self.assert_alike(texts, 30)

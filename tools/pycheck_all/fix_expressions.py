@@ -1,0 +1,309 @@
+"""Rewrites of expressions: chains of comparisons, `isinstance` with several classes, and what becomes statements
+before its own: conditional expressions and comprehensions of lists."""
+from __future__ import annotations
+
+import ast
+import builtins
+from typing import Dict, Iterator, List, NamedTuple, Optional, Sequence, Tuple
+
+from .fix_module import FUNCTIONS, SCOPES, Edit, Fix, Module, applied
+from .fix_statements import is_whole, lines_in_place
+
+COMPARING = ("__lt__", "__le__", "__gt__", "__ge__", "__eq__", "__ne__", "__contains__")
+# Operators that bind less than `and`, or brackets
+LOOSE = (ast.stmt, ast.Call, ast.keyword, ast.List, ast.Tuple, ast.Dict, ast.BoolOp)
+OPERATORS = {
+    ast.Lt: "<", ast.LtE: "<=", ast.Gt: ">", ast.GtE: ">=", ast.Eq: "==", ast.NotEq: "!=",
+    ast.In: "in", ast.NotIn: "not in", ast.Is: "is", ast.IsNot: "is not",
+}
+COMPREHENSIONS = (ast.ListComp, ast.SetComp, ast.DictComp, ast.GeneratorExp)
+
+
+def comparisons(module: Module) -> Iterator[Fix]:
+    """`a < b < c` with a name or a literal in the middle, to two comparisons."""
+    if module.mentions(COMPARING):
+        return
+    for node in module.nodes:
+        if not isinstance(node, ast.Compare) or len(node.ops) < 2:
+            continue
+        middle = node.comparators[:-1]
+        start, end = module.at(node)
+        if not all(isinstance(it, (ast.Name, ast.Constant)) for it in middle) or in_format(module, node):
+            continue
+        edits = []
+        for at, operator in enumerate(node.ops[1:]):
+            place = end_with_brackets(module, node.comparators[at])
+            edits.append(Edit(place, place, b" and " + module.segment(node.comparators[at])))
+        if not isinstance(module.parents[node], LOOSE):
+            edits = [Edit(start, start, b"("), *edits, Edit(end, end, b")")]
+        yield Fix("chain of comparisons", start, end, tuple(edits))
+
+
+def in_format(module: Module, node: ast.AST) -> bool:
+    """Whether an expression stands in an f-string."""
+    return any(isinstance(it, ast.JoinedStr) for it in module.ancestors(node))
+
+
+def end_with_brackets(module: Module, node: ast.expr) -> int:
+    """The byte after an expression and the brackets that are closed behind it and opened before it."""
+    start, end = module.at(node)
+    while True:
+        before = [it for it in module.between(0, start) if it.text.strip()][-1:]
+        after = [it for it in module.between(end, len(module.data)) if it.text.strip()][:1]
+        if not before or not after or before[0].text != "(" or after[0].text != ")":
+            return end
+        start, end = before[0].start, after[0].end
+
+
+def isinstances(module: Module) -> Iterator[Fix]:
+    """`isinstance(x, (A, B))` with a name first, to tests with `or`."""
+    if "isinstance" in module.bound:
+        return
+    classes = {it.name for it in module.tree.body if isinstance(it, ast.ClassDef) and module.binds(it.name) == 1}
+    types = {it for it in dir(builtins) if isinstance(getattr(builtins, it), type)} - module.bound
+    for node in module.nodes:
+        if not isinstance(node, ast.Call) or len(node.args) != 2 or node.keywords or in_format(module, node):
+            continue
+        value, among = node.args
+        if not isinstance(node.func, ast.Name) or node.func.id != "isinstance" or not isinstance(value, ast.Name):
+            continue
+        if not isinstance(among, ast.Tuple) or not among.elts or module.has_comment(*module.at(node)):
+            continue
+        names = [it.id for it in among.elts if isinstance(it, ast.Name) and it.id in classes | types]
+        if len(names) == len(among.elts):
+            tests = " or ".join(f"isinstance({value.id}, {it})" for it in names)
+            start, end = module.at(node)
+            yield Fix("isinstance", start, end, (Edit(start, end, in_place(module, node, tests).encode()),))
+
+
+def in_place(module: Module, node: ast.expr, tests: str) -> str:
+    """Tests with `or` where one expression stood."""
+    parent = module.parents[node]
+    is_loose = isinstance(parent, (ast.stmt, ast.Call, ast.keyword, ast.List, ast.Tuple))
+    return tests if is_loose or " or " not in tests else f"({tests})"
+
+
+class Place(NamedTuple):
+    """An expression that may be evaluated before its statement: the statement, and whether the expression is all that
+    the statement evaluates first and then gives to one place."""
+
+    statement: ast.stmt
+    is_value: bool
+
+
+def place_of(module: Module, node: ast.expr) -> Optional[Place]:
+    """Where an expression stands, if it is evaluated once and unconditionally, with nothing with effects before it."""
+    statement = module.statement(node)
+    if statement is None or module.function(node) is None or module.reflects or module.rebinds:
+        return None
+    root = root_of(statement)
+    if root is None or not is_first_on_line(module, statement):
+        return None
+    if any(isinstance(it, ast.NamedExpr) for it in ast.walk(root)):
+        return None
+    inner: ast.AST = node
+    for outer in module.ancestors(node):
+        if inner is root:
+            break
+        if not isinstance(outer, ast.expr) and not isinstance(outer, (ast.keyword, ast.comprehension)):
+            return None
+        if not is_before_all(outer, inner):
+            return None
+        inner = outer
+    return Place(statement, node is root) if inner is root else None
+
+
+def root_of(statement: ast.stmt) -> Optional[ast.expr]:
+    """The expression that a statement evaluates first, and once."""
+    if isinstance(statement, (ast.Assign, ast.AnnAssign, ast.Return, ast.Expr)):
+        return statement.value
+    if isinstance(statement, ast.If):
+        return statement.test
+    return statement.iter if isinstance(statement, ast.For) else None
+
+
+def is_first_on_line(module: Module, statement: ast.stmt) -> bool:
+    """Whether a statement begins its line, and is no `elif`."""
+    if isinstance(statement, (ast.If, ast.For)):
+        start = module.at(statement)[0]
+        return not module.indent(statement).strip(b" ") and module.data[start : start + 4] != b"elif"
+    return module.is_alone(statement)
+
+
+def is_before_all(outer: ast.AST, inner: ast.AST) -> bool:
+    """Whether a part of an expression is evaluated unconditionally, after names and literals alone."""
+    if isinstance(outer, (ast.Lambda, *COMPREHENSIONS, ast.comprehension, ast.JoinedStr, ast.FormattedValue, ast.Dict)):
+        return False
+    if isinstance(outer, ast.BoolOp):
+        return outer.values[0] is inner
+    if isinstance(outer, ast.IfExp):
+        return outer.test is inner
+    if isinstance(outer, ast.Compare):
+        return inner in [outer.left, *outer.comparators[:1]] and (inner is outer.left or is_quiet(outer.left))
+    before: List[ast.AST] = []
+    for part in ast.iter_child_nodes(outer):
+        if part is inner:
+            return all(is_quiet(it) or (is_method(outer, it) and not calls(inner)) for it in before)
+        before.append(part)
+    return False
+
+
+def is_method(outer: ast.AST, node: ast.AST) -> bool:
+    """Whether it is the method of a name that a call calls."""
+    is_called = isinstance(outer, ast.Call) and outer.func is node
+    return is_called and isinstance(node, ast.Attribute) and isinstance(node.value, ast.Name)
+
+
+def calls(node: ast.AST) -> bool:
+    """Whether an expression calls something, or lets others run."""
+    return any(isinstance(it, (ast.Call, ast.Await, ast.Yield, ast.YieldFrom)) for it in ast.walk(node))
+
+
+def is_quiet(node: ast.AST) -> bool:
+    """Whether evaluating it does nothing, and gives the same later."""
+    if isinstance(node, (ast.operator, ast.unaryop, ast.expr_context)):
+        return True
+    return isinstance(node, (ast.Name, ast.Constant))
+
+
+def conditionals(module: Module) -> Iterator[Fix]:
+    """`a if c else b`, to an `if` statement."""
+    for node in module.nodes:
+        place = place_of(module, node) if isinstance(node, ast.IfExp) else None
+        if place is None or not isinstance(node, ast.IfExp) or module.has_comment(*module.at(node)):
+            continue
+        statement, step = place.statement, module.newline + module.indent(place.statement)
+        start, end = module.at(statement)
+        if place.is_value and is_whole(module, statement) and isinstance(statement, (ast.Assign, ast.Return)):
+            lead = module.data[start : start_with_brackets(module, node)].rstrip() + b" "
+            text = branches(module, node, lead, step)
+            yield Fix("conditional expression", *module.at(node), (Edit(start, end, text),), True)
+        else:
+            name = module.fresh("chosen").encode()
+            text = branches(module, node, name + b" = ", step) + step
+            yield hoisted("conditional expression", module, node, start, text, name)
+
+
+def start_with_brackets(module: Module, node: ast.expr) -> int:
+    """The first byte of an expression or of the brackets around it."""
+    start, end = module.at(node)
+    while True:
+        before = [it for it in module.between(0, start) if it.text.strip()][-1:]
+        after = [it for it in module.between(end, len(module.data)) if it.text.strip()][:1]
+        if not before or not after or before[0].text != "(" or after[0].text != ")":
+            return start
+        start, end = before[0].start, after[0].end
+
+
+def branches(module: Module, node: ast.IfExp, lead: bytes, apart: bytes) -> bytes:
+    """The lines of an `if` statement with the same words before both values."""
+    inner = apart + module.step() + lead
+    test, one, other = (module.value(it) for it in (node.test, node.body, node.orelse))
+    return b"".join([b"if ", test, b":", inner, one, apart, b"else:", inner, other])
+
+
+def hoisted(what: str, module: Module, node: ast.expr, start: int, lines: bytes, name: bytes) -> Fix:
+    """The rewrite that puts lines before a statement, and a name in place of an expression."""
+    first, last = module.at(node)
+    return Fix(what, first, last, (Edit(start, start, lines), Edit(first, last, name)), True)
+
+
+def comprehensions(module: Module) -> Iterator[Fix]:
+    """A comprehension of a list, to a loop with `append`."""
+    for node in module.nodes:
+        place = place_of(module, node) if isinstance(node, ast.ListComp) else None
+        if place is None or not isinstance(node, ast.ListComp) or module.has_comment(*module.at(node)):
+            continue
+        if not all(isinstance(it.target, ast.Name) and not it.is_async for it in node.generators):
+            continue
+        names = renamed(module, node)
+        if names is None:
+            continue
+        start, end = module.at(place.statement)
+        step = module.newline + module.indent(place.statement)
+        direct = direct_name(module, place, node)
+        if direct:
+            lead = module.data[start : start_with_brackets(module, node)]
+            lines = loops(module, node, names, direct.encode(), lead, step)
+            yield Fix("comprehension", *module.at(node), (Edit(start, end, lines),), True)
+            continue
+        name = module.fresh("items", list(names.values())).encode()
+        lines = loops(module, node, names, name, name + b" = ", step) + step
+        yield hoisted("comprehension", module, node, start, lines, name)
+
+
+def direct_name(module: Module, place: Place, node: ast.ListComp) -> str:
+    """The local that a comprehension makes, where it may grow in sight; empty where it may not."""
+    statement = place.statement
+    if not place.is_value or not is_whole(module, statement) or module.catches:
+        return ""
+    targets: List[ast.expr] = []
+    if isinstance(statement, ast.Assign):
+        targets = statement.targets
+    elif isinstance(statement, ast.AnnAssign):
+        targets = [statement.target]
+    target = targets[0] if len(targets) == 1 else None
+    if not isinstance(target, ast.Name):
+        return ""
+    function = module.function(statement)
+    nested = [it for it in ast.walk(function or statement) if isinstance(it, SCOPES) and it not in (function, node)]
+    mentioned = {it.id for it in ast.walk(node) if isinstance(it, ast.Name)}
+    return "" if target.id in mentioned or any(not isinstance(it, ast.ListComp) for it in nested) else target.id
+
+
+def renamed(module: Module, node: ast.ListComp) -> Optional[Dict[str, str]]:
+    """The names of the loops, each under a name that its function does not have; none where that cannot be."""
+    inner = [it for part in ast.walk(node) for it in ast.iter_child_nodes(part)]
+    if any(isinstance(it, (*SCOPES, ast.JoinedStr, ast.Await, ast.Yield, ast.YieldFrom)) for it in inner):
+        return None
+    function = module.function(node)
+    within = set(ast.walk(node))
+    others = {it.id for it in ast.walk(function or node) if isinstance(it, ast.Name) and it not in within}
+    others |= {it.arg for it in ast.walk(function or node) if isinstance(it, ast.arg)}
+    others |= {it.id for it in within if isinstance(it, ast.Name) and it in set(ast.walk(node.generators[0].iter))}
+    found: Dict[str, str] = {}
+    for part in node.generators:
+        name = part.target.id if isinstance(part.target, ast.Name) else ""
+        if name in found:
+            return None
+        taken = name in others or name in module_names(module)
+        found[name] = module.fresh(name, list(found.values())) if taken else name
+    return found
+
+
+def module_names(module: Module) -> "set[str]":
+    """The names that the module binds at its top, which a local would hide."""
+    found = {it.name for it in module.tree.body if isinstance(it, (*FUNCTIONS, ast.ClassDef))}
+    for node in module.tree.body:
+        if isinstance(node, (ast.Assign, ast.AnnAssign)):
+            found |= {it.id for it in ast.walk(node) if isinstance(it, ast.Name)}
+    return found
+
+
+def text_under(module: Module, node: ast.expr, names: Dict[str, str]) -> bytes:
+    """The text of an expression where names are others."""
+    start = module.at(node)[0]
+    edits = []
+    for it in ast.walk(node):
+        if isinstance(it, ast.Name) and names.get(it.id, it.id) != it.id:
+            first, last = module.at(it)
+            edits.append(Edit(first - start, last - start, names[it.id].encode()))
+    text = applied(module.segment(node), edits)
+    return b"(" + text + b")" if module.value(node) != module.segment(node) else text
+
+
+def loops(
+    module: Module, node: ast.ListComp, names: Dict[str, str], name: bytes, lead: bytes, apart: bytes
+) -> bytes:
+    """The lines that make a list in loops."""
+    lines, deeper = [lead + b"[]"], b""
+    for number, part in enumerate(node.generators):
+        target = names[getattr(part.target, "id")].encode()
+        over = text_under(module, part.iter, names if number else {})
+        lines.append(deeper + b"for " + target + b" in " + over + b":")
+        deeper += module.step()
+        for test in part.ifs:
+            lines.append(deeper + b"if " + text_under(module, test, names) + b":")
+            deeper += module.step()
+    lines.append(deeper + name + b".append(" + text_under(module, node.elt, names) + b")")
+    return apart.join(lines)

@@ -1,0 +1,217 @@
+"""Brings a module nearer to the profile: rewrites it where the program finds a fault, and asks whether that helped."""
+from __future__ import annotations
+
+import os
+import tempfile
+import time
+from typing import Callable, Iterator, List, NamedTuple, Optional, Sequence, Set, Tuple
+
+from . import files, fix_annotations, fix_cookbook, fix_expressions, fix_heads, fix_lines, fix_statements, fix_strings
+from . import running
+from .findings import DYNAMIC, ERROR, REFUSED, Checked
+from .fix_module import Edit, Fix, Module, applied, overlap
+from .program import Program, TooLong
+
+Rewrite = Callable[[Module], Iterator[Fix]]
+# In the order in which they are tried at a fault
+REWRITES: Tuple[Rewrite, ...] = (
+    fix_heads.docstrings,
+    fix_heads.header,
+    fix_heads.old_header,
+    fix_heads.order,
+    fix_heads.library,
+    fix_strings.strings,
+    fix_strings.numbers,
+    fix_strings.formats,
+    fix_lines.semicolons,
+    fix_lines.inline,
+    fix_lines.backslashes,
+    fix_annotations.typing,
+    fix_annotations.quotes,
+    fix_expressions.comparisons,
+    fix_statements.unpacking,
+    fix_statements.chains,
+    fix_statements.tuples,
+    fix_expressions.conditionals,
+    fix_expressions.comprehensions,
+    fix_statements.loop_else,
+    fix_expressions.isinstances,
+    fix_cookbook.augmented,
+    fix_cookbook.slices,
+    fix_cookbook.methods,
+    fix_cookbook.built_ins,
+)
+# Not of a module that another one imports
+OF_SCRIPTS: Tuple[Rewrite, ...] = (fix_heads.guarded_main,)
+# The layers of refusals in their order; errors come after all of them
+GRAMMAR, OF_REPORTS = 3, 4
+LAYERS = {"S": 0, "L": 1, "I": 2, "N": 2, "G": GRAMMAR}
+MOST_PASSES = 60
+
+
+class NotFixed(Exception):
+    """A file cannot be looked at; the text says why."""
+
+
+class Fault(NamedTuple):
+    """A refusal, a guide or an error: its layer and its byte."""
+
+    layer: int
+    byte: int
+
+
+class Asked(NamedTuple):
+    """A text with what the program says of it: whether it has a report, and its faults in order."""
+
+    data: bytes
+    reported: bool
+    first: int
+    faults: List[Fault]
+
+
+def faults_of(data: bytes, checked: Checked) -> Asked:
+    """What the program says of a text."""
+    if checked.failure:
+        raise NotFixed(checked.failure)
+    found = [it for it in checked.findings if it.kind != DYNAMIC]
+    faults = [Fault(OF_REPORTS if it.kind == ERROR else LAYERS[it.code[0]], it.place.start.byte) for it in found]
+    refused = [fault.layer for fault, it in zip(faults, found) if it.kind == REFUSED]
+    return Asked(data, not checked.refused, min(refused, default=OF_REPORTS), faults)
+
+
+class Fixed(NamedTuple):
+    """What came of a file: its text before and after, and how often each rewrite was made."""
+
+    before: bytes
+    after: bytes
+    made: List[str]
+
+
+class Fixer:
+    """Rewrites a text, in so many seconds. `rewrites` are tried in their order."""
+
+    def __init__(
+        self, program: Program, seconds: float, rewrites: Sequence[Rewrite] = (*REWRITES, *OF_SCRIPTS)
+    ) -> None:
+        self.run = running.Run(program, seconds, True, False)
+        self.until = time.monotonic() + seconds
+        self.rewrites = rewrites
+        self.useless: Set[Tuple[str, bytes]] = set()
+
+    def fix(self, data: bytes) -> Fixed:
+        """The text, rewritten until no rewrite helps."""
+        asked = self.ask(data)
+        made: List[str] = []
+        for _ in range(MOST_PASSES):
+            before = asked.data
+            self.useless = set()
+            asked = self.fixed_once(asked, made)
+            if asked.data == before:
+                break
+        return Fixed(data, asked.data, made)
+
+    def fixed_once(self, asked: Asked, made: List[str]) -> Asked:
+        """The text after passes that help, until no rewrite is left that was not tried."""
+        for _ in range(MOST_PASSES):
+            chosen = self.chosen(asked)
+            if not chosen:
+                break
+            asked = self.kept(asked, chosen, made)
+        return asked
+
+    def chosen(self, asked: Asked) -> List[Fix]:
+        """Rewrites that do not touch one another, at most one for each fault."""
+        try:
+            module = Module(asked.data)
+            offered = [fix for rewrite in self.rewrites for fix in rewrite(module)]
+        except (SyntaxError, ValueError, RecursionError):
+            return []
+        chosen: List[Fix] = []
+        for fault in asked.faults:
+            for fix in offered:
+                fits = fix.start <= fault.byte <= fix.end and not self.is_useless(asked, fix)
+                if fits and not any(overlap([*fix.edits, hull(fix)], [*it.edits, hull(it)]) for it in chosen):
+                    chosen.append(fix)
+                    break
+        return chosen
+
+    def is_useless(self, asked: Asked, fix: Fix) -> bool:
+        """Whether a rewrite was taken back before."""
+        return (fix.name, asked.data[fix.start : fix.end]) in self.useless
+
+    def kept(self, asked: Asked, chosen: List[Fix], made: List[str]) -> Asked:
+        """The text with those of some rewrites that help. The others are not tried again."""
+        while chosen:
+            after = self.after(asked, chosen)
+            helping = [it for it in chosen if after and helps(asked, after, chosen, it)]
+            if after and len(helping) == len(chosen):
+                made += [it.name for it in chosen]
+                return after
+            if not helping and len(chosen) > 1:
+                # Together they do not help; each is tried by itself
+                for fix in chosen:
+                    self.kept_alone(asked, fix)
+                chosen = [it for it in chosen if not self.is_useless(asked, it)][:1]
+                continue
+            self.useless |= {(it.name, asked.data[it.start : it.end]) for it in chosen if it not in helping}
+            chosen = helping
+        return asked
+
+    def kept_alone(self, asked: Asked, fix: Fix) -> None:
+        """Notes a rewrite that does not help by itself."""
+        after = self.after(asked, [fix])
+        if after is None or not helps(asked, after, [fix], fix):
+            self.useless.add((fix.name, asked.data[fix.start : fix.end]))
+
+    def after(self, asked: Asked, chosen: Sequence[Fix]) -> Optional[Asked]:
+        """What the program says after some rewrites; none where it is no Python any more or is not answered."""
+        data = applied(asked.data, [edit for fix in chosen for edit in fix.edits])
+        try:
+            Module(data)
+            return self.ask(data)
+        except (SyntaxError, ValueError, RecursionError, NotFixed):
+            return None
+
+    def ask(self, data: bytes) -> Asked:
+        """What the program says of a text; TooLong after the time that the file has."""
+        if time.monotonic() > self.until:
+            raise TooLong
+        return faults_of(data, self.check("fixed.py", data))
+
+    def check(self, name: str, data: bytes) -> Checked:
+        """What comes of a text under a name."""
+        with tempfile.TemporaryDirectory(prefix="pycheck-") as folder:
+            path = os.path.join(folder, "fixed.py")
+            with open(path, "wb") as file:
+                file.write(data)
+            return self.run.check(files.Source(name, path))
+
+
+def hull(fix: Fix) -> Edit:
+    """The bytes from the first to the last that a rewrite is about."""
+    return Edit(fix.start, fix.end, b"")
+
+
+def helps(before: Asked, after: Asked, chosen: Sequence[Fix], fix: Fix) -> bool:
+    """Whether the program gets further where a rewrite was made: its first fault there is gone, or lies further on, or
+    in a later layer. Of errors of a report there must be fewer in all."""
+    if before.reported:
+        return after.reported and len(after.faults) < len(before.faults)
+    if after.first < before.first:
+        return False
+    edits = [edit for it in chosen for edit in it.edits]
+    start, end = fix.start + shift(edits, fix.start, False), fix.end + shift(edits, fix.end, True)
+    old = [Fault(it.layer, it.byte - fix.end) for it in before.faults if fix.start <= it.byte <= fix.end]
+    new = [Fault(it.layer, it.byte - end) for it in after.faults if start <= it.byte < end]
+    new = [it for it in new if it.layer < OF_REPORTS]
+    if fix.moves and old and min(old).layer == GRAMMAR:
+        return all(it.layer == GRAMMAR for it in new) and len(new) <= len(old) + 1
+    return not new or (bool(old) and min(new) > min(old))
+
+
+def shift(edits: Sequence[Edit], byte: int, after: bool) -> int:
+    """How far a byte moves by edits; those at the byte itself count where that is asked for."""
+    return sum(
+        len(it.text) - (it.end - it.start) for it in edits if it.end < byte or (after and it.end == byte) or
+        (not after and it.end == byte and it.start < it.end)
+    )

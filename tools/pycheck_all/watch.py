@@ -1,0 +1,74 @@
+"""Checking again whenever a file changes. Nobody tells of changes, so the files are looked at again and again."""
+from __future__ import annotations
+
+import os
+import time
+from typing import Dict, Optional, Tuple
+
+from . import command, program, scope, settings, words
+
+# The pause between two looks; at least so many times as long as a look takes
+SECONDS = 0.25
+TIMES = 8
+State = Dict[str, Optional[Tuple[int, int, int]]]
+
+
+def state_of(path: str) -> Optional[Tuple[int, int, int]]:
+    """What tells a file from what it was: its time, its length and its number; none where it is not there."""
+    try:
+        found = os.stat(path)
+    except (OSError, ValueError):
+        return None
+    return found.st_mtime_ns, found.st_size, found.st_ino
+
+
+class Watch:
+    """Checks files, and shows what is found anew after each change."""
+
+    def __init__(self, asked: words.Words, used: program.Program, width: int) -> None:
+        self.asked = asked
+        self.used = used
+        self.width = width
+
+    def run(self) -> int:
+        """Goes on until it is interrupted, or nobody reads what it prints."""
+        before = self.state()
+        while True:
+            self.show()
+            now = before
+            while now == before:
+                begun = time.monotonic()
+                now = self.state()
+                time.sleep(max(SECONDS, TIMES * (time.monotonic() - begun)))
+            before = now
+
+    def show(self) -> None:
+        """Checks once; what keeps it from that is told, and may be mended by the next change."""
+        try:
+            command.once(self.asked, self.used, self.width)
+        except command.FAULTS as fault:
+            command.tell(f"error: {fault}")
+        command.write([""])
+
+    def state(self) -> State:
+        """The state of each file that is checked or tells how: the modules, the settings and the baseline."""
+        found: State = {}
+        asked = self.asked
+        for folder in settings.folders():
+            path = os.path.join(folder, settings.NAME)
+            found[path] = state_of(path)
+        try:
+            asked, ours = settings.applied(asked)
+        except settings.NoSettings:
+            return found
+        if asked.baseline:
+            found[asked.baseline] = state_of(asked.baseline)
+        limits = scope.of(asked, ours)
+        paths = limits.words(asked.files)
+        named = command.files_of(asked, ours)
+        try:
+            for source in limits.chosen(named.find(paths), paths).sources:
+                found[source.name] = state_of(source.path)
+        finally:
+            named.close()
+        return found
