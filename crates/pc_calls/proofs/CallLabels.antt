@@ -1,4 +1,4 @@
--- The label of a call by the members of what is called, by its type and its codes.
+-- The label of a call by the members of its callee: its type and its codes.
 use Rattle.std.proofs.Common.{◌≡◌, ◌<◌, ◌≤◌, ◌+◌, ℕ, List, [], map, drop, length, get_or, Bool as Test, true, false}
 use Rattle.std.proofs.Common.{refl, sym, ap, ◌∙◌}
 use Rattle.std.specs.Prelude.{◌||◌, if◌then◌else◌, flat_map}

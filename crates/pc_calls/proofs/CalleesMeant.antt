@@ -1,4 +1,4 @@
--- Callees by their labels and by what a call of them comes to.
+-- Callees by their labels and by the results of their calls.
 use Rattle.std.proofs.Common.{◌≡◌, ◌≤◌, ℕ, List, [], ◌∷◌, map, drop, length, sym, ap, ◌∙◌, subst}
 use Rattle.std.specs.Prelude.{All, flat_map}
 use Rattle.std.proofs.lemmas.List.Elements.{All-nil, All-cons}
@@ -6,7 +6,7 @@ use Rattle.pc_types.specs.Tree.{Tree, Any}
 use Rattle.pc_types.specs.Shape.{members}
 use Rattle.pc_types.specs.Store.{KeepsTypes, Means}
 use Rattle.pc_calls.specs.declared.call_offers.CallOffer.{CallOffer as RustCallOffer}
-use Rattle.pc_calls.specs.declared.callee.Callee.{Callee as RustCallee}
+use Rattle.pc_calls.specs.declared.callee.TypedCallee.{TypedCallee as RustCallee}
 use Rattle.pc_calls.specs.declared.call_offers.CallRule.TheVariants as rule
 use Rattle.pc_rules.specs.Operations.{clean}
 use Rattle.pc_rules.specs.Context.{Context}

@@ -1,4 +1,5 @@
--- What a call comes to stays of the store's types over calls that may add types, and is added member by member.
+-- The types of the results of a call stay of the store over calls that may add types, and the results are added member
+-- by member.
 use Rattle.std.proofs.Common.{◌≡◌, ◌<◌, ◌≤◌, ◌+◌, drop, ℕ, List, [], ◌∷◌, ◌++◌, Option, Some, None, refl, sym, ap, ◌∙◌}
 use Rattle.std.proofs.Common.{length, get_or, subst, append_assoc, append-nil}
 use Rattle.std.specs.Prelude.{All, map, flat_map}
@@ -40,7 +41,7 @@ module _ {Store Ty : Type 0} (has : Store → Ty → Type 0) where
     offers_kept os h = All-weaker (HasCallOffer (has old)) (HasCallOffer (has new)) offer_kept os h
 
 module _ {Store Ty : Type 0} (has : Store → Ty → Type 0) (tree : Ty → Tree) where
-  -- so much of what a call comes to is added since the store was this one, and this is to come
+  -- the offers of a call added since the store was the first one, and those to come
   pub record IsAdded (start now : Store) (rest whole : List CallOffer) (offers : List (RustCallOffer Ty)) : Type 0 where
     pub kept : KeepsTypes has start now
     pub held : All (HasCallOffer (has now)) offers
@@ -97,7 +98,7 @@ module _ {Store Ty : Type 0} (has : Store → Ty → Type 0) (tree : Ty → Tree
       (before ++ map value_offer ts)) e (added_all start now _ _ offers (ap (map value_offer) (mapped_end tree ms i h))
       a)
 
-  -- what a call comes to on one more member, added after the others
+  -- the offer of a call on one more member, added after the others
   pub pushed_one : (old new : Store) (t : CallOffer) (offers : List (RustCallOffer Ty)) (o : RustCallOffer Ty)
       → KeepsTypes has old new → All (HasCallOffer (has old)) offers → IsCallOffer has tree new o t
       → AreCallOffers has tree new (offers ++ o ∷ []) (map (offer_called tree) offers ++ t ∷ [])
@@ -107,7 +108,7 @@ module _ {Store Ty : Type 0} (has : Store → Ty → Type 0) (tree : Ty → Tree
   }
 
   module _ (F : Tree → List CallOffer) where
-    -- what the calls on one more member come to, and on all
+    -- the offers of a call on one more member, and on all members
     pub members_more : (start old new : Store) (whole : List CallOffer) (offers others : List (RustCallOffer Ty))
         (ms : List Ty) (i : ℕ) (m : Ty) → i < length ms → m ≡ get_or ms i m → KeepsTypes has old new
         → IsAdded start old (flat_map F (map tree (drop i ms))) whole offers

@@ -1,4 +1,4 @@
--- Whether an error is found at a callee or at a call, and the codes found there, member by member.
+-- The test for an error at a callee or at a call, and the codes found there, member by member.
 use Rattle.std.proofs.Common.{◌≡◌, ◌<◌, ◌≤◌, ◌+◌, ℕ, List, [], ◌∷◌, ◌++◌, map, drop, length, get_or, Bool as Test, true}
 use Rattle.std.proofs.Common.{false, refl, sym, ap, ◌∙◌}
 use Rattle.std.specs.Prelude.{◌||◌, if◌then◌else◌, flat_map, option_to_list}

@@ -141,7 +141,7 @@ listed_length : {Ty : Type 0} (tree : Ty → Tree) (ps : List (RustParameter Ty)
 listed_length tree [] = refl
 listed_length tree (p ∷ ps) = ap suc (listed_length tree ps)
 
--- what suits a list of parameters
+-- the arguments suit a list of parameters if there are not too many, no name is filled twice, and all are filled
 pub suited_listed : {Ty : Type 0} (tree : Ty → Tree) (returns : Tree) (g : GivenArguments)
     (ps : List (RustParameter Ty)) → is_suited g (signature_listed tree returns ps) ≡ (nat_le g.positional (length ps)
     && (list_all (λ word. is_free g.positional (index_of word (names_listed ps))) g.named && filled_listed g.named

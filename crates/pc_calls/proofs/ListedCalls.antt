@@ -125,7 +125,7 @@ module _ {Ty : Type 0} where
         go true e = absurd (false≢true (sym no ∙ filled_up i j less e))
         go false e = refl
 
-    -- what the definition says of those past some by position
+    -- the answer of the definition for the parameters after the first so many by position
     pub filled_meant_past : (tree : Ty → Tree) (k : ℕ)
         → are_filled named (parameter_names (take k (parameters_with tree ps))) (drop k (parameters_with tree ps))
         ≡ filled_past k

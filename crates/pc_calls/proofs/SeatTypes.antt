@@ -154,7 +154,7 @@ module _ {Ty : Type 0} (tree : Ty → Tree) where
   pushed [] (Some t) = refl
   pushed (x ∷ xs) t = ap (λ l. tree x ∷ l) (pushed xs t)
 
-  -- what an argument flows into on one more member, and on all
+  -- the types that an argument flows into on one more member, and on all members
   pub types_more : (a : Argument) (total : List Tree) (os : List (RustCallOffer Ty)) (i : ℕ) (o : RustCallOffer Ty)
       → i < length os → o ≡ get_or os i o → (types : List Ty) (t : Option Ty) → option_to_list (option_map tree t)
       ≡ flat_map (types_at a) (offer_called tree o).calls

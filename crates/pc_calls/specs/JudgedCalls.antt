@@ -1,5 +1,4 @@
--- What the programs that judge calls hold and answer, in terms of the definitions.
--- Own rule of the profile.
+-- The inputs and results of the programs that type calls, in terms of the definitions. Own rule of the profile.
 use Rattle.std.specs.Prelude.{◌≡◌, ◌||◌, ◌&&◌, not, ℕ, List, [], ◌∷◌, if◌then◌else◌, map, flat_map, Bool as Test, true}
 use Rattle.std.specs.Prelude.{false, nat_eq, Option, Some, None, All, option_to_list, slice_get, bytes_eq}
 use Rattle.std.specs.Option.{option_map}
@@ -8,7 +7,7 @@ use Rattle.indexmap.specs.IndexSet.{IndexSet}
 use Rattle.pc_tree.specs.declared.code.Code.{Code}
 use Rattle.pc_tree.specs.declared.code.Code.TheVariants.{A4, E15}
 use Rattle.pc_tree.specs.Tree.{Exprs}
-use Rattle.pc_scope.specs.declared.resolution.Res.{Res}
+use Rattle.pc_scope.specs.declared.resolution.NameMeaning.{NameMeaning}
 use Rattle.pc_scope.specs.Resolution.{is_one_of, index_of}
 use Rattle.pc_types.specs.Tree.{Tree, Any, ListOf, DictOf}
 use Rattle.pc_types.specs.Below.{Bases}
@@ -32,42 +31,42 @@ use Rattle.pc_calls.specs.declared.call_offers.Called.TheVariants as called
 use Rattle.pc_calls.specs.declared.call_offers.CallOffer.{CallOffer as RustCallOffer}
 use Rattle.pc_calls.specs.declared.call_offers.CallRule.{CallRule as RustCallRule}
 use Rattle.pc_calls.specs.declared.call_offers.CallRule.TheVariants as rule
-use Rattle.pc_calls.specs.declared.callee.Callee.{Callee as RustCallee}
+use Rattle.pc_calls.specs.declared.callee.TypedCallee.{TypedCallee as RustCallee}
 use Rattle.pc_calls.specs.declared.seats.Argument.{Argument}
 use Rattle.pc_calls.specs.declared.seats.Argument.TheVariants as argument
 use Rattle.pc_calls.specs.declared.seats.Seat.{Seat as RustSeat}
 
 -- ---- arguments and parameters
 
--- the names that a set has, in their order
+-- the names of a set, in their order
 abbrev pub names_in : {S : Type 0} → IndexSet (Bor (List ℕ)) S → List (List ℕ)
 names_in s = map (λ k. k.now) s.keys
 
--- what the arguments of a call give
+-- the arguments that a program's call gives
 abbrev pub given_with : RustGiven → GivenArguments
 given_with g = record { positional = g.positional; named = names_in g.named }
 
--- each parameter of what is called has a default, or an argument by name, which the first of a name takes
+-- whether each parameter has a default or an argument by name; only the first parameter of a name takes it
 abbrev pub filled_listed : {Ty : Type 0} → List (List ℕ) → List (List ℕ) → List (RustParameter Ty) → Test
 filled_listed named before [] = true
 filled_listed named before (p ∷ ps) =
     (p.has_default || (is_one_of (parameter_name p) named && not (is_one_of (parameter_name p) before)))
     && filled_listed named (parameter_name p ∷ before) ps
 
--- a place that was found is this one
+-- whether a place is there and is this one
 abbrev pub is_place : Option ℕ → ℕ → Test
 is_place None i = false
 is_place (Some j) i = nat_eq j i
 
--- an argument of these names is for the parameter of a place, the first of its name
+-- whether an argument of these names is for the parameter at this place, the first of its name
 abbrev pub fills : {Ty : Type 0} → List (List ℕ) → Option (RustParameter Ty) → ℕ → List (List ℕ) → Test
 fills named None i names = false
 fills named (Some p) i names = is_one_of (parameter_name p) named && is_place (index_of (parameter_name p) names) i
 
--- ---- what a call comes to
+-- ---- the result of a call
 
 module _ {Ty : Type 0} (tree : Ty → Tree) where
-  -- a list of parameters as what is called, which returns this type
+  -- the signature of a list of parameters with this return type
   abbrev pub signature_listed : (returns : Tree) → List (RustParameter Ty) → Signature
   signature_listed returns ps = record {
     parameters = parameters_with tree ps;
@@ -75,12 +74,12 @@ module _ {Ty : Type 0} (tree : Ty → Tree) where
     takes_names = true;
   }
 
-  -- what is called, which returns this type
+  -- the signature that a program's callable means, with this return type
   abbrev pub signature_called : (returns : Tree) → Called Ty → Signature
   signature_called returns (called.Listed params) = signature_listed returns (listed_in params)
   signature_called returns (called.Builtin types) = builtin_signature (map tree types.items) returns
 
-  -- what a call comes to on one member, with the types that it means
+  -- the call offer that a program's call offer means
   abbrev pub offer_called : RustCallOffer Ty → CallOffer
   offer_called o = record {
     at_callee = option_to_list o.at_callee;
@@ -89,31 +88,31 @@ module _ {Ty : Type 0} (tree : Ty → Tree) where
     calls = option_to_list (option_map (signature_called (tree o.gives)) o.calls);
   }
 
--- what is found at the callee, and at the call, on each member
+-- the codes at the callee, and at the call, on all members
 abbrev pub found_at_callee : {Ty : Type 0} → List (RustCallOffer Ty) → List Code
 found_at_callee os = flat_map (λ o. option_to_list o.at_callee) os
 
 abbrev pub found_at_call : {Ty : Type 0} → List (RustCallOffer Ty) → List Code
 found_at_call os = flat_map (λ o. option_to_list o.at_call) os
 
--- the rule of a call
+-- the rule that a program's rule means
 abbrev pub rule_of : RustCallRule → CallRule
 rule_of rule.Member = member_rule
 rule_of rule.Length = length_rule
 rule_of rule.Test = test_rule
 
 module _ {Ty : Type 0} (has : Ty → Type 0) where
-  -- the store gave the types of what is called
+  -- the store gave the parameter types of a callable
   abbrev pub HasCalled : Called Ty → Type 0
   HasCalled (called.Listed params) = All (HasParameter has) (listed_in params)
   HasCalled (called.Builtin types) = All has types.items
 
-  -- of what is called, if anything is
+  -- the store gave the parameter types of a callable, if there is one
   abbrev pub HasCalledIfAny : Option (Called Ty) → Type 0
   HasCalledIfAny None = Unit {0}
   HasCalledIfAny (Some c) = HasCalled c
 
-  -- the store gave the types of what a call comes to on one member
+  -- the store gave the types of a call offer
   pub record HasCallOffer (o : RustCallOffer Ty) : Type 0 where
     pub gives : has o.gives
     pub calls : HasCalledIfAny o.calls
@@ -121,22 +120,22 @@ module _ {Ty : Type 0} (has : Ty → Type 0) where
 -- ---- callees and seats
 
 module _ {Store Ty : Type 0} (has : Store → Ty → Type 0) (tree : Ty → Tree) (store : Store) where
-  -- a call offer with types of the store, which means this one
+  -- a call offer with types of the store means this call offer
   pub record IsCallOffer (o : RustCallOffer Ty) (meant : CallOffer) : Type 0 where
     pub given : HasCallOffer (has store) o
     pub is : offer_called tree o ≡ meant
 
-  -- a call offer with types of the store, which means the only one of these
+  -- a call offer with types of the store means the only one of these
   pub record IsOnlyOffer (o : RustCallOffer Ty) (meant : List CallOffer) : Type 0 where
     pub given : HasCallOffer (has store) o
     pub is : offer_called tree o ∷ [] ≡ meant
 
-  -- call offers with types of the store, which mean these
+  -- call offers with types of the store mean these call offers
   pub record AreCallOffers (os : List (RustCallOffer Ty)) (meant : List CallOffer) : Type 0 where
     pub given : All (HasCallOffer (has store)) os
     pub is : map (offer_called tree) os ≡ meant
 
-  -- a callee with types of the store, which means this one, but with each code at it once
+  -- a callee with types of the store means this callee, with each code once
   pub record IsCallee (c : RustCallee Ty) (callee : CalleeLabel) : Type 0 where
     pub given : has store c.label.ty
     pub held : All (HasCallOffer (has store)) c.offers.items
@@ -144,7 +143,7 @@ module _ {Store Ty : Type 0} (has : Store → Ty → Type 0) (tree : Ty → Tree
     pub rule : rule_of c.rule ≡ callee.rule
     pub offers : map (offer_called tree) c.offers.items ≡ callee.offers
 
-  -- a seat with types of the store, which means this one
+  -- a seat with types of the store means this seat
   pub record IsSeat (seat : RustSeat Ty) (s : Seat) : Type 0 where
     pub want : HasIfAny (has store) seat.want
     pub into : All (has store) seat.into.items
@@ -161,12 +160,13 @@ abbrev pub builtin_number : Argument → Option ℕ
 builtin_number (argument.Position k) = Some k
 builtin_number (argument.Name word) = if bytes_eq word.now [] then Some 0 else None
 
--- what an argument flows into of what is called: the type of the parameter at its position, or of the first of its name
+-- the types that an argument flows into in a signature: that of the parameter at its position, or of the first of its
+-- name
 abbrev pub types_at : Argument → Signature → List Tree
 types_at (argument.Position k) s = type_at (slice_get s.parameters k)
 types_at (argument.Name word) s = type_at (field_by_name s.parameters word.now)
 
--- a head is that of Any or object
+-- whether a head is that of Any or object
 abbrev pub is_head_of_any : Head → Test
 is_head_of_any heads.Any = true
 is_head_of_any heads.Object = true
@@ -177,15 +177,15 @@ abbrev pub class_in_head : Head → Option ℕ
 class_in_head (heads.Class c) = Some c
 class_in_head _ = None
 
--- a method call on what is no instance of a class
+-- the results of a method call on a member that is not an instance of a class
 abbrev pub other_offers : Bases → GivenArguments → List ℕ → Tree → List CallOffer
 other_offers bases g word (ListOf t) = list_offers g word t
 other_offers bases g word (DictOf k v) = dict_offers bases g word k v
 other_offers bases g word Any = fails_at_callee A4 ∷ []
 other_offers bases g word _ = fails_at_callee E15 ∷ []
 
--- the code at the second argument of a call of a rule, which only a test of an instance has
-abbrev pub second_code_of : (List ℕ → Res) → CallRule → Exprs → (early : Test) → Option Code
+-- the code at the second argument of a call with this rule, which only an instance test has
+abbrev pub second_code_of : (List ℕ → NameMeaning) → CallRule → Exprs → (early : Test) → Option Code
 second_code_of resolve test_rule arguments early =
     second_code (test_of_argument resolve (second_argument arguments)) early
 second_code_of resolve _ arguments early = None

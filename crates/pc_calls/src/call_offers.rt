@@ -1,4 +1,4 @@
-//! What a call comes to on one member of what is called.
+//! The result of a call on one member of its callee's type.
 
 ghost use Rattle.std.specs.Prelude.{◌≡◌, ◌++◌, ◌∷◌, [], None, map, All, IfOk, OnOk};
 ghost use Rattle.pc_types.specs.Tree.{Tree};
@@ -19,16 +19,16 @@ use pc_tree::Code;
 use pc_types::{Head, TypeStore};
 use std::alloc::Global;
 
-/// What is called: a function, a method or a class, with what it takes, or a method of a built-in type, whose
-/// parameters no name can fill.
+/// A list of parameters to call: of a function, a method or a class; or the parameter types of a method of a built-in
+/// type, which cannot be given by name.
 #[derive(Drop)]
 pub enum Called<'t, Ty: Drop> {
     Listed(Listing<'t, Ty>),
     Builtin(Vec<Ty>),
 }
 
-/// What a call comes to on one member: what is found at the callee and at the call, what it gives, and what it calls,
-/// if anything.
+/// The result of a call on one member: the codes at the callee and at the call, the type that it gives, and the
+/// parameters called, if any.
 #[derive(Drop)]
 pub struct CallOffer<'t, Ty: Drop> {
     pub at_callee: Option<Code>,
@@ -37,7 +37,7 @@ pub struct CallOffer<'t, Ty: Drop> {
     pub calls: Option<Called<'t, Ty>>,
 }
 
-/// The rule of a call: by the members of what is called, by the length of an argument, or as a test of an instance.
+/// The rule of a call: by the members of the callee, as `len`, or as an instance test.
 #[derive(Clone, Copy, Debug, PartialEq, Eq)]
 pub enum CallRule {
     Member,
@@ -45,7 +45,7 @@ pub enum CallRule {
     Test,
 }
 
-/// A call that gives a type, with nothing found, and whose arguments flow nowhere.
+/// Returns a call that gives a type, without codes, whose arguments flow nowhere.
 pub fn plain_call<'t, Ty: Drop>(gives: Ty) -> CallOffer<'t, Ty>
     ensures offer { (tree : Ty → Tree) → offer_called tree result ≡ plain_call (tree gives) }
     ensures gives { result.gives ≡ gives }
@@ -59,7 +59,7 @@ pub fn plain_call<'t, Ty: Drop>(gives: Ty) -> CallOffer<'t, Ty>
     }
 }
 
-/// A call at which a code is found, and which gives `Any`.
+/// Returns a call with this code at the call, which gives `Any`.
 pub fn fails_at_call<'t, S: TypeStore>(
     store: &mut S,
     alloc: Global,
@@ -77,7 +77,7 @@ pub fn fails_at_call<'t, S: TypeStore>(
     })
 }
 
-/// A call at whose callee a code is found, and which gives `Any`.
+/// Returns a call with this code at the callee, which gives `Any`.
 pub fn fails_at_callee<'t, S: TypeStore>(
     store: &mut S,
     alloc: Global,
@@ -95,8 +95,8 @@ pub fn fails_at_callee<'t, S: TypeStore>(
     })
 }
 
-/// A call of what has this list of parameters and returns this type: E14 where it does not suit. Language Reference
-/// 6.3.4 "Calls".
+/// Returns the result of calling this list of parameters, with this return type: E14 if the arguments do not suit.
+/// Language Reference 6.3.4 "Calls".
 pub fn call_of_list<'t, S: TypeStore>(
     store: &mut S,
     alloc: Global,
@@ -123,7 +123,8 @@ pub fn call_of_list<'t, S: TypeStore>(
     })
 }
 
-/// A call of a method of a built-in type, which takes arguments of these types by position and returns this type.
+/// Returns the result of calling a method of a built-in type, with parameters of these types and this return type: E14
+/// if the arguments do not suit.
 pub fn call_of_builtin<'t, S: TypeStore>(
     store: &mut S,
     alloc: Global,
@@ -149,7 +150,7 @@ pub fn call_of_builtin<'t, S: TypeStore>(
     })
 }
 
-/// A value of a type that is one member called.
+/// Returns the result of calling a value of one member type: A6 for `Any`, else E14.
 fn value_offer<'t, S: TypeStore>(
     store: &mut S,
     alloc: Global,
@@ -165,7 +166,7 @@ fn value_offer<'t, S: TypeStore>(
     }
 }
 
-/// Adds what a call comes to on one member.
+/// Appends the result of a call on one member.
 pub fn push_offer<'t, Ty: Drop>(
     offers: &mut Vec<CallOffer<'t, Ty>>,
     offer: CallOffer<'t, Ty>,
@@ -178,7 +179,7 @@ pub fn push_offer<'t, Ty: Drop>(
     }
 }
 
-/// Adds what a call of a value comes to on each member of its type.
+/// Appends the results of calling a value on each member of its type.
 pub fn push_value_offers<'t, S: TypeStore>(
     store: &mut S,
     alloc: Global,

@@ -1,4 +1,4 @@
-//! Callees: what a name or a value is as what is called.
+//! Callees: names and values that are called.
 
 ghost use Rattle.std.specs.Prelude.{◌≡◌, ◌∷◌, [], IfOk, if◌then◌else◌};
 ghost use Rattle.pc_tree.specs.declared.code.Code.TheVariants.{E14};
@@ -21,21 +21,20 @@ use pc_tree::Code;
 use pc_types::TypeStore;
 use std::alloc::Global;
 
-/// A callee: its label, the rule of its call, and what the call comes to on each member, none where the rule is another
-/// one.
+/// A callee: its label, the rule of its call, and the result of the call on each member, none for a rule of its own.
 #[derive(Drop)]
-pub struct Callee<'t, Ty: Drop> {
+pub struct TypedCallee<'t, Ty: Drop> {
     pub label: Label<Ty>,
     pub rule: CallRule,
     pub offers: Vec<CallOffer<'t, Ty>>,
 }
 
-/// A callee that is a value with this label, called on each member of its type.
+/// Returns the callee that is a value with this label, called on each member of its type.
 pub fn callee_of_value<'t, S: TypeStore>(
     store: &mut S,
     alloc: Global,
     label: Label<S::Ty>,
-) -> Result<Callee<'t, S::Ty>, OutOfMemory>
+) -> Result<TypedCallee<'t, S::Ty>, OutOfMemory>
     requires { S.has store.old label.ty }
     ensures callee { (m : LabelOf) → label_with S.tree label ≡ brief m
         → IfOk result (λ c. IsCallee S.has S.tree store.new c (value_callee m)) }
@@ -43,19 +42,19 @@ pub fn callee_of_value<'t, S: TypeStore>(
 {
     let mut offers = Vec::new(alloc);
     push_value_offers(store, alloc, &label.ty, &mut offers)?;
-    Ok(Callee {
+    Ok(TypedCallee {
         label,
         rule: CallRule::Member,
         offers,
     })
 }
 
-/// A callee in error with a code, called as a value of type `Any`.
+/// Returns the callee in error with this code, called as a value of type `Any`.
 pub fn callee_in_error<'t, S: TypeStore>(
     store: &mut S,
     alloc: Global,
     code: Code,
-) -> Result<Callee<'t, S::Ty>, OutOfMemory>
+) -> Result<TypedCallee<'t, S::Ty>, OutOfMemory>
     ensures callee { IfOk result (λ c. IsCallee S.has S.tree store.new c (value_callee (in_error code))) }
     ensures kept { KeepsTypes S.has store.old store.new }
 {
@@ -63,12 +62,12 @@ pub fn callee_in_error<'t, S: TypeStore>(
     callee_of_value(store, alloc, label)
 }
 
-/// A callee at which nothing is found, and what a call of it comes to.
+/// Returns the callee without codes whose call has this result.
 pub fn good_callee<'t, S: TypeStore>(
     store: &mut S,
     alloc: Global,
     offer: CallOffer<'t, S::Ty>,
-) -> Result<Callee<'t, S::Ty>, OutOfMemory>
+) -> Result<TypedCallee<'t, S::Ty>, OutOfMemory>
     requires { HasCallOffer (S.has store.old) offer }
     ensures callee { IfOk result
         (λ c. IsCallee S.has S.tree store.new c (good_callee (offer_called S.tree offer.entry ∷ []))) }
@@ -77,7 +76,7 @@ pub fn good_callee<'t, S: TypeStore>(
     let any = store.any(alloc)?;
     let mut offers = Vec::new(alloc);
     push_offer(&mut offers, offer)?;
-    Ok(Callee {
+    Ok(TypedCallee {
         label: Label {
             ty: any,
             codes: Vec::new(alloc),
@@ -87,17 +86,17 @@ pub fn good_callee<'t, S: TypeStore>(
     })
 }
 
-/// A callee whose call has a rule of its own; the arguments flow nowhere.
+/// Returns the callee whose call has this rule of its own; its arguments flow nowhere.
 fn own_callee<'t, S: TypeStore>(
     store: &mut S,
     alloc: Global,
     rule: CallRule,
-) -> Result<Callee<'t, S::Ty>, OutOfMemory>
+) -> Result<TypedCallee<'t, S::Ty>, OutOfMemory>
     ensures callee { IfOk result (λ c. IsCallee S.has S.tree store.new c (own_callee (rule_of rule))) }
     ensures kept { KeepsTypes S.has store.old store.new }
 {
     let any = store.any(alloc)?;
-    Ok(Callee {
+    Ok(TypedCallee {
         label: Label {
             ty: any,
             codes: Vec::new(alloc),
@@ -107,13 +106,13 @@ fn own_callee<'t, S: TypeStore>(
     })
 }
 
-/// A callee whose call fails with a code, or gives a type.
+/// Returns the callee whose call gives a type if the arguments suit, else fails with E14.
 fn plain_callee<'t, S: TypeStore>(
     store: &mut S,
     alloc: Global,
     suits: bool,
     gives: S::Ty,
-) -> Result<Callee<'t, S::Ty>, OutOfMemory>
+) -> Result<TypedCallee<'t, S::Ty>, OutOfMemory>
     requires { S.has store.old gives }
     ensures callee { IfOk result
         (λ c. IsCallee S.has S.tree store.new c
@@ -127,12 +126,12 @@ fn plain_callee<'t, S: TypeStore>(
     failing_callee(store, alloc, Code::E14)
 }
 
-/// A callee whose call fails with a code.
+/// Returns the callee whose call fails with this code.
 fn failing_callee<'t, S: TypeStore>(
     store: &mut S,
     alloc: Global,
     code: Code,
-) -> Result<Callee<'t, S::Ty>, OutOfMemory>
+) -> Result<TypedCallee<'t, S::Ty>, OutOfMemory>
     ensures callee { IfOk result (λ c. IsCallee S.has S.tree store.new c (good_callee (fails_at_call code ∷ []))) }
     ensures kept { KeepsTypes S.has store.old store.new }
 {
@@ -140,13 +139,13 @@ fn failing_callee<'t, S: TypeStore>(
     good_callee(store, alloc, offer)
 }
 
-/// A built-in as a callee; a reserved name that is no value is not called. Own rule of the profile.
+/// Returns a built-in as a callee. A reserved name that is no value is E20. Own rule of the profile.
 pub fn callee_of_builtin<'t, S: TypeStore>(
     store: &mut S,
     alloc: Global,
     given: &Given,
     builtin: Builtin,
-) -> Result<Callee<'t, S::Ty>, OutOfMemory>
+) -> Result<TypedCallee<'t, S::Ty>, OutOfMemory>
     ensures callee { IfOk result
         (λ c. IsCallee S.has S.tree store.new c (builtin_callee (given_with given.now) builtin)) }
     ensures kept { KeepsTypes S.has store.old store.new }

@@ -1,4 +1,4 @@
-//! The label of a call by the members of what is called, and whether a type has a member `Any` or `object`.
+//! The label of a call by the members of its callee, and the test for members `Any` and `object`.
 
 ghost use Rattle.std.specs.Prelude.{◌≡◌, map, All, IfOk};
 ghost use Rattle.std.specs.List.{list_any};
@@ -22,7 +22,7 @@ use pc_tree::Code;
 use pc_types::{Head, Parents, TypeStore};
 use std::alloc::Global;
 
-/// What is found at the callee, each code once.
+/// Returns the codes at the callee on all members, each once.
 pub fn codes_at_callee<Ty: Drop>(
     alloc: Global,
     offers: &[CallOffer<'_, Ty>],
@@ -36,7 +36,7 @@ pub fn codes_at_callee<Ty: Drop>(
     Ok(codes)
 }
 
-/// What is found at the call on each member, each code once.
+/// Returns the codes at the call on all members, each once.
 fn codes_at_call<Ty: Drop>(
     alloc: Global,
     offers: &[CallOffer<'_, Ty>],
@@ -50,7 +50,7 @@ fn codes_at_call<Ty: Drop>(
     Ok(codes)
 }
 
-/// Whether there are no codes.
+/// Returns whether there are no codes.
 fn are_none(codes: &[Code]) -> bool
     ensures { result ≡ has_none codes.now }
 {
@@ -60,7 +60,7 @@ fn are_none(codes: &[Code]) -> bool
     }
 }
 
-/// What is found at a call, each code once; where something is found at its callee, nothing further.
+/// Returns the codes at a call on all members, each once; none if there is a code at its callee.
 pub fn call_codes<Ty: Drop>(
     alloc: Global,
     offers: &[CallOffer<'_, Ty>],
@@ -76,7 +76,7 @@ pub fn call_codes<Ty: Drop>(
     Ok(codes)
 }
 
-/// The join of what a call gives on each member.
+/// Returns the join of the types that a call gives on each member.
 fn join_given<S: TypeStore>(
     store: &mut S,
     alloc: Global,
@@ -96,8 +96,8 @@ fn join_given<S: TypeStore>(
     Ok(joined)
 }
 
-/// The label of a call by the members of what is called: the join of what they give, `Any` where an error is found.
-/// Language Reference 6.3.4 "Calls".
+/// Returns the label of a call by the members of its callee: the join of the types that they give, `Any` if there is an
+/// error. Language Reference 6.3.4 "Calls".
 pub fn members_label<S: TypeStore>(
     store: &mut S,
     alloc: Global,
@@ -118,14 +118,14 @@ pub fn members_label<S: TypeStore>(
     Ok(Label { ty, codes })
 }
 
-/// Whether a head is that of `Any` or `object`.
+/// Returns whether a head is that of `Any` or `object`.
 fn is_object_or_any(head: Head) -> bool
     ensures { result ≡ is_head_of_any head }
 {
     matches!(head, Head::Any | Head::Object)
 }
 
-/// Whether a member of a type is `Any` or `object`.
+/// Returns whether a member of a type is `Any` or `object`.
 pub fn has_object_or_any<S: TypeStore>(
     store: &S,
     alloc: Global,

@@ -1,4 +1,4 @@
-//! A call of a function or of a class.
+//! Calls of functions and classes.
 
 ghost use Rattle.std.specs.Prelude.{map, All, IfOk, slice_get};
 ghost use Rattle.pc_types.specs.Store.{KeepsTypes};
@@ -16,7 +16,7 @@ use pc_tree::Code;
 use pc_types::TypeStore;
 use std::alloc::Global;
 
-/// A call of a function, if there is one; else it is called as a value of type `Any`.
+/// Returns the result of calling the function of this number; A6, as for a value of type `Any`, if there is none.
 pub fn function_offer<'t, S: TypeStore>(
     store: &mut S,
     alloc: Global,
@@ -45,7 +45,7 @@ pub fn function_offer<'t, S: TypeStore>(
     Ok(offer)
 }
 
-/// A call of a class, which takes its fields.
+/// Returns the result of calling a class, which takes its fields.
 pub fn class_offer<'t, S: TypeStore>(
     store: &mut S,
     alloc: Global,

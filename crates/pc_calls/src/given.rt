@@ -1,4 +1,4 @@
-//! What the arguments of a call give, by position and by name.
+//! The arguments that a call gives, by position and by name.
 
 ghost use Rattle.std.specs.Prelude.{◌≡◌, IfOk};
 ghost use Rattle.pc_tree.specs.Lists.{exprs_of_list, keywords_of_list};
@@ -11,7 +11,8 @@ use pc_source::OutOfMemory;
 use pc_tree::{Expr, Keys, KeywordArgument};
 use std::alloc::Global;
 
-/// What the arguments of a call give. Language Reference 6.3.4 "Calls".
+/// Counts the arguments of a call by position and collects the names of those by name, each once. Language Reference
+/// 6.3.4 "Calls".
 pub fn given<'e>(
     alloc: Global,
     keys: Keys,

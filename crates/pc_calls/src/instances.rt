@@ -1,4 +1,4 @@
-//! Calls of `isinstance`: the label of one, and the code at what stands second.
+//! Calls of `isinstance`: the label, and the code at the second argument.
 
 ghost use Rattle.std.specs.Prelude.{◌≡◌, ◌∷◌, [], IfOk, if◌then◌else◌};
 ghost use Rattle.pc_tree.specs.declared.code.Code.TheVariants.{A7};
@@ -15,13 +15,14 @@ ghost use Rattle.pc_flow.specs.Naming.{meanings};
 use crate::call_offers::CallRule;
 use crate::calling::has_object_or_any;
 use pc_flow::{Env, OwnerNames, Test, local_named, test_of};
-use pc_rules::{Label, Setting};
+use pc_rules::{ExprContext, Label};
 use pc_source::OutOfMemory;
 use pc_tree::{Code, Expr};
 use pc_types::TypeStore;
 use std::alloc::Global;
 
-/// What the second argument of a test of an instance tests for.
+/// Returns the test that the second argument of an instance test asks for, `None` if it names no type that can be
+/// tested.
 fn tested(names: &OwnerNames, arguments: &[Expr]) -> Option<Test>
     ensures { option_tested result
         ≡ test_of_argument (meanings names.now) (second_argument (exprs_of_list arguments.now)) }
@@ -33,7 +34,7 @@ fn tested(names: &OwnerNames, arguments: &[Expr]) -> Option<Test>
     }
 }
 
-/// The local that the first argument names, if it is a name of one.
+/// Returns the local that the first argument names, if it is the name of one.
 fn first_local(names: &OwnerNames, arguments: &[Expr]) -> Option<usize>
     ensures { result ≡ local_of_argument (meanings names.now) (first_argument (exprs_of_list arguments.now)) }
 {
@@ -43,7 +44,8 @@ fn first_local(names: &OwnerNames, arguments: &[Expr]) -> Option<usize>
     }
 }
 
-/// Whether a local of current type `Any` or `object` is tested for a list: A7. Own rule of the profile.
+/// Returns whether a local whose current type has a member `Any` or `object` is tested for a list: A7. Own rule of the
+/// profile.
 fn is_unsure_test<S: TypeStore>(
     store: &S,
     alloc: Global,
@@ -70,11 +72,12 @@ fn is_unsure_test<S: TypeStore>(
     }
 }
 
-/// The label of a test of an instance: `bool`. Library reference, "Built-in Functions".
+/// Returns the label of an instance test: `bool`, with A7 if the test is a dynamic place. Library reference, "Built-in
+/// Functions".
 pub fn test_label<S: TypeStore>(
     store: &mut S,
     alloc: Global,
-    setting: &Setting<'_, S::Ty>,
+    setting: &ExprContext<'_, S::Ty>,
     env: &Env<S::Ty>,
     arguments: &[Expr],
 ) -> Result<Label<S::Ty>, OutOfMemory>
@@ -92,8 +95,8 @@ pub fn test_label<S: TypeStore>(
     Ok(Label { ty, codes })
 }
 
-/// The code at the second argument of a call, which only a test of an instance has: E25 where it tests for nothing,
-/// none where E03 stands there. Own rule of the profile.
+/// Returns the code at the second argument of a call, which only an instance test has: E25 if the argument names no
+/// test, none if it is E03 (`early`). Own rule of the profile.
 pub fn second_code(
     names: &OwnerNames,
     rule: CallRule,

@@ -1,4 +1,4 @@
-//! What calls come to: which arguments suit, what they flow into, and what a callee is.
+//! Calls: callees, the arguments that suit them, and the types that arguments flow into.
 #![tactic(auto)]
 
 mod arguments;
@@ -15,9 +15,9 @@ mod params;
 mod ranging;
 mod seats;
 
-pub use arguments::{Given, Names};
+pub use arguments::{Given, KeywordNames};
 pub use call_offers::{CallOffer, CallRule, Called};
-pub use callee::{Callee, callee_in_error, callee_of_value};
+pub use callee::{TypedCallee, callee_in_error, callee_of_value};
 pub use calling::{call_codes, members_label};
 pub use instances::{second_code, test_label};
 pub use methods::callee_of_method;

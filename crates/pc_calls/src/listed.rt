@@ -1,5 +1,5 @@
-//! Which calls suit a list of parameters, that of a function or a method, or the fields of a class: at the cost of what
-//! a call gives, however many parameters there are.
+//! Calls that suit a list of parameters, those of a function or method or the fields of a class. The cost is bounded by
+//! the arguments of the call, however many parameters there are.
 
 ghost use Rattle.std.specs.Prelude.{◌≡◌, take, drop, slice_get};
 ghost use Rattle.std.specs.List.{list_all};
@@ -15,7 +15,7 @@ use crate::arguments::{Given, is_among};
 use crate::params::is_free;
 use pc_class::Listing;
 
-/// Whether an argument by name is for the parameter of this place, the first of its name.
+/// Returns whether an argument by name fills the parameter at this place: it must be the first parameter of that name.
 fn takes_name<Ty: Drop>(given: &Given, params: &Listing<'_, Ty>, place: usize) -> bool
     ensures { result ≡ fills (names_in given.now.named) (slice_get (listed_in params.now) place) place
         (names_listed (listed_in params.now)) }
@@ -33,7 +33,7 @@ fn takes_name<Ty: Drop>(given: &Given, params: &Listing<'_, Ty>, place: usize) -
     }
 }
 
-/// Whether each parameter that no argument by position fills has a default, or an argument by name.
+/// Returns whether each parameter that no argument by position fills has a default or an argument by name.
 fn are_filled<Ty: Drop>(given: &Given, params: &Listing<'_, Ty>) -> bool
     ensures { (tree : Ty → Tree)
         → result ≡ are_filled (names_in given.now.named)
@@ -51,7 +51,7 @@ fn are_filled<Ty: Drop>(given: &Given, params: &Listing<'_, Ty>) -> bool
     true
 }
 
-/// Whether each argument by name is for a parameter that no argument by position fills.
+/// Returns whether each argument by name is for a parameter that no argument by position fills.
 fn are_free<Ty: Drop>(given: &Given, params: &Listing<'_, Ty>) -> bool
     ensures { result ≡ list_all
         (λ word. is_free given.now.positional (index_of word (names_listed (listed_in params.now))))
@@ -66,8 +66,8 @@ fn are_free<Ty: Drop>(given: &Given, params: &Listing<'_, Ty>) -> bool
     true
 }
 
-/// Whether a call suits a list of parameters: not too many arguments by position, each by name for a free parameter,
-/// and no parameter without an argument or a default. Language Reference 6.3.4 "Calls".
+/// Returns whether a call suits a list of parameters: not too many arguments by position, each by name for a free
+/// parameter, and no parameter without an argument or a default. Language Reference 6.3.4 "Calls".
 pub fn suits_list<Ty: Drop>(given: &Given, params: &Listing<'_, Ty>) -> bool
     ensures { (tree : Ty → Tree) (returns : Tree)
         → result ≡ is_suited (given_with given.now) (signature_listed tree returns (listed_in params.now)) }

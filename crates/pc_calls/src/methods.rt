@@ -1,4 +1,4 @@
-//! What is called by `e.m`: a method of a class, of a list or of a dict, or the value of a field.
+//! Callees `e.m`: a method of a class, a list or a dict, or the value of a field.
 
 ghost use Rattle.std.specs.Prelude.{◌≡◌, ◌++◌, None, map, All, IfOk, OnOk};
 ghost use Rattle.pc_types.specs.Store.{KeepsTypes};
@@ -16,24 +16,24 @@ use crate::call_offers::{
     CallOffer, CallRule, call_of_builtin, call_of_list, fails_at_callee, push_offer,
     push_value_offers,
 };
-use crate::callee::Callee;
+use crate::callee::TypedCallee;
 use crate::calling::codes_at_callee;
 use pc_class::{ClassTable, Listing, Method};
 use pc_flow::join_or_object;
-use pc_rules::{Label, Setting};
+use pc_rules::{ExprContext, Label};
 use pc_source::OutOfMemory;
 use pc_tree::{Code, Name};
 use pc_types::{Head, Parents, TypeStore};
 use std::alloc::Global;
 
-/// A call of a method: its name, and what its arguments give.
+/// A call of a method: its name, and the arguments that it gives.
 #[derive(Drop)]
 struct MethodCall<'c> {
     name: &'c str,
     given: &'c Given<'c>,
 }
 
-/// A call of a method of a class: its parameters without `self`, and its return type.
+/// Returns the result of calling a method of a class, without its parameter `self`.
 fn method_offer<'t, S: TypeStore>(
     store: &mut S,
     alloc: Global,
@@ -57,7 +57,7 @@ fn method_offer<'t, S: TypeStore>(
     Ok(offer)
 }
 
-/// Adds a call of the value of a field of a class, or of a name that the class has not.
+/// Appends the results of calling the value of a field of a class; E15 if the class has no such field.
 fn push_field_offers<'t, S: TypeStore>(
     store: &mut S,
     alloc: Global,
@@ -88,7 +88,7 @@ fn push_field_offers<'t, S: TypeStore>(
     }
 }
 
-/// Adds a call of a name of a class; a field called is a call of its value.
+/// Appends the results of calling a member of a class: a method, or else the value of a field.
 fn push_class_offers<'t, S: TypeStore>(
     store: &mut S,
     alloc: Global,
@@ -120,7 +120,8 @@ fn push_class_offers<'t, S: TypeStore>(
     }
 }
 
-/// A call of a method of a list of these items: `append(T)` gives None, `pop()` gives T. Own rule of the profile.
+/// Returns the result of calling a method of a list of these items: `append(T)` gives None, `pop()` gives T, any other
+/// is E15. Own rule of the profile.
 fn list_offer<'t, S: TypeStore>(
     store: &mut S,
     alloc: Global,
@@ -145,8 +146,8 @@ fn list_offer<'t, S: TypeStore>(
     fails_at_callee(store, alloc, Code::E15)
 }
 
-/// A call of a method of a dict of these keys and values: `get(K)` gives the join of V and None. Own rule of the
-/// profile.
+/// Returns the result of calling a method of a dict of these keys and values: `get(K)` gives the join of V and None,
+/// any other is E15. Own rule of the profile.
 fn dict_offer<'t, S: TypeStore>(
     store: &mut S,
     alloc: Global,
@@ -172,7 +173,7 @@ fn dict_offer<'t, S: TypeStore>(
     call_of_builtin(store, alloc, call.given, types, returns)
 }
 
-/// A call of a method of what is no instance of a class.
+/// Returns the result of calling a method on a member that is not an instance of a class.
 fn other_offer<'t, S: TypeStore>(
     store: &mut S,
     alloc: Global,
@@ -201,7 +202,7 @@ fn other_offer<'t, S: TypeStore>(
     }
 }
 
-/// The class whose instances have a head, if it is that of a class.
+/// Returns the class whose instances have this head, if it is that of a class.
 fn class_of(head: Head) -> Option<usize>
     ensures { result ≡ class_in_head head }
 {
@@ -211,11 +212,11 @@ fn class_of(head: Head) -> Option<usize>
     }
 }
 
-/// Adds a method call on one member.
+/// Appends the results of a method call on one member.
 fn push_method_offers<'t, S: TypeStore>(
     store: &mut S,
     alloc: Global,
-    setting: &Setting<'t, S::Ty>,
+    setting: &ExprContext<'t, S::Ty>,
     call: &MethodCall,
     member: &S::Ty,
     offers: &mut Vec<CallOffer<'t, S::Ty>>,
@@ -243,15 +244,15 @@ fn push_method_offers<'t, S: TypeStore>(
     }
 }
 
-/// What is called by `e.m`, where `e` has this type. Language Reference 6.3.4 "Calls".
+/// Returns the callee `e.m`, where `e` has this type. Language Reference 6.3.4 "Calls".
 pub fn callee_of_method<'t, S: TypeStore>(
     store: &mut S,
     alloc: Global,
-    setting: &Setting<'t, S::Ty>,
+    setting: &ExprContext<'t, S::Ty>,
     given: &Given,
     field: &Name,
     object: &S::Ty,
-) -> Result<Callee<'t, S::Ty>, OutOfMemory>
+) -> Result<TypedCallee<'t, S::Ty>, OutOfMemory>
     requires classes { HasEntries (S.has store.old) setting.now.globals.now.classes.now }
     requires object { S.has store.old object.now }
     ensures callee { IfOk result
@@ -269,7 +270,7 @@ pub fn callee_of_method<'t, S: TypeStore>(
     }
     let ty = store.any(alloc)?;
     let codes = codes_at_callee(alloc, &offers)?;
-    Ok(Callee {
+    Ok(TypedCallee {
         label: Label { ty, codes },
         rule: CallRule::Member,
         offers,

@@ -1,4 +1,4 @@
-//! A name as what is called.
+//! Names as callees.
 
 ghost use Rattle.std.specs.Prelude.{IfOk};
 ghost use Rattle.pc_tree.specs.Tree.{name_of};
@@ -10,26 +10,28 @@ ghost use Rattle.pc_calls.specs.JudgedCalls.{given_with, IsCallee};
 ghost use Rattle.pc_flow.specs.Naming.{meanings};
 
 use crate::arguments::Given;
-use crate::callee::{Callee, callee_in_error, callee_of_builtin, callee_of_value, good_callee};
+use crate::callee::{
+    TypedCallee, callee_in_error, callee_of_builtin, callee_of_value, good_callee,
+};
 use crate::functions::{class_offer, function_offer};
 use pc_flow::Env;
-use pc_rules::{Setting, name_label};
-use pc_scope::Res;
+use pc_rules::{ExprContext, name_label};
+use pc_scope::NameMeaning;
 use pc_source::OutOfMemory;
 use pc_tree::{Code, Name};
 use pc_types::TypeStore;
 use std::alloc::Global;
 
-/// A name as a callee: a function, a class or a built-in, and else what it is as a value. Language Reference 6.3.4
-/// "Calls".
+/// Returns a name as a callee: a function, a class or a built-in, and otherwise a value. E03 for a function or class
+/// that an initializer may not use yet. Language Reference 6.3.4 "Calls".
 pub fn callee_of_name<'t, S: TypeStore>(
     store: &mut S,
     alloc: Global,
-    setting: &Setting<'t, S::Ty>,
+    setting: &ExprContext<'t, S::Ty>,
     env: &Env<S::Ty>,
     given: &Given,
     name: &Name,
-) -> Result<Callee<'t, S::Ty>, OutOfMemory>
+) -> Result<TypedCallee<'t, S::Ty>, OutOfMemory>
     requires { HasGivenAll (S.has store.old) S.tree setting.now env.now }
     ensures callee { IfOk result
         (λ c. IsCallee S.has S.tree store.new c
@@ -38,22 +40,22 @@ pub fn callee_of_name<'t, S: TypeStore>(
     ensures kept { KeepsTypes S.has store.old store.new }
 {
     match setting.names.resolve(name.text.as_str()) {
-        Res::Func(function) => {
+        NameMeaning::Func(function) => {
             if !setting.in_body {
                 return callee_in_error(store, alloc, Code::E03);
             }
             let offer = function_offer(store, alloc, given, setting.globals.functions, function)?;
             good_callee(store, alloc, offer)
         }
-        Res::Class(class) => {
+        NameMeaning::Class(class) => {
             if class >= setting.globals.known {
                 return callee_in_error(store, alloc, Code::E03);
             }
             let offer = class_offer(store, alloc, given, setting.globals.classes, class)?;
             good_callee(store, alloc, offer)
         }
-        Res::Builtin(builtin) => callee_of_builtin(store, alloc, given, builtin),
-        Res::Local(_) | Res::Const(_) | Res::None => {
+        NameMeaning::Builtin(builtin) => callee_of_builtin(store, alloc, given, builtin),
+        NameMeaning::Local(_) | NameMeaning::Const(_) | NameMeaning::None => {
             let label = name_label(store, alloc, setting, env, name)?;
             callee_of_value(store, alloc, label)
         }

@@ -1,4 +1,4 @@
-//! Which arguments are for a parameter that is free, and which calls suit a built-in.
+//! Arguments for free parameters, and calls that suit a built-in.
 
 ghost use Rattle.std.specs.Prelude.{◌≡◌, List, length};
 ghost use Rattle.pc_types.specs.Tree.{Tree};
@@ -7,7 +7,7 @@ ghost use Rattle.pc_calls.specs.JudgedCalls.{given_with};
 
 use crate::arguments::Given;
 
-/// Whether a parameter of this number is past those that the arguments by position fill.
+/// Returns whether a parameter of this number, if there is one, is past those that arguments by position fill.
 pub fn is_free(positional: usize, number: Option<usize>) -> bool
     ensures { result ≡ is_free positional number }
 {
@@ -17,7 +17,7 @@ pub fn is_free(positional: usize, number: Option<usize>) -> bool
     }
 }
 
-/// Whether a call suits a built-in with this many parameters, which no name can fill.
+/// Returns whether a call suits a built-in with this many parameters, which cannot be given by name.
 pub fn is_suited_by(given: &Given, count: usize) -> bool
     ensures { (types : List Tree) (returns : Tree) → length types ≡ count
         → result ≡ is_suited (given_with given.now) (builtin_signature types returns) }

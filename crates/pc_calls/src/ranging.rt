@@ -1,4 +1,4 @@
-//! A call of `range` as what a `for` goes over.
+//! A call of `range` as the iterable of a `for`.
 
 ghost use Rattle.std.specs.Prelude.{◌≡◌, IfOk};
 ghost use Rattle.pc_tree.specs.Lists.{exprs_of_list, keywords_of_list};
@@ -12,20 +12,20 @@ use crate::call_offers::{CallOffer, call_of_builtin, push_offer};
 use crate::given::given;
 use crate::params::is_suited_by;
 use pc_rules::Label;
-use pc_scope::{Builtin, Res};
+use pc_scope::{Builtin, NameMeaning};
 use pc_source::OutOfMemory;
 use pc_tree::{Code, Expr, Keys, KeywordArgument};
 use pc_types::TypeStore;
 use std::alloc::Global;
 
-/// Whether a name that means this is the built-in `range`. Library reference, "Built-in Functions".
-pub fn is_range(meaning: Res) -> bool
+/// Returns whether a name with this meaning is the built-in `range`. Library reference, "Built-in Functions".
+pub fn is_range(meaning: NameMeaning) -> bool
     ensures { result ≡ is_range meaning }
 {
-    matches!(meaning, Res::Builtin(Builtin::Range))
+    matches!(meaning, NameMeaning::Builtin(Builtin::Range))
 }
 
-/// What a call of `range` comes to as what a `for` goes over: it takes an `int`. Library reference, "Built-in
+/// Returns the result of a call of `range` as the iterable of a `for`: it takes one `int`. Library reference, "Built-in
 /// Functions".
 pub fn range_offers<'t, S: TypeStore>(
     store: &mut S,
@@ -45,8 +45,8 @@ pub fn range_offers<'t, S: TypeStore>(
     Ok(offers)
 }
 
-/// What a `for` over a call of `range` with these arguments binds: an `int`, or A5 where they do not suit. Own rule of
-/// the profile.
+/// Returns the label of an item of a call of `range` with these arguments: `int`, or `Any` with A5 if they do not suit.
+/// Own rule of the profile.
 pub fn range_item<S: TypeStore>(
     store: &mut S,
     alloc: Global,

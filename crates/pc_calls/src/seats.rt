@@ -1,4 +1,4 @@
-//! What is expected of the arguments of a call, and what they flow into.
+//! The seats of the arguments of a call: their expected types, and the types that they flow into.
 
 ghost use Rattle.std.specs.Prelude.{◌≡◌, ◌++◌, map, flat_map, All, IfOk, OnOk, option_to_list};
 ghost use Rattle.std.specs.Option.{option_map};
@@ -15,7 +15,7 @@ ghost use Rattle.pc_class.specs.Listings.{listed_in};
 ghost use Rattle.pc_class.specs.Tables.{HasParameter};
 ghost use Rattle.pc_calls.specs.JudgedCalls.{HasCallOffer, types_at, seat_of, IsSeat, signature_listed};
 
-use crate::arguments::{Names, is_among};
+use crate::arguments::{KeywordNames, is_among};
 use crate::call_offers::{CallOffer, Called};
 use pc_class::Listing;
 use pc_source::OutOfMemory;
@@ -23,7 +23,7 @@ use pc_tree::{Code, Name};
 use pc_types::TypeStore;
 use std::alloc::Global;
 
-/// What is expected of an argument or an item, and what it flows into.
+/// The expected type of an argument or an item, if there is one, and the types that it flows into.
 #[derive(Drop)]
 pub struct Seat<Ty: Drop> {
     pub want: Option<Ty>,
@@ -37,7 +37,8 @@ pub enum Argument<'n> {
     Name(&'n str),
 }
 
-/// The place in a list of the parameter that an argument is for: its own position, or that of the first of its name.
+/// Returns the number of the parameter in a list that an argument is for: its own position, or the first parameter of
+/// its name.
 fn listed_place<Ty: Drop>(params: &Listing<'_, Ty>, argument: Argument) -> Option<usize>
     ensures { result ≡ number_for argument.entry (names_listed (listed_in params.now)) }
 {
@@ -47,7 +48,7 @@ fn listed_place<Ty: Drop>(params: &Listing<'_, Ty>, argument: Argument) -> Optio
     }
 }
 
-/// The type of a parameter of a list: the one at a position, or the first of a name.
+/// Returns the type of the parameter in a list that an argument is for, if there is one.
 fn listed_type<S: TypeStore>(
     store: &S,
     alloc: Global,
@@ -72,7 +73,8 @@ fn listed_type<S: TypeStore>(
     }
 }
 
-/// The number of the parameter of a built-in that an argument is for: by position, since they have the empty name.
+/// Returns the number of the parameter of a built-in that an argument is for: its position. Its parameters all have the
+/// empty name, so an argument of that name is for the first.
 fn builtin_number(argument: Argument) -> Option<usize>
     ensures { result ≡ builtin_number argument.entry }
 {
@@ -82,7 +84,7 @@ fn builtin_number(argument: Argument) -> Option<usize>
     }
 }
 
-/// The type that an argument of a built-in flows into.
+/// Returns the type that an argument of a built-in flows into, if there is such a parameter.
 fn builtin_type<S: TypeStore>(
     store: &S,
     alloc: Global,
@@ -107,7 +109,7 @@ fn builtin_type<S: TypeStore>(
     }
 }
 
-/// The type of a parameter of what is called: the one at a position, or the first of a name.
+/// Returns the type of the parameter that an argument is for: the one at its position, or the first of its name.
 fn type_for<S: TypeStore>(
     store: &S,
     alloc: Global,
@@ -126,7 +128,7 @@ fn type_for<S: TypeStore>(
     }
 }
 
-/// The type that an argument flows into where one member is called, if anything is called there.
+/// Returns the type that an argument flows into on one member, if a signature is called there.
 fn offered_type<S: TypeStore>(
     store: &S,
     alloc: Global,
@@ -145,7 +147,7 @@ fn offered_type<S: TypeStore>(
     }
 }
 
-/// Adds a type, if there is one.
+/// Appends a type, if there is one.
 fn push_type<Ty: Drop>(types: &mut Vec<Ty>, ty: Option<Ty>) -> Result<(), OutOfMemory>
     ensures { OnOk result (types.new.items ≡ types.old.items ++ option_to_list ty) }
 {
@@ -155,7 +157,7 @@ fn push_type<Ty: Drop>(types: &mut Vec<Ty>, ty: Option<Ty>) -> Result<(), OutOfM
     Ok(())
 }
 
-/// The types that an argument flows into, one for each member that is called.
+/// Returns the types that an argument flows into, one for each member with such a parameter.
 fn types_for<S: TypeStore>(
     store: &S,
     alloc: Global,
@@ -176,7 +178,7 @@ fn types_for<S: TypeStore>(
     Ok(types)
 }
 
-/// Whether an error is found at the callee or at the call.
+/// Returns whether an error is found at the callee or at the call.
 pub fn is_in_error<Ty: Drop>(offers: &[CallOffer<'_, Ty>]) -> bool
     ensures { (tree : Ty → Tree) → result ≡ has_error (all_codes (map (offer_called tree) offers.now)) }
 {
@@ -188,7 +190,7 @@ pub fn is_in_error<Ty: Drop>(offers: &[CallOffer<'_, Ty>]) -> bool
     false
 }
 
-/// Whether a code that there may be is an error.
+/// Returns whether there is a code and it is an error.
 fn is_error(code: Option<Code>) -> bool
     ensures { result ≡ has_error (option_to_list code) }
 {
@@ -198,7 +200,7 @@ fn is_error(code: Option<Code>) -> bool
     }
 }
 
-/// The types that an argument flows into; where something is in error it flows nowhere.
+/// Returns the types that an argument flows into; none if there is an error at the callee or at the call.
 fn flow_types<S: TypeStore>(
     store: &S,
     alloc: Global,
@@ -217,7 +219,8 @@ fn flow_types<S: TypeStore>(
     Ok(types)
 }
 
-/// What is expected of an argument: the type that it flows into, where one member is called and there is one such type.
+/// Returns the expected type of an argument: the type that it flows into, if one member is called and there is one such
+/// type.
 fn wanted<S: TypeStore>(
     store: &S,
     alloc: Global,
@@ -234,8 +237,8 @@ fn wanted<S: TypeStore>(
     Ok(None)
 }
 
-/// The seat of an argument: it flows into the parameter there of each member that is called, and is expected of its
-/// type where one member is called. Language Reference 6.3.4 "Calls".
+/// Returns the seat of an argument: it flows into its parameter on each member that is called, and that type is
+/// expected if one member is called. Language Reference 6.3.4 "Calls".
 fn seat_of<S: TypeStore>(
     store: &S,
     alloc: Global,
@@ -251,7 +254,7 @@ fn seat_of<S: TypeStore>(
     Ok(Seat { want, into })
 }
 
-/// The seat of an argument by position. Language Reference 6.3.4 "Calls".
+/// Returns the seat of an argument by position. Language Reference 6.3.4 "Calls".
 pub fn positional_seat<S: TypeStore>(
     store: &S,
     alloc: Global,
@@ -265,7 +268,7 @@ pub fn positional_seat<S: TypeStore>(
     seat_of(store, alloc, offers, Argument::Position(position))
 }
 
-/// The seat of an argument by name. Language Reference 6.3.4 "Calls".
+/// Returns the seat of an argument by name. Language Reference 6.3.4 "Calls".
 pub fn named_seat<S: TypeStore>(
     store: &S,
     alloc: Global,
@@ -279,13 +282,13 @@ pub fn named_seat<S: TypeStore>(
     seat_of(store, alloc, offers, Argument::Name(name))
 }
 
-/// The seat of an argument by name after arguments of these names: of a name given twice the later argument flows
+/// Returns the seat of an argument by name after arguments of these names. One whose name was given before flows
 /// nowhere. Own rule of the profile.
 pub fn keyword_seat<S: TypeStore>(
     store: &S,
     alloc: Global,
     offers: &[CallOffer<'_, S::Ty>],
-    before: &Names,
+    before: &KeywordNames,
     name: &Name,
 ) -> Result<Seat<S::Ty>, OutOfMemory>
     requires { All (HasCallOffer (S.has store.now)) offers.now }

@@ -1,5 +1,5 @@
--- Walks keep the number of locals, and statements leave each local that they do not touch as it is: so what agreed with
--- the environment before them agrees with that after them.
+-- Walks keep the number of locals, and statements leave each local that they do not touch unchanged: so whatever agreed
+-- with the environment before them agrees with the one after them.
 use Rattle.std.proofs.Common.{◌≡◌, ◌∙◌, ℕ, List, [], ◌∷◌, ◌++◌, Option, Some, None, length, append-nil, refl, sym}
 use Rattle.std.proofs.Common.{subst}
 use Rattle.std.specs.Prelude.{Bool as Test, true, false, nat_eq}
@@ -12,8 +12,8 @@ use Rattle.pc_tree.specs.Tree.{Name, Expr, Stmt, Stmts, Branches}
 use Rattle.pc_tree.specs.Tree.{conditional, no_stmts, more_stmts, no_branches}
 use Rattle.pc_tree.specs.Tree.{more_branches}
 use Rattle.pc_tree.specs.Stopping.{bound_by, bound_by_stmt, bound_by_branches}
-use Rattle.pc_scope.specs.declared.resolution.Res.{Res}
-use Rattle.pc_scope.specs.declared.resolution.Res.TheVariants as res
+use Rattle.pc_scope.specs.declared.resolution.NameMeaning.{NameMeaning}
+use Rattle.pc_scope.specs.declared.resolution.NameMeaning.TheVariants as res
 use Rattle.pc_types.specs.Tree.{Tree}
 use Rattle.pc_types.specs.Below.{Bases}
 use Rattle.pc_class.specs.Facts.{TypedParameter}
@@ -84,7 +84,7 @@ Outside locals x = is_among locals x ≡ false
 
 -- ---- locals that branches touch
 
--- what is among some is each of these, where they have the same
+-- a list of locals is among others if each of its members is
 among_each : (locals xs : List ℕ) → ((x : ℕ) → is_among xs x ≡ true → is_among locals x ≡ true) → AreAmong locals xs
 among_each locals [] f = tt
 among_each locals (x ∷ xs) f = (
@@ -99,7 +99,7 @@ among_both : (locals xs ys : List ℕ) → AreAmong locals xs → AreAmong local
 among_both locals [] ys h k = k
 among_both locals (x ∷ xs) ys h k = (h.0, among_both locals xs ys h.1 k)
 
-module _ (resolve : List ℕ → Res) (locals : List ℕ) where
+module _ (resolve : List ℕ → NameMeaning) (locals : List ℕ) where
   names_parts : (a b : List Name) → AreAmong locals (numbers_of resolve (a ++ b))
       → AreAmong locals (numbers_of resolve a) × AreAmong locals (numbers_of resolve b)
   names_parts a b h =
@@ -157,10 +157,10 @@ well_formed_if_any has tree bases None h = tt
 well_formed_if_any has tree bases (Some types) h = h.well_formed
 
 module _ (context : BodyContext) (locals : List ℕ) where
-  abbrev resolved : List ℕ → Res
+  abbrev resolved : List ℕ → NameMeaning
   resolved = context.context.resolve
 
-  -- what agrees with an environment agrees with what is as that one
+  -- a base that agrees with an environment outside some locals agrees with each one that is the same there
   agree_kept : (base : Option Env) (env : Env) (out : Option Env) → WaysAgree locals base (Some env)
       → IsKeptIfAny (Outside locals) env out → WaysAgree locals base out
   agree_kept None env out h g = tt
@@ -273,7 +273,7 @@ module _ (context : BodyContext) (locals : List ℕ) where
       (sym l) (record { long = refl; same = λ x k. refl }) tt apart.0 apart.1 in
       agree_kept base last (Some (walk_branches context start bs).last) a behind.last_here
 
-  -- what the branches and the suite of `else` of an `if` touch
+  -- if the locals that an `if` touches are among some, so are those of its branches and of its suite of `else`
   pub if_parts : (p : Place) (bs : Branches) (o : Stmts)
       → AreAmong locals (touched_by_stmt resolved (conditional p bs o))
       → AreAmong locals (touched_by_branches resolved bs) × AreAmong locals (touched_by resolved o)
@@ -316,7 +316,7 @@ module _ (context : BodyContext) (locals : List ℕ) where
 
 -- ---- the entry of a function
 
-entered_name_long : (table : Table) (env : Env) (r : Res) (t : Tree) → length env ≡ length table
+entered_name_long : (table : Table) (env : Env) (r : NameMeaning) (t : Tree) → length env ≡ length table
     → length (enter_name table env r t).1 ≡ length (enter_name table env r t).0
 entered_name_long table env (res.Local x) t l = go (bound_type table x)
   where
@@ -329,7 +329,7 @@ entered_name_long table env (res.Class i) t l = l
 entered_name_long table env (res.Builtin b) t l = l
 entered_name_long table env res.None t l = l
 
-pub entered_long : (resolve : List ℕ → Res) (table : Table) (env : Env) (ps : List TypedParameter)
+pub entered_long : (resolve : List ℕ → NameMeaning) (table : Table) (env : Env) (ps : List TypedParameter)
     → length env ≡ length table → length (enter_parameters resolve table env ps).1
     ≡ length (enter_parameters resolve table env ps).0
 entered_long resolve table env [] l = l

@@ -1,4 +1,5 @@
--- What the way out of a loop takes in: which of it stays taken in, and which is noted, as statements go by.
+-- The exit environment of a loop: the locals where it keeps subsuming the environment over statements, and those that
+-- are noted.
 use Rattle.std.proofs.Common.{◌≡◌, ◌∙◌, ℕ, List, ◌++◌, Option, Some, None, refl, sym, subst}
 use Rattle.std.specs.Prelude.{Bool as Test, true, false, ◌||◌, nat_eq}
 use Rattle.std.specs.Option.{option_map}
@@ -22,7 +23,7 @@ pub self_agrees : (locals : List ℕ) (env : Option Env) → WaysAgree locals en
 self_agrees locals None = tt
 self_agrees locals (Some env) = λ x k. refl
 
--- what is among the first of two lists, or the second, is among both
+-- a member of the first of two lists, or of the second, is a member of both together
 left_among : (xs ys : List ℕ) (x : ℕ) → is_among xs x ≡ true → is_among (xs ++ ys) x ≡ true
 left_among xs ys x e = list_any-append (nat_eq x) xs ys ∙ or_left (is_among xs x) (is_among ys x) e
 
@@ -38,7 +39,7 @@ both_among : (xs ys zs : List ℕ) (x : ℕ) → (is_among xs x ≡ true → is_
 both_among xs ys zs x f g e = either (is_among xs x) (is_among ys x) (is_among zs x) f g
     (sym (list_any-append (nat_eq x) xs ys) ∙ e)
 
--- what is noted where there is a way out, whatever types mean
+-- locals are noted where there is an exit environment, whatever its types mean
 noted_of : {A B : Type 0} (f : A → B) (way : Option A) (before touched after : List ℕ)
     → AreNoted way before touched after → AreNoted (option_map f way) before touched after
 noted_of f None before touched after h = tt
@@ -56,7 +57,7 @@ module _ (bases : Bases) where
       → WayTakesIn bases (xs ++ ys) way out
   way_more xs ys way out h = way_weaker xs (xs ++ ys) way out (λ x e. left_among xs ys x e) h
 
-  -- what takes in an environment takes in one with which that one agrees
+  -- an exit environment that subsumes an environment subsumes each one that agrees with it
   pub way_before : (unsettled locals : List ℕ) (way base : Option Env) (env : Env) → WaysAgree locals base (Some env)
       → WayTakesIn bases unsettled way (Some env) → WayTakesIn bases (unsettled ++ locals) way base
   way_before unsettled locals way None env a h = tt

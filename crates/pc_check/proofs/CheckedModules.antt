@@ -1,4 +1,4 @@
--- Walks over the members of a class and over the items of a module, from one on.
+-- Walks over the members of a class and over the items of a module, from one of them on.
 use Rattle.std.proofs.Common.{◌≡◌, ◌<◌, ◌+◌, ℕ, suc, List, ◌∷◌, map, drop, length, get_or, sym, ap, ◌∙◌, subst, arith}
 use Rattle.std.specs.Prelude.{Some, Bool as Test, slice_get}
 use Rattle.pc_source.specs.declared.place.Place.{Place}

@@ -1,5 +1,5 @@
--- What a function is entered with: its receiver and its parameters, declared and assigned; and what is found in its
--- body from there.
+-- The entry of a function: its receiver and its parameters, declared and assigned; and the findings in its body from
+-- there.
 use Rattle.std.proofs.Common.{◌≡◌, ◌∙◌, ◌++◌, ℕ, zero, suc, List, [], ◌∷◌, Option, Some, None, length, refl, sym, ap}
 use Rattle.std.proofs.Common.{subst, arith}
 use Rattle.std.specs.Prelude.{All, Bool as Test, true, false, is_some, replicate, slice_set, slice_index_or}
@@ -8,8 +8,8 @@ use Rattle.std.specs.Option.{option_map, option_copied}
 use Rattle.std.proofs.lemmas.List.Elements.{All-nil, All-head, All-tail, All-cons, All-replicate}
 use Rattle.pc_tree.specs.Tree.{FuncDef, Module}
 use Rattle.pc_scope.specs.declared.resolution.Owner.{Owner}
-use Rattle.pc_scope.specs.declared.resolution.Res.{Res}
-use Rattle.pc_scope.specs.declared.resolution.Res.TheVariants as res
+use Rattle.pc_scope.specs.declared.resolution.NameMeaning.{NameMeaning}
+use Rattle.pc_scope.specs.declared.resolution.NameMeaning.TheVariants as res
 use Rattle.pc_scope.specs.Resolution.{locals}
 use Rattle.pc_types.specs.Tree.{Tree}
 use Rattle.pc_types.specs.Below.{Bases}
@@ -31,7 +31,7 @@ use Rattle.pc_module_rules.specs.Modules.{entry_parameters, receiver_parameter}
 use Rattle.pc_walk.specs.StatementsHeld.{HoldsType, HoldsTypes}
 use Rattle.pc_walk.proofs.Bound.{set_gives, bound_is}
 
--- what is borrowed is none where there is none
+-- the copy of a borrow that is not there is not there
 pub none_copied : {Ty : Type 0} (o : Option (Bor Ty)) → is_some o ≡ false → option_copied o ≡ None
 none_copied None e = refl
 none_copied (Some ty) e = absurd (grind (arith, e))
@@ -62,8 +62,8 @@ pub none_is : {Ty : Type 0} (tree : Ty → Tree) (n : ℕ) → env_of tree (repl
 none_is tree zero = refl
 none_is tree (suc n) = ap (λ l. None ∷ l) (none_is tree n)
 
--- what a name comes to at the entry that means no local, or one that is bound already
-pub name_elsewhere : (table : Table) (env : Env) (r : Res) (t : Tree) → ((x : ℕ) → r ≡ res.Local x → ⊥)
+-- entering a name that means no local, or a local that is already bound, changes nothing
+pub name_elsewhere : (table : Table) (env : Env) (r : NameMeaning) (t : Tree) → ((x : ℕ) → r ≡ res.Local x → ⊥)
     → enter_name table env r t ≡ (table, env)
 name_elsewhere table env (res.Local x) t h = absurd (h x refl)
 name_elsewhere table env (res.Const i) t h = refl
@@ -124,7 +124,7 @@ module _ {Store Ty : Type 0} (has : Store → Ty → Type 0) (tree : Ty → Tree
       }
 
 -- parameters one after another
-enter_both : (resolve : List ℕ → Res) (table : Table) (env : Env) (ps qs : List TypedParameter)
+enter_both : (resolve : List ℕ → NameMeaning) (table : Table) (env : Env) (ps qs : List TypedParameter)
     → enter_parameters resolve table env (ps ++ qs) ≡ enter_parameters resolve
     (enter_parameters resolve table env ps).0 (enter_parameters resolve table env ps).1 qs
 enter_both resolve table env [] qs = refl
@@ -136,7 +136,7 @@ abbrev walk_from : BodyContext → FuncDef → List Note → Table × Env → Wa
 walk_from context f found start = walk_suite context (record
     { table = start.0; env = Some start.1; broken = None; found = found }) f.body
 
--- what is found in a function of so many locals that is entered with these parameters
+-- the findings in a function with so many locals that is entered with these parameters
 abbrev found_from : BodyContext → FuncDef → List Note → ℕ → List TypedParameter → List Note
 found_from context f found n ps =
     let body = walk_from context f found (enter_parameters context.context.resolve (none_assigned n) (none_assigned n)
@@ -144,7 +144,7 @@ found_from context f found n ps =
     in
     body.found ++ end_finds context.context.bases context.returned f.name.place body.env
 
--- what is found in a function, by what its receiver, its parameters and its body come to
+-- the findings in a function, by what its receiver, its parameters and its body come to
 pub function_found : (keeps : Test) (m : Module) (constants : List Tree) (owner : Owner) (f : FuncDef)
     (context : BodyContext)
     (found : List Note) (n : ℕ) (middle start : Table × Env) (body : Walk) →

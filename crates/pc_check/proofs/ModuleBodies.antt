@@ -1,4 +1,4 @@
--- What the bodies of a module stand in: types stay of the store, signatures are those of the module's functions, and a
+-- The context of the bodies of a module: types stay of the store, signatures are those of the module's functions, and a
 -- context is that of a body.
 use Rattle.std.proofs.Common.{◌≡◌, ℕ, List, map, length, refl, sym, ap, subst, ◌∙◌, All, arith}
 use Rattle.std.specs.Prelude.{Bool as Test, true, Option, Some, None, slice_get, unwrap_or}
@@ -12,7 +12,7 @@ use Rattle.pc_scope.specs.ModuleScopes.{ModuleScopes, AreScopes}
 use Rattle.pc_scope.specs.Tables.{meaning_by_tables}
 use Rattle.pc_scope.specs.declared.resolution.Owner.{Owner}
 use Rattle.pc_scope.specs.declared.resolution.Owner.TheVariants as owners
-use Rattle.pc_scope.specs.declared.resolution.Res.{Res}
+use Rattle.pc_scope.specs.declared.resolution.NameMeaning.{NameMeaning}
 use Rattle.pc_scope.proofs.Meanings.{means}
 use Rattle.pc_types.specs.Store.{KeepsTypes}
 use Rattle.pc_types.specs.Tree.{Tree}
@@ -23,10 +23,10 @@ use Rattle.pc_rules.specs.Context.{Signature}
 use Rattle.pc_rules.specs.Signatures.{signature_of, signatures_of}
 use Rattle.pc_rules.specs.Computed.Signatures.{class_methods, method_signatures}
 use Rattle.pc_rules.proofs.Kept.{entries_kept}
-use Rattle.pc_headers.proofs.HeldSignatures.{signatures_kept}
+use Rattle.pc_callables.proofs.HeldSignatures.{signatures_kept}
 use Rattle.pc_signatures.specs.SignaturesHeld.{HeldSignatures, HasSigned, signature_numbered, all_signatures_with}
 use Rattle.pc_rules.specs.Computed.Standing.{HasSignature, signature_with}
-use Rattle.pc_rules.specs.declared.setting.Signature.{Signature as RustSignature}
+use Rattle.pc_rules.specs.declared.expr_context.Signature.{Signature as RustSignature}
 use Rattle.pc_check.specs.declared.bodies.ModuleBodies.{ModuleBodies}
 use Rattle.pc_check.specs.Internal.ModuleWalk.{signature_for, IsModuleBodies}
 use Rattle.pc_module_rules.specs.Computed.Statements.{BodyContext, body_context_of}
@@ -42,7 +42,7 @@ module _ {Store Ty : Type 0} (has : Store → Ty → Type 0) (tree : Ty → Tree
         (signatures_kept has a b k) s.methods h.methods;
   }
 
-  -- what bodies stand in stays that of their module
+  -- the context of bodies stays that of their module
   pub bodies_kept : (s : ModuleBodies Ty) → IsModuleBodies (has a) tree s → IsModuleBodies (has b) tree s
   bodies_kept s h = record {
     outline = h.outline;
@@ -67,7 +67,7 @@ mapped_number : {X Y : Type 0} (f : X → Y) (o : Option (List X)) (i : ℕ)
 mapped_number f None i = refl
 mapped_number f (Some xs) i = sym (slice_get-map f xs i)
 
--- what is held of each is held of the one of a number
+-- a fact of each element is a fact of the one with a given number
 at_number : {X : Type 0} (P : X → Type 0) (xs : List X) (i : ℕ) (x : X) → All P xs → slice_get xs i ≡ Some x → P x
 at_number P xs i x h e = subst P (sym (unwrap_or-slice_get xs i x) ∙ ap (λ o. unwrap_or o x) e)
     (All-get_or P xs i x (slice_get_within xs i x e) h)
@@ -123,9 +123,9 @@ module _ (m : Module) where
 
   -- ---- contexts of bodies
 
-  -- what a context stands in, part by part
+  -- the context of a body, part by part
   pub context_is : (keeps : Test) (owner : Owner) (f : FuncDef) (bases : Bases) (classes : List ClassFacts)
-      (functions : List Signature) (constants : List Tree) (known : ℕ) (resolve : List ℕ → Res) (returns : Tree)
+      (functions : List Signature) (constants : List Tree) (known : ℕ) (resolve : List ℕ → NameMeaning) (returns : Tree)
       → bases ≡ bases_of m → classes ≡ classes_of m → functions ≡ signatures_of m
       → known ≡ length (classes_in m.items) → resolve ≡ resolve_among m (locals owner f) → returns ≡ return_type m f
       → (let k : BodyContext = record {

@@ -1,5 +1,5 @@
--- What a suite comes to, at the locals that it does not touch: it is as the environment before it, so what took that in
--- takes in both.
+-- The environment after a suite agrees with the one before it at the locals that it does not touch, so whatever
+-- subsumed the one there subsumes both.
 use Rattle.std.proofs.Common.{◌≡◌, ◌∙◌, ℕ, List, ◌++◌, Some, length, refl, sym, ap, subst}
 use Rattle.std.specs.Prelude.{true, false, Option}
 use Rattle.pc_tree.specs.Tree.{Expr, Stmts}

@@ -1,4 +1,4 @@
--- What a walk over statements comes to, put together from its parts.
+-- The state of a walk over statements, put together from its steps.
 use Rattle.std.proofs.Common.{◌≡◌, ◌∙◌, ◌++◌, ◌≤◌, ℕ, List, Option, Some, None, length, drop, sym, ap, subst}
 use Rattle.std.proofs.Common.{append_assoc}
 use Rattle.std.specs.Prelude.{Bool as Test, true, false}
@@ -18,7 +18,7 @@ use Rattle.pc_module_rules.specs.Computed.Statements.{narrowed_at}
 use Rattle.pc_module_rules.specs.Computed.Statements.{with_way, behind_branches, walk_suite, walk_branches}
 use Rattle.pc_walk.specs.StatementsHeld.{body_context_with}
 use Rattle.pc_walk.specs.declared.walk.Walk.{Walk}
-use Rattle.pc_walk.specs.Walks.{HoldsEnv, HoldsWay, GoesOn, IsQuiet, Found, body_context_in, standing_in}
+use Rattle.pc_walk.specs.Walks.{HoldsEnv, HoldsWay, WalkKept, IsQuiet, Found, body_context_in, standing_in}
 use Rattle.pc_walk.proofs.Walks.{context_on, env_kept, way_kept}
 use Rattle.pc_check.specs.Internal.Walked.{StandsIn, Walked, reached}
 
@@ -29,11 +29,11 @@ no_statement_left body i h = ap stmts_of_list (drop_all i body h)
 pub no_branch_left : (bs : List RustBranch) (i : ℕ) → length bs ≤ i → branches_of_list (drop i bs) ≡ no_branches
 no_branch_left bs i h = ap branches_of_list (drop_all i bs h)
 
--- what is found in two parts was found in turn
+-- notes appended for two parts together were appended for one after the other
 pub in_turn : (old first second new : List Note) → new ≡ old ++ (first ++ second) → new ≡ (old ++ first) ++ second
 in_turn old first second new e = e ∙ sym (append_assoc old first second)
 
--- what a walk has come to, by what was found
+-- the state of a walk, by what was found
 abbrev pub reached_by : Table → (env broken : Option Env) → List Note → Reached
 reached_by table env broken found = record { table = table; env = env; broken = broken; found = found }
 
@@ -80,8 +80,8 @@ module _ (context : BodyContext) where
 
 module _ {Store Ty : Type 0} (S : StoreOf Store Ty) where
   module _ (old new : Walk Store Ty) (env : List (Option Ty)) (finds : BodyContext → Standing → List Note)
-      (g : GoesOn S old new) (a : Found S old env new finds) where
-    -- what a walk has come to after a step that found something
+      (g : WalkKept S old new) (a : Found S old env new finds) where
+    -- the state of a walk after a step that found something
     pub found_reached : (behind way : Option (List (Option Ty)))
         → reached S new behind way
         ≡ reached_by (env_of S.tree old.declared.now) (option_map (env_of S.tree) behind)
@@ -104,14 +104,14 @@ module _ {Store Ty : Type 0} (S : StoreOf Store Ty) where
       out = way_kept S old new way g k;
     }
 
-    -- what a condition tells there is what it told before
+    -- a condition narrows an environment as it did before
     pub same_narrowed : (holds : Test) (c : Expr)
         → narrowed_at (body_context_in S new) (env_of S.tree new.declared.now) holds c (env_of S.tree env)
         ≡ narrowed_at (body_context_in S old) (env_of S.tree old.declared.now) holds c (env_of S.tree env)
     same_narrowed holds c = λ i. narrowed_at (body_context_with S.tree (g.context i))
         (env_of S.tree (a.declared i)) holds c (env_of S.tree env)
 
-  module _ (old new : Walk Store Ty) (g : GoesOn S old new) (q : IsQuiet S old new) where
+  module _ (old new : Walk Store Ty) (g : WalkKept S old new) (q : IsQuiet S old new) where
     -- after a quiet step a walk stands as before it
     pub quiet_stands : (env way : Option (List (Option Ty))) → StandsIn S old env way → StandsIn S new env way
     quiet_stands env way h = record {
@@ -122,7 +122,7 @@ module _ {Store Ty : Type 0} (S : StoreOf Store Ty) where
       out = way_kept S old new way g h.out;
     }
 
-    -- what it has come to
+    -- the state of the walk is the same as before
     pub quiet_reached : (env way : Option (List (Option Ty))) → reached S new env way ≡ reached S old env way
     quiet_reached env way = λ i. record {
       table = env_of S.tree (q.declared i);
@@ -131,24 +131,24 @@ module _ {Store Ty : Type 0} (S : StoreOf Store Ty) where
       found = q.found i;
     }
 
-    -- what a condition tells in an environment that means this one
+    -- a condition narrows an environment as it narrows the one that it means
     pub narrowed_from : (env : List (Option Ty)) (first : Env) → env_of S.tree env ≡ first → (holds : Test) (c : Expr)
         → narrowed_at (body_context_in S new) (env_of S.tree new.declared.now) holds c (env_of S.tree env)
         ≡ narrowed_at (body_context_in S old) (env_of S.tree old.declared.now) holds c first
     narrowed_from env first e holds c = λ i. narrowed_at (body_context_with S.tree (g.context i))
         (env_of S.tree (q.declared i)) holds c (e i)
 
-    -- what is found in it
+    -- the findings in it
     pub finds_from : (env : List (Option Ty)) (first : Env) → env_of S.tree env ≡ first → (c : Expr)
         → notes_of new.found.now ++ finds_in (standing_in S new env) None c
         ≡ notes_of old.found.now ++ finds_in (at (body_context_in S old) (env_of S.tree old.declared.now) first) None c
     finds_from env first e c = λ i. q.found i ++ finds_in (at (body_context_with S.tree (g.context i))
         (env_of S.tree (q.declared i)) (e i)) None c
 
-  -- what a walk comes to that began after other steps
+  -- the result of a walk that began after other steps
   pub walks_on : (old mid new : Walk Store Ty) (env way behind later : Option (List (Option Ty)))
       (walks : BodyContext → Reached → Reached)
-      → GoesOn S old mid → Walked S mid env way new behind later walks
+      → WalkKept S old mid → Walked S mid env way new behind later walks
       → reached S new behind later ≡ walks (body_context_in S old) (reached S mid env way)
   walks_on old mid new env way behind later walks g w =
       w.is ∙ (λ i. walks (body_context_with S.tree (g.context i)) (reached S mid env way))

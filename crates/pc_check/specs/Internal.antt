@@ -1,4 +1,4 @@
--- What only the contracts of private functions say: the public contracts speak of definitions of the crates below.
+-- Definitions used only by the contracts of private functions; public contracts cite definitions of the crates below.
 pub mod Entry
 pub mod ModuleWalk
 pub mod StatementWalk

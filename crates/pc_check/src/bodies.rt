@@ -6,31 +6,31 @@ ghost use Rattle.std.specs.Option.{option_copied};
 ghost use Rattle.pc_tree.specs.Tree.{func_of};
 ghost use Rattle.pc_scope.specs.Resolution.{function_of};
 ghost use Rattle.pc_notes.specs.Notes.{notes_of};
-ghost use Rattle.pc_rules.specs.Computed.Checkers.{GoesOn};
+ghost use Rattle.pc_rules.specs.Computed.Checkers.{CheckerKept};
 ghost use Rattle.pc_rules.specs.Computed.Signatures.{constants_of};
 ghost use Rattle.pc_module_rules.specs.Computed.Statements.{function_finds};
 ghost use Rattle.pc_check.specs.Internal.ModuleWalk.{module_in, signature_for, IsModuleBodies};
 
 use crate::entering::check_function;
 use pc_flow::OwnerNames;
-use pc_rules::{Checker, ModuleContext, Signature};
+use pc_rules::{ModuleContext, Signature, TypingState};
 use pc_scope::Owner;
-use pc_signatures::Sigs;
+use pc_signatures::Signatures;
 use pc_source::OutOfMemory;
 use pc_tree::FuncDef;
 use pc_types::TypeStore;
 use pc_walk::BodyContext;
 
-/// What the bodies of a module stand in: what they may name, and what the functions and methods of the module take and
-/// return.
+/// The context shared by all function bodies of a module: its globals, and the signatures of its functions and methods.
 #[derive(Drop)]
 pub struct ModuleBodies<'m, Ty: Drop> {
     pub globals: &'m ModuleContext<'m, Ty>,
-    pub signatures: &'m Sigs<Ty>,
+    pub signatures: &'m Signatures<Ty>,
 }
 
-/// What the function or method that an owner is takes and returns, if there is one.
-fn signature_for<Ty: Drop>(signatures: &Sigs<Ty>, owner: Owner) -> Option<&Signature<Ty>>
+/// Returns the signature of the function or method that `owner` names; `None` for the module itself, or if there is no
+/// such function.
+fn signature_for<Ty: Drop>(signatures: &Signatures<Ty>, owner: Owner) -> Option<&Signature<Ty>>
     ensures { option_copied result ≡ signature_for signatures.now owner }
 {
     match owner {
@@ -40,10 +40,11 @@ fn signature_for<Ty: Drop>(signatures: &Sigs<Ty>, owner: Owner) -> Option<&Signa
     }
 }
 
-/// Finds what stands in the body of a function or method of the module, and at its name.
-/// Language Reference 3.12, 8.7 "Function definitions".
+/// Checks the body of the function or method that `owner` names. Appends its findings, and E21 at its name if its end
+/// is reachable and `None` is not a static subtype of its return type. Language Reference 3.12, 8.7 "Function
+/// definitions".
 pub(crate) fn check_owned<S: TypeStore>(
-    checker: &mut Checker<'_, S>,
+    checker: &mut TypingState<'_, S>,
     bodies: &ModuleBodies<'_, S::Ty>,
     owner: Owner,
     def: &FuncDef,
@@ -53,7 +54,7 @@ pub(crate) fn check_owned<S: TypeStore>(
     ensures found { OnOk result
         (notes_of checker.new.found.now ≡ function_finds bodies.now.globals.now.keeps (module_in bodies.now)
         (constants_of (module_in bodies.now)) owner (func_of def.now) (notes_of checker.old.found.now)) }
-    ensures goes_on { GoesOn S.TypeStore checker.old checker.new }
+    ensures goes_on { CheckerKept S.TypeStore checker.old checker.new }
 {
     match signature_for(bodies.signatures, owner) {
         None => Ok(()),

@@ -1,4 +1,4 @@
-//! The walk over the body of a function, from its entry.
+//! The check of the body of a function, from its entry.
 
 #![tactic(auto, using(pc_walk::proofs::Walks::goes_further))]
 
@@ -10,27 +10,27 @@ ghost use Rattle.pc_class.specs.Tables.{HasParameter, parameters_with};
 ghost use Rattle.pc_class.specs.Facts.{parameters_of};
 ghost use Rattle.pc_flow.specs.Stored.{env_of};
 ghost use Rattle.pc_notes.specs.Notes.{notes_of};
-ghost use Rattle.pc_rules.specs.Computed.Checkers.{GoesOn as CheckerGoesOn};
+ghost use Rattle.pc_rules.specs.Computed.Checkers.{CheckerKept as CheckerGoesOn};
 ghost use Rattle.pc_module_rules.specs.Modules.{receiver_parameter};
 ghost use Rattle.pc_module_rules.specs.Computed.Statements.{body_context_of, function_finds, enter_parameters};
 ghost use Rattle.pc_module_rules.specs.Computed.Statements.{enter_name};
 ghost use Rattle.pc_module_rules.specs.Computed.Statements.{end_finds};
 ghost use Rattle.pc_walk.specs.StatementsHeld.{body_context_with, HoldsContext};
-ghost use Rattle.pc_walk.specs.Walks.{Stands, HoldsOne, GoesOn, Bound, body_context_in};
+ghost use Rattle.pc_walk.specs.Walks.{Stands, HoldsOne, WalkKept, Bound, body_context_in};
 ghost use Rattle.pc_check.specs.Internal.Entry.{HoldsParameters, entered};
 
 use crate::statements::check_suite;
 use pc_class::Parameter;
 use pc_flow::{DeclaredTypes, Env};
-use pc_rules::Checker;
-use pc_scope::{Owner, Res};
+use pc_rules::TypingState;
+use pc_scope::{NameMeaning, Owner};
 use pc_source::{OutOfMemory, Place};
 use pc_tree::{Code, FuncDef};
 use pc_types::TypeStore;
 use pc_walk::{BodyContext, Walk};
 
-/// Declares and assigns what a name means at the entry of a function, with this type. A name that is bound already, or
-/// reserved, binds nothing.
+/// Gives the local that `name` means the declared type `ty`, and makes `ty` its current type in `env`. Does nothing if
+/// `name` means no local, or a local that already has a declared type.
 fn enter_name<S: TypeStore>(
     walk: &mut Walk<'_, S>,
     env: &mut Env<S::Ty>,
@@ -41,9 +41,9 @@ fn enter_name<S: TypeStore>(
     requires ty { HoldsOne S.TypeStore walk.old ty.now }
     ensures bound { OnOk result (Bound S.TypeStore walk.old env.old walk.new env.new
         (λ f t k. entered (enter_name t k (f.context.resolve name.now) (S.tree ty.now)))) }
-    ensures goes_on { GoesOn S.TypeStore walk.old walk.new }
+    ensures goes_on { WalkKept S.TypeStore walk.old walk.new }
 {
-    let Res::Local(local) = walk.context.names.resolve(name) else {
+    let NameMeaning::Local(local) = walk.context.names.resolve(name) else {
         return Ok(());
     };
     if walk.declared.declared(local).is_some() {
@@ -56,7 +56,8 @@ fn enter_name<S: TypeStore>(
     Ok(())
 }
 
-/// Declares and assigns the parameters of a function. Language Reference 8.7 "Function definitions".
+/// Gives the local of each parameter, in order, the parameter's type as its declared type and as its current type in
+/// `env`. Of parameters with one name, the first counts. Language Reference 8.7 "Function definitions".
 fn enter<S: TypeStore>(
     walk: &mut Walk<'_, S>,
     env: &mut Env<S::Ty>,
@@ -66,7 +67,7 @@ fn enter<S: TypeStore>(
     requires params { HoldsParameters S.TypeStore walk.old params.now }
     ensures bound { OnOk result (Bound S.TypeStore walk.old env.old walk.new env.new
         (λ f t k. entered (enter_parameters f.context.resolve t k (parameters_with S.tree params.now)))) }
-    ensures goes_on { GoesOn S.TypeStore walk.old walk.new }
+    ensures goes_on { WalkKept S.TypeStore walk.old walk.new }
 {
     for param in params {
         enter_name(walk, env, param.name.as_str(), &param.ty)?;
@@ -74,7 +75,8 @@ fn enter<S: TypeStore>(
     Ok(())
 }
 
-/// Declares and assigns `self` in a method, of its class. Language Reference 3.2.8.2 "Instance methods".
+/// Gives the local named `self` of a method the method's class as its declared type and as its current type in `env`.
+/// Does nothing if `owner` is no method. Language Reference 3.2.8.2 "Instance methods".
 fn enter_receiver<S: TypeStore>(
     walk: &mut Walk<'_, S>,
     env: &mut Env<S::Ty>,
@@ -83,7 +85,7 @@ fn enter_receiver<S: TypeStore>(
     requires { Stands S.TypeStore walk.old env.old }
     ensures bound { OnOk result (Bound S.TypeStore walk.old env.old walk.new env.new
         (λ f t k. entered (enter_parameters f.context.resolve t k (receiver_parameter owner)))) }
-    ensures goes_on { GoesOn S.TypeStore walk.old walk.new }
+    ensures goes_on { WalkKept S.TypeStore walk.old walk.new }
 {
     match owner {
         Owner::Module => Ok(()),
@@ -96,8 +98,9 @@ fn enter_receiver<S: TypeStore>(
     }
 }
 
-/// Finds that the end of a function's body can be reached where it doesn't return `None`.
-/// Typing specification, "Return types of functions whose end is reached"; own rule of the profile.
+/// Appends E21 at the name of a function if the end of its body is reachable (`out` is not `None`) and `None` is not a
+/// static subtype of its return type. Typing specification, "Return types of functions whose end is reached"; own rule
+/// of the profile.
 fn find_end<S: TypeStore>(
     walk: &mut Walk<'_, S>,
     name: Place,
@@ -107,7 +110,7 @@ fn find_end<S: TypeStore>(
     ensures pushed { OnOk result (notes_of walk.new.found.now ≡ notes_of walk.old.found.now
         ++ end_finds walk.old.context.globals.now.outline.now.parents.now (S.tree walk.old.context.returned.now) name
         (option_map (env_of S.tree) out.now)) }
-    ensures goes_on { GoesOn S.TypeStore walk.old walk.new }
+    ensures goes_on { WalkKept S.TypeStore walk.old walk.new }
 {
     if out.is_none() {
         return Ok(());
@@ -122,9 +125,10 @@ fn find_end<S: TypeStore>(
     Ok(())
 }
 
-/// Walks over the body of a function, which has so many locals, none of them declared so far, and finds that its end
-/// can be reached where it doesn't return `None`. Language Reference 8.7 "Function definitions"; own rules of the
-/// profile.
+/// Checks the body of the function or method `def`: declares its receiver and parameters in `walk`, checks its
+/// statements and appends their findings to `walk.found`. Appends E21 at its name if its end is reachable and `None` is
+/// not a static subtype of its return type. `count` is the number of its locals; none of them may have a declared type
+/// yet. Language Reference 8.7 "Function definitions"; own rules of the profile.
 fn walk_function<S: TypeStore>(
     walk: &mut Walk<'_, S>,
     owner: Owner,
@@ -145,7 +149,7 @@ fn walk_function<S: TypeStore>(
         (notes_of walk.new.found.now ≡ function_finds walk.old.context.globals.now.keeps
         (module_of walk.old.context.globals.now.outline.now.tree.now)
         (map S.tree walk.old.context.globals.now.constants.now) owner (func_of def.now) (notes_of walk.old.found.now)) }
-    ensures goes_on { GoesOn S.TypeStore walk.old walk.new }
+    ensures goes_on { WalkKept S.TypeStore walk.old walk.new }
 {
     let mut env = Env::new(walk.alloc, count)?;
     enter_receiver(walk, &mut env, owner)?;
@@ -157,10 +161,11 @@ fn walk_function<S: TypeStore>(
     Ok(())
 }
 
-/// Finds what stands in the body of a function, which has so many locals, and that its end can be reached where it
-/// doesn't return `None`: a walk of its own. Language Reference 8.7 "Function definitions"; own rules of the profile.
+/// Checks the body of the function or method `def`, which has `count` locals, starting with none of them declared.
+/// Appends its findings to `checker.found`, and E21 at its name if its end is reachable and `None` is not a static
+/// subtype of its return type. Language Reference 8.7 "Function definitions"; own rules of the profile.
 pub(crate) fn check_function<S: TypeStore>(
-    checker: &mut Checker<'_, S>,
+    checker: &mut TypingState<'_, S>,
     context: BodyContext<'_, S::Ty>,
     owner: Owner,
     count: usize,

@@ -17,15 +17,15 @@ use pc_tree::Module;
 use pc_types::TypeStore;
 use std::alloc::Global;
 
-/// The two types of the dynamic flow at a place of a module: the type that flows, and the one that it flows into, under
-/// the lawful labelling of the module. Where several flow dynamically at one place, those of the first; none exactly
-/// where A1 is not found there. It types the whole module anew.
+/// Returns the two types of the dynamic flow at a place of a module: the type that flows, and the type that it flows
+/// into, under the lawful labelling of the module. Of several dynamic flows at the place, the first counts. `None`
+/// exactly if A1 is not found there. Types the whole module anew.
 ///
 /// Typing specification, "Type system concepts", on gradual types; own rule of the profile.
 ///
 /// # Errors
 ///
-/// `OutOfMemory` only when an allocation failed.
+/// `OutOfMemory` only if an allocation failed.
 #[tactic(auto, using(pc_module_rules::proofs::StandingFlows::explains))]
 pub fn explain_flow<S: TypeStore>(
     store: &mut S,

@@ -1,4 +1,4 @@
-//! The types of a module's suites, functions and classes, and what is found in it.
+//! The check of a module: of its suites, functions and classes.
 #![tactic(auto)]
 
 mod bodies;

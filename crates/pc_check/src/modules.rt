@@ -9,16 +9,16 @@ ghost use Rattle.pc_types.specs.Store.{KeepsTypes};
 ghost use Rattle.pc_class.specs.Facts.{classes_of};
 ghost use Rattle.pc_class.specs.Tables.{HasEntries, classes_with};
 ghost use Rattle.pc_notes.specs.Notes.{notes_of};
-ghost use Rattle.pc_rules.specs.Computed.Checkers.{GoesOn};
+ghost use Rattle.pc_rules.specs.Computed.Checkers.{CheckerKept};
 ghost use Rattle.pc_rules.specs.Computed.Signatures.{constants_of};
 ghost use Rattle.pc_module_rules.specs.Computed.Modules.{methods_find, bodies_find, module_notes};
 ghost use Rattle.pc_check.specs.Internal.ModuleWalk.{module_in, IsModuleBodies};
 
 use crate::bodies::{ModuleBodies, check_owned};
-use pc_ann::ModuleOutline;
+use pc_annotations::ModuleOutline;
 use pc_class::ClassTable;
 use pc_notes::Notes;
-use pc_rules::{Checker, ModuleContext};
+use pc_rules::{ModuleContext, TypingState};
 use pc_scope::{Owner, Scopes};
 use pc_signatures::read_signatures;
 use pc_source::OutOfMemory;
@@ -26,7 +26,7 @@ use pc_tree::{ClassDef, Item, ItemKind, Member, Module};
 use pc_types::TypeStore;
 use std::alloc::Global;
 
-/// How many of these items are classes.
+/// Returns the number of classes among items.
 fn count_classes(items: &[Item]) -> usize
     ensures { result ≡ length (classes_in (map item_of items.now)) }
 {
@@ -41,10 +41,10 @@ fn count_classes(items: &[Item]) -> usize
     classes
 }
 
-/// Finds what stands in the bodies of the methods of the class of this number.
-/// Language Reference 3.12, 8.8 "Class definitions".
+/// Checks the bodies of the methods of the class with this number, in text order, and appends their findings. Language
+/// Reference 3.12, 8.8 "Class definitions".
 fn check_methods<S: TypeStore>(
-    checker: &mut Checker<'_, S>,
+    checker: &mut TypingState<'_, S>,
     bodies: &ModuleBodies<'_, S::Ty>,
     class: usize,
     def: &ClassDef,
@@ -54,7 +54,7 @@ fn check_methods<S: TypeStore>(
     ensures found { OnOk result
         (notes_of checker.new.found.now ≡ methods_find bodies.now.globals.now.keeps (module_in bodies.now)
         (constants_of (module_in bodies.now)) class 0 (class_of def.now).members (notes_of checker.old.found.now)) }
-    ensures goes_on { GoesOn S.TypeStore checker.old checker.new }
+    ensures goes_on { CheckerKept S.TypeStore checker.old checker.new }
 {
     let mut methods = 0;
     let members = def.members.as_slice();
@@ -71,16 +71,16 @@ fn check_methods<S: TypeStore>(
     Ok(())
 }
 
-/// Finds what stands in the bodies of the functions and methods of a module, in text order.
+/// Checks the bodies of the functions and methods of a module, in text order, and appends their findings.
 fn check_bodies<S: TypeStore>(
-    checker: &mut Checker<'_, S>,
+    checker: &mut TypingState<'_, S>,
     bodies: &ModuleBodies<'_, S::Ty>,
 ) -> Result<(), OutOfMemory>
     requires { IsModuleBodies (S.has checker.old.store.now) S.tree bodies.now }
     ensures found { OnOk result
         (notes_of checker.new.found.now ≡ bodies_find bodies.now.globals.now.keeps (module_in bodies.now)
         (constants_of (module_in bodies.now)) 0 0 (module_in bodies.now).items (notes_of checker.old.found.now)) }
-    ensures goes_on { GoesOn S.TypeStore checker.old checker.new }
+    ensures goes_on { CheckerKept S.TypeStore checker.old checker.new }
 {
     let mut classes = 0;
     let mut functions = 0;
@@ -101,10 +101,11 @@ fn check_bodies<S: TypeStore>(
     Ok(())
 }
 
-/// Finds what stands under the labels of a module, appended to `found`: first what is found of its signatures and its
-/// constants, then in the bodies of its functions and methods, in text order. What stands in annotations that the class
-/// table reads, those of fields and of methods that bind their names, is found with that table. Where types are kept,
-/// the type of each label is noted too, before the codes of the label.
+/// Checks a module, given its scopes and its class table, and appends its findings to `found`: first those of its
+/// signatures and constants, then those in the bodies of its functions and methods, in text order. Two kinds are not
+/// among them: E02 and E03, which scope analysis reports, and those in the annotations of fields and of methods that
+/// bind their names, which come with the class table. If `keeps`, the type of each label is noted too, before the
+/// label's codes.
 ///
 /// Language Reference 3.12, 7 "Simple statements" and 8 "Compound statements"; the codes are own rules of the profile.
 #[tactic(auto, unfolding(pc_module_rules::specs::Computed::Modules::module_notes))]
@@ -123,7 +124,7 @@ pub fn check_module<S: TypeStore>(
     ensures found { OnOk result (notes_of found.new ≡ module_notes keeps (module_of tree.now) (notes_of found.old)) }
     ensures kept { KeepsTypes S.has store.old store.new }
 {
-    let mut checker = Checker {
+    let mut checker = TypingState {
         store,
         alloc,
         found,

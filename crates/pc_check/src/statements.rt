@@ -1,4 +1,4 @@
-//! The walk over statements.
+//! The check of statements.
 
 #![tactic(auto, using(pc_walk::proofs::Walks::goes_further))]
 
@@ -10,7 +10,7 @@ ghost use Rattle.pc_tree.specs.Lists.{branches_of_list, with_branch};
 ghost use Rattle.pc_flow.specs.Stored.{env_of};
 ghost use Rattle.pc_module_rules.specs.Computed.Statements.{step, walk_suite, walk_branches, behind_branches};
 ghost use Rattle.pc_walk.specs.Touched.{touched_by, touched_by_branches, touched_by_stmt};
-ghost use Rattle.pc_walk.specs.Walks.{Stands, HoldsWay, GoesOn};
+ghost use Rattle.pc_walk.specs.Walks.{Stands, HoldsWay, WalkKept};
 ghost use Rattle.pc_check.specs.Internal.StatementWalk.{IsLong, IsAsLong, ForkSettles};
 ghost use Rattle.pc_check.specs.Internal.Walked.{StandsIn, Settles, StaysSettled, Walked, Forked, reached, forked};
 
@@ -22,21 +22,26 @@ use pc_statements::{
 use pc_tree::{Branch, Expr, Name, Stmt, StmtKind};
 use pc_types::TypeStore;
 use pc_walk::{
-    Walk, Ways, bind_item, break_out, declare_unreached, for_start, meet, note_locals,
+    IfExits, Walk, bind_item, break_out, declare_unreached, for_start, meet, note_locals,
     note_touched, touched_by, touched_by_for, touched_by_while, while_start,
 };
 
-/// Where a walk over the branches of an `if` stands: the environment where all conditions so far are false, and the
-/// ways out of their suites joined.
+/// State of checking the branches of an `if`: the environment where all conditions so far are false, and the joined
+/// environments at the ends of their suites.
 #[derive(Drop)]
-struct Fork<Ty: Drop> {
+struct IfState<Ty: Drop> {
     last: Env<Ty>,
-    ways: Ways<Ty>,
+    ways: IfExits<Ty>,
 }
 
-/// Walks over statements, one after another, and answers the environment after them, if a run comes there. Where there
-/// is a way out of the loop around them, the locals are noted at which joining the environment onto it may change
-/// something: a `break` joins these alone.
+/// Checks statements in order: appends their findings to `walk.found` and declares the locals that they bind. `env` is
+/// the environment before them, `None` in unreachable code. Returns the environment after them, `None` if control
+/// cannot get there.
+///
+/// `broken` is the exit environment of the enclosing loop, `None` outside of loops; each `break` is joined into it.
+/// `breaking` lists the locals where `broken` may not subsume the current environment yet: a `break` joins only these,
+/// so at all others `broken` must already subsume `env`. Each statement adds the locals that it touches to `breaking`,
+/// and a `break` removes those where a second join would change nothing.
 #[cycle(statements)]
 pub(crate) fn check_suite<S: TypeStore>(
     walk: &mut Walk<'_, S>,
@@ -53,7 +58,7 @@ pub(crate) fn check_suite<S: TypeStore>(
         broken.new) }
     ensures walked { IfOk result (λ out. Walked S.TypeStore walk.old env broken.old walk.new out broken.new
         (λ f w. walk_suite f w (stmts_of_list body.now))) }
-    ensures goes_on { GoesOn S.TypeStore walk.old walk.new }
+    ensures goes_on { WalkKept S.TypeStore walk.old walk.new }
 {
     let mut env = env;
     for statement in body {
@@ -62,7 +67,9 @@ pub(crate) fn check_suite<S: TypeStore>(
     Ok(env)
 }
 
-/// Walks over a statement, to which a run may come or not.
+/// Checks one statement as `check_suite` does, with the same `env`, `breaking` and `broken`, and returns the
+/// environment after it, `None` if control cannot get there. If `env` is `None`, the statement is unreachable: it is
+/// not checked, and each local first bound in it is declared `Any`.
 #[cycle(statements)]
 fn check_next<S: TypeStore>(
     walk: &mut Walk<'_, S>,
@@ -80,7 +87,7 @@ fn check_next<S: TypeStore>(
     ensures settled { IfOk result (λ out. Settles S.TypeStore walk.new breaking.new.items out broken.new) }
     ensures walked { IfOk result (λ out. Walked S.TypeStore walk.old env broken.old walk.new out broken.new
         (λ f w. step f w.table w.env w.broken w.found (stmt_of statement.now))) }
-    ensures goes_on { GoesOn S.TypeStore walk.old walk.new }
+    ensures goes_on { WalkKept S.TypeStore walk.old walk.new }
 {
     match env {
         None => {
@@ -96,7 +103,9 @@ fn check_next<S: TypeStore>(
     }
 }
 
-/// Walks over a statement to which a run comes, in this environment.
+/// Checks a reachable statement, whose first token is at `first`, in `env`. Returns the environment after it, `None` if
+/// control cannot get there. A `break` is joined into `broken` as in `check_suite`, but it is left to the caller to add
+/// the locals that the statement touches to `breaking`.
 #[cycle(statements)]
 fn check_stmt<S: TypeStore>(
     walk: &mut Walk<'_, S>,
@@ -114,7 +123,7 @@ fn check_stmt<S: TypeStore>(
         (Some env) broken.old broken.new) }
     ensures walked { IfOk result (λ out. Walked S.TypeStore walk.old (Some env) broken.old walk.new out broken.new
         (λ f w. step f w.table w.env w.broken w.found (stmt_of_kind first kind.now))) }
-    ensures goes_on { GoesOn S.TypeStore walk.old walk.new }
+    ensures goes_on { WalkKept S.TypeStore walk.old walk.new }
 {
     match kind {
         StmtKind::Pass => Ok(Some(env)),
@@ -153,8 +162,10 @@ fn check_stmt<S: TypeStore>(
     }
 }
 
-/// Walks over a `while`: the condition is checked at the head, and the body where it is true.
-/// Language Reference 8.2 "The while statement".
+/// Checks a `while` with `env` before it, and appends the findings: its condition at the loop's head, where each
+/// assigned local that the body binds has its declared type, then its body where the condition is true. Returns the
+/// environment after the loop, never `None`: the one where the condition is false, joined with the one at each `break`
+/// of the loop. Language Reference 8.2 "The while statement".
 #[cycle(statements)]
 fn check_while<S: TypeStore>(
     walk: &mut Walk<'_, S>,
@@ -168,7 +179,7 @@ fn check_while<S: TypeStore>(
         (λ out. Walked S.TypeStore walk.old (Some env.now) way walk.new out way
         (λ f w. step f w.table w.env w.broken w.found
         (while_loop p (expr_of condition.now) (stmts_of_list body.now)))) }
-    ensures goes_on { GoesOn S.TypeStore walk.old walk.new }
+    ensures goes_on { WalkKept S.TypeStore walk.old walk.new }
 {
     let head = while_start(walk, env, body)?;
     let BothWays {
@@ -181,7 +192,9 @@ fn check_while<S: TypeStore>(
     Ok(way)
 }
 
-/// Walks over a `for`: its iterable is checked before the loop, and its target is bound at the head.
+/// Checks a `for` with `env` before it, and appends the findings: its iterable in `env`, then its body with the target
+/// `name` bound to an item. Returns the environment after the loop, never `None`: the one at the loop's head, where
+/// each assigned local that the loop binds has its declared type, joined with the one at each `break` of the loop.
 /// Language Reference 8.3 "The for statement".
 #[cycle(statements)]
 fn check_for<S: TypeStore>(
@@ -197,7 +210,7 @@ fn check_for<S: TypeStore>(
         (λ out. Walked S.TypeStore walk.old (Some env.now) way walk.new out way
         (λ f w. step f w.table w.env w.broken w.found
         (for_loop p (name_of name.now) (expr_of iterable.now) (stmts_of_list body.now)))) }
-    ensures goes_on { GoesOn S.TypeStore walk.old walk.new }
+    ensures goes_on { WalkKept S.TypeStore walk.old walk.new }
 {
     let mut breaking = touched_by_for(walk.alloc, walk.context.names, name, body)?;
     let item = item_type(walk, env, iterable)?;
@@ -208,12 +221,14 @@ fn check_for<S: TypeStore>(
     Ok(way)
 }
 
-/// Walks over the suite of `else`, where all conditions are false, and answers where the ways out of the `if` meet.
-/// Language Reference 8.1 "The if statement".
+/// Checks the suite of `else`, an empty one if there is no `else`, where all conditions of an `if` are false; `fork` is
+/// the state after the branches. Returns the environment after the `if`: the joined ends of all its suites, `None` if
+/// none of them can complete. `breaking` and `broken` are those of `check_suite`. Language Reference 8.1 "The if
+/// statement".
 #[cycle(statements)]
 fn check_otherwise<S: TypeStore>(
     walk: &mut Walk<'_, S>,
-    fork: Fork<S::Ty>,
+    fork: IfState<S::Ty>,
     breaking: &mut Vec<usize>,
     broken: &mut Option<Env<S::Ty>>,
     otherwise: &[Stmt],
@@ -229,16 +244,18 @@ fn check_otherwise<S: TypeStore>(
     ensures walked { IfOk result (λ out. Walked S.TypeStore walk.old (Some fork.last) broken.old walk.new out broken.new
         (λ f w. behind_branches f (forked S.TypeStore walk.old fork.last fork.ways.met broken.old).ways
         (walk_suite f w (stmts_of_list otherwise.now)))) }
-    ensures goes_on { GoesOn S.TypeStore walk.old walk.new }
+    ensures goes_on { WalkKept S.TypeStore walk.old walk.new }
 {
-    let Fork { last, ways } = fork;
+    let IfState { last, ways } = fork;
     let out = check_suite(walk, Some(last), breaking, broken, otherwise)?;
     let touched = touched_by(walk.alloc, walk.context.names, &[], otherwise)?;
     let joined = meet(walk, ways, touched, out)?;
     Ok(joined.met)
 }
 
-/// Walks over the branches of an `if`, from the environment where no condition was checked yet.
+/// Checks the branches of an `if`, its `if` and each `elif`, in order; `env` is the environment before them. Returns
+/// the environment where all conditions are false, and the joined environments at the ends of the branches' suites.
+/// `breaking` and `broken` are those of `check_suite`.
 #[cycle(statements)]
 fn check_branches<S: TypeStore>(
     walk: &mut Walk<'_, S>,
@@ -246,7 +263,7 @@ fn check_branches<S: TypeStore>(
     breaking: &mut Vec<usize>,
     broken: &mut Option<Env<S::Ty>>,
     branches: &[Branch],
-) -> Result<Fork<S::Ty>, OutOfMemory>
+) -> Result<IfState<S::Ty>, OutOfMemory>
     requires stands { StandsIn S.TypeStore walk.old (Some env) broken.old }
     requires long { IsLong (reached S.TypeStore walk.old (Some env) broken.old) }
     requires breaks { Settles S.TypeStore walk.old breaking.old.items (Some env) broken.old }
@@ -259,11 +276,11 @@ fn check_branches<S: TypeStore>(
         broken.new (λ f b. walk_branches f b (branches_of_list branches.now))) }
     ensures settled { IfOk result (λ k. ForkSettles walk.new.context.globals.now.outline.now.parents.now
         k.ways.unsettled.items (forked S.TypeStore walk.new k.last k.ways.met broken.new)) }
-    ensures goes_on { GoesOn S.TypeStore walk.old walk.new }
+    ensures goes_on { WalkKept S.TypeStore walk.old walk.new }
 {
-    let mut fork = Fork {
+    let mut fork = IfState {
         last: env,
-        ways: Ways {
+        ways: IfExits {
             met: None,
             unsettled: Vec::new(walk.alloc),
         },
@@ -274,15 +291,17 @@ fn check_branches<S: TypeStore>(
     Ok(fork)
 }
 
-/// Walks over one branch: its condition, where those before it are false, and its suite.
+/// Checks one branch of an `if`: its condition where those before it are false (`fork.last`), and its suite where it is
+/// true. Returns the next state: the environment where its condition is false too, and the ends of the suites before it
+/// joined with the end of its own. `breaking` and `broken` are those of `check_suite`.
 #[cycle(statements)]
 fn check_branch<S: TypeStore>(
     walk: &mut Walk<'_, S>,
-    fork: Fork<S::Ty>,
+    fork: IfState<S::Ty>,
     breaking: &mut Vec<usize>,
     broken: &mut Option<Env<S::Ty>>,
     branch: &Branch,
-) -> Result<Fork<S::Ty>, OutOfMemory>
+) -> Result<IfState<S::Ty>, OutOfMemory>
     requires stands { StandsIn S.TypeStore walk.old (Some fork.last) broken.old }
     requires ways { HoldsWay S.TypeStore walk.old fork.ways.met }
     requires settled { ForkSettles walk.old.context.globals.now.outline.now.parents.now fork.ways.unsettled.items
@@ -297,9 +316,9 @@ fn check_branch<S: TypeStore>(
         k.ways.met broken.new (λ f b. walk_branches f b (with_branch branch.now no_branches))) }
     ensures settled { IfOk result (λ k. ForkSettles walk.new.context.globals.now.outline.now.parents.now
         k.ways.unsettled.items (forked S.TypeStore walk.new k.last k.ways.met broken.new)) }
-    ensures goes_on { GoesOn S.TypeStore walk.old walk.new }
+    ensures goes_on { WalkKept S.TypeStore walk.old walk.new }
 {
-    let Fork { last, ways } = fork;
+    let IfState { last, ways } = fork;
     let BothWays {
         where_true,
         where_false,
@@ -308,10 +327,10 @@ fn check_branch<S: TypeStore>(
     let touched = touched_by_while(walk.alloc, names, &branch.condition, &branch.body)?;
     note_locals(broken, &touched, breaking)?;
     let out = check_suite(walk, Some(where_true), breaking, broken, &branch.body)?;
-    // A break in the suite has settled what was joined there, and the next condition stands before all that.
+    // A `break` in the suite may have removed these, but the next condition starts from before the suite.
     note_locals(broken, &touched, breaking)?;
     let ways = meet(walk, ways, touched, out)?;
-    Ok(Fork {
+    Ok(IfState {
         last: where_false,
         ways,
     })

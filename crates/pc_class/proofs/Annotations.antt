@@ -1,4 +1,4 @@
--- Annotations read one after another: what is found in those that were read so far, and in those to come.
+-- Annotations read one after another: the findings in those that were read so far, and in those still to read.
 use Rattle.std.proofs.Common.{◌≡◌, ◌<◌, ◌+◌, ℕ, List, [], ◌∷◌, ◌++◌, map, drop, length, get_or, refl, sym, ap, ◌∙◌}
 use Rattle.std.proofs.Common.{append_assoc, append-nil}
 use Rattle.std.specs.Prelude.{Bool as Test, true, false, if◌then◌else◌}
@@ -6,11 +6,11 @@ use Rattle.pc_tree.proofs.Stops.{cons_at}
 use Rattle.pc_tree.specs.declared.tree.Param.{Param as RustParam}
 use Rattle.pc_tree.specs.Stopping.{name_of_member}
 use Rattle.pc_tree.specs.Tree.{Field, FuncDef, Member, field_member, method_member, Module, param_of, member_of}
-use Rattle.pc_ann.specs.Bases.{bases_of}
-use Rattle.pc_ann.specs.Listed.{option_findings}
+use Rattle.pc_annotations.specs.Bases.{bases_of}
+use Rattle.pc_annotations.specs.Listed.{option_findings}
 use Rattle.pc_class.specs.Annotated.{params_annotated, field_annotated, method_annotated, fields_annotated}
 use Rattle.pc_class.specs.Annotated.{methods_annotated}
-use Rattle.pc_class.specs.declared.entries.Entry.{Entry as RustEntry}
+use Rattle.pc_class.specs.declared.entries.ClassMember.{ClassMember as RustEntry}
 use Rattle.pc_class.specs.Entries.{Inherited, MemberEntry, entry_seen, entries_of, number_after, parameter_made}
 use Rattle.pc_class.specs.Entries.{field_made, methods_made}
 use Rattle.pc_class.specs.Facts.{Method, method_made}

@@ -1,4 +1,4 @@
--- One more class of a module over its base: what the table has of it is what the definition says.
+-- One more class of a module over its base: the table has of it exactly the facts of the definition.
 use Rattle.std.proofs.Common.{◌≡◌, ◌<◌, ℕ, zero, suc, List, [], ◌∷◌, ◌++◌, length, map, refl, sym, ap, ◌∙◌, subst}
 use Rattle.std.proofs.Common.{arith, append-nil}
 use Rattle.std.specs.Prelude.{Bool, true, ◌||◌, Option, Some, None, is_some, All, slice_get, slice_index_or, bytes_eq}
@@ -10,20 +10,20 @@ use Rattle.std.proofs.lemmas.List.Elements.{All-append, All-weaker}
 use Rattle.std.proofs.lemmas.List.Folds.{list_any-append}
 use Rattle.pc_tree.specs.Tree.{ClassDef, Module}
 use Rattle.pc_types.specs.Tree.{Tree}
-use Rattle.pc_ann.specs.Bases.{base_named}
+use Rattle.pc_annotations.specs.Bases.{base_named}
 use Rattle.pc_class.specs.declared.table.Parameter.{Parameter as RustParameter}
 use Rattle.pc_class.specs.declared.table.Method.{Method as RustMethod}
 use Rattle.pc_class.specs.declared.parts.ClassNode.{ClassNode}
 use Rattle.pc_class.specs.Facts.{TypedParameter, Method, ClassFacts, base_facts, class_facts_behind, own_fields}
 use Rattle.pc_class.specs.Facts.{own_methods}
-use Rattle.pc_maps.specs.NameMaps.{NameMaps, named_at, IsMap, KeepsNamed}
+use Rattle.pc_shared_maps.specs.NameMaps.{NameMaps, named_at, IsMap, KeepsNamed}
 use Rattle.pc_class.specs.Entries as entries
 use Rattle.pc_class.specs.Entries.{HasMaps, inherited_by, inherited_in, entries_of, class_entries, defaulted_in}
 use Rattle.pc_class.specs.Outlines.{at_number, IsNumberIn, first_named, IsMapOf, field_name}
 use Rattle.pc_class.specs.Outlines.{method_name as class_method_name, own_field, own_method, all_own, AreNew}
 use Rattle.pc_class.specs.Tables.{ClassEntry, empty_entry, inherited_entry, HasParameter, HasMethod, parameter_with}
 use Rattle.pc_class.specs.Tables.{method_with, class_with, classes_with}
-use Rattle.pc_class.specs.declared.parts.TableParts.{TableParts}
+use Rattle.pc_class.specs.declared.parts.ClassArena.{ClassArena}
 use Rattle.pc_class.specs.Parts.{parameter_name, stored_method_name, inherited_node, entries_behind, entries_in}
 use Rattle.pc_class.specs.Parts.{AreNodes, IsClassTable, HasParts}
 use Rattle.pc_class.specs.Built.{Added, IsClassAt}
@@ -59,7 +59,7 @@ any_map : {Ty : Type 0} (tree : Ty → Tree) (ps : List (RustParameter Ty))
 any_map tree [] = refl
 any_map tree (p ∷ ps) = ap (λ b. p.has_default || b) (any_map tree ps)
 
--- what stands at a number
+-- the element at an index
 record AtIndex {X : Type 0} (xs : List X) (i : ℕ) (other : X) : Type 0 where
   found : X
   is : slice_get xs i ≡ Some found
@@ -76,7 +76,7 @@ get_index [] i x other e = absurd (grind (arith, e))
 get_index (y ∷ xs) zero x other e = same_Some _ _ e
 get_index (y ∷ xs) (suc i) x other e = get_index xs i x other e
 
--- what is held of a base
+-- the entry held for a base
 pub record IsBase {Ty : Type 0} (d : NameMaps) (F : List (RustParameter Ty)) (M : List (RustMethod Ty)) (n : ClassNode)
     (e : ClassEntry Ty) : Type 0 where
   pub fields : IsMapOf parameter_name d F n.held.fields e.fields
@@ -262,7 +262,7 @@ module _ {Ty : Type 0} (tree : Ty → Tree) (m : Module) (d : NameMaps) (F : Lis
             methods = own_methods m B (length ns) 0 [] class.members ++ B.methods;
           } in x) based
 
-pub entries_are_behind : {Ty : Type 0} (p : TableParts Ty) → entries_in p ≡ entries_behind p.fields.items
+pub entries_are_behind : {Ty : Type 0} (p : ClassArena Ty) → entries_in p ≡ entries_behind p.fields.items
     p.methods.items [] p.classes.items
 unfolding entries_in
 entries_are_behind p = refl
@@ -277,7 +277,7 @@ has_methods has has2 k xs h = All-weaker (HasMethod has) (HasMethod has2)
     (λ x i. record { params = has_fields has has2 k x.params i.params; ret = k x.ret i.ret }) xs h
 
 -- a table that a class was added to
-module _ {Ty : Type 0} (tree : Ty → Tree) (m : Module) (p q : TableParts Ty) (table : IsClassTable p) (class : ClassDef)
+module _ {Ty : Type 0} (tree : Ty → Tree) (m : Module) (p q : ClassArena Ty) (table : IsClassTable p) (class : ClassDef)
     (is : IsClassAt m (length p.classes.items) class) (base : Option ℕ)
     (based : base ≡ base_named m (length p.classes.items) class.base)
     (d1 : NameMaps) (k1 : KeepsNamed p.named d1) (k2 : KeepsNamed d1 q.named) (at_fields at_methods : ℕ)
@@ -349,7 +349,7 @@ module _ {Ty : Type 0} (tree : Ty → Tree) (m : Module) (p q : TableParts Ty) (
         (has_methods has0 has2 k p.methods.items h.methods) g.given);
   }
 
--- what a map of the same list holds, once there are more maps
+-- the elements that a map of one list holds, once there are more maps
 pub held_on : {X : Type 0} (name : X → List ℕ) (d d' : NameMaps) (all : List X) (at : ℕ) (these : List X)
     → IsMapOf name d all at these → KeepsNamed d d' → IsMapOf name d' all at these
 held_on name d d' all at these h k = subst (λ xs. IsMapOf name d' xs at these) (append-nil all)

@@ -1,4 +1,4 @@
--- The classes among items, the nearest first: their numbers, and what the name of a class means.
+-- The classes among items, the nearest first: their numbers, and the meaning of the name of a class.
 use Rattle.std.proofs.Common.{◌≡◌, ℕ, suc, ◌+◌, ◌<◌, ◌≤◌, List, [], ◌∷◌, map, refl, sym, ap, ◌∙◌, arith}
 use Rattle.std.specs.Prelude.{Bool, true, false, ◌&&◌, ◌||◌, not, if◌then◌else◌, nat_lt, Option, Some, None, is_some}
 use Rattle.std.specs.Prelude.{slice_get, bytes_eq}
@@ -11,12 +11,12 @@ use Rattle.pc_source.specs.ReservedNames as keywords
 use Rattle.pc_tree.specs.Stopping.{is_among, name_of_item, is_first_binding}
 use Rattle.pc_tree.specs.Tree.{ClassDef, Item, constant_item, class_item, def_item, Module}
 use Rattle.pc_scope.specs.declared.resolution.Builtin.{Builtin}
-use Rattle.pc_scope.specs.declared.resolution.Res.{Res}
-use Rattle.pc_scope.specs.declared.resolution.Res.TheVariants as res
+use Rattle.pc_scope.specs.declared.resolution.NameMeaning.{NameMeaning}
+use Rattle.pc_scope.specs.declared.resolution.NameMeaning.TheVariants as res
 use Rattle.pc_scope.specs.Reserved.{builtin_of, is_builtin_name}
 use Rattle.pc_scope.specs.Bindings.{classes_in}
 use Rattle.pc_scope.specs.Resolution.{bound_first, or_meaning, builtin_meaning, resolve_in_module}
-use Rattle.pc_ann.specs.Bases.{earlier_class}
+use Rattle.pc_annotations.specs.Bases.{earlier_class}
 use Rattle.pc_class.proofs.ReservedNames.{reserved_same}
 
 -- items, the nearest first, and then others, as they stand in the text
@@ -24,21 +24,21 @@ abbrev pub onto : List Item → List Item → List Item
 onto [] rest = rest
 onto (i ∷ before) rest = onto before (i ∷ rest)
 
--- how many of them are classes
+-- the number of classes among items
 abbrev pub class_count : List Item → ℕ
 class_count [] = 0
 class_count (class_item p c ∷ before) = suc (class_count before)
 class_count (constant_item p c ∷ before) = class_count before
 class_count (def_item p f ∷ before) = class_count before
 
--- how many are functions
+-- the number of functions among items
 abbrev function_count : List Item → ℕ
 function_count [] = 0
 function_count (class_item p c ∷ before) = function_count before
 function_count (constant_item p c ∷ before) = function_count before
 function_count (def_item p f ∷ before) = suc (function_count before)
 
--- how many are constants
+-- the number of constants among items
 abbrev constant_count : List Item → ℕ
 constant_count [] = 0
 constant_count (class_item p c ∷ before) = constant_count before
@@ -62,7 +62,7 @@ class_numbered (class_item p c ∷ before) rest i =
 -- ---- what a name means
 
 -- the meaning is a class
-abbrev is_class : Res → Bool
+abbrev is_class : NameMeaning → Bool
 is_class (res.Class c) = true
 is_class (res.Local n) = false
 is_class (res.Const n) = false
@@ -71,7 +71,7 @@ is_class (res.Builtin b) = false
 is_class res.None = false
 
 -- the number of a class that is meant
-abbrev number_of : Res → ℕ
+abbrev number_of : NameMeaning → ℕ
 number_of (res.Class c) = c
 number_of (res.Local n) = 0
 number_of (res.Const n) = 0
@@ -79,7 +79,7 @@ number_of (res.Func n) = 0
 number_of (res.Builtin b) = 0
 number_of res.None = 0
 
-not_class : {r : Res} {i : ℕ} {P : Type 0} → is_class r ≡ false → r ≡ res.Class i → P
+not_class : {r : NameMeaning} {i : ℕ} {P : Type 0} → is_class r ≡ false → r ≡ res.Class i → P
 not_class f e = absurd (false≢true (sym f ∙ ap is_class e))
 
 -- a name that no item before has is the first one of the others
@@ -188,7 +188,7 @@ module _ (m : Module) (before : List Item) (c : ClassDef) where
   abbrev pub is_meant : List ℕ → Bool
   is_meant w = bytes_eq c.name.text w && is_first_binding before c.name
 
-  -- so the name means its class
+  -- a name that means the item's class resolves to it
   pub meant_class : (rest : List Item) (p : Place) → onto before (class_item p c ∷ rest) ≡ m.items → (w : List ℕ)
       → is_meant w ≡ true → resolve_in_module m w ≡ res.Class (class_count before)
   meant_class rest p whole w e =
@@ -230,7 +230,7 @@ module _ (m : Module) (before : List Item) (c : ClassDef) where
       by_among none h false f = by_name none f (bytes_eq c.name.text w) refl
           (sym (passed before (class_item p c ∷ rest) w f) ∙ h)
 
-      by_item : builtin_of w ≡ None → (o : Option Res) → bound_first 0 0 0 m.items w ≡ o
+      by_item : builtin_of w ≡ None → (o : Option NameMeaning) → bound_first 0 0 0 m.items w ≡ o
           → or_meaning o res.None ≡ res.Class (class_count before) → is_meant w ≡ true
       by_item none None is h = not_class refl h
       by_item none (Some r) is h = by_among none (ap (λ (items : List Item). bound_first 0 0 0 items w) whole
@@ -247,7 +247,7 @@ none_before : (b : ℕ) → nat_lt b 0 ≡ false
 none_before b = false_from_ne_true (nat_lt b 0) (λ e. grind (arith, nat_tests))
 
 -- no class is before the first
-pub never_earlier : (r : Res) → earlier_class 0 r ≡ None
+pub never_earlier : (r : NameMeaning) → earlier_class 0 r ≡ None
 never_earlier (res.Class b) = ap (λ t. if t then Some b else None) (none_before b)
 never_earlier (res.Local n) = refl
 never_earlier (res.Const n) = refl
@@ -272,7 +272,7 @@ same_test b n other = go (nat_lt b (suc n)) refl (nat_lt b n) refl
     go false e true f = absurd (grind (arith, nat_tests))
 
 -- another class than the one of a number is before the next where it is before that
-pub not_the_one : (n : ℕ) (r : Res) → (r ≡ res.Class n → ⊥) → earlier_class (suc n) r ≡ earlier_class n r
+pub not_the_one : (n : ℕ) (r : NameMeaning) → (r ≡ res.Class n → ⊥) → earlier_class (suc n) r ≡ earlier_class n r
 not_the_one n (res.Class b) other = ap (λ t. if t then Some b else None) (same_test b n (λ e. other (ap res.Class e)))
 not_the_one n (res.Local x) other = refl
 not_the_one n (res.Const x) other = refl

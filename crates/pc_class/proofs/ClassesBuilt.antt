@@ -1,4 +1,4 @@
--- Each class of a module is built on its base: what stands at its number among the classes.
+-- Each class of a module is built on its base: the facts at its number among the classes.
 use Rattle.std.proofs.Common.{◌≡◌, ℕ, zero, suc, ◌+◌, ◌<◌, List, [], ◌∷◌, ◌++◌, length, refl, sym, ap, ◌∙◌, subst}
 use Rattle.std.proofs.Common.{arith, length-append}
 use Rattle.std.specs.Prelude.{Option, Some, None, slice_get, slice_index_or}
@@ -6,8 +6,8 @@ use Rattle.std.proofs.lemmas.Option.{same_Some, slice_get_past}
 use Rattle.pc_tree.specs.Tree.{ClassDef, Module}
 use Rattle.pc_scope.specs.Bindings.{classes_in}
 use Rattle.pc_types.specs.Below.{base_of}
-use Rattle.pc_ann.specs.Bases.{base_named, bases_from, bases_of}
-use Rattle.pc_ann.proofs.Earlier.{smaller}
+use Rattle.pc_annotations.specs.Bases.{base_named, bases_from, bases_of}
+use Rattle.pc_annotations.proofs.Earlier.{smaller}
 use Rattle.pc_class.specs.Facts.{ClassFacts, class_in, class_facts_at, base_facts, own_fields, own_methods}
 use Rattle.pc_class.specs.Facts.{class_facts_behind, classes_behind, classes_of}
 
@@ -138,7 +138,7 @@ module _ (m : Module) where
     methods = own_methods m base c 0 [] class.members ++ base.methods;
   }
 
-  -- what stands at each class
+  -- the facts of each class
   pub class_is : (c : ℕ) (class : ClassDef) → slice_get (classes_in m.items) c ≡ Some class
       → class_facts_at (classes_of m) c ≡ class_over c class (base_facts (classes_of m) (base_named m c class.base))
   unfolding classes_of

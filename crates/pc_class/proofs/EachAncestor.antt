@@ -6,7 +6,7 @@ use Rattle.std.proofs.lemmas.List.Elements.{Contains-append_right, Contains-appe
 use Rattle.pc_tree.specs.Tree.{ClassDef, Module}
 use Rattle.pc_types.specs.Tree.{Class}
 use Rattle.pc_types.specs.Below.{Below}
-use Rattle.pc_ann.specs.Bases.{base_named, bases_of}
+use Rattle.pc_annotations.specs.Bases.{base_named, bases_of}
 use Rattle.pc_types.proofs.Structural.{Chain, here, up, Sub, s_class, sub_of}
 use Rattle.pc_class.specs.Facts.{Method, class_facts_at, base_facts, own_methods, classes_of}
 use Rattle.pc_class.specs.Findings.{base_class}

@@ -1,4 +1,4 @@
--- The store gave the types of a table's classes, where it gave those of all fields and methods.
+-- The store gave the types of a table's classes if it gave those of all fields and methods.
 use Rattle.std.proofs.Common.{ℕ, zero, suc, List, [], ◌∷◌, ◌++◌, sym, subst}
 use Rattle.std.specs.Prelude.{Option, Some, None, All}
 use Rattle.std.proofs.lemmas.List.Elements.{All-nil, All-head, All-tail, All-append, All-push, All-take, All-drop}
@@ -6,7 +6,7 @@ use Rattle.pc_class.specs.declared.table.Parameter.{Parameter as RustParameter}
 use Rattle.pc_class.specs.declared.table.Method.{Method as RustMethod}
 use Rattle.pc_class.specs.declared.parts.Span.{Span}
 use Rattle.pc_class.specs.declared.parts.ClassNode.{ClassNode}
-use Rattle.pc_class.specs.declared.parts.TableParts.{TableParts}
+use Rattle.pc_class.specs.declared.parts.ClassArena.{ClassArena}
 use Rattle.pc_class.specs.Tables.{ClassEntry, inherited_entry, HasParameter, HasMethod, HasEntry, HasEntries}
 use Rattle.pc_class.specs.Parts.{part, entry_over, entries_behind, entries_in, HasParts}
 use Rattle.pc_class.proofs.ClassAdded.{entries_are_behind}
@@ -15,7 +15,7 @@ all_part : {X : Type 0} (P : X → Type 0) (xs : List X) (s : Span) → All P xs
 all_part P xs s h = All-take P _ _ (All-drop P s.start xs h)
 
 module _ {Ty : Type 0} (has : Ty → Type 0) where
-  -- what a class inherits, and so what a class has
+  -- the members that a class inherits, and then those that it has, are of the store
   pub inherited_given : (es : List (ClassEntry Ty)) (o : Option ℕ) → HasEntries has es
       → HasEntry has (inherited_entry es o)
   inherited_given es None h = record { fields = All-nil (HasParameter has); methods = All-nil (HasMethod has) }
@@ -37,6 +37,6 @@ module _ {Ty : Type 0} (has : Ty → Type 0) (F : List (RustParameter Ty)) (M : 
             (all_part (HasMethod has) M n.methods g) b.methods;
       }))
 
-pub table_given : {Ty : Type 0} (has : Ty → Type 0) (p : TableParts Ty) → HasParts has p → HasEntries has (entries_in p)
+pub table_given : {Ty : Type 0} (has : Ty → Type 0) (p : ClassArena Ty) → HasParts has p → HasEntries has (entries_in p)
 table_given has p h = subst (HasEntries has) (sym (entries_are_behind p))
     (entries_given has p.fields.items p.methods.items h.fields h.methods [] p.classes.items (All-nil (HasEntry has)))

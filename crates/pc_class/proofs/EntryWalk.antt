@@ -9,8 +9,8 @@ use Rattle.pc_tree.specs.Stopping.{name_of_member}
 use Rattle.pc_tree.proofs.Stops.{cons_at}
 use Rattle.pc_scope.specs.Reserved.{is_builtin_name}
 use Rattle.pc_scope.specs.Resolution.{is_one_of}
-use Rattle.pc_class.specs.declared.entries.Entry.{Entry as RustEntry}
-use Rattle.pc_maps.specs.NameMaps.{with_text}
+use Rattle.pc_class.specs.declared.entries.ClassMember.{ClassMember as RustEntry}
+use Rattle.pc_shared_maps.specs.NameMaps.{with_text}
 use Rattle.pc_class.specs.Entries.{Inherited, MemberEntry, member_binds, member_clashes, entry_of, number_after}
 use Rattle.pc_class.specs.Entries.{entries_of, entry_seen}
 

@@ -12,7 +12,7 @@ use Rattle.pc_scope.specs.Bindings.{classes_in}
 use Rattle.pc_tree.proofs.Among.{none_among, first_among, among_first, either}
 use Rattle.pc_tree.proofs.Finds.{at_both}
 use Rattle.pc_types.specs.Below.{base_of}
-use Rattle.pc_ann.specs.Bases.{base_named, bases_of}
+use Rattle.pc_annotations.specs.Bases.{base_named, bases_of}
 use Rattle.pc_class.specs.Findings.{ClassNumbered, HasNoBase}
 use Rattle.pc_class.specs.Entries.{missing_base, missing_bases}
 use Rattle.pc_class.specs.NameFindings.{FindsBase}
@@ -40,7 +40,7 @@ module _ (m : Module) (f : Finding) where
       (subst (λ o. Contains (at_code E07 (missing_base o (Some h.named))) f) (sym h.none)
       (subst (Contains (at_code E07 (h.named.place ∷ []))) (sym h.is) (first_among (finding h.named.place E07) [])))
 
-  -- what is found at the classes from a number on
+  -- the findings of bases at the classes from a number on
   pub base_found : (c : ℕ) (classes : List ClassDef) → AreAhead (classes_in m.items) c classes
       → Contains (at_code E07 (missing_bases (bases_of m) c classes)) f → FindsBase m f
   base_found c [] a h = absurd (none_among f h)

@@ -1,6 +1,5 @@
--- The members that clash by the entries of their classes are those that stop a run, so the lists of what is found of
--- classes hold
--- just the findings of classes.
+-- The members that clash by the entries of their classes are those that stop a run; therefore the lists of findings
+-- about classes have exactly these findings.
 use Rattle.std.proofs.Common.{◌≡◌, ◌↔◌, ◌⊎◌, ◌+◌, ℕ, zero, suc, List, [], ◌∷◌, ◌++◌, refl, sym, ap, ◌∙◌, subst, inl}
 use Rattle.std.proofs.Common.{inr, arith, Contains}
 use Rattle.std.specs.Prelude.{Bool, true, false, if◌then◌else◌, Option, Some, None, slice_get}
@@ -16,7 +15,7 @@ use Rattle.pc_tree.specs.Tree.{Name, ClassDef, Item, constant_item, class_item, 
 use Rattle.pc_scope.specs.Bindings.{classes_in}
 use Rattle.pc_scope.specs.Resolution.{resolve_in_module}
 use Rattle.pc_tree.proofs.Among.{none_among, in_code, to_code}
-use Rattle.pc_ann.specs.Bases.{earlier_class, base_named}
+use Rattle.pc_annotations.specs.Bases.{earlier_class, base_named}
 use Rattle.pc_class.specs.Built.{class_findings}
 use Rattle.pc_class.specs.ClassFindingsLaw.{clashes_from}
 use Rattle.pc_class.specs.Entries.{inherited_by, class_entries, clash_places}
@@ -44,7 +43,7 @@ module _ (m : Module) where
       ∙ ap (slice_get (classes_in (onto before (class_item p c ∷ rest)))) (omega arith)
       ∙ class_numbered before (class_item p c ∷ rest) 0
 
-  -- what is held of the class that a name means among the items before is what that class has
+  -- the members held of the class that a name means among the items before are those that the class has
   tells : (before rest : List Item) → onto before rest ≡ m.items → (o : Option Name)
       → Tells (members_of before (option_text o)) (base_facts (classes_of m) (base_named m (class_count before) o))
   tells [] rest whole None = nothing_tells

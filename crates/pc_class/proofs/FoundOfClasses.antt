@@ -1,4 +1,4 @@
--- What is found as a class table is built is just what the rules on names find.
+-- The findings made while building a class table are exactly those of the rules on names.
 use Rattle.std.proofs.Common.{◌≡◌, ◌↔◌, ◌+◌, ℕ, zero, suc, List, [], ◌∷◌, sym, ap, ◌∙◌, subst, inl, inr, arith}
 use Rattle.std.specs.Prelude.{Some, slice_get, Contains}
 use Rattle.std.specs.List.{list_any}
@@ -9,7 +9,7 @@ use Rattle.pc_tree.specs.declared.code.Finding.{Finding}
 use Rattle.pc_tree.specs.Tree.{ClassDef, Module}
 use Rattle.pc_scope.specs.Bindings.{classes_in}
 use Rattle.pc_tree.specs.Code.{at_code}
-use Rattle.pc_ann.specs.Bases.{bases_of}
+use Rattle.pc_annotations.specs.Bases.{bases_of}
 use Rattle.pc_class.specs.Facts.{TypedParameter}
 use Rattle.pc_class.specs.Entries.{inherited_by, class_entries, clash_places, late_places, missing_bases}
 use Rattle.pc_class.specs.Findings.{ClassNumbered, base_class}

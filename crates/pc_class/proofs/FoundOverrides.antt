@@ -1,4 +1,4 @@
--- What overriding finds, as a list, is just what the rule finds.
+-- The list of findings about overriding has exactly those of the rule.
 use Rattle.std.proofs.Common.{◌≡◌, ◌↔◌, ◌+◌, ℕ, zero, suc, List, [], ◌∷◌, ◌++◌, take, length, refl, sym, ap, ◌∙◌, subst}
 use Rattle.std.proofs.Common.{inl, inr, arith, Contains}
 use Rattle.std.specs.Prelude.{Bool, true, false, ◌&&◌, if◌then◌else◌, IsTrue, All, Option, Some, None, slice_get}
@@ -18,10 +18,10 @@ use Rattle.pc_scope.specs.Resolution.{is_one_of}
 use Rattle.pc_tree.proofs.Among.{none_among, first_among, among_first}
 use Rattle.pc_types.specs.Below.{Bases, AreSmaller, Static}
 use Rattle.pc_types.specs.Assignable.{Assignable}
-use Rattle.pc_ann.specs.Bases.{bases_of}
+use Rattle.pc_annotations.specs.Bases.{bases_of}
 use Rattle.pc_types.proofs.Truth.{yes_is, is_no}
 use Rattle.pc_types.proofs.DecidedSubtyping.{static_decided, assignable_decided}
-use Rattle.pc_ann.proofs.Earlier.{smaller}
+use Rattle.pc_annotations.proofs.Earlier.{smaller}
 use Rattle.pc_class.specs.Facts.{Method, ClassFacts, binds_method, method_made, own_methods}
 use Rattle.pc_class.specs.Overrides.{has_shape_of, TypeFlow, override_flows, IsGood, IsStatic, Judges, static, dynamic}
 use Rattle.pc_class.specs.Overrides.{wrong, overridden}

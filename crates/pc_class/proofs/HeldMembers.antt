@@ -1,5 +1,5 @@
--- What is held of a class by the tree has the fields and methods that the class has by the rules, and the same members
--- clash.
+-- The members that the tree gives a class are the fields and methods that the class has by the rules, and the same
+-- members clash.
 use Rattle.std.proofs.Common.{◌≡◌, ℕ, suc, List, [], ◌∷◌, ◌++◌, map, refl, sym, ap, ◌∙◌}
 use Rattle.std.specs.Prelude.{Bool, true, false, ◌&&◌, ◌||◌, not, cond, if◌then◌else◌, Option, Some, None, is_some}
 use Rattle.std.specs.Prelude.{codes, bytes_eq}
@@ -73,7 +73,7 @@ held_texts (x ∷ hs) w = ap (λ z. bytes_eq x.text w || z) (held_texts hs w)
 
 -- ---- what is held
 
--- what is held has just the fields and methods of a class
+-- the held members are just the fields and methods of a class
 pub record Tells (hs : List HeldMember) (class : ClassFacts) : Type 0 where
   pub fields : (w : List ℕ) → list_any (is_field_of w) hs ≡ is_some (field_by_name class.fields w)
   pub names : (w : List ℕ) → has_name hs w ≡ (is_some (field_by_name class.fields w)
@@ -112,7 +112,7 @@ module _ (m : Module) (base : ClassFacts) (hs : List HeldMember) (tells : Tells 
       ∙ ap (λ (ps : List Place). one_if (member_clashes (inherited_by base) before x) (name_of_member x).place ++ ps)
       (clashes_are ((name_of_member x).text ∷ before) (number_after n x) ms)
 
-  -- what is not held binds no name
+  -- a member that is not held is one that binds no name
   unbound : (before : List (List ℕ)) (x : Member) → (is_reserved_member x || is_clash before hs x)
       ≡ not (member_binds (inherited_by base) before x)
   unbound before (field_member f) =
@@ -210,7 +210,7 @@ module _ (m : Module) (base : ClassFacts) (hs : List HeldMember) (tells : Tells 
           (method_by_name rest w)))
       go false e = e
 
-  -- so what is held of a class over its base has what the class has
+  -- the members held of a class over its base are those that the class has
   pub tells_over : (c : ℕ) (class : ClassDef) → Tells (hs ++ own_members [] hs class.members)
       (class_over m c class base)
   tells_over c class = record {

@@ -1,12 +1,12 @@
--- A map that tells fields, or methods, by their names: with one more, and where others are added.
+-- A map from names to fields, or to methods: with one more, and after others are added.
 use Rattle.std.proofs.Common.{◌≡◌, ℕ, List, [], ◌∷◌, ◌++◌, length, refl, sym, ap, ◌∙◌, subst, arith}
 use Rattle.std.proofs.Common.{length-append}
 use Rattle.std.specs.Prelude.{Bool, true, false, cond, if◌then◌else◌, Option, Some, None, bytes_eq}
 use Rattle.std.specs.Option.{option_or}
 use Rattle.std.proofs.lemmas.List.Folds.{find-append}
 use Rattle.std.proofs.lemmas.Slice.Eq.{bytes_eq-Decides}
-use Rattle.pc_maps.specs.NameMaps.{NameMaps, IsMap, named_at, KeepsNamed}
-use Rattle.pc_maps.proofs.ListsShared.{at_left, within_left, get_end}
+use Rattle.pc_shared_maps.specs.NameMaps.{NameMaps, IsMap, named_at, KeepsNamed}
+use Rattle.pc_shared_maps.proofs.ListsShared.{at_left, within_left, get_end}
 use Rattle.pc_class.specs.Outlines.{at_number, IsNumberIn, first_named, IsMapOf}
 
 module _ {X : Type 0} (name : X → List ℕ) where

@@ -1,4 +1,4 @@
--- The classes among the items of a module, one item after another, and what is found of them.
+-- The classes among the items of a module, one item after another, and the findings about them.
 use Rattle.std.proofs.Common.{◌≡◌, ◌<◌, ◌+◌, ℕ, suc, List, [], ◌∷◌, ◌++◌, map, drop, length, get_or, refl, sym, ap, ◌∙◌}
 use Rattle.std.proofs.Common.{arith, length-append, append_assoc, append-nil}
 use Rattle.std.specs.Prelude.{Option, Some, None, slice_get}
@@ -9,7 +9,7 @@ use Rattle.pc_tree.specs.Tree.{ClassDef, Module, item_of}
 use Rattle.pc_tree.proofs.Stops.{cons_at}
 use Rattle.std.proofs.lemmas.List.{map-append}
 use Rattle.pc_scope.specs.Bindings.{as_class, classes_in}
-use Rattle.pc_ann.specs.Bases.{base_named, bases_from, bases_of}
+use Rattle.pc_annotations.specs.Bases.{base_named, bases_from, bases_of}
 use Rattle.pc_types.specs.Tree.{Tree}
 use Rattle.pc_class.specs.Tables.{ClassEntry, classes_with}
 use Rattle.pc_class.specs.Parts.{bases_in}
@@ -74,7 +74,7 @@ module _ (m : Module) where
   unfolding classes_of
   classes_are_behind = refl
 
-  -- what is found given the classes before is what is found given all
+  -- the findings given the classes before are those given all classes
   found_same : (over : ClassFacts → ClassDef → List Finding) (e : List ClassFacts) (c : ℕ) (cs : List ClassDef)
       → length e ≡ c → classes_behind m e c cs ≡ classes_of m
       → ((j : ℕ) → slice_get (classes_in m.items) (c + j) ≡ slice_get cs j)

@@ -1,5 +1,5 @@
--- Each method is judged against those that it overrides, in one way alone: subtyping is decided of types in normal
--- form.
+-- Each method is judged against those that it overrides, with exactly one result: on types in normal form, subtyping is
+-- decided.
 use Rattle.std.proofs.Common.{◌≡◌, ℕ, suc, List, [], ◌∷◌, Option, None, refl, inl, inr, arith}
 use Rattle.std.specs.Prelude.{IsTrue, All, bytes_eq}
 use Rattle.std.proofs.lemmas.List.Elements.{All-cons, All-nil}
@@ -15,7 +15,7 @@ use Rattle.pc_class.specs.Facts.{TypedParameter, Method, method_made}
 use Rattle.pc_class.specs.Overrides.{has_shape_of, TypeFlow, parameter_flows, override_flows, IsGood, IsStatic, Judges}
 use Rattle.pc_class.specs.Overrides.{static, dynamic, wrong, IsJudgedOnce, overridden}
 use Rattle.pc_class.specs.Findings.{base_class}
-use Rattle.pc_ann.proofs.Earlier.{smaller}
+use Rattle.pc_annotations.proofs.Earlier.{smaller}
 use Rattle.pc_class.specs.WellFormed.{ParametersWellFormed, MethodWellFormed, MethodsWellFormed}
 use Rattle.pc_class.proofs.WellFormed.{filter_well_formed, made_well_formed, base_well_formed}
 

@@ -1,4 +1,4 @@
--- The first place of each name among parameters, and up to where there are parameters without default.
+-- The first place of each name among parameters, and the end of the required parameters.
 use Rattle.std.proofs.Common.{◌≡◌, ◌<◌, ◌≤◌, ◌+◌, ℕ, zero, suc, List, [], ◌∷◌, ◌++◌, take, length, get_or}
 use Rattle.std.proofs.Common.{true, false, Option, Some, None, refl, sym, ap, ◌∙◌, arith, ◌⊎◌, inl, inr, Bool as Test}
 use Rattle.std.specs.Prelude.{if◌then◌else◌, bytes_eq, is_some, slice_get, string_bytes, String}
@@ -13,7 +13,7 @@ use Rattle.pc_tree.proofs.InMaps.{put_new, none_at}
 use Rattle.pc_tree.proofs.Stops.{more_at}
 use Rattle.pc_tree.proofs.Texts.{turned}
 use Rattle.pc_scope.specs.Resolution.{index_of}
-use Rattle.pc_maps.proofs.ListsShared.{index_behind}
+use Rattle.pc_shared_maps.proofs.ListsShared.{index_behind}
 use Rattle.pc_class.specs.declared.table.Parameter.{Parameter as RustParameter}
 use Rattle.pc_class.specs.Parts.{parameter_name}
 use Rattle.pc_class.specs.Listed.{needed_in, names_listed}

@@ -1,4 +1,4 @@
--- The lists of the fields of classes: with one field more, and where others are added.
+-- The lists of the fields of classes: with one more field, and after others are added.
 use Rattle.std.proofs.Common.{◌≡◌, ◌<◌, ◌≤◌, ◌+◌, ◌-◌, ◌≢◌, ℕ, zero, suc, List, [], ◌∷◌, ◌++◌, length, get_or, refl}
 use Rattle.std.proofs.Common.{sym, ap}
 use Rattle.std.proofs.Common.{◌∙◌, ◌⊎◌, inl, inr, subst, arith, length-append, append_assoc, append-nil}
@@ -10,11 +10,11 @@ use Rattle.std.proofs.lemmas.Option.{slice_get_read}
 use Rattle.std.proofs.lemmas.Bool.Decides.{nat_tests}
 use Rattle.std.proofs.Math.Seq.{get_or-append_seam}
 use Rattle.pc_scope.specs.Resolution.{index_of}
-use Rattle.pc_maps.specs.declared.lists.Seat.{Seat}
-use Rattle.pc_maps.specs.declared.lists.SharedList.{SharedList}
-use Rattle.pc_maps.specs.declared.lists.SharedLists.{SharedLists}
-use Rattle.pc_maps.specs.SharedLists.{empty_list, seat_at, needed_or, needed_at, HasRoom, AreNamed, KeepsLists}
-use Rattle.pc_maps.proofs.Naming.{map_end, map_length}
+use Rattle.pc_shared_maps.specs.declared.lists.ListPlace.{ListPlace}
+use Rattle.pc_shared_maps.specs.declared.lists.SharedList.{SharedList}
+use Rattle.pc_shared_maps.specs.declared.lists.SharedLists.{SharedLists}
+use Rattle.pc_shared_maps.specs.SharedLists.{empty_list, seat_at, needed_or, needed_at, HasRoom, AreNamed, KeepsLists}
+use Rattle.pc_shared_maps.proofs.Naming.{map_end, map_length}
 use Rattle.pc_class.specs.declared.table.Parameter.{Parameter as RustParameter}
 use Rattle.pc_class.specs.FieldLists.{IsSeat, IsSeatIfAny, IsListOf, fields_in, list_at}
 use Rattle.pc_class.specs.Listed.{names_listed, needed_in, is_defaulted, parameter_name}
@@ -33,7 +33,7 @@ lists_on s t u k m = record {
   seats = λ l place r. m.seats l place (k.room l r) ∙ k.seats l place r;
 }
 
--- what is needed, by the default that there is or is not
+-- the number of needed fields, by whether there is a default
 needed_by_default : (default needs : Bool) (many last : ℕ) → needs ≡ not default
     → (if needs then many else last) ≡ (if default then last else many)
 needed_by_default true needs many last e = ap (λ (b : Bool). if b then many else last) e
@@ -81,7 +81,7 @@ module _ {Ty : Type 0} where
       (needed : m.needed ≡ (if needs then l.count + 1 else l.needed))
       (names : (ns : List (List ℕ)) → AreNamed s l ns → l.count ≡ length ns
       → AreNamed t m (ns ++ parameter_name x ∷ []))
-      (seats : (place : ℕ) → seat_at t m place ≡ (if place == l.count then Some (let q : Seat = record {
+      (seats : (place : ℕ) → seat_at t m place ≡ (if place == l.count then Some (let q : ListPlace = record {
         number = number;
         needed = l.needed;
       } in q) else seat_at s l place)) where
@@ -91,7 +91,7 @@ module _ {Ty : Type 0} where
     longer : length all ≡ suc (length these)
     longer = let e = length-append these (x ∷ []) in omega (arith, e)
 
-    abbrev seat : Seat
+    abbrev seat : ListPlace
     seat = record { number = number; needed = l.needed }
 
     seat_here : (k : ℕ) → k ≡ length these → IsSeat fields all k seat
@@ -101,7 +101,7 @@ module _ {Ty : Type 0} where
       needed = h.needed ∙ sym (ap (needed_in all) e ∙ needed_front these (x ∷ []) (length these) (omega arith));
     }
 
-    seat_before : (k : ℕ) → k ≢ length these → (o : Option Seat) → IsSeatIfAny fields these k o
+    seat_before : (k : ℕ) → k ≢ length these → (o : Option ListPlace) → IsSeatIfAny fields these k o
         → IsSeatIfAny fields all k o
     seat_before k other None less = let f = longer in omega (arith, f, less, other)
     seat_before k other (Some q) g = let w = g.within in record {
@@ -220,7 +220,7 @@ module _ {Ty : Type 0} (fields these : List (RustParameter Ty)) (s : SharedLists
   pub needed_told : place ≤ length these → needed_at s l place ≡ needed_in these place
   needed_told within = go (seat_at s l place) (h.seats place)
     where
-      go : (o : Option Seat) → IsSeatIfAny fields these place o → needed_or l.needed o ≡ needed_in these place
+      go : (o : Option ListPlace) → IsSeatIfAny fields these place o → needed_or l.needed o ≡ needed_in these place
       go None past = h.needed ∙ ap (needed_in these)
           (let e : length these ≡ place = omega (arith, past, within) in e)
       go (Some q) is = is.needed
@@ -230,10 +230,10 @@ module _ {Ty : Type 0} (fields these : List (RustParameter Ty)) (s : SharedLists
   no_seat none = get_past these place (subst (IsSeatIfAny fields these place) none (h.seats place))
 
   -- the field of a seat
-  pub field_of_seat : (q : Seat) → seat_at s l place ≡ Some q → slice_get fields q.number ≡ slice_get these place
+  pub field_of_seat : (q : ListPlace) → seat_at s l place ≡ Some q → slice_get fields q.number ≡ slice_get these place
   field_of_seat q is = (subst (IsSeatIfAny fields these place) is (h.seats place)).field
 
--- what was got from a slice
+-- an element got from a slice
 pub got_at : {Ty : Type 0} (Q : RustParameter Ty → Type 0) (ps : List (RustParameter Ty)) (i : ℕ)
     (o : Option (Bor (RustParameter Ty))) → IfSome o (λ x. x.now ≡ get_or ps i x.now)
     → MatchOption o (length ps ≤ i) (λ x. (i < length ps) × Q x.now) → option_map lent_parameter o ≡ slice_get ps i

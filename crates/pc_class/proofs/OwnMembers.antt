@@ -17,7 +17,7 @@ use Rattle.pc_class.specs.Outlines.{first_named, field_name, method_name, own_fi
 use Rattle.pc_class.specs.Outlines.{AreNew}
 
 module _ (m : Module) (base : ClassFacts) where
-  -- what the rules say that members bind is what their entries bind
+  -- the members bound by the rules are those that their entries bind
   pub fields_are : (before : List (List ℕ)) (n : ℕ) (ms : List Member) → own_fields m base before ms
       ≡ all_own (own_field m) (entries_of (inherited_by base) before n ms)
   fields_are before n [] = refl
@@ -103,7 +103,7 @@ neither_left : (a b : Bool) → not (a || b) ≡ true → a ≡ false
 neither_left true b e = absurd (false≢true e)
 neither_left false b e = refl
 
--- what binds a name finds it new
+-- a member that binds its name finds it new
 pub field_new : (h : Inherited) (before : List (List ℕ)) (n : ℕ) (x : Member) → member_binds h before x ≡ true
     → (is_one_of (name_of_member x).text before ≡ false) × (h.has_field (name_of_member x).text ≡ false)
 field_new h before n (field_member f) e =
@@ -118,7 +118,7 @@ field_new h before n (method_member f) e =
       not_true (h.has_field f.name.text) (and_right (not (is_one_of f.name.text before)) _ r),
     )
 
--- what an entry binds: nothing, or one of the member's name where it binds its name
+-- an entry binds nothing, or one member with its name where it binds its name
 data OwnOf {X : Type 0} (name : X → List ℕ) (own : MemberEntry → List X) (e : MemberEntry) : Type 0 where
   nothing : own e ≡ [] → OwnOf name own e
   this : (x : X) → own e ≡ x ∷ [] → name x ≡ (name_of_member e.member).text → e.binds ≡ true → OwnOf name own e
@@ -180,7 +180,7 @@ module _ {X : Type 0} (name : X → List ℕ) (has : List ℕ → Bool) where
       → OwnOf name own (record { member = x; number = n; binds = b; clashes = c }))
       (free : (before : List (List ℕ)) (x : Member) → member_binds h before x ≡ true → has (name_of_member x).text
       ≡ false) where
-    -- what entries bind is new to each other
+    -- the members that entries bind are new to each other
     are_new : (before : List (List ℕ)) (n : ℕ) (ms : List Member) (those : List X) → AreKnown before those
         → AreNew name own those (entries_of h before n ms)
     are_new before n [] those w = tt
@@ -214,7 +214,7 @@ module _ {X : Type 0} (name : X → List ℕ) (has : List ℕ → Bool) where
               (on (those ++ y ∷ []) (known_one those y t before named w)),
         )
 
--- so the fields of a class are new to each other and to those of its base
+-- the fields of a class are new to each other and to those of its base
 pub new_fields : (m : Module) (base : ClassFacts) (ms : List Member) → AreNew field_name (own_field m) base.fields
     (entries_of (inherited_by base) [] 0 ms)
 new_fields m base ms = are_new field_name (λ n. is_some (field_by_name base.fields n)) (own_field m) (inherited_by base)

@@ -8,7 +8,7 @@ use Rattle.pc_class.specs.declared.table.Parameter.{Parameter as RustParameter}
 use Rattle.pc_class.specs.declared.table.Method.{Method as RustMethod}
 use Rattle.pc_class.specs.declared.parts.Span.{Span}
 use Rattle.pc_class.specs.declared.parts.ClassNode.{ClassNode}
-use Rattle.pc_maps.specs.NameMaps.{NameMaps}
+use Rattle.pc_shared_maps.specs.NameMaps.{NameMaps}
 use Rattle.pc_class.specs.Tables.{ClassEntry, empty_entry, inherited_entry}
 use Rattle.pc_class.specs.Parts.{part, AreNodes}
 
@@ -28,7 +28,7 @@ part_more xs start end x order less is =
 pub part_none : {X : Type 0} (xs : List X) (start end : ℕ) → end ≤ start → part xs (span start end) ≡ []
 part_none xs start end less = ap (λ n. take n (drop start xs)) (let e : end - start ≡ 0 = omega arith in e)
 
--- how many classes there can be on the way up
+-- the number of classes that there can be on the way up
 abbrev pub steps_left : Option ℕ → ℕ
 steps_left None = 0
 steps_left (Some n) = suc n
@@ -51,7 +51,7 @@ module _ {Ty : Type 0} where
   fields_over d F M ns es are c n is = ap (λ (e : ClassEntry Ty). e.fields)
       (index_is es c _ empty_entry (are.each c n is).is)
 
-  -- so are its methods those that it binds itself and then its base's
+  -- the methods of a class are those that it binds itself and then those of its base
   pub methods_over : (d : NameMaps) (F : List (RustParameter Ty)) (M : List (RustMethod Ty)) (ns : List ClassNode)
       (es : List (ClassEntry Ty)) → AreNodes d F M ns es → (c : ℕ) (n : ClassNode) → slice_get ns c ≡ Some n
       → (own : List (RustMethod Ty)) → own ≡ part M n.methods

@@ -1,4 +1,4 @@
--- A class table with one more class: the classes before it stay, and it has what its base has and what it binds itself.
+-- A class table with one more class: the classes before it are kept, and it has the members of its base and its own.
 use Rattle.std.proofs.Common.{◌≡◌, ◌<◌, ◌+◌, ◌-◌, ◌⊎◌, ℕ, zero, suc, List, [], ◌∷◌, ◌++◌, length, take, drop, refl, sym}
 use Rattle.std.proofs.Common.{ap, ◌∙◌, subst, inl, inr, arith, length-append, length-drop, append-nil}
 use Rattle.std.specs.Prelude.{Option, Some, None, slice_get, slice_index_or}
@@ -10,7 +10,7 @@ use Rattle.pc_class.specs.declared.table.Parameter.{Parameter as RustParameter}
 use Rattle.pc_class.specs.declared.table.Method.{Method as RustMethod}
 use Rattle.pc_class.specs.declared.parts.Span.{Span}
 use Rattle.pc_class.specs.declared.parts.ClassNode.{ClassNode}
-use Rattle.pc_maps.specs.NameMaps.{NameMaps, KeepsNamed}
+use Rattle.pc_shared_maps.specs.NameMaps.{NameMaps, KeepsNamed}
 use Rattle.pc_class.specs.Outlines.{IsMapOf}
 use Rattle.pc_class.specs.Tables.{ClassEntry, empty_entry, inherited_entry}
 use Rattle.pc_class.specs.Parts.{part, IsSpan, parameter_name, stored_method_name, entry_over, entries_behind}

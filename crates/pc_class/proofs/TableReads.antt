@@ -1,4 +1,4 @@
--- What a class table tells of a class: what stands in the maps' lists at a name.
+-- The reads of a class table: the item that the maps of a class have at a name.
 use Rattle.std.proofs.Common.{◌≡◌, ◌<◌, ℕ, zero, suc, List, [], ◌∷◌, length, map, get_or, refl, sym, ap, ◌∙◌, subst}
 use Rattle.std.proofs.Common.{arith}
 use Rattle.std.specs.Prelude.{Bool, true, false, cond, Option, Some, None, find, slice_get, slice_index_or, bytes_eq}
@@ -7,7 +7,7 @@ use Rattle.std.specs.Option.{option_map}
 use Rattle.std.proofs.lemmas.Option.{same_Some, slice_get_read}
 use Rattle.pc_types.specs.Tree.{Tree}
 use Rattle.pc_class.specs.Facts.{ClassFacts, class_in, class_facts_at, base_facts, field_by_name, method_by_name}
-use Rattle.pc_maps.specs.NameMaps.{NameMaps, named_at}
+use Rattle.pc_shared_maps.specs.NameMaps.{NameMaps, named_at}
 use Rattle.pc_class.specs.Outlines.{at_number, IsNumberIn, first_named, IsMapOf}
 use Rattle.pc_class.specs.Tables.{ClassEntry, empty_entry, inherited_entry, parameter_with, method_with, class_with}
 use Rattle.pc_class.specs.Tables.{classes_with}
@@ -28,7 +28,7 @@ get_map f [] i = refl
 get_map f (x ∷ xs) zero = refl
 get_map f (x ∷ xs) (suc i) = get_map f xs i
 
--- what stands somewhere is contained
+-- an element at an index is contained in the list
 pub get_contains : {X : Type 0} (xs : List X) (i : ℕ) (x : X) → slice_get xs i ≡ Some x → Contains xs x
 get_contains [] i x e = absurd (grind (arith, e))
 get_contains (y ∷ xs) zero x e = (0, omega arith, same_Some _ _ e)
@@ -42,7 +42,7 @@ find_contains p (y ∷ xs) x e = go (p y) (λ f. find_contains p xs x f) e
     go true on f = (0, omega arith, same_Some _ _ f)
     go false on f = let r = on f in (suc r.0, (let l = r.1 in omega arith), r.2)
 
--- what a map gave, where it is held
+-- lookups in a map that is held
 module _ {X : Type 0} (name : X → List ℕ) (d : NameMaps) (all : List X) (at : ℕ) (these : List X)
     (h : IsMapOf name d all at these) (n : List ℕ) where
   pub number_within : (i : ℕ) → named_at d at n ≡ Some i → i < length all
@@ -73,7 +73,7 @@ module _ {Ty : Type 0} (tree : Ty → Tree) (es : List (ClassEntry Ty)) where
   method_there c e is n = ap (λ (x : ClassFacts). method_by_name x.methods n) (class_there c e is)
       ∙ find_map (method_with tree) (λ f. bytes_eq n f.name) e.methods
 
--- what a class inherits, as what it means
+-- the entry that a class inherits means the facts of its base
 pub inherits_there : {Ty : Type 0} (tree : Ty → Tree) (es : List (ClassEntry Ty)) (o : Option ℕ)
     → base_facts (classes_with tree es) o ≡ class_with tree (inherited_entry es o)
 inherits_there tree es None = refl

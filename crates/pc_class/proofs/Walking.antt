@@ -1,16 +1,16 @@
--- What the entries of a class add to a list and to a map of names, one entry after another.
+-- The items that the entries of a class add to a list and to a map of names, one entry after another.
 use Rattle.std.proofs.Common.{arith, ◌≡◌, ℕ, List, [], ◌∷◌, ◌++◌, map, refl, sym, ap, ◌∙◌, subst, append_assoc}
 use Rattle.std.proofs.Common.{append-nil}
 use Rattle.std.specs.Prelude.{Bool, true, false, cond, Option, Some, None, All, bytes_eq}
 use Rattle.std.specs.Option.{option_map}
 use Rattle.std.proofs.lemmas.List.Elements.{All-nil, All-cons, All-append, All-weaker}
 use Rattle.std.proofs.lemmas.List.{map-append}
-use Rattle.pc_maps.specs.NameMaps.{NameMaps}
+use Rattle.pc_shared_maps.specs.NameMaps.{NameMaps}
 use Rattle.pc_class.specs.Entries.{MemberEntry}
 use Rattle.pc_class.specs.Outlines.{first_named, IsMapOf, all_own, AreOther, AreNew}
 use Rattle.pc_class.specs.Built.{Added}
 
--- what a walk over entries has added so far, and what is still to come
+-- the members that a walk over entries has added so far, and those still to come
 pub record Walk {X Y : Type 0} (name : X → List ℕ) (yname : Y → List ℕ) (meaning : X → Y) (own : MemberEntry → List Y)
     (has : X → Type 0) (d : NameMaps) (old now : List X) (at : ℕ) (front back : List X)
     (entries rest : List MemberEntry) : Type 0 where

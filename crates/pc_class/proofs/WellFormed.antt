@@ -6,8 +6,8 @@ use Rattle.pc_tree.specs.Tree.{Param, FuncDef, Member, field_member, method_memb
 use Rattle.pc_scope.specs.Bindings.{classes_in}
 use Rattle.pc_types.specs.Below.{Bases}
 use Rattle.pc_types.specs.WellFormed.{IsWellFormed}
-use Rattle.pc_ann.specs.Annotations.{read_ann}
-use Rattle.pc_ann.proofs.Readings.{read_ann_well_formed, read_option_well_formed}
+use Rattle.pc_annotations.specs.Annotations.{read_ann}
+use Rattle.pc_annotations.proofs.Readings.{read_ann_well_formed, read_option_well_formed}
 use Rattle.pc_class.specs.Bases.{bases_of, base_named}
 use Rattle.pc_class.specs.Facts.{ClassFacts, TypedParameter, Method, class_facts_at, base_facts, binds_field}
 use Rattle.pc_class.specs.Facts.{binds_method, parameters_of, return_type, method_made, own_fields, own_methods}
@@ -15,7 +15,7 @@ use Rattle.pc_class.specs.Facts.{class_facts_behind, classes_behind, classes_of}
 use Rattle.pc_class.specs.Findings.{base_class}
 use Rattle.pc_class.specs.WellFormed.{ParametersWellFormed, MethodWellFormed, MethodsWellFormed, ClassWellFormed}
 use Rattle.pc_class.specs.WellFormed.{ClassesWellFormed}
-use Rattle.pc_ann.proofs.Earlier.{smaller}
+use Rattle.pc_annotations.proofs.Earlier.{smaller}
 
 -- the class of a number
 pub class_at_well_formed : (bases : Bases) (cs : List ClassFacts) (c : ℕ) → ClassesWellFormed bases cs

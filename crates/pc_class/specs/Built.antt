@@ -1,4 +1,4 @@
--- What a class table is built from, and what one more class adds to it.
+-- The contents of a class table as it is built, and the changes that one more class makes.
 -- Own rule of the profile.
 use Rattle.std.specs.Prelude.{◌≡◌, ℕ, suc, List, [], ◌∷◌, ◌++◌, map, Some, All, slice_get}
 use Rattle.pc_tree.specs.Tree.{ClassDef, Member, Module, member_of}
@@ -6,16 +6,16 @@ use Rattle.pc_tree.specs.declared.code.Code.TheVariants.{E07}
 use Rattle.pc_tree.specs.declared.code.Finding.{Finding}
 use Rattle.pc_scope.specs.Bindings.{classes_in}
 use Rattle.pc_tree.specs.Code.{at_code}
-use Rattle.pc_ann.specs.Bases.{bases_of, base_named}
-use Rattle.pc_class.specs.declared.entries.Entry.{Entry}
-use Rattle.pc_maps.specs.NameMaps.{NameMaps}
+use Rattle.pc_annotations.specs.Bases.{bases_of, base_named}
+use Rattle.pc_class.specs.declared.entries.ClassMember.{ClassMember}
+use Rattle.pc_shared_maps.specs.NameMaps.{NameMaps}
 use Rattle.pc_class.specs.Facts.{ClassFacts, base_facts, class_facts_behind}
 use Rattle.pc_class.specs.Entries.{missing_bases}
 use Rattle.pc_class.specs.Annotated.{class_annotated}
 use Rattle.pc_class.specs.Outlines.{IsMapOf, found_over, classes_found}
 
--- what was added to a list means these, each with what is asked of it; a map tells it by names, between what it told in
--- front and after
+-- the items added to a list mean these, and each satisfies `has`; a map has them by name, between those in front and
+-- those at the back
 pub record Added {X Y : Type 0} (name : X → List ℕ) (has : X → Type 0) (meaning : X → Y) (d : NameMaps)
     (old new : List X) (at : ℕ) (front back : List X) (own : List Y) : Type 0 where
   pub these : List X
@@ -24,30 +24,30 @@ pub record Added {X Y : Type 0} (name : X → List ℕ) (has : X → Type 0) (me
   pub given : All has these
   pub held : IsMapOf name d new at ((front ++ these) ++ back)
 
--- the members that entries of the program are of
-abbrev pub members_of_entries : List Entry → List Member
-members_of_entries es = map (λ (e : Entry). member_of e.member.now) es
+-- the members of the program's entries
+abbrev pub members_of_entries : List ClassMember → List Member
+members_of_entries es = map (λ (e : ClassMember). member_of e.member.now) es
 
 -- a class of the module, with its number
 abbrev pub IsClassAt : Module → ℕ → ClassDef → Type 0
 IsClassAt m c class = slice_get (classes_in m.items) c ≡ Some class
 
--- what is found of classes given those before them, of each of them in turn over what its base has
+-- the findings of a rule on classes, each class over its base, given the classes before them
 abbrev pub each_behind : (over : ClassFacts → ClassDef → List Finding) → Module → List ClassFacts → ℕ → List ClassDef
     → List Finding
 each_behind over m earlier c [] = []
 each_behind over m earlier c (class ∷ rest) = over (base_facts earlier (base_named m c class.base)) class
     ++ each_behind over m (earlier ++ class_facts_behind m earlier c class ∷ []) (suc c) rest
 
--- what is found of the members of classes by their names, given the classes before them: E06, E08
+-- the findings about the names of members of classes, given the classes before them: E06, E08
 abbrev pub found_behind : Module → List ClassFacts → ℕ → List ClassDef → List Finding
 found_behind m earlier c classes = each_behind found_over m earlier c classes
 
--- what is found in the annotations of the members of classes, given the classes before them
+-- the findings in the annotations of the members of classes, given the classes before them
 abbrev pub annotated_behind : Module → List ClassFacts → ℕ → List ClassDef → List Finding
 annotated_behind m earlier c classes = each_behind (class_annotated m) m earlier c classes
 
--- the findings of classes by names alone as a list: E07, then of each class E06 and E08
+-- the findings about classes by names alone, as a list: E07, then E06 and E08 of each class
 unfoldable pub class_findings : Module → List Finding
 class_findings m = at_code E07 (missing_bases (bases_of m) 0 (classes_in m.items))
     ++ classes_found m 0 (classes_in m.items)

@@ -1,5 +1,5 @@
--- The members of a class one after another: whether each binds its name, and whether that clashes. The computed twin of
--- the rules on members and of the findings of names, which proofs/ ties to them.
+-- The members of a class in order: whether each binds its name, and whether that clashes. The computed twin of the
+-- rules on members and of the findings about names; proofs/ tie it to them.
 -- Own rules of the profile; library reference, `dataclasses`, order of fields.
 use Rattle.std.specs.Prelude.{ℕ, suc, List, [], ◌∷◌, ◌++◌, Bool, false, ◌&&◌, ◌||◌, not, if◌then◌else◌, Option, Some}
 use Rattle.std.specs.Prelude.{None, is_some, codes, bytes_eq}
@@ -9,45 +9,45 @@ use Rattle.pc_tree.specs.Stopping.{one_if, name_of_member}
 use Rattle.pc_scope.specs.Reserved.{is_builtin_name}
 use Rattle.pc_scope.specs.Resolution.{is_one_of}
 use Rattle.pc_types.specs.Below.{Bases, base_of}
-use Rattle.pc_ann.specs.Bases.{bases_of}
-use Rattle.pc_ann.specs.Annotations.{read_ann}
-use Rattle.pc_class.specs.declared.entries.Entry.{Entry as RustEntry}
-use Rattle.pc_class.specs.declared.entries.Held.{Held}
+use Rattle.pc_annotations.specs.Bases.{bases_of}
+use Rattle.pc_annotations.specs.Annotations.{read_ann}
+use Rattle.pc_class.specs.declared.entries.ClassMember.{ClassMember as RustEntry}
+use Rattle.pc_class.specs.declared.entries.MemberMaps.{MemberMaps}
 use Rattle.pc_class.specs.Facts.{TypedParameter, Method, ClassFacts, field_by_name, method_by_name, method_made}
-use Rattle.pc_maps.specs.NameMaps.{NameMaps, IsMap, named_at}
+use Rattle.pc_shared_maps.specs.NameMaps.{NameMaps, IsMap, named_at}
 
--- which names the ancestors of a class have as fields, and which as methods
+-- the names that the ancestors of a class have as fields, and those that they have as methods
 pub record Inherited : Type 0 where
   pub has_field : List ℕ → Bool
   pub has_method : List ℕ → Bool
 
--- which names a base gives a class as fields, and which as methods
+-- the names that a base gives a class as fields, and those that it gives as methods
 abbrev pub inherited_by : ClassFacts → Inherited
 inherited_by base = record {
   has_field = λ n. is_some (field_by_name base.fields n);
   has_method = λ n. is_some (method_by_name base.methods n);
 }
 
--- which names are fields by one map, and methods by another
-abbrev pub inherited_in : NameMaps → Held → Inherited
+-- the names that one map has as fields, and those that another has as methods
+abbrev pub inherited_in : NameMaps → MemberMaps → Inherited
 inherited_in d held = record {
   has_field = λ n. is_some (named_at d held.fields n);
   has_method = λ n. is_some (named_at d held.methods n);
 }
 
--- there are maps of these numbers
-pub record HasMaps (d : NameMaps) (held : Held) : Type 0 where
+-- there are maps with these numbers
+pub record HasMaps (d : NameMaps) (held : MemberMaps) : Type 0 where
   pub fields : IsMap d held.fields
   pub methods : IsMap d held.methods
 
--- a member of a class: how many methods stand before it, whether it binds its name, and whether that clashes
+-- a member of a class: the number of methods before it, whether it binds its name, and whether that clashes
 pub record MemberEntry : Type 0 where
   pub member : Member
   pub number : ℕ
   pub binds : Bool
   pub clashes : Bool
 
--- a member binds its name, after members of these names
+-- a member after members of these names binds its name
 abbrev pub member_binds : Inherited → List (List ℕ) → Member → Bool
 member_binds h before (field_member f) =
     not (is_builtin_name f.name.text || bytes_eq f.name.text (codes "mro"))
@@ -55,7 +55,7 @@ member_binds h before (field_member f) =
 member_binds h before (method_member f) = not (is_builtin_name f.name.text)
     && (not (is_one_of f.name.text before) && not (h.has_field f.name.text))
 
--- a member's name is that of an earlier one, or it clashes with an ancestor's
+-- a member has the name of an earlier one, or clashes with an ancestor's
 abbrev pub member_clashes : Inherited → List (List ℕ) → Member → Bool
 member_clashes h before (field_member f) = is_one_of f.name.text before
     || (h.has_field f.name.text || h.has_method f.name.text)
@@ -70,12 +70,12 @@ entry_of h before number x = record {
   clashes = member_clashes h before x;
 }
 
--- how many methods there are after one more member
+-- the number of methods after one more member
 abbrev pub number_after : ℕ → Member → ℕ
 number_after n (field_member f) = n
 number_after n (method_member f) = suc n
 
--- the entries of members, after members of these names and so many methods
+-- the entries of members, given the names and the number of methods before them
 abbrev pub entries_of : Inherited → List (List ℕ) → ℕ → List Member → List MemberEntry
 entries_of h before number [] = []
 entries_of h before number (x ∷ rest) =
@@ -104,7 +104,7 @@ abbrev pub field_made : Module → Member → List TypedParameter
 field_made m (field_member f) = parameter_made m f ∷ []
 field_made m (method_member f) = []
 
--- the method that a member is
+-- the method that a member is, as a list of at most one
 abbrev pub methods_made : Module → ℕ → ℕ → Member → List Method
 methods_made m c number (field_member f) = []
 methods_made m c number (method_member f) = method_made m c number f ∷ []
@@ -121,31 +121,31 @@ entry_methods m c (e ∷ es) = (if e.binds then methods_made m c e.number e.memb
 
 -- ---- findings of names
 
--- the names of members that clash
+-- the places of the names of members that clash
 abbrev pub clash_places : List MemberEntry → List Place
 clash_places [] = []
 clash_places (e ∷ es) = one_if e.clashes (name_of_member e.member).place ++ clash_places es
 
--- whether the field that a member is has a default; none where it is no field
+-- whether the field that a member is has a default; none if it is not a field
 abbrev pub member_default : Member → Option Bool
 member_default (field_member f) = Some (is_some f.default)
 member_default (method_member f) = None
 
--- whether the field that an entry binds has a default; none where it binds no field
+-- whether the field that an entry binds has a default; none if it binds no field
 abbrev pub entry_default : MemberEntry → Option Bool
 entry_default e = if e.binds then member_default e.member else None
 
--- whether there was a default, with one more field or none
+-- whether there was a default, after one more field or none
 abbrev pub defaulted_after : Bool → Option Bool → Bool
 defaulted_after d None = d
 defaulted_after d (Some b) = d || b
 
--- whether a field stands after one with default and has none
+-- whether a field without a default comes after one with a default
 abbrev pub is_late : Bool → Option Bool → Bool
 is_late d None = false
 is_late d (Some b) = d && not b
 
--- the names of fields without default after one with default
+-- the places of the names of fields without a default after one with a default
 abbrev pub late_places : Bool → List MemberEntry → List Place
 late_places d [] = []
 late_places d (e ∷ es) = one_if (is_late d (entry_default e)) (name_of_member e.member).place
@@ -156,12 +156,12 @@ abbrev pub defaulted_in : Bool → List MemberEntry → Bool
 defaulted_in d [] = d
 defaulted_in d (e ∷ es) = defaulted_in (defaulted_after d (entry_default e)) es
 
--- the name of a base that the class has not
+-- the place of the name of a missing base
 abbrev pub missing_base : Option ℕ → Option Name → List Place
 missing_base None (Some n) = n.place ∷ []
 missing_base _ _ = []
 
--- the names of bases that are no earlier class, of classes from this number on
+-- the places of the names of bases that are no earlier class, given the number of the first class
 abbrev pub missing_bases : Bases → ℕ → List ClassDef → List Place
 missing_bases bases c [] = []
 missing_bases bases c (class ∷ rest) = missing_base (base_of bases c) class.base ++ missing_bases bases (suc c) rest

@@ -1,4 +1,4 @@
--- The findings of classes: E06, E07, E08, E11, A8.
+-- The findings about classes: E06, E07, E08, E11, A8.
 -- Own rules of the profile; library reference, `dataclasses`, order of fields.
 use Rattle.std.specs.Prelude.{◌≡◌, ℕ, List, [], map, take, length, Bool, ◌||◌, IsTrue, IsFalse, Some, None, is_some}
 use Rattle.std.specs.Prelude.{slice_get}
@@ -18,7 +18,7 @@ use Rattle.pc_class.specs.Overrides.{Judges, overridden}
 pub record ClassNumbered (m : Module) (c : ℕ) (class : ClassDef) : Type 0 where
   pub is : slice_get (classes_in m.items) c ≡ Some class
 
--- what the base of a class has
+-- the facts of the base of a class
 abbrev pub base_class : Module → ℕ → ClassDef → ClassFacts
 base_class m c class = base_facts (classes_of m) (base_named m c class.base)
 
@@ -38,12 +38,12 @@ pub record IsTwiceMember (m : Module) (f : Finding) : Type 0 where
   pub code : f.code ≡ E06
   pub stops : IsStopping m f.place E06
 
--- a field before another one has a default
+-- a field of the base or an earlier field of the class has a default
 abbrev pub has_default_before : Module → ClassFacts → List Member → Bool
 has_default_before m base members = list_any (λ p. p.has_default) base.fields
     || list_any (λ p. p.has_default) (own_fields m base [] members)
 
--- E08: a field without default stands after one with default
+-- E08: a field without a default comes after one with a default
 pub record IsFieldBehind (m : Module) (class : ClassDef) (c : ℕ) (f : Finding) : Type 0 where
   pub at : ℕ
   pub field : Field
@@ -53,7 +53,7 @@ pub record IsFieldBehind (m : Module) (class : ClassDef) (c : ℕ) (f : Finding)
   pub behind : IsTrue (has_default_before m (base_class m c class) (take at class.members))
   pub is : f ≡ finding field.name.place E08
 
--- E11, A8: at the name of a method that overrides, where it binds its name; its number is that of the methods before it
+-- E11, A8: at the name of a method that overrides, if it binds its name; its number is the number of methods before it
 -- in its class
 pub record IsOverride (m : Module) (class : ClassDef) (c : ℕ) (f : Finding) : Type 0 where
   pub at : ℕ
@@ -65,7 +65,7 @@ pub record IsOverride (m : Module) (class : ClassDef) (c : ℕ) (f : Finding) : 
       (method_made m c (length (methods_in (take at class.members))) method) (Some code)
   pub is : f ≡ finding method.name.place code
 
--- the findings of classes
+-- the findings about classes
 pub data ClassFinds (m : Module) (f : Finding) : Type 0 where
   base : (c : ℕ) (class : ClassDef) → ClassNumbered m c class → HasNoBase m class c f → ClassFinds m f
   member : IsTwiceMember m f → ClassFinds m f

@@ -1,4 +1,4 @@
-pub use Rattle.pc_ann.specs.Bases
+pub use Rattle.pc_annotations.specs.Bases
 pub mod Annotated
 pub mod Built
 pub mod ClassFindingsLaw

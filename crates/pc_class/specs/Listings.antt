@@ -1,4 +1,4 @@
--- What the arguments of a call are for, as a list.
+-- The targets of the arguments of a call, as a list.
 -- Own rule of the profile.
 use Rattle.std.specs.Prelude.{List}
 use Rattle.pc_class.specs.declared.table.Parameter.{Parameter as RustParameter}

@@ -1,6 +1,6 @@
--- What overriding finds, computed: of each method that a class binds its code against the ancestors' methods of its
--- name, E11, A8 or none. The computed twin of the rule on overrides, which the law `overrides_are_found` ties to it; it
--- is to be believed for that law alone.
+-- The findings about overriding as computed: for each method that a class binds, its code against the ancestors'
+-- methods of its name, E11, A8 or none. The computed twin of the rule on overrides; only the law `overrides_are_found`,
+-- which ties it to the rule, is a reason to believe it.
 -- Typing specification, "Type system concepts", assignability of callables; own rule of the profile.
 use Rattle.std.specs.Prelude.{◌↔◌, ℕ, suc, List, [], ◌∷◌, ◌++◌, Bool, true, false, ◌&&◌, Option, Some, None, Contains}
 use Rattle.std.specs.List.{list_all}
@@ -13,7 +13,7 @@ use Rattle.pc_tree.specs.Tree.{ClassDef, Module}
 use Rattle.pc_scope.specs.Bindings.{classes_in}
 use Rattle.pc_types.specs.Below.{Bases}
 use Rattle.pc_types.specs.Computed.{static_test, assignable_test}
-use Rattle.pc_ann.specs.Bases.{bases_of}
+use Rattle.pc_annotations.specs.Bases.{bases_of}
 use Rattle.pc_class.specs.Facts.{Method, own_methods}
 use Rattle.pc_class.specs.Overrides.{TypeFlow, has_shape_of, override_flows, overridden}
 use Rattle.pc_class.specs.Findings.{ClassNumbered, IsOverride, base_class}
@@ -36,13 +36,13 @@ abbrev pub is_good_to : Bases → Method → Method → Bool
 is_good_to bases new old = has_shape_of old.parameters new.parameters
     && list_all (flow_is_good bases) (override_flows old new)
 
--- E11 where not all is good; else A8 where not all is static; else nothing
+-- E11 if not all is good; else A8 if not all is static; else nothing
 abbrev pub code_where : (good static : Bool) → Option Code
 code_where false _ = Some E11
 code_where true false = Some A8
 code_where true true = None
 
--- what is found of a method, judged against every ancestor's of its name
+-- the code of a method, judged against every ancestor's method of its name
 abbrev pub override_code : Bases → List Method → Method → Option Code
 override_code bases olds new =
     code_where (list_all (is_good_to bases new) olds) (list_all (is_static_to bases new) olds)
@@ -52,37 +52,37 @@ abbrev pub override_finding : Option Code → Place → List Finding
 override_finding None place = []
 override_finding (Some code) place = finding place code ∷ []
 
--- what is found at the name of a method, over the methods that its class inherits
+-- the finding at the name of a method, given the methods that its class inherits
 abbrev pub found_at_method : Bases → List Method → Method → List Finding
 found_at_method bases inherited x = override_finding (override_code bases (overridden inherited x.name) x) x.place
 
--- what is found at the names of methods, one after another
+-- the findings at the names of methods, one after another
 abbrev pub found_at_methods : Bases → List Method → List Method → List Finding
 found_at_methods bases inherited [] = []
 found_at_methods bases inherited (x ∷ xs) = found_at_method bases inherited x ++ found_at_methods bases inherited xs
 
--- what is found of the methods that a class binds
+-- the findings about the methods that a class binds
 abbrev pub class_overrides : Module → ℕ → ClassDef → List Finding
 class_overrides m c class =
     found_at_methods (bases_of m) (base_class m c class).methods
     (own_methods m (base_class m c class) c 0 [] class.members)
 
--- what is found of the methods that classes bind, from this number on
+-- the findings about the methods that classes bind, given the number of the first class
 abbrev pub overrides_from : Module → ℕ → List ClassDef → List Finding
 overrides_from m c [] = []
 overrides_from m c (class ∷ rest) = class_overrides m c class ++ overrides_from m (suc c) rest
 
--- what overriding finds in a module, in text order: E11, A8
+-- the findings about overriding in a module, in text order: E11, A8
 unfoldable pub override_findings : Module → List Finding
 override_findings m = overrides_from m 0 (classes_in m.items)
 
--- E11, A8: some class has a method that overrides, and is found so
+-- E11, A8: some class has a method with this finding about overriding
 pub record FindsOverride (m : Module) (f : Finding) : Type 0 where
   pub c : ℕ
   pub class : ClassDef
   pub numbered : ClassNumbered m c class
   pub override : IsOverride m class c f
 
--- the law that the list holds just what the rule finds
+-- the law that the list has exactly the findings of the rule
 abbrev pub OverridesAreFound : Type 0
 OverridesAreFound = (m : Module) (f : Finding) → Contains (override_findings m) f ↔ FindsOverride m f

@@ -1,5 +1,5 @@
--- What a class table holds: of each class its base, its fields and its methods, with types of a store; and the classes
--- that it means. Own rule of the profile.
+-- The contents of a class table: for each class its base, its fields and its methods, with stored types; and the
+-- classes that it means. Own rule of the profile.
 use Rattle.std.specs.Prelude.{ℕ, List, [], map, Option, Some, None, All, Contains, slice_index_or, string_bytes}
 use Rattle.std.specs.Borrow.{Bor}
 use Rattle.pc_types.specs.Tree.{Tree}
@@ -7,8 +7,7 @@ use Rattle.pc_class.specs.Facts.{TypedParameter, Method, ClassFacts}
 use Rattle.pc_class.specs.declared.table.Parameter.{Parameter as RustParameter}
 use Rattle.pc_class.specs.declared.table.Method.{Method as RustMethod}
 
--- a class of a table: its base, its fields with those of its base first, and its methods with those of its base after
--- them
+-- a class of a table: its base, its fields after those of its base, and its methods before those of its base
 pub record ClassEntry (Ty : Type 0) : Type 0 where
   pub base : Option ℕ
   pub fields : List (RustParameter Ty)
@@ -18,21 +17,21 @@ pub record ClassEntry (Ty : Type 0) : Type 0 where
 abbrev pub empty_entry : {Ty : Type 0} → ClassEntry Ty
 empty_entry = record { base = None; fields = []; methods = [] }
 
--- what a class inherits: its base among the classes before it, or nothing where it has none
+-- the class that is inherited: the base among the classes before, or an empty one if there is no base
 abbrev pub inherited_entry : {Ty : Type 0} → List (ClassEntry Ty) → Option ℕ → ClassEntry Ty
 inherited_entry earlier None = empty_entry
 inherited_entry earlier (Some b) = slice_index_or earlier b empty_entry
 
 module _ {Ty : Type 0} (tree : Ty → Tree) where
-  -- a parameter with the type that it means
+  -- a parameter with the meaning of its stored type
   abbrev pub parameter_with : RustParameter Ty → TypedParameter
   parameter_with p = record { name = string_bytes p.name; type = tree p.ty; has_default = p.has_default }
 
-  -- parameters with the types that they mean
+  -- parameters with the meanings of their stored types
   abbrev pub parameters_with : List (RustParameter Ty) → List TypedParameter
   parameters_with ps = map parameter_with ps
 
-  -- a method with the types that it means
+  -- a method with the meanings of its stored types
   abbrev pub method_with : RustMethod Ty → Method
   method_with x = record {
     name = string_bytes x.name;
@@ -43,7 +42,7 @@ module _ {Ty : Type 0} (tree : Ty → Tree) where
     returns = tree x.ret;
   }
 
-  -- a class with the types that it means
+  -- a class with the meanings of its stored types
   abbrev pub class_with : ClassEntry Ty → ClassFacts
   class_with c = record { base = c.base; fields = parameters_with c.fields; methods = map method_with c.methods }
 
@@ -51,20 +50,20 @@ module _ {Ty : Type 0} (tree : Ty → Tree) where
   abbrev pub classes_with : List (ClassEntry Ty) → List ClassFacts
   classes_with cs = map class_with cs
 
-  -- a parameter that is lent, with the type that it means
+  -- a borrowed parameter with the meaning of its stored type
   abbrev pub parameter_lent : Bor (RustParameter Ty) → TypedParameter
   parameter_lent p = parameter_with p.now
 
-  -- a method that is lent, with the types that it means
+  -- a borrowed method with the meanings of its stored types
   abbrev pub method_lent : Bor (RustMethod Ty) → Method
   method_lent x = method_with x.now
 
 module _ {Ty : Type 0} (has : Ty → Type 0) where
-  -- the store gave a parameter's type
+  -- the store gave the type of a parameter
   abbrev pub HasParameter : RustParameter Ty → Type 0
   HasParameter p = has p.ty
 
-  -- the store gave the types of a method's parameters, and the type that it returns
+  -- the store gave the types of a method's parameters and its return type
   pub record HasMethod (x : RustMethod Ty) : Type 0 where
     pub params : All HasParameter x.params
     pub ret : has x.ret
@@ -85,22 +84,22 @@ module _ {Ty : Type 0} (cs : List (ClassEntry Ty)) where
     pub listed : Contains cs class
     pub among : Contains class.fields p
 
-  -- a method of one of them
+  -- a method of one of the classes of a table
   pub record IsMethod (x : RustMethod Ty) : Type 0 where
     pub class : ClassEntry Ty
     pub listed : Contains cs class
     pub among : Contains class.methods x
 
-  -- a field that is lent is one of the table's
+  -- a borrowed field is one of the table's
   abbrev pub IsLent : Bor (RustParameter Ty) → Type 0
   IsLent p = IsField p.now
 
-  -- a field that is lent, if there is one, is one of the table's
+  -- a borrowed field, if there is one, is one of the table's
   abbrev pub IsFieldIfAny : Option (Bor (RustParameter Ty)) → Type 0
   IsFieldIfAny None = Unit {0}
   IsFieldIfAny (Some p) = IsField p.now
 
-  -- a method that is lent, if there is one, is one of the table's
+  -- a borrowed method, if there is one, is one of the table's
   abbrev pub IsMethodIfAny : Option (Bor (RustMethod Ty)) → Type 0
   IsMethodIfAny None = Unit {0}
   IsMethodIfAny (Some x) = IsMethod x.now

@@ -13,12 +13,12 @@ abbrev pub ParametersWellFormed : Bases → List TypedParameter → Type 0
 ParametersWellFormed bases [] = Unit {0}
 ParametersWellFormed bases (p ∷ ps) = IsWellFormed bases p.type × ParametersWellFormed bases ps
 
--- the types of what a method takes and returns are well-formed
+-- the types of a method's parameters and its return type are well-formed
 pub record MethodWellFormed (bases : Bases) (m : Method) : Type 0 where
   pub parameters : ParametersWellFormed bases m.parameters
   pub returns : IsWellFormed bases m.returns
 
--- the types of what each of these methods takes and returns are well-formed
+-- the types of the parameters and the return type of each of these methods are well-formed
 abbrev pub MethodsWellFormed : Bases → List Method → Type 0
 MethodsWellFormed bases [] = Unit {0}
 MethodsWellFormed bases (m ∷ ms) = MethodWellFormed bases m × MethodsWellFormed bases ms

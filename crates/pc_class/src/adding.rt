@@ -3,13 +3,13 @@
 ghost use Rattle.std.specs.Prelude.{◌≡◌, ◌+◌, length, ◌++◌, ◌∷◌, [], List, map, None, OnOk, IfOk};
 ghost use Rattle.pc_tree.specs.Tree.{class_of, member_of};
 ghost use Rattle.pc_types.specs.Store.{KeepsTypes};
-ghost use Rattle.pc_ann.specs.Bases.{base_named};
+ghost use Rattle.pc_annotations.specs.Bases.{base_named};
 ghost use Rattle.pc_class.specs.declared.table.Parameter.{Parameter as ParameterOf};
 ghost use Rattle.pc_class.specs.declared.table.Method.{Method as MethodOf};
 ghost use Rattle.pc_class.specs.Annotated.{field_annotated, method_annotated, fields_annotated, methods_annotated};
 ghost use Rattle.pc_class.specs.Annotated.{class_annotated};
 ghost use Rattle.pc_class.specs.Facts.{class_facts_behind, base_facts};
-ghost use Rattle.pc_maps.specs.NameMaps.{IsMap, KeepsNamed};
+ghost use Rattle.pc_shared_maps.specs.NameMaps.{IsMap, KeepsNamed};
 ghost use Rattle.pc_class.specs.Entries.{entry_seen};
 ghost use Rattle.pc_class.specs.Outlines.{IsMapOf, first_named, field_name, method_name as class_method_name};
 ghost use Rattle.pc_class.specs.Outlines.{own_field, own_method, all_own, AreOther, AreNew};
@@ -17,16 +17,16 @@ ghost use Rattle.pc_class.specs.Outlines.{found_over};
 ghost use Rattle.pc_class.specs.Tables.{HasParameter, HasMethod, parameter_with, method_with, classes_with};
 ghost use Rattle.pc_class.specs.Parts.{parameter_name, stored_method_name, inherited_node, entries_in, IsClassTable};
 ghost use Rattle.pc_class.specs.Parts.{HasParts};
-ghost use Rattle.pc_ann.specs.ModuleOutlines.{IsModuleOutline, module_in};
+ghost use Rattle.pc_annotations.specs.ModuleOutlines.{IsModuleOutline, module_in};
 ghost use Rattle.pc_class.specs.Built.{Added, IsClassAt, members_of_entries};
 ghost use Rattle.pc_class.specs.Internal.Readers.{IsLentSame};
 
-use crate::entries::{Entry, Held, entries, find_clashes, find_late_fields};
-use crate::parts::{ClassNode, Span, TableParts};
+use crate::entries::{ClassMember, MemberMaps, entries, find_clashes, find_late_fields};
+use crate::parts::{ClassArena, ClassNode, Span};
 use crate::reading::{TypeReader, read_field, read_method};
 use crate::table::{Method, Parameter};
-use pc_ann::ModuleOutline;
-use pc_maps::NamedMaps;
+use pc_annotations::ModuleOutline;
+use pc_shared_maps::NamedMaps;
 use pc_source::OutOfMemory;
 use pc_tree::{ClassDef, Findings, Member};
 use pc_types::TypeStore;
@@ -39,7 +39,7 @@ struct NumberedClass<'m> {
     pub number: usize,
 }
 
-/// Adds a field of a class after those that it has, and to the map by name.
+/// Adds a field to the list of fields, and to the map of a class by its name. Returns the new map.
 fn add_field<Ty: Drop>(
     named: &mut NamedMaps,
     alloc: Global,
@@ -62,7 +62,7 @@ fn add_field<Ty: Drop>(
     Ok(new)
 }
 
-/// Adds a method of a class ahead of those that it inherits, and to the map by name.
+/// Adds a method to the list of methods, and to the map of a class by its name. Returns the new map.
 fn add_method<Ty: Drop>(
     named: &mut NamedMaps,
     alloc: Global,
@@ -86,14 +86,15 @@ fn add_method<Ty: Drop>(
     Ok(new)
 }
 
-/// Reads the entry's field, if it is one, and adds it where it binds its name.
+/// Reads the annotation of the entry's member if it is a field, and appends the findings in it. Adds the field to
+/// `fields` if it binds its name. Returns the map with it, or the map `at` if nothing is added.
 fn add_own_field<S: TypeStore>(
     reader: &mut TypeReader<'_, S>,
     outline: &ModuleOutline,
     named: &mut NamedMaps,
     fields: &mut Vec<Parameter<S::Ty>>,
     at: usize,
-    entry: &Entry,
+    entry: &ClassMember,
 ) -> Result<usize, OutOfMemory>
     requires map { IsMap named.old at }
     requires outline { IsModuleOutline outline.now }
@@ -124,14 +125,15 @@ fn add_own_field<S: TypeStore>(
     }
 }
 
-/// Reads and adds the entry's method, if it binds one.
+/// Reads the entry's member if it is a method that binds its name, appends the findings in its annotations and adds it
+/// to `methods`. Returns the map with it, or the map `at` if nothing is added.
 fn add_own_method<S: TypeStore>(
     reader: &mut TypeReader<'_, S>,
     class: &NumberedClass,
     named: &mut NamedMaps,
     methods: &mut Vec<Method<S::Ty>>,
     at: usize,
-    entry: &Entry,
+    entry: &ClassMember,
 ) -> Result<usize, OutOfMemory>
     requires map { IsMap named.old at }
     requires outline { IsModuleOutline class.now.outline.now }
@@ -152,7 +154,7 @@ fn add_own_method<S: TypeStore>(
     match entry.member {
         Member::Field(_) => Ok(at),
         Member::Method(def) => {
-            // What binds no name is no method of the class; its annotations are read with its signature.
+            // A method that binds no name is no method of the class; its annotations are read with its signature.
             if !entry.binds {
                 return Ok(at);
             }
@@ -163,15 +165,16 @@ fn add_own_method<S: TypeStore>(
     }
 }
 
-/// Adds the fields that the entries of a class bind, after those that it inherits; the map that tells them all. The
-/// annotations of all its fields are read.
+/// Reads the annotations of all fields among the entries of a class, and appends the findings in them. Adds the fields
+/// that bind their names to `fields`. Returns the map of all fields of the class: these, and those of the map
+/// `inherited`.
 fn add_fields<S: TypeStore>(
     reader: &mut TypeReader<'_, S>,
     outline: &ModuleOutline,
     named: &mut NamedMaps,
     fields: &mut Vec<Parameter<S::Ty>>,
     inherited: usize,
-    entries: &[Entry],
+    entries: &[ClassMember],
 ) -> Result<usize, OutOfMemory>
     requires map { IsMap named.old inherited }
     requires outline { IsModuleOutline outline.now }
@@ -196,15 +199,15 @@ fn add_fields<S: TypeStore>(
     Ok(at)
 }
 
-/// Adds the methods that the entries of a class bind, ahead of those that it inherits; the map that tells them all.
-/// Their annotations are read.
+/// Reads the methods among the entries of a class that bind their names, appends the findings in their annotations and
+/// adds them to `methods`. Returns the map of all methods of the class: these, and those of the map `inherited`.
 fn add_methods<S: TypeStore>(
     reader: &mut TypeReader<'_, S>,
     class: &NumberedClass,
     named: &mut NamedMaps,
     methods: &mut Vec<Method<S::Ty>>,
     inherited: usize,
-    entries: &[Entry],
+    entries: &[ClassMember],
 ) -> Result<usize, OutOfMemory>
     requires map { IsMap named.old inherited }
     requires outline { IsModuleOutline class.now.outline.now }
@@ -229,10 +232,10 @@ fn add_methods<S: TypeStore>(
     Ok(at)
 }
 
-/// A base without fields and methods, for classes that have none.
+/// The base of classes that have none: no fields and no methods.
 const EMPTY: ClassNode = ClassNode {
     base: None,
-    held: Held {
+    held: MemberMaps {
         fields: 0,
         methods: 0,
     },
@@ -241,7 +244,7 @@ const EMPTY: ClassNode = ClassNode {
     methods: Span { start: 0, end: 0 },
 };
 
-/// The base among the classes before, or an empty one.
+/// Returns the base among the classes before, or an empty class if there is none.
 fn inherited(classes: &[ClassNode], base: Option<usize>) -> ClassNode
     ensures { result ≡ inherited_node classes.now base }
 {
@@ -257,7 +260,7 @@ fn inherited(classes: &[ClassNode], base: Option<usize>) -> ClassNode
     }
 }
 
-/// The places of a list from one on.
+/// Returns the range of a list from `start` to its end.
 fn places_from<T>(start: usize, list: &[T]) -> Span
     ensures start { result.start ≡ start }
     ensures end { result.end ≡ length list.now }
@@ -268,13 +271,13 @@ fn places_from<T>(start: usize, list: &[T]) -> Span
     }
 }
 
-/// Adds a class, over its base among those before it; finds what its members' names tell: E06, E08. Library
-/// reference, `dataclasses`; own rules of the profile. Reads the annotations of its fields, and of the methods that it
-/// binds.
+/// Adds a class over its base, which is among the classes before it, and reads the annotations of its fields and of the
+/// methods that it binds. Adds the findings about its members' names: E06, E08. Library reference, `dataclasses`; own
+/// rules of the profile.
 pub(crate) fn add_class<S: TypeStore>(
     reader: &mut TypeReader<'_, S>,
     outline: &ModuleOutline,
-    parts: &mut TableParts<S::Ty>,
+    parts: &mut ClassArena<S::Ty>,
     found: &mut Findings,
     definition: &ClassDef,
 ) -> Result<(), OutOfMemory>
@@ -335,7 +338,7 @@ pub(crate) fn add_class<S: TypeStore>(
     )?;
     parts.classes.push(ClassNode {
         base,
-        held: Held { fields, methods },
+        held: MemberMaps { fields, methods },
         defaulted,
         fields: places_from(fields_start, &parts.fields),
         methods: places_from(methods_start, &parts.methods),

@@ -1,4 +1,4 @@
-//! Bases that are no earlier class: E07.
+//! E07: a base that is no earlier class.
 #![tactic(auto, using(pc_tree::proofs::Finds::at_both, pc_tree::proofs::Joints::joined))]
 
 ghost use Rattle.std.specs.Prelude.{◌≡◌, ◌++◌, map, OnOk};
@@ -12,7 +12,7 @@ use pc_source::OutOfMemory;
 use pc_tree::{Code, Finding, Findings, Item, ItemKind, Name};
 use pc_types::Parents;
 
-/// Finds the name of a base that a class has not.
+/// Adds E07 at the name of a base if the class has no base.
 fn find_missing_base(
     found: &mut Findings,
     base: Option<usize>,
@@ -36,7 +36,7 @@ fn find_missing_base(
     }
 }
 
-/// Finds the names of bases that are no earlier class. Own rule of the profile.
+/// Adds E07 at each name of a base that is no earlier class. Own rule of the profile.
 pub fn find_missing_bases(
     found: &mut Findings,
     parents: &Parents,

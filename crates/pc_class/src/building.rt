@@ -1,4 +1,4 @@
-//! The class table of a module, one item after another.
+//! Builds the class table of a module, item by item.
 
 ghost use Rattle.std.specs.Prelude.{◌≡◌, ◌++◌, ◌∷◌, ◌+◌, [], length, OnOk, IfOk};
 ghost use Rattle.pc_tree.specs.Tree.{item_of, module_of};
@@ -10,33 +10,33 @@ ghost use Rattle.pc_class.specs.Facts.{classes_behind, classes_of};
 ghost use Rattle.pc_class.specs.Outlines.{IsClassNumbered};
 ghost use Rattle.pc_class.specs.Tables.{classes_with, HasEntries};
 ghost use Rattle.pc_class.specs.Parts.{entries_in, IsClassTable, HasParts};
-ghost use Rattle.pc_ann.specs.ModuleOutlines.{IsModuleOutline, module_in};
+ghost use Rattle.pc_annotations.specs.ModuleOutlines.{IsModuleOutline, module_in};
 ghost use Rattle.pc_class.specs.Built.{found_behind, annotated_behind, class_findings};
 ghost use Rattle.pc_class.specs.Internal.Readers.{IsLentSame};
 
 use crate::adding::add_class;
 use crate::bases::find_missing_bases;
 use crate::field_lists::ClassLists;
-use crate::parts::TableParts;
+use crate::parts::ClassArena;
 use crate::reading::TypeReader;
 use crate::table::ClassTable;
-use pc_ann::{ModuleOutline, parents_of};
-use pc_maps::NamedMaps;
+use pc_annotations::{ModuleOutline, parents_of};
 use pc_scope::Scopes;
+use pc_shared_maps::NamedMaps;
 use pc_source::OutOfMemory;
 use pc_tree::{Findings, Item, ItemKind, Keys, Module};
 use pc_types::TypeStore;
 use std::alloc::Global;
 
-/// What a table without classes is made of.
-fn no_classes<Ty: Drop>(alloc: Global, keys: Keys) -> Result<TableParts<Ty>, OutOfMemory>
+/// Returns the contents of a table without classes.
+fn no_classes<Ty: Drop>(alloc: Global, keys: Keys) -> Result<ClassArena<Ty>, OutOfMemory>
     ensures table { IfOk result IsClassTable }
     ensures classes { IfOk result (λ p. p.classes.items ≡ []) }
     ensures fields { IfOk result (λ p. p.fields.items ≡ []) }
     ensures methods { IfOk result (λ p. p.methods.items ≡ []) }
 {
     let named = NamedMaps::new(alloc, keys)?;
-    Ok(TableParts {
+    Ok(ClassArena {
         named,
         classes: Vec::new(alloc),
         fields: Vec::new(alloc),
@@ -44,11 +44,12 @@ fn no_classes<Ty: Drop>(alloc: Global, keys: Keys) -> Result<TableParts<Ty>, Out
     })
 }
 
-/// Adds an item of the module: the class, if it is one, with what is found of its members.
+/// Adds an item of the module to the classes if it is one. Appends the findings in the annotations of its members to
+/// those of `reader`, all others to `found`.
 fn add_item<S: TypeStore>(
     reader: &mut TypeReader<'_, S>,
     outline: &ModuleOutline,
-    parts: &mut TableParts<S::Ty>,
+    parts: &mut ClassArena<S::Ty>,
     found: &mut Findings,
     item: &Item,
 ) -> Result<(), OutOfMemory>
@@ -85,12 +86,13 @@ fn add_item<S: TypeStore>(
     }
 }
 
-/// What the table of all classes of the module is made of.
+/// Returns the contents of the table of all classes of the module. Appends the findings in the annotations of their
+/// members to those of `reader`, all others to `found`.
 fn all_classes<S: TypeStore>(
     reader: &mut TypeReader<'_, S>,
     outline: &ModuleOutline,
     found: &mut Findings,
-) -> Result<TableParts<S::Ty>, OutOfMemory>
+) -> Result<ClassArena<S::Ty>, OutOfMemory>
     requires { IsModuleOutline outline.now }
     ensures store { KeepsTypes S.has reader.old.store.now reader.new.store.now }
     ensures same { IsLentSame reader.old reader.new }
@@ -111,15 +113,15 @@ fn all_classes<S: TypeStore>(
     Ok(parts)
 }
 
-/// What the table of all classes of the module is made of; what is found in the annotations of their members is
-/// appended to a list of its own.
+/// Returns the contents of the table of all classes of the module. Appends the findings in the annotations of their
+/// members to `in_annotations`, all others to `found`.
 fn read_classes<S: TypeStore>(
     store: &mut S,
     alloc: Global,
     outline: &ModuleOutline,
     found: &mut Findings,
     in_annotations: &mut Findings,
-) -> Result<TableParts<S::Ty>, OutOfMemory>
+) -> Result<ClassArena<S::Ty>, OutOfMemory>
     requires { IsModuleOutline outline.now }
     ensures store { KeepsTypes S.has store.old store.new }
     ensures table { IfOk result IsClassTable }
@@ -139,9 +141,9 @@ fn read_classes<S: TypeStore>(
     all_classes(&mut reader, outline, found)
 }
 
-/// The class table of a module, with what is found of its classes appended to `found`: E07, then of each class E06 and
-/// E08; and after these what is found in the annotations of fields, and of methods that bind their names: E09, E10 and
-/// E26. The annotations of a method that binds no name are not read here, since the table has no such method.
+/// Returns the class table of a module. Appends the findings about its classes to `found`: E07, then E06 and E08 of
+/// each class; and after these the findings in the annotations of fields, and of methods that bind their names: E09,
+/// E10 and E26. The annotations of a method that binds no name are not read here, since the table has no such method.
 ///
 /// Library reference, `dataclasses`; Language Reference 3.12, 8.8 "Class definitions"; the codes are own rules of the
 /// profile.

@@ -1,4 +1,4 @@
-//! The members of a class, with those that it inherits.
+//! The members of a class, judged by the names that it inherits.
 #![tactic(auto, using(pc_tree::proofs::Finds::at_both, pc_tree::proofs::Joints::joined))]
 
 ghost use Rattle.std.specs.Prelude.{◌≡◌, ◌++◌, [], map, OnOk, IfOk};
@@ -11,38 +11,38 @@ ghost use Rattle.pc_class.specs.Entries.{HasMaps, inherited_in, member_binds, me
 ghost use Rattle.pc_class.specs.Entries.{entry_seen, entry_default, clash_places, late_places, defaulted_in};
 
 use indexmap::IndexSet;
-use pc_maps::{NamedMaps, Texts, number};
+use pc_shared_maps::{NameNumbers, NamedMaps, number};
 use pc_source::{OutOfMemory, is_reserved};
 use pc_tree::{Code, Findings, Keys, Member, find_if};
 use std::alloc::Global;
 
-/// The maps of the fields and of the methods that a class has, by their names.
+/// The maps of the fields and of the methods that a class has, by name.
 #[derive(Clone, Copy)]
-pub struct Held {
+pub struct MemberMaps {
     pub fields: usize,
     pub methods: usize,
 }
 
-/// A member of a class: how many methods stand before it, whether it binds its name, and whether that clashes.
+/// A member of a class: the number of methods before it, whether it binds its name, and whether that clashes.
 #[derive(Clone, Copy)]
-pub struct Entry<'m> {
+pub struct ClassMember<'m> {
     pub member: &'m Member,
     pub number: usize,
     pub binds: bool,
     pub clashes: bool,
 }
 
-/// Whether a name is among those before.
-fn is_among(before: &Texts, name: &str) -> bool
+/// Returns whether a name is among the earlier ones.
+fn is_among(before: &NameNumbers, name: &str) -> bool
     ensures { result ≡ is_one_of name.now (texts_in before.now) }
 {
     before.contains(name)
 }
 
-/// Whether a member binds its name: it is not reserved, no earlier member's and, of ancestors, no field's; and of a
-/// field no method's, and not `mro`. Own rule of the profile.
+/// Returns whether a member binds its name: the name is not reserved, not an earlier member's, and not that of an
+/// inherited field; for a field it is also not `mro` and not that of an inherited method. Own rule of the profile.
 #[tactic(auto, using(crate::proofs::ReservedNames::reserved_same))]
-fn binds(named: &NamedMaps, base: Held, before: &Texts, member: &Member) -> bool
+fn binds(named: &NamedMaps, base: MemberMaps, before: &NameNumbers, member: &Member) -> bool
     requires { HasMaps named.now base }
     ensures { result ≡ member_binds (inherited_in named.now base) (texts_in before.now) (member_of member.now) }
 {
@@ -60,8 +60,8 @@ fn binds(named: &NamedMaps, base: Held, before: &Texts, member: &Member) -> bool
     }
 }
 
-/// Whether a member's name is that of an earlier one, or it clashes with an ancestor's. Own rule of the profile.
-fn clashes(named: &NamedMaps, base: Held, before: &Texts, member: &Member) -> bool
+/// Returns whether a member has the name of an earlier one or clashes with an ancestor's. Own rule of the profile.
+fn clashes(named: &NamedMaps, base: MemberMaps, before: &NameNumbers, member: &Member) -> bool
     requires { HasMaps named.now base }
     ensures { result ≡ member_clashes (inherited_in named.now base) (texts_in before.now) (member_of member.now) }
 {
@@ -78,19 +78,20 @@ fn clashes(named: &NamedMaps, base: Held, before: &Texts, member: &Member) -> bo
     }
 }
 
-/// A member as an entry.
+/// Returns the entry of a member, given the names of the members before it and the maps of the class's base: the
+/// member, its `number`, whether it binds its name, and whether that clashes.
 fn judge<'m>(
     named: &NamedMaps,
-    base: Held,
-    before: &Texts,
+    base: MemberMaps,
+    before: &NameNumbers,
     number: usize,
     member: &'m Member,
-) -> Entry<'m>
+) -> ClassMember<'m>
     requires { HasMaps named.now base }
     ensures { entry_seen result
         ≡ entry_of (inherited_in named.now base) (texts_in before.now) number (member_of member.now) }
 {
-    Entry {
+    ClassMember {
         member,
         number,
         binds: binds(named, base, before, member),
@@ -98,14 +99,14 @@ fn judge<'m>(
     }
 }
 
-/// The members of a class one after another, where these are the fields and methods of its base.
+/// Returns the entries of the members of a class in order, given the maps of its base.
 pub fn entries<'m>(
     alloc: Global,
     keys: Keys,
     named: &NamedMaps,
-    base: Held,
+    base: MemberMaps,
     members: &'m [Member],
-) -> Result<Vec<Entry<'m>>, OutOfMemory>
+) -> Result<Vec<ClassMember<'m>>, OutOfMemory>
     requires { HasMaps named.now base }
     ensures { IfOk result (λ es. map entry_seen es.items
         ≡ entries_of (inherited_in named.now base) [] 0 (map member_of members.now)) }
@@ -124,8 +125,8 @@ pub fn entries<'m>(
     Ok(all)
 }
 
-/// Finds the members whose names clash: E06. Own rule of the profile.
-pub fn find_clashes(found: &mut Findings, entries: &[Entry]) -> Result<(), OutOfMemory>
+/// Adds E06 for each member whose name clashes. Own rule of the profile.
+pub fn find_clashes(found: &mut Findings, entries: &[ClassMember]) -> Result<(), OutOfMemory>
     ensures { OnOk result (found.new.items
         ≡ found.old.items ++ at_code E06 (clash_places (map entry_seen entries.now))) }
 {
@@ -135,8 +136,8 @@ pub fn find_clashes(found: &mut Findings, entries: &[Entry]) -> Result<(), OutOf
     Ok(())
 }
 
-/// Whether the field that an entry binds has a default; none where it binds no field.
-fn default_of(entry: &Entry) -> Option<bool>
+/// Returns whether the field that an entry binds has a default, or `None` if it binds no field.
+fn default_of(entry: &ClassMember) -> Option<bool>
     ensures { result ≡ entry_default (entry_seen entry.now) }
 {
     if !entry.binds {
@@ -148,12 +149,12 @@ fn default_of(entry: &Entry) -> Option<bool>
     }
 }
 
-/// Finds the fields without default after one with default: E08; says whether there was a default. Library reference,
-/// `dataclasses`.
+/// Appends E08 for each field without a default after one with a default; `defaulted` says whether there was a default
+/// before these entries. Returns whether there was one before or among them. Library reference, `dataclasses`.
 pub fn find_late_fields(
     found: &mut Findings,
     defaulted: bool,
-    entries: &[Entry],
+    entries: &[ClassMember],
 ) -> Result<bool, OutOfMemory>
     ensures found { OnOk result
         (found.new.items ≡ found.old.items ++ at_code E08 (late_places defaulted (map entry_seen entries.now))) }

@@ -1,26 +1,26 @@
-//! The fields of each class, as parameters of a call of it: lists that share what they have in common.
+//! The fields of each class, as parameters of a call of it: lists that share their common parts.
 
 ghost use Rattle.std.specs.Prelude.{◌≡◌, ◌++◌, List, length, Some, IfOk, OnOk};
-ghost use Rattle.pc_maps.specs.SharedLists.{HasRoom, KeepsLists};
+ghost use Rattle.pc_shared_maps.specs.SharedLists.{HasRoom, KeepsLists};
 ghost use Rattle.pc_class.specs.declared.table.Parameter.{Parameter as ParameterOf};
 ghost use Rattle.pc_class.specs.FieldLists.{IsListOf, AreClassLists, list_at, list_in};
 ghost use Rattle.pc_class.specs.Parts.{part, IsSpan, entries_in, IsClassTable};
 
-use crate::parts::{Span, TableParts};
+use crate::parts::{ClassArena, Span};
 use crate::table::Parameter;
-use pc_maps::{SharedList, SharedLists};
+use pc_shared_maps::{SharedList, SharedLists};
 use pc_source::OutOfMemory;
 use pc_tree::Keys;
 use std::alloc::Global;
 
-/// The list of the fields of each class.
+/// The list of fields of each class.
 #[derive(Drop)]
 pub(crate) struct ClassLists {
     pub lists: SharedLists,
     pub classes: Vec<SharedList>,
 }
 
-/// The list with the fields of these places more.
+/// Adds the list that is `list` with the fields of a range at its end. Returns it.
 fn add_fields<Ty: Drop>(
     lists: &mut SharedLists,
     alloc: Global,
@@ -44,7 +44,7 @@ fn add_fields<Ty: Drop>(
     Ok(longer)
 }
 
-/// The list of a class, if there is one, else the one without fields.
+/// Returns the list of a class, or the empty list if there is none.
 fn list_at(classes: &[SharedList], class: Option<usize>) -> SharedList
     ensures { result ≡ list_at classes.now class }
 {
@@ -55,11 +55,11 @@ fn list_at(classes: &[SharedList], class: Option<usize>) -> SharedList
 }
 
 impl ClassLists {
-    /// The list of the fields of each class of a table.
+    /// Returns the list of the fields of each class of a table.
     pub fn new<Ty: Drop>(
         alloc: Global,
         keys: Keys,
-        parts: &TableParts<Ty>,
+        parts: &ClassArena<Ty>,
     ) -> Result<ClassLists, OutOfMemory>
         requires { IsClassTable parts.now }
         ensures { IfOk result (λ s. AreClassLists parts.now.fields.items s (entries_in parts.now)) }
@@ -75,7 +75,7 @@ impl ClassLists {
         Ok(ClassLists { lists, classes })
     }
 
-    /// The list of a class.
+    /// Returns the list of a class.
     pub fn of(&self, class: usize) -> SharedList
         ensures { result ≡ list_in self.now class }
     {

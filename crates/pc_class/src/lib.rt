@@ -1,4 +1,4 @@
-//! What a class has: its fields and methods, those of its ancestors, and how its methods override theirs.
+//! Classes: their fields and methods, those of their ancestors, and how methods override.
 #![tactic(auto)]
 
 mod adding;
@@ -20,6 +20,6 @@ pub use laws::{
 };
 pub use listed::ParameterList;
 pub use listing::Listing;
-pub use pc_ann::bases_stand_before;
+pub use pc_annotations::bases_stand_before;
 pub use reading::read_param;
-pub use table::{ClassTable, Field, Method, Parameter};
+pub use table::{ClassTable, Method, Parameter};

@@ -1,4 +1,4 @@
-//! Parameters one after another, of which a call asks for a name, and for those without default.
+//! Lists of parameters, with fast lookup by name and of the end of the required ones.
 
 ghost use Rattle.std.specs.Prelude.{◌≡◌, ◌≤◌, List, length, IfOk, OnOk};
 ghost use Rattle.pc_scope.specs.Resolution.{index_of};
@@ -15,18 +15,18 @@ use std::marker::Model;
 /// The place of the first parameter of each name.
 type Places = IndexMap<String, usize, Keys>;
 
-/// What a long list is asked for: the place of the first of each name, and for each number up to where there is one
-/// without default among so many.
+/// The index of a long list: the first place of each name, and for each count n the end of the required parameters
+/// among the first n.
 #[derive(Drop)]
 struct Index {
     places: Places,
     needed: Vec<usize>,
 }
 
-/// A list of at most so many parameters is walked.
+/// Most parameters of a list that is searched without an index.
 const SHORT: usize = 8;
 
-/// Parameters one after another. Contracts see them as a list.
+/// A list of parameters. Contracts see it as that list.
 #[derive(Drop)]
 pub struct ParameterList<Ty: Drop> {
     all: Vec<Parameter<Ty>>,
@@ -41,7 +41,8 @@ impl<Ty: Drop> Model for ParameterList<Ty> {
     ghost invariant = { λ s. IsIndexIfAny s.all.items s.index };
 }
 
-/// The place of the first parameter of a name, by a walk.
+/// Returns the position of the first parameter with a name, by searching the list; `None` if there is no such
+/// parameter.
 fn place_among<Ty: Drop>(params: &[Parameter<Ty>], name: &str) -> Option<usize>
     ensures { result ≡ index_of name.now (names_listed params.now) }
 {
@@ -53,7 +54,8 @@ fn place_among<Ty: Drop>(params: &[Parameter<Ty>], name: &str) -> Option<usize>
     None
 }
 
-/// Up to where there is a parameter without default among the first so many, by a walk.
+/// Returns how many of the first `count` parameters there are up to the last one without a default, 0 if all have one.
+/// Searches the list.
 fn needed_among<Ty: Drop>(params: &[Parameter<Ty>], count: usize) -> usize
     requires { count ≤ length params.now }
     ensures { result ≡ needed_in params.now count }
@@ -68,7 +70,7 @@ fn needed_among<Ty: Drop>(params: &[Parameter<Ty>], count: usize) -> usize
     0
 }
 
-/// The place of the first parameter of each name.
+/// Returns the position of the first parameter with each name.
 fn places_of<Ty: Drop>(
     alloc: Global,
     keys: Keys,
@@ -86,7 +88,7 @@ fn places_of<Ty: Drop>(
     Ok(places)
 }
 
-/// For each number up to where there is a parameter without default among so many.
+/// Returns for each count n, from 0, how many of the first n parameters there are up to the last one without a default.
 fn needed_of<Ty: Drop>(alloc: Global, params: &[Parameter<Ty>]) -> Result<Vec<usize>, OutOfMemory>
     ensures { IfOk result (λ ns. AreNeeded ns.items params.now) }
 {
@@ -103,7 +105,7 @@ fn needed_of<Ty: Drop>(alloc: Global, params: &[Parameter<Ty>]) -> Result<Vec<us
 }
 
 impl<Ty: Drop> ParameterList<Ty> {
-    /// These parameters as a list.
+    /// Returns the list of these parameters.
     pub fn new(
         alloc: Global,
         keys: Keys,
@@ -120,14 +122,14 @@ impl<Ty: Drop> ParameterList<Ty> {
         Ok(ParameterList { all, index })
     }
 
-    /// The parameters.
+    /// Returns the parameters.
     pub fn as_slice(&self) -> &[Parameter<Ty>]
         ensures { result.now ≡ self.now }
     {
         &self.all
     }
 
-    /// The place of the first parameter of a name.
+    /// Returns the position of the first parameter with a name; `None` if there is no such parameter.
     pub fn place(&self, name: &str) -> Option<usize>
         ensures { result ≡ index_of name.now (names_listed self.now) }
     {
@@ -137,7 +139,8 @@ impl<Ty: Drop> ParameterList<Ty> {
         }
     }
 
-    /// Up to where there is a parameter without default among the first so many.
+    /// Returns how many of the first `count` parameters there are up to the last one without a default, 0 if all have
+    /// one.
     pub fn needed(&self, count: usize) -> usize
         requires { count ≤ length self.now }
         ensures { result ≡ needed_in self.now count }

@@ -1,4 +1,4 @@
-//! What a call is asked of: a list of parameters, or the fields of a class.
+//! The targets of the arguments of a call: a list of parameters, or the fields of a class.
 
 ghost use Rattle.std.specs.Prelude.{◌≡◌, ◌≤◌, length, slice_get};
 ghost use Rattle.std.specs.Option.{option_map};
@@ -10,8 +10,8 @@ ghost use Rattle.pc_class.specs.Parts.{lent_parameter};
 use crate::listed::ParameterList;
 use crate::table::{ClassTable, Parameter};
 
-/// What the arguments of a call are for: the parameters of a function or a method, or the fields of a class, those of
-/// its ancestors first.
+/// The targets of the arguments of a call: the parameters of a function or method, or the fields of a class, with those
+/// of its ancestors first.
 #[derive(Drop)]
 pub enum Listing<'t, Ty: Drop> {
     Parameters(&'t ParameterList<Ty>),
@@ -19,7 +19,7 @@ pub enum Listing<'t, Ty: Drop> {
 }
 
 impl<'t, Ty: Drop> Listing<'t, Ty> {
-    /// How many there are.
+    /// Returns the number of parameters or fields.
     pub fn len(&self) -> usize
         ensures { result ≡ length (listed_in self.now) }
     {
@@ -29,7 +29,7 @@ impl<'t, Ty: Drop> Listing<'t, Ty> {
         }
     }
 
-    /// The place of the first of a name.
+    /// Returns the position of the first parameter or field with a name; `None` if there is no such one.
     pub fn place(&self, name: &str) -> Option<usize>
         ensures { result ≡ index_of name.now (names_listed (listed_in self.now)) }
     {
@@ -39,7 +39,8 @@ impl<'t, Ty: Drop> Listing<'t, Ty> {
         }
     }
 
-    /// Up to where there is one without default among the first so many.
+    /// Returns how many of the first `count` parameters or fields there are up to the last one without a default, 0 if
+    /// all have one.
     pub fn needed(&self, count: usize) -> usize
         requires { count ≤ length (listed_in self.now) }
         ensures { result ≡ needed_in (listed_in self.now) count }
@@ -50,7 +51,7 @@ impl<'t, Ty: Drop> Listing<'t, Ty> {
         }
     }
 
-    /// The one at a place.
+    /// Returns the parameter or field at a position; `None` past the last one.
     pub fn at(&self, place: usize) -> Option<&Parameter<Ty>>
         ensures { option_map lent_parameter result ≡ slice_get (listed_in self.now) place }
     {

@@ -1,28 +1,27 @@
-//! Parameters of functions, and members of classes, of the types that their annotations say, with what is found in
-//! these.
+//! Parameters of functions and members of classes, with the types of their annotations and the findings in these.
 
 ghost use Rattle.std.specs.Prelude.{◌≡◌, ◌++◌, map, All, IfOk, OnOk};
 ghost use Rattle.pc_tree.specs.Tree.{param_of, func_of, field_of};
 ghost use Rattle.pc_types.specs.Store.{KeepsTypes};
-ghost use Rattle.pc_ann.specs.Bases.{bases_of};
-ghost use Rattle.pc_ann.specs.Listed.{ann_findings, option_findings};
+ghost use Rattle.pc_annotations.specs.Bases.{bases_of};
+ghost use Rattle.pc_annotations.specs.Listed.{ann_findings, option_findings};
 ghost use Rattle.pc_class.specs.Annotated.{params_annotated, def_annotated};
 ghost use Rattle.pc_class.specs.Facts.{typed_parameter, parameters_of, method_made};
 ghost use Rattle.pc_class.specs.Entries.{parameter_made};
-ghost use Rattle.pc_ann.specs.ModuleOutlines.{IsModuleOutline, module_in};
+ghost use Rattle.pc_annotations.specs.ModuleOutlines.{IsModuleOutline, module_in};
 ghost use Rattle.pc_class.specs.Tables.{HasParameter, HasMethod, parameter_with, parameters_with, method_with};
 ghost use Rattle.pc_class.specs.Internal.Readers.{IsLentSame};
 
 use crate::listed::ParameterList;
 use crate::table::{Method, Parameter};
-use pc_ann::{ModuleOutline, read_ann, read_option};
+use pc_annotations::{ModuleOutline, read_ann, read_option};
 use pc_source::OutOfMemory;
 use pc_tree::{Field, Findings, FuncDef, Param};
 use pc_types::TypeStore;
 use std::alloc::Global;
 
-/// What the annotations of members are read with: the store of their types, and the list that takes what is found in
-/// them.
+/// The context in which the annotations of members are read: the store of their types, the allocator, and the list to
+/// which the findings in them are appended.
 #[derive(Drop)]
 pub(crate) struct TypeReader<'r, S: TypeStore> {
     pub store: &'r mut S,
@@ -30,12 +29,12 @@ pub(crate) struct TypeReader<'r, S: TypeStore> {
     pub found: &'r mut Findings,
 }
 
-/// A parameter of a function or a method, with the type that its annotation says, `Any` without one; what is found in
-/// the annotation is appended to `found`: E09, E10 and E26. Typing specification, "Type annotations".
+/// Returns a parameter of a function or method with the type of its annotation, `Any` if it has none. Appends the
+/// findings in the annotation to `found`: E09, E10 and E26. Typing specification, "Type annotations".
 ///
 /// # Errors
 ///
-/// `OutOfMemory` only when an allocation failed.
+/// `OutOfMemory` only if an allocation failed.
 pub fn read_param<S: TypeStore>(
     store: &mut S,
     alloc: Global,
@@ -60,7 +59,7 @@ pub fn read_param<S: TypeStore>(
     })
 }
 
-/// Parameters with the types that their annotations say, and what is found in these, one after another.
+/// Returns parameters with the types of their annotations. Adds the findings in these, one after another.
 fn read_params<S: TypeStore>(
     reader: &mut TypeReader<'_, S>,
     outline: &ModuleOutline,
@@ -83,7 +82,7 @@ fn read_params<S: TypeStore>(
     Ok(all)
 }
 
-/// A field as a parameter of its class, with the type that its annotation says and what is found in it.
+/// Returns a field as a parameter of its class, with the type of its annotation. Adds the findings in the annotation.
 pub(crate) fn read_field<S: TypeStore>(
     reader: &mut TypeReader<'_, S>,
     outline: &ModuleOutline,
@@ -113,7 +112,7 @@ pub(crate) fn read_field<S: TypeStore>(
     })
 }
 
-/// A method of a class, with its number there, the types that its annotations say and what is found in these.
+/// Returns a method of a class, with its number there and the types of its annotations. Adds the findings in these.
 pub(crate) fn read_method<S: TypeStore>(
     reader: &mut TypeReader<'_, S>,
     outline: &ModuleOutline,

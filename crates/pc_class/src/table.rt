@@ -15,12 +15,12 @@ ghost use Rattle.pc_class.specs.Tables.{method_lent, IsFieldIfAny, IsMethodIfAny
 
 use crate::field_lists::ClassLists;
 use crate::listed::ParameterList;
-use crate::parts::TableParts;
+use crate::parts::ClassArena;
 use pc_source::Place;
 use pc_types::Parents;
 use std::marker::Model;
 
-/// A parameter of a function or a method, or a field as a parameter of its class. Its name is in the normal form NFKC.
+/// A parameter of a function or method, or a field as a parameter of its class. Its name is in normal form NFKC.
 #[derive(Drop)]
 pub struct Parameter<Ty: Drop> {
     pub name: String,
@@ -28,10 +28,7 @@ pub struct Parameter<Ty: Drop> {
     pub has_default: bool,
 }
 
-/// A field of a class. Library reference, `dataclasses`.
-pub type Field<Ty> = Parameter<Ty>;
-
-/// A method: the place of its name, its class, its number there, its parameters without `self`, and what it returns.
+/// A method: the place of its name, its class, its number there, its parameters without `self`, and its return type.
 #[derive(Drop)]
 pub struct Method<Ty: Drop> {
     pub name: String,
@@ -42,7 +39,7 @@ pub struct Method<Ty: Drop> {
     pub ret: Ty,
 }
 
-/// The items of these places.
+/// Returns the items of a range.
 fn items_within<X>(items: &[X], start: usize, end: usize) -> &[X]
     requires order { start ≤ end }
     requires within { end ≤ length items.now }
@@ -57,7 +54,7 @@ fn items_within<X>(items: &[X], start: usize, end: usize) -> &[X]
 /// Library reference, `dataclasses`; Language Reference 3.12, 8.8 "Class definitions".
 #[derive(Drop)]
 pub struct ClassTable<Ty: Drop> {
-    parts: TableParts<Ty>,
+    parts: ClassArena<Ty>,
     parents: Parents,
     lists: ClassLists,
 }
@@ -72,8 +69,8 @@ impl<Ty: Drop> Model for ClassTable<Ty> {
 }
 
 impl<Ty: Drop> ClassTable<Ty> {
-    /// The table that is made of these, with the parents of its classes and the lists of their fields.
-    pub(crate) fn of(parts: TableParts<Ty>, parents: Parents, lists: ClassLists) -> ClassTable<Ty>
+    /// Returns the table with these contents, parents and lists of fields.
+    pub(crate) fn of(parts: ClassArena<Ty>, parents: Parents, lists: ClassLists) -> ClassTable<Ty>
         requires table { IsClassTable parts }
         requires parents { parents ≡ bases_in (entries_in parts) }
         requires lists { AreClassLists parts.fields.items lists (entries_in parts) }
@@ -86,21 +83,22 @@ impl<Ty: Drop> ClassTable<Ty> {
         }
     }
 
-    /// The parents of the classes.
+    /// Returns the parents of the classes.
     pub fn parents(&self) -> &Parents
         ensures { result.now ≡ bases_in self.now }
     {
         &self.parents
     }
 
-    /// Whether a class is another one or has it as an ancestor. Language Reference 3.12, 8.8 "Class definitions".
+    /// Returns whether a class is another one or has it as an ancestor. Language Reference 3.12, 8.8 "Class
+    /// definitions".
     pub fn is_sub(&self, class: usize, other: usize) -> bool
         ensures { IsTrue result ↔ Below (bases_in self.now) (Class class) (Class other) }
     {
         self.parents.is_within(class, other)
     }
 
-    /// The field of a name, which the class or an ancestor of it has, if one has.
+    /// Returns the field with a name that the class or an ancestor of it has, if there is one.
     pub fn field(&self, class: usize, name: &str) -> Option<&Parameter<Ty>>
         ensures value { (tree : Ty → Tree)
             → option_map (parameter_lent tree) result
@@ -117,7 +115,7 @@ impl<Ty: Drop> ClassTable<Ty> {
         }
     }
 
-    /// The nearest method of a name, on the way from the class to its ancestors, if there is one.
+    /// Returns the nearest method with a name, from the class through its ancestors, if there is one.
     pub fn method(&self, class: usize, name: &str) -> Option<&Method<Ty>>
         ensures value { (tree : Ty → Tree)
             → option_map (method_lent tree) result
@@ -134,14 +132,14 @@ impl<Ty: Drop> ClassTable<Ty> {
         }
     }
 
-    /// How many classes there are.
+    /// Returns the number of classes.
     pub fn count(&self) -> usize
         ensures { result ≡ length self.now }
     {
         self.parts.classes.len()
     }
 
-    /// The methods that a class binds itself, in text order.
+    /// Returns the methods that a class binds itself, in text order.
     pub fn own_methods(&self, class: usize) -> &[Method<Ty>]
         requires { class < length self.now }
         ensures over { (slice_index_or self.now class empty_entry).methods
@@ -151,21 +149,23 @@ impl<Ty: Drop> ClassTable<Ty> {
         items_within(&self.parts.methods, node.methods.start, node.methods.end)
     }
 
-    /// How many fields a class has, with those of its ancestors.
+    /// Returns the number of fields of a class, including those of its ancestors.
     pub(crate) fn field_count(&self, class: usize) -> usize
         ensures { result ≡ length (fields_in self.now class) }
     {
         self.lists.of(class).count
     }
 
-    /// The place of the first field of a name among those of a class.
+    /// Returns the position of the first field with a name among the fields of a class, including those of its
+    /// ancestors; `None` if there is no such field.
     pub(crate) fn field_place(&self, class: usize, name: &str) -> Option<usize>
         ensures { result ≡ index_of name.now (names_listed (fields_in self.now class)) }
     {
         self.lists.lists.place(self.lists.of(class), name)
     }
 
-    /// Up to where there is a field without default among the first so many of a class.
+    /// Returns how many of the first `count` fields of a class there are up to the last one without a default, 0 if all
+    /// have one.
     pub(crate) fn fields_needed(&self, class: usize, count: usize) -> usize
         requires { count ≤ length (fields_in self.now class) }
         ensures { result ≡ needed_in (fields_in self.now class) count }
@@ -173,7 +173,8 @@ impl<Ty: Drop> ClassTable<Ty> {
         self.lists.lists.needed(self.lists.of(class), count)
     }
 
-    /// The field at a place of a class.
+    /// Returns the field at a position among the fields of a class, including those of its ancestors; `None` past the
+    /// last one.
     pub(crate) fn field_at(&self, class: usize, place: usize) -> Option<&Parameter<Ty>>
         ensures { option_map lent_parameter result ≡ slice_get (fields_in self.now class) place }
     {

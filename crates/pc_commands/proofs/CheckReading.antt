@@ -1,4 +1,4 @@
--- What the words for a check come to, by what `clap` says of them.
+-- The request of the words for a check, from the contracts of `clap`.
 use Rattle.std.proofs.Common.{◌≡◌, ◌∙◌, ◌⊎◌, refl, sym, ap, ap₂, true, Bool, List, [], Option, Some, None, codes}
 use Rattle.std.proofs.Common.{option_map, Bor}
 use Rattle.std.specs.Str.{bytes_eq}

@@ -1,4 +1,4 @@
--- The fuel that a word gives, as `parse` reads it.
+-- The fuel of a word, as `parse` reads it.
 use Rattle.std.proofs.Common.{◌≡◌, ℕ, ◌^◌, ◌<◌, length, List, true, Option, Some, None, Result, Ok, Err, rules, arith}
 use Rattle.std.specs.Str.{all_ascii_digits}
 use Rattle.std.specs.Str.Parse.{digits_value, ParsesUnsigned}

@@ -1,4 +1,4 @@
--- The words `--fuel`, a number and a file, of which neither begins with a dash.
+-- The words `--fuel`, a number and a file, neither of which begins with a dash.
 use Rattle.std.proofs.Common.{◌≡◌, ◌∙◌, refl, sym, ap, ap₂, true, false, true≢false, List, [], ◌∷◌, Some, None, codes}
 use Rattle.std.specs.Prelude.{option_and_then}
 use Rattle.clap.proofs.WalkLemmas.{both}

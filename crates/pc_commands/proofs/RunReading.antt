@@ -1,4 +1,4 @@
--- What the words for a run come to, by what `clap` says of them.
+-- The request of the words for a run, from the contracts of `clap`.
 use Rattle.std.proofs.Common.{◌≡◌, ◌∙◌, ◌⊎◌, refl, sym, ap, ap₂, inl, inr, true, true≢false, List, [], Option, Some}
 use Rattle.std.proofs.Common.{None, codes, ℕ}
 use Rattle.std.specs.Prelude.{is_some, option_and_then}

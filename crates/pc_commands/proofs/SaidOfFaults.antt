@@ -1,4 +1,4 @@
--- What is said of the words of a command line where `clap` finds a fault, or where nothing is asked without one.
+-- The fault of the words of a command line if `clap` finds one, or if there is no request without one.
 use Rattle.std.proofs.Common.{◌≡◌, ◌∙◌, ◌||◌, ◌⊎◌, refl, sym, ap, inl, inr, true, false, true≢false, Bool, List, []}
 use Rattle.std.proofs.Common.{◌∷◌, Option, None}
 use Rattle.std.specs.List.{list_any}

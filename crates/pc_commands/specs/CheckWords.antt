@@ -10,7 +10,7 @@ use Rattle.pc_report.specs.declared.format.Format.{Format}
 use Rattle.pc_report.specs.declared.format.Format.TheVariants.{One, Two}
 use Rattle.pc_commands.specs.Faults.{begins_with_dash, is_request, mistaken_by, without_faults}
 
--- a check of a file, whose report is JSON or text, in a format
+-- the request for a check of a file, with a report as JSON or text, in a format
 pub record Asked : Type 0 where
   pub json : Bool
   pub format : Format
@@ -20,7 +20,7 @@ pub record Asked : Type 0 where
 abbrev pub json_rule : Rule
 json_rule = record (new_rule (codes "json")) { long = Some (codes "json"); action = Some SetTrue }
 
--- `--format` with a value, which is `2` where there is none
+-- `--format` with a value, `2` by default
 abbrev pub format_rule : Rule
 format_rule = record (new_rule (codes "format")) {
   long = Some (codes "format");
@@ -29,11 +29,11 @@ format_rule = record (new_rule (codes "format")) {
   defaults = codes "2" ∷ [];
 }
 
--- the file, which has to be there
+-- the file, which is required
 abbrev pub file_rule : Rule
 file_rule = record (new_rule (codes "file")) { action = Some Set; value_names = 1; required = true }
 
--- the program's arguments: `--json`, `--format` with a value, and a file; and it has a version
+-- the command line of the program: `--json`, `--format` with a value, and a file; and it has a version
 abbrev pub command_line : App
 command_line = record {
   top = record (new_shape (codes "pycheck")) {
@@ -44,43 +44,43 @@ command_line = record {
   subs = [];
 }
 
--- the kinds of fault that `clap` finds in the words, with none where it takes them
+-- the kinds of fault that `clap` finds in the words, none if it accepts them
 abbrev pub faults : List Text → Kinds
 faults = fault_of command_line
 
--- the value of an argument in the words, which is empty where there is none
+-- the value of an argument in the words, empty if there is none
 abbrev pub value_of : Text → List Text → Text
 value_of id words = unwrap_or (first_of id (matches_of command_line words)) []
 
--- the format that a word names: it is `1` or `2`, and nothing else
+-- the format that a word names: `1` or `2`, and nothing else
 abbrev pub format_in : Text → Option Format
 format_in word = if bytes_eq word (codes "1") then Some One else (if bytes_eq word (codes "2") then Some Two else None)
 
--- a check of a file, where there is a format
+-- the request for a check, if there is a format
 abbrev pub in_format : Bool → Option Format → Text → Option Asked
 in_format json (Some format) file = Some (record { json = json; format = format; file = file })
 in_format json None file = None
 
--- what the words ask for: `clap` finds no fault in them, and the value of `--format` names a format; the value of a
+-- the request of the words: `clap` finds no fault in them, and the value of `--format` names a format; the value of a
 -- flag that is given is `true`
 abbrev pub asked : List Text → Option Asked
 asked words = without_faults (faults words)
     (in_format (bytes_eq (value_of (codes "json") words) (codes "true")) (format_in (value_of (codes "format") words))
     (value_of (codes "file") words))
 
--- a word is the flag `--json`
+-- whether a word is the flag `--json`
 abbrev pub is_flag : Text → Bool
 is_flag word = bytes_eq word (codes "--json")
 
--- two words are `--format` and one that does not begin with a dash
+-- whether two words are `--format` and a word that does not begin with a dash
 abbrev pub is_choice : Text → Text → Bool
 is_choice name number = bytes_eq name (codes "--format") && not (begins_with_dash number)
 
--- a word is a file that does not begin with a dash
+-- whether a word is a file, which does not begin with a dash
 abbrev pub is_file : Text → Bool
 is_file word = not (begins_with_dash word)
 
--- a way to read words: whether they are so, and then whether `--json` is there, the word for the format, and the file
+-- a reading of words: whether it applies, whether `--json` is given, the word for the format, and the file
 pub record Reading : Type 0 where
   pub holds : Bool
   pub json : Bool
@@ -90,7 +90,7 @@ pub record Reading : Type 0 where
 abbrev pub reading_of : Bool → Bool → Text → Text → Reading
 reading_of holds json number file = record { holds = holds; json = json; number = number; file = file }
 
--- the ways to read so many words: a file, with `--json` or not and with `--format` and a number or not, in each order
+-- the readings of that many words: a file, with or without `--json` and `--format` and a number, in each order
 abbrev pub readings : List Text → List Reading
 readings (first ∷ []) = reading_of (is_file first) false (codes "2") first ∷ []
 readings (first ∷ second ∷ []) =
@@ -111,22 +111,22 @@ readings (first ∷ second ∷ third ∷ fourth ∷ []) =
     ∷ []
 readings words = []
 
--- the words are plain: they can be read in one of these ways
+-- whether the words are plain: one of these readings applies
 abbrev pub are_plain : List Text → Bool
 are_plain words = list_any (λ r. r.holds) (readings words)
 
--- what a reading asks for
+-- the request of a reading
 abbrev pub asked_by : Reading → Option Asked
 asked_by r = in_format r.json (format_in r.number) r.file
 
--- what plain words ask for, said without `clap`
+-- the request of plain words, defined without `clap`
 abbrev pub plainly_asked : List Text → Option Asked
 plainly_asked words = option_and_then asked_by (find (λ r. r.holds) (readings words))
 
--- the words ask for help or for the version
+-- whether the words ask for help or for the version
 abbrev pub asks_for_help : List Text → Bool
 asks_for_help words = list_any is_request (faults words)
 
--- the words are mistaken: `clap` finds a mistake in them, or nothing but that the value of `--format` names no format
+-- whether the words are mistaken: `clap` finds a mistake in them, or only the value of `--format` names no format
 abbrev pub is_mistaken : List Text → Bool
 is_mistaken words = mistaken_by (faults words) (asked words)

@@ -7,35 +7,35 @@ use Rattle.clap.specs.declared.error.kind.ErrorKind.TheVariants as kind
 use Rattle.pc_commands.specs.declared.faults.OptionFault.{OptionFault}
 use Rattle.pc_commands.specs.declared.faults.OptionFault.TheVariants.{Usage, Help, OutOfMemory}
 
--- a word begins with a dash (45)
+-- whether a word begins with a dash (45)
 abbrev pub begins_with_dash : Text → Bool
 begins_with_dash [] = false
 begins_with_dash (byte ∷ rest) = byte == 45
 
--- what is found is asked, where there is no fault
+-- the request found, if there is no fault
 abbrev pub without_faults : {A : Type 0} → Kinds → Option A → Option A
 without_faults [] found = found
 without_faults (fault ∷ more) found = None
 
--- a kind of error that is a request: help or the version is shown
+-- whether a kind of error is a request: help or the version is shown
 abbrev pub is_request : ErrorKind → Bool
 is_request kind.DisplayHelp = true
 is_request kind.DisplayVersion = true
 is_request _ = false
 
--- a kind of error that is a mistake in the words
+-- whether a kind of error is a mistake in the words
 abbrev pub is_mistake : ErrorKind → Bool
 is_mistake kind.DisplayHelp = false
 is_mistake kind.DisplayVersion = false
 is_mistake kind.OutOfMemory = false
 is_mistake _ = true
 
--- a mistake is among the faults, or there is none and nothing is asked
+-- whether a mistake is among the faults, or there is no fault and no request
 abbrev pub mistaken_by : {A : Type 0} → Kinds → Option A → Bool
 mistaken_by [] found = not (is_some found)
 mistaken_by (fault ∷ more) found = list_any is_mistake (fault ∷ more)
 
--- where the words are at fault, P holds, and where they ask for help, Q; of a failed allocation nothing is said
+-- P holds if the words are mistaken, and Q if they ask for help; a failed allocation is not constrained
 abbrev pub OnFault : Type 0 → Type 0 → OptionFault → Type 0
 OnFault P Q (Usage text) = P
 OnFault P Q (Help text) = Q

@@ -9,16 +9,16 @@ use Rattle.clap.specs.Simple.{new_shape}
 use Rattle.clap.specs.declared.builder.action.ArgAction.TheVariants.{Set}
 use Rattle.pc_commands.specs.Faults.{begins_with_dash, is_request, mistaken_by, without_faults}
 
--- a run of a file, with so much fuel
+-- the request for a run of a file, with this fuel
 pub record Asked : Type 0 where
   pub fuel : ℕ
   pub file : Text
 
--- an argument that takes one value and has to be there
+-- a required argument with one value
 abbrev pub required_rule : Text → Option Text → Rule
 required_rule id long = record (new_rule id) { long = long; action = Some Set; value_names = 1; required = true }
 
--- the program's arguments: `--fuel` with a value, and a file; and it has a version
+-- the command line of the program: `--fuel` with a value, and a file; and it has a version
 abbrev pub command_line : App
 command_line = record {
   top = record (new_shape (codes "pyrun")) {
@@ -29,7 +29,7 @@ command_line = record {
   subs = [];
 }
 
--- the kinds of fault that `clap` finds in the words, with none where it takes them
+-- the kinds of fault that `clap` finds in the words, none if it accepts them
 abbrev pub faults : List Text → Kinds
 faults = fault_of command_line
 
@@ -37,7 +37,7 @@ faults = fault_of command_line
 abbrev pub value_of : Text → List Text → Option Text
 value_of id words = first_of id (matches_of command_line words)
 
--- a word is a number: one digit or more, that fits 64 bits
+-- whether a word is a number: one digit or more, that fits 64 bits
 abbrev pub is_number : Text → Bool
 is_number word = all_ascii_digits word && (nat_lt 0 (length word) && nat_lt (digits_value 10 word) (2 ^ 64))
 
@@ -45,31 +45,31 @@ is_number word = all_ascii_digits word && (nat_lt 0 (length word) && nat_lt (dig
 abbrev pub fuel_in : Text → Option ℕ
 fuel_in word = if is_number word then Some (digits_value 10 word) else None
 
--- a run, where there are a fuel and a file
+-- the request for a run, if there are a fuel and a file
 abbrev pub with_file : Option ℕ → Option Text → Option Asked
 with_file (Some fuel) (Some file) = Some (record { fuel = fuel; file = file })
 with_file fuel file = None
 
--- what the words ask for: `clap` finds no fault in them, and the value of `--fuel` is a number
+-- the request of the words: `clap` finds no fault in them, and the value of `--fuel` is a number
 abbrev pub asked : List Text → Option Asked
 asked words = without_faults (faults words)
     (with_file (option_and_then fuel_in (value_of (codes "fuel") words)) (value_of (codes "file") words))
 
--- the words are plain: `--fuel` and two more, of which neither begins with a dash
+-- whether the words are plain: `--fuel` and two more, neither of which begins with a dash
 abbrev pub are_plain : List Text → Bool
 are_plain (flag ∷ number ∷ file ∷ []) = bytes_eq flag (codes "--fuel")
     && (not (begins_with_dash number) && not (begins_with_dash file))
 are_plain words = false
 
--- what plain words ask for, said without `clap`
+-- the request of plain words, defined without `clap`
 abbrev pub plainly_asked : List Text → Option Asked
 plainly_asked (flag ∷ number ∷ file ∷ []) = with_file (fuel_in number) (Some file)
 plainly_asked words = None
 
--- the words ask for help or for the version
+-- whether the words ask for help or for the version
 abbrev pub asks_for_help : List Text → Bool
 asks_for_help words = list_any is_request (faults words)
 
--- the words are mistaken: `clap` finds a mistake in them, or nothing but that the value of `--fuel` is no number
+-- whether the words are mistaken: `clap` finds a mistake in them, or only the value of `--fuel` is no number
 abbrev pub is_mistaken : List Text → Bool
 is_mistaken words = mistaken_by (faults words) (asked words)

@@ -5,7 +5,7 @@ use Rattle.pc_tree.specs.Tree.{Module}
 use Rattle.pc_machine.specs.Runs.{End, PlainRun}
 use Rattle.pc_front.specs.Bytes.{IsModuleOf}
 
--- the bytes spell a module whose plain run, with that fuel and without choices, leaves these events and this end
+-- the bytes spell a module whose plain run, with that fuel and without choices, has these events and this end
 pub record RunsPlainly (bytes : List ℕ) (fuel : ℕ) (events : List Place) (end : End) : Type 0 where
   pub program : Module
   pub spelled : IsModuleOf bytes program

@@ -10,7 +10,7 @@ use clap::{Arg, ArgAction, Command};
 use pc_report::Format;
 use std::alloc::{AllocError, Global};
 
-/// What the words of the command line ask for: a check of a file, whose report is JSON or text, in a format.
+/// Request of a command line: the file to check, whether the report is JSON, and its format.
 #[derive(Debug, PartialEq, Eq, Drop)]
 pub struct CheckOptions {
     pub json: bool,
@@ -18,7 +18,7 @@ pub struct CheckOptions {
     pub file: String,
 }
 
-/// The format that a word names.
+/// Returns the format that a word names, or `None` if it is neither `1` nor `2`.
 fn format_of(word: &str) -> Option<Format>
     ensures { result ≡ format_in word.now }
 {
@@ -29,7 +29,7 @@ fn format_of(word: &str) -> Option<Format>
     }
 }
 
-/// The flag `--json`.
+/// Returns the flag `--json`.
 fn json_argument<'a>(alloc: Global) -> Arg<'a>
     ensures rule { rule_of result ≡ json_rule }
     ensures local { result.global ≡ false }
@@ -40,7 +40,7 @@ fn json_argument<'a>(alloc: Global) -> Arg<'a>
         .help("Write the report as JSON")
 }
 
-/// The option `--format N`.
+/// Returns the option `--format N`.
 fn format_argument<'a>(alloc: Global) -> Arg<'a>
     ensures rule { rule_of result ≡ format_rule }
     ensures local { result.global ≡ false }
@@ -53,7 +53,7 @@ fn format_argument<'a>(alloc: Global) -> Arg<'a>
         .help("The report's format: 1, or 2 with the types of each dynamic flow")
 }
 
-/// The word that names the file.
+/// Returns the argument that names the file.
 fn file_argument<'a>(alloc: Global) -> Arg<'a>
     ensures rule { rule_of result ≡ file_rule }
     ensures local { result.global ≡ false }
@@ -65,7 +65,7 @@ fn file_argument<'a>(alloc: Global) -> Arg<'a>
         .help("The module to check")
 }
 
-/// The command line of the program, for `clap`.
+/// Returns the command line of the program, for `clap`.
 fn command<'a>(alloc: Global) -> Result<Command<'a>, AllocError>
     ensures { IfOk result (λ c. app_of c ≡ command_line) }
 {
@@ -78,7 +78,7 @@ fn command<'a>(alloc: Global) -> Result<Command<'a>, AllocError>
         .arg(file_argument(alloc))
 }
 
-/// What is said of a value of `--format` that names no format.
+/// Returns the fault for a value of `--format` that names no format.
 fn format_fault(alloc: Global, word: &str) -> OptionFault
     ensures { OnFault (Unit {0}) ⊥ result }
 {
@@ -91,13 +91,12 @@ fn format_fault(alloc: Global, word: &str) -> OptionFault
     }
 }
 
-/// What the words of the command line ask for: they are a file, and `--json` and `--format N` or nothing more, as
-/// `clap` reads them, and N is `1` or `2`; without `--format N` the format is two. Own rule of the profile.
+/// Reads the words of the command line, which must be a file and optionally `--json` and `--format N`, as `clap` reads
+/// them, with N `1` or `2`. Without `--format N` the format is two. Own rule of the profile.
 ///
 /// # Errors
 ///
-/// `Usage` where they are other words; `Help` where they ask for help or the version; `OutOfMemory` only when an
-/// allocation failed.
+/// `Usage` for any other words; `Help` if they ask for help or the version; `OutOfMemory` only if an allocation failed.
 pub fn check_options(alloc: Global, words: &[&str]) -> Result<CheckOptions, OptionFault>
     ensures read { IfOk result
         (λ o. asked (map (λ w. w.now) words.now)
@@ -115,7 +114,7 @@ pub fn check_options(alloc: Global, words: &[&str]) -> Result<CheckOptions, Opti
         Err(error) => return Err(fault_of(alloc, &error)),
     };
     let number = matches.get_str("format").unwrap_or("");
-    // `clap` would keep a list of possible values in memory of which no contract tells, so the value is tested here.
+    // Tested here, since `clap` would keep a list of possible values in memory that no contract describes.
     let Some(format) = format_of(number) else {
         return Err(format_fault(alloc, number));
     };

@@ -1,4 +1,4 @@
-//! The words that a program was started with, and what is told where they ask for nothing.
+//! The words that a program was started with, and the message if they are no request.
 
 use crate::faults::OptionFault;
 use std::alloc::Global;
@@ -6,7 +6,7 @@ use std::io::ErrorKind;
 use std::rt::Env;
 use std::{env, io};
 
-/// Why the words could not be read: memory, or one of them is not UTF-8.
+/// Returns the fault of words that could not be read: memory, or a word that is not UTF-8.
 fn unread(alloc: Global, error: &io::Error) -> OptionFault {
     if error.kind() == ErrorKind::OutOfMemory {
         return OptionFault::OutOfMemory;
@@ -17,11 +17,11 @@ fn unread(alloc: Global, error: &io::Error) -> OptionFault {
     }
 }
 
-/// The words that the program was started with, without its name.
+/// Returns the words that the program was started with, without its name.
 ///
 /// # Errors
 ///
-/// `Usage` where a word is not UTF-8; `OutOfMemory` only when an allocation failed.
+/// `Usage` if a word is not UTF-8; `OutOfMemory` only if an allocation failed.
 pub fn given_words<R: Env + AllocGlobal>(rt: &R) -> Result<Vec<String>, OptionFault> {
     match env::args(rt) {
         Ok(words) => Ok(words.skip(1).collect(rt.alloc())?),
@@ -29,8 +29,8 @@ pub fn given_words<R: Env + AllocGlobal>(rt: &R) -> Result<Vec<String>, OptionFa
     }
 }
 
-/// Tells why the words ask for nothing, help and the version on standard output, and gives the exit status: 0 where
-/// these were asked for, else 3.
+/// Prints a fault, help and the version on standard output, anything else on standard error. Returns the exit status: 0
+/// after help or the version, else 3.
 pub fn tell<R: Print + Eprint>(rt: &R, fault: &OptionFault) -> u8 {
     if let OptionFault::Help(text) = fault
         && print!(rt; "{text}").is_ok()

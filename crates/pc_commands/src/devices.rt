@@ -1,32 +1,32 @@
-//! A device that keeps why a call of it failed, and what is said of that.
+//! A device that keeps the reason of its last failure, and the text of that reason.
 
 use std::alloc::{AllocError, Global};
 use std::io;
 use std::io::{Read, Write};
 
-/// A device, and why the last of its failed calls failed. Own rule of the profile.
+/// A device, and the reason of its last failed call. Own rule of the profile.
 #[derive(Drop)]
-pub struct Explained<D: Drop> {
+pub struct RemembersError<D: Drop> {
     device: D,
     error: Option<io::Error>,
 }
 
-impl<D: Drop> Explained<D> {
-    /// The device, of whose calls none has failed.
-    pub fn new(device: D) -> Explained<D> {
-        Explained {
+impl<D: Drop> RemembersError<D> {
+    /// Wraps a device; no call has failed yet.
+    pub fn new(device: D) -> RemembersError<D> {
+        RemembersError {
             device,
             error: None,
         }
     }
 
-    /// Why the last of its failed calls failed; none where the device gave no reason.
+    /// Returns the reason of the last failed call; `None` if no call has failed.
     pub fn error(&self) -> Option<io::Error> {
         self.error
     }
 }
 
-impl<R: Read + Drop> Read for Explained<R> {
+impl<R: Read + Drop> Read for RemembersError<R> {
     ghost remaining = { λ c. R.remaining c.device };
 
     fn read(&mut self, buf: &mut [u8]) -> io::Result<usize> {
@@ -38,7 +38,7 @@ impl<R: Read + Drop> Read for Explained<R> {
     }
 }
 
-impl<W: Write + Drop> Write for Explained<W> {
+impl<W: Write + Drop> Write for RemembersError<W> {
     ghost contents = { λ c. W.contents c.device };
 
     fn write(&mut self, buf: &[u8]) -> io::Result<usize> {
@@ -58,11 +58,11 @@ impl<W: Write + Drop> Write for Explained<W> {
     }
 }
 
-/// What the system says of an error, without its number: `No such file or directory`.
+/// Returns the system's text for an error, without its number: `No such file or directory`.
 ///
 /// # Errors
 ///
-/// `AllocError` only when an allocation failed.
+/// `AllocError` only if an allocation failed.
 pub fn reason_of(alloc: Global, error: &io::Error) -> Result<String, AllocError> {
     let text = format!(in alloc; "{error}")?;
     match text.as_str().split_once(" (os error ") {

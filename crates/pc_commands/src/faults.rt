@@ -1,4 +1,4 @@
-//! Why the words of a command line ask for nothing.
+//! The reason that the words of a command line are no request.
 ghost use Rattle.std.specs.Prelude.{◌≡◌, true};
 ghost use Rattle.clap.specs.Words.{kind_of};
 ghost use Rattle.pc_commands.specs.Faults.{OnFault, is_mistake, is_request};
@@ -8,13 +8,13 @@ use clap::error::ErrorKind;
 use std::alloc::{AllocError, Global};
 use thiserror::Error;
 
-/// Why the words ask for nothing.
+/// The reason that the words are no request.
 #[derive(Debug, PartialEq, Eq, Drop, Error)]
 pub enum OptionFault {
-    /// The words are mistaken; the text says so on standard error.
+    /// The words are mistaken; the text for standard error says so.
     #[error("{0}")]
     Usage(String),
-    /// The words ask for help or for the version, which is the text, for standard output.
+    /// The words ask for help or for the version; the text is for standard output.
     #[error("{0}")]
     Help(String),
     /// An allocation failed.
@@ -30,7 +30,7 @@ impl From<AllocError> for OptionFault {
     }
 }
 
-/// What the program says of an error of `clap`.
+/// Returns the fault for an error of `clap`.
 pub fn fault_of(alloc: Global, error: &clap::Error) -> OptionFault
     ensures { OnFault (is_mistake (kind_of error.now) ≡ true) (is_request (kind_of error.now) ≡ true) result }
 {

@@ -1,5 +1,5 @@
-//! What the programs do but for reading and printing: what the words of their command lines ask for, the run of a
-//! file's bytes, and why a device failed.
+//! The parts of the programs other than reading and printing: the words of their command lines, the run of a file's
+//! bytes, and the reason that a device failed.
 #![tactic(auto)]
 
 mod check_words;
@@ -12,7 +12,7 @@ mod status;
 
 pub use check_words::{CheckOptions, check_options};
 pub use command_line::{given_words, tell};
-pub use devices::{Explained, reason_of};
+pub use devices::{RemembersError, reason_of};
 pub use faults::OptionFault;
 pub use run_words::{RunOptions, run_options};
 pub use running::traced;

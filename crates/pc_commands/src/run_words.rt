@@ -10,14 +10,14 @@ use crate::faults::{OptionFault, fault_of};
 use clap::{Arg, ArgAction, ArgMatches, Command};
 use std::alloc::{AllocError, Global};
 
-/// What the words of the command line ask for: a run of a file, with an amount of fuel.
+/// Request of a command line: the file to run, and the amount of fuel.
 #[derive(Debug, PartialEq, Eq, Drop)]
 pub struct RunOptions {
     pub fuel: u64,
     pub file: String,
 }
 
-/// Whether a word has digits alone.
+/// Returns whether a word has only digits.
 fn has_digits_alone(word: &[u8]) -> bool
     ensures { result ≡ all_ascii_digits word.now }
 {
@@ -29,12 +29,12 @@ fn has_digits_alone(word: &[u8]) -> bool
     true
 }
 
-/// The fuel that a word gives: a whole number in decimal, of digits alone, that fits 64 bits.
+/// Returns the fuel that a word gives, or `None` if it is not a decimal number of digits only that fits 64 bits.
 #[tactic(auto, using(crate::proofs::Fuel::read_fuel))]
 fn fuel_of(word: &str) -> Option<u64>
     ensures { result ≡ fuel_in word.now }
 {
-    // `parse` takes a sign `+`, which no fuel has.
+    // `parse` accepts a sign `+`, which no fuel has.
     if !has_digits_alone(word.as_bytes()) {
         return None;
     }
@@ -44,7 +44,7 @@ fn fuel_of(word: &str) -> Option<u64>
     }
 }
 
-/// The command line of the program, for `clap`.
+/// Returns the command line of the program, for `clap`.
 fn command<'a>(alloc: Global) -> Result<Command<'a>, AllocError>
     ensures { IfOk result (λ c. app_of c ≡ command_line) }
 {
@@ -67,11 +67,11 @@ fn command<'a>(alloc: Global) -> Result<Command<'a>, AllocError>
         .arg(file)
 }
 
-/// What is said where the value of `--fuel` is no number.
+/// Message for a value of `--fuel` that is no number.
 const NO_NUMBER: &str =
     "error: invalid value for '--fuel <N>': not a whole number from 0 to 18446744073709551615\n\nFor more information, try '--help'.\n";
 
-/// What is said of a value of `--fuel` that is no number.
+/// Returns the fault for a value of `--fuel` that is no number.
 fn number_fault(alloc: Global) -> OptionFault
     ensures { OnFault (Unit {0}) ⊥ result }
 {
@@ -81,20 +81,19 @@ fn number_fault(alloc: Global) -> OptionFault
     }
 }
 
-/// The fuel that the words give, if its value is a number.
+/// Returns the fuel that the words give, or `None` if its value is no number.
 fn fuel_given(matches: &ArgMatches) -> Option<u64>
     ensures { result ≡ option_and_then fuel_in (first_value (found_of matches.now) (codes "fuel")) }
 {
     fuel_of(matches.get_str("fuel")?)
 }
 
-/// What the words of the command line ask for: they are `--fuel N` and a file, as `clap` reads them, and N is a whole
+/// Reads the words of the command line, which must be `--fuel N` and a file, as `clap` reads them, with N a whole
 /// number in decimal from 0 to 18446744073709551615. Own rule of the profile.
 ///
 /// # Errors
 ///
-/// `Usage` where they are other words; `Help` where they ask for help or the version; `OutOfMemory` only when an
-/// allocation failed.
+/// `Usage` for any other words; `Help` if they ask for help or the version; `OutOfMemory` only if an allocation failed.
 pub fn run_options(alloc: Global, words: &[&str]) -> Result<RunOptions, OptionFault>
     ensures read { IfOk result
         (λ o. asked (map (λ w. w.now) words.now) ≡ Some (record { fuel = o.fuel; file = string_bytes o.file })) }

@@ -12,12 +12,12 @@ use pc_source::Fault;
 use std::alloc::Global;
 use std::hash::RandomState;
 
-/// The trace of the plain run of the module that the bytes spell, with that fuel and without choices. The keys
-/// are those of the hashes of names, which no author of a text should know. Own rule of the profile.
+/// Runs the module that the bytes spell and returns the trace of its plain run with that fuel and without choices.
+/// `keys` are the keys for hashing names, which no author of a text should know. Own rule of the profile.
 ///
 /// # Errors
 ///
-/// The refusal of the bytes where they spell no module; `OutOfMemory` where an allocation failed.
+/// The refusal of the bytes if they spell no module; `OutOfMemory` if an allocation failed.
 pub fn traced(alloc: Global, keys: RandomState, bytes: &[u8], fuel: u64) -> Result<Trace, Fault>
     ensures runs { IfOk result (λ t. RunsPlainly bytes.now fuel t.events.items (end_of_rust t.end)) }
     ensures refused { IfErr result (OnRefusal (IsRefusalOf bytes.now)) }

@@ -1,4 +1,4 @@
--- The label of a call and what is found in it, by its callee and its arguments as the program holds them.
+-- The label of a call and the notes in it, by its callee and its arguments as the program holds them.
 use Rattle.std.proofs.Common.{◌≡◌, ◌<◌, length, arith, refl, List, [], ◌∷◌, ◌++◌, sym, ap, ◌∙◌, Option, None}
 use Rattle.std.specs.Prelude.{Bool as Test, true, false, ◌&&◌, codes}
 use Rattle.pc_source.specs.declared.place.Place.{Place}
@@ -20,7 +20,7 @@ use Rattle.pc_rules.specs.Computed.Standing.{Standing, items_in, label_in, parts
 use Rattle.pc_rules.specs.Computed.Standing.{keywords_find}
 use Rattle.pc_calls.specs.JudgedCalls.{second_code_of}
 use Rattle.pc_expr.specs.Typing.{callee_in, callee_finds, early_in}
-use Rattle.pc_expr.proofs.Forms.{callee_whole, label_call}
+use Rattle.pc_expr.proofs.Forms.{callee_whole, judge_call}
 use Rattle.pc_expr.proofs.Typed.{two_found}
 
 -- the code at the second argument, by whether that one stands too early
@@ -84,7 +84,7 @@ module _ (k : Standing) (want : Option Tree) (p : Place) (c : Expr) (args : Expr
       rule_there
       ∙ ap (λ (os : List CallOffer). whole_call_label k.context k.env (callee_in k (arguments_given args kws) c).rule os
       args (types_in k (positional_seat os) args)) offers_there
-      ∙ sym (label_call k want p c args kws)
+      ∙ sym (judge_call k want p c args kws)
 
   pub call_parts_found : (old callee_new callee_last then_arguments then_keywords last : List Note) (noted : List Note)
       (is_test early : Test) →

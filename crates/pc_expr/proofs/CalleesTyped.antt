@@ -1,4 +1,4 @@
--- Callees of calls, and the two arguments of a test of an instance, in the labels of the program.
+-- Callees of calls, and the two arguments of an instance test, in the labels of the program.
 use Rattle.std.proofs.Common.{◌≡◌, ℕ, suc, List, [], ◌∷◌, sym, ap, ◌∙◌, subst, length, get_or, arith}
 use Rattle.std.specs.Prelude.{Result, IfOk, Bool as Test, true, Option, ◌++◌}
 use Rattle.pc_tree.specs.declared.code.Code.{Code}
@@ -14,11 +14,11 @@ use Rattle.pc_rules.specs.Computed.Standing.{Standing, label_in, finds_in, types
 use Rattle.pc_expr.specs.Typing.{early_in}
 use Rattle.pc_rules.proofs.Once.{once_early}
 use Rattle.pc_expr.proofs.Forms.{types_none, types_more, early_two, arguments_first}
-use Rattle.pc_calls.specs.declared.callee.Callee.{Callee as RustCallee}
+use Rattle.pc_calls.specs.declared.callee.TypedCallee.{TypedCallee as RustCallee}
 use Rattle.pc_calls.specs.JudgedCalls.{IsCallee}
 
 module _ {Store Ty : Type 0} (has : Store → Ty → Type 0) (tree : Ty → Tree) (store : Store) where
-  -- what is a callee is what equals it
+  -- a callee that means one label means each equal label
   pub callee_as : {E : Type 0} (r : Result (RustCallee Ty) E) (m n : CalleeLabel) → m ≡ n
       → IfOk r (λ c. IsCallee has tree store c m) → IfOk r (λ c. IsCallee has tree store c n)
   callee_as r m n e h = subst (λ (x : CalleeLabel). IfOk r (λ c. IsCallee has tree store c x)) e h

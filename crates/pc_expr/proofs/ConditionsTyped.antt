@@ -1,5 +1,4 @@
--- What is found in a condition that is a negation or a junction: what is found in its parts, and what is noted of its
--- label.
+-- The notes of a condition that is a negation or a junction: those in its parts, and that of its label.
 use Rattle.std.proofs.Common.{◌≡◌, ◌++◌, sym, ap, ◌∙◌, None}
 use Rattle.std.specs.Prelude.{List, true, false, flat_map}
 use Rattle.pc_source.specs.declared.place.Place.{Place}

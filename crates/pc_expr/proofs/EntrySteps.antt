@@ -104,7 +104,7 @@ abbrev pub HaveSame : List (List ℕ) → List (List ℕ) → Type 0
 HaveSame a b = (word : List ℕ) → is_one_of word a ≡ is_one_of word b
 
 module _ (k : Standing) (seat : List ℕ → Seat) where
-  -- what is found in arguments by name goes by which names are among those before alone
+  -- the findings in arguments by name depend only on which names are among those before
   pub keywords_same : (a b : List (List ℕ)) → HaveSame a b → (es : Keywords) → keywords_find k seat a es ≡ keywords_find
       k seat b es
   keywords_same a b same no_keywords = keywords_none k seat a ∙ sym (keywords_none k seat b)

@@ -1,4 +1,4 @@
--- The label of an expression of each form and what is found in its parts, by the labels and findings of its parts.
+-- The label of an expression of each form and the notes in its parts, by the labels and notes of its parts.
 use Rattle.std.proofs.Common.{◌≡◌, ℕ, suc, List, [], ◌∷◌, ◌++◌, refl, sym, ap, ◌∙◌, map, Option, None}
 use Rattle.std.specs.Prelude.{Bool as Test, true, false, if◌then◌else◌}
 use Rattle.pc_source.specs.declared.place.Place.{Place}
@@ -33,7 +33,7 @@ use Rattle.pc_rules.proofs.PartsKept.{parts_kept}
 use Rattle.pc_expr.specs.Typing.{unnamed_callee, callee_in, callee_finds, early_in}
 
 module _ (k : Standing) (want : Option Tree) where
-  -- what is found in an expression: in its parts, and then at it
+  -- the findings in an expression: in its parts, and then at it
   pub finds_whole : (e : Expr) → finds_in k want e ≡ parts_find k want e
       ++ label_at k.keeps true (place_of e) (label_in k want e)
   unfolding finds_in parts_find label_in
@@ -91,23 +91,23 @@ module _ (k : Standing) (want : Option Tree) where
   unfolding parts_find items_find
   parts_tuple p es = refl
 
-  pub label_list : (p : Place) (es : Exprs) → label_in k want (list p es) ≡ list_label k.context.bases
+  pub expected_list_label : (p : Place) (es : Exprs) → label_in k want (list p es) ≡ list_label k.context.bases
       (list_item (members_of_expected want)) (types_in k (λ i. item_seat (list_item (members_of_expected want))) es)
   unfolding label_in types_in
-  label_list p es = refl
+  expected_list_label p es = refl
 
   pub parts_list : (p : Place) (es : Exprs) → parts_find k want (list p es) ≡ items_find k
       (λ i. item_seat (list_item (members_of_expected want))) es
   unfolding parts_find items_find
   parts_list p es = refl
 
-  pub label_dict : (p : Place) (es : Entries) → label_in k want (dict p es) ≡ dict_label k.context k.declared
+  pub expected_dict_label : (p : Place) (es : Entries) → label_in k want (dict p es) ≡ dict_label k.context k.declared
       (static_test k.context.bases) (assignable_test k.context.bases) (dict_parts (members_of_expected want))
       (keys_in k (key_seat (dict_parts (members_of_expected want))) (value_seat (dict_parts (members_of_expected want)))
       es) (values_in k (key_seat (dict_parts (members_of_expected want)))
       (value_seat (dict_parts (members_of_expected want))) es)
   unfolding label_in keys_in values_in
-  label_dict p es = refl
+  expected_dict_label p es = refl
 
   pub parts_dict : (p : Place) (es : Entries) → parts_find k want (dict p es) ≡ entries_find k
       (key_seat (dict_parts (members_of_expected want))) (value_seat (dict_parts (members_of_expected want))) es
@@ -159,10 +159,10 @@ module _ (k : Standing) (want : Option Tree) where
   parts_attribute p e field = refl
 
   -- ---- operators of two operands
-  pub label_binary : (p : Place) (o : BinaryOperator) (l r : Expr) → label_in k want (binary p o l r) ≡ binary_label
+  pub type_binary : (p : Place) (o : BinaryOperator) (l r : Expr) → label_in k want (binary p o l r) ≡ binary_label
       k.context.bases o (label_in k None l).type (label_in k None r).type
   unfolding label_in
-  label_binary p o l r = refl
+  type_binary p o l r = refl
 
   pub parts_binary : (p : Place) (o : BinaryOperator) (l r : Expr) → parts_find k want (binary p o l r)
       ≡ finds_in k None l ++ finds_in k None r
@@ -333,7 +333,7 @@ label_put (index p e i) m here = refl
 label_put (call p c args kws) m here = refl
 
 module _ (k : Standing) (g : GivenArguments) where
-  -- what is found in a callee: in its parts, and then at it
+  -- the findings in a callee: in its parts, and then at it
   pub callee_whole : (e : Expr) → callee_finds k g e ≡ parts_find k None e
       ++ label_at k.keeps (shows e) (place_of e) (callee_in k g e).label
   unfolding callee_finds parts_find
@@ -409,9 +409,9 @@ module _ (k : Standing) (g : GivenArguments) where
       ∙ sym (ap (λ b. unnamed_callee b (label_in k None (attribute p e field))) h)
 
 module _ (k : Standing) (want : Option Tree) where
-  pub label_call : (p : Place) (c : Expr) (args : Exprs) (kws : Keywords) → label_in k want (call p c args kws) ≡
+  pub judge_call : (p : Place) (c : Expr) (args : Exprs) (kws : Keywords) → label_in k want (call p c args kws) ≡
       whole_call_label k.context k.env (callee_in k (arguments_given args kws) c).rule
       (callee_in k (arguments_given args kws) c).offers args
       (types_in k (positional_seat (callee_in k (arguments_given args kws) c).offers) args)
   unfolding label_in callee_in types_in
-  label_call p c args kws = refl
+  judge_call p c args kws = refl

@@ -1,5 +1,4 @@
--- What is found in a call of `range` as what a `for` goes over, by its offers and its arguments as the program holds
--- them.
+-- The notes of a call of `range` as the iterable of a `for`, by its offers and its arguments as the program holds them.
 use Rattle.std.proofs.Common.{◌≡◌, List, [], ◌++◌, ap, ◌∙◌}
 use Rattle.std.specs.Prelude.{Bool as Test, flat_map}
 use Rattle.pc_source.specs.declared.place.Place.{Place}

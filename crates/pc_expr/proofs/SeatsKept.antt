@@ -1,4 +1,4 @@
--- Seats stay given over calls that may add types to the store.
+-- The types of seats are kept over calls that may add types to the store.
 use Rattle.pc_expr.specs.Internal.Seats.{HasSeats, HasSeat, HasEntrySeats}
 use Rattle.pc_expr.specs.declared.entries.EntrySeats.{EntrySeats}
 use Rattle.pc_expr.specs.declared.items.Seats.{Seats}

@@ -1,4 +1,4 @@
--- One more item of several: their types and what is found in them, from one item to the next.
+-- One more item of several: their types and the notes in them, from one item to the next.
 use Rattle.std.proofs.Common.{◌≡◌, ◌<◌, ◌+◌, ℕ, zero, suc, List, [], ◌∷◌, ◌++◌, refl, sym, ap, ◌∙◌, map, length, drop}
 use Rattle.std.proofs.Common.{get_or, append_assoc, Option, arith}
 use Rattle.std.proofs.lemmas.List.{map_push, append-nil, drop_all}

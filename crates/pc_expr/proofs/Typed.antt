@@ -1,5 +1,4 @@
--- The label of an expression of each form, and what is found in it, by the labels of its parts as the program holds
--- them.
+-- The label of an expression of each form, and the notes in it, by the labels of its parts as the program holds them.
 use Rattle.std.specs.Prelude.{Vec, length, suc}
 use Rattle.std.specs.Global.{Global}
 use Rattle.std.proofs.Common.{◌≡◌, ℕ, List, [], ◌∷◌, ◌++◌, refl, sym, ap, ◌∙◌, map, append_assoc, Option, None}
@@ -33,10 +32,10 @@ use Rattle.pc_rules.specs.Computed.Findings.{own_at, once, brief, type_noted, la
 use Rattle.pc_rules.specs.Computed.Standing.{Standing, narrowed_standing, label_in, finds_in, parts_find, types_in}
 use Rattle.pc_rules.specs.Computed.Standing.{items_find, keys_in, values_in, entries_find, label_with}
 use Rattle.pc_rules.specs.declared.label.Label.{Label as RustLabel}
-use Rattle.pc_expr.proofs.Forms.{finds_whole, label_negative, label_attribute, label_binary, label_compare}
+use Rattle.pc_expr.proofs.Forms.{finds_whole, label_negative, label_attribute, type_binary, label_compare}
 use Rattle.pc_expr.proofs.Forms.{parts_compare, label_conjunction, label_disjunction, parts_conjunction}
 use Rattle.pc_expr.proofs.Forms.{parts_disjunction, parts_binary, label_index, parts_index, label_tuple, parts_tuple}
-use Rattle.pc_expr.proofs.Forms.{label_list, parts_list, label_dict, parts_dict}
+use Rattle.pc_expr.proofs.Forms.{expected_list_label, parts_list, expected_dict_label, parts_dict}
 
 module _ {T : Type 0} (tree : T → Tree) (l : RustLabel T) (m : Label) (is : label_with tree l ≡ brief m) where
   pub type_is : tree l.ty ≡ m.type
@@ -55,13 +54,13 @@ pub three_found : (old new next last a b c : List Note) → new ≡ old ++ a →
 three_found old new next last a b c h k i = two_found old new last a (b ++ c) h (two_found new next last b c k i)
 
 module _ {T : Type 0} (tree : T → Tree) (k : Standing) (want : Option Tree) where
-  -- what is noted of a label of the program, by the label that it means
+  -- the notes of a label of the program, given the label that it means
   pub noted_label : (keeps shown : Test) (p : Place) (l : RustLabel T) (m : Label) → label_with tree l ≡ brief m
       → type_noted keeps shown p (tree l.ty) ++ flat_map (own_at p) l.codes.items ≡ label_at keeps shown p m
   noted_label keeps shown p l m is =
       ap (λ (x : Label). type_noted keeps shown p x.type ++ flat_map (own_at p) x.codes) is
 
-  -- what is found in an expression, by what is found in its parts and what is noted of its label
+  -- the findings in an expression are those in its parts and the notes of its label
   pub whole_found : (e : Expr) (l : RustLabel T) (old new last : List Note)
       → label_with tree l ≡ brief (label_in k want e) → new ≡ old ++ parts_find k want e
       → last ≡ new ++ (type_noted k.keeps true (place_of e) (tree l.ty) ++ flat_map (own_at (place_of e)) l.codes.items)
@@ -91,7 +90,7 @@ module _ {T : Type 0} (tree : T → Tree) (k : Standing) (want : Option Tree) wh
         ap (λ t. binary_label k.context.bases o t (tree r.ty)) (type_is tree l (label_in k None a) left_is)
         ∙ ap (λ t. binary_label k.context.bases o (label_in k None a).type t)
         (type_is tree r (label_in k None b) right_is)
-        ∙ sym (label_binary k want p o a b)
+        ∙ sym (type_binary k want p o a b)
 
     pub compare_is : (o : ComparisonOperator) → label_with tree r ≡ brief (label_in k None b)
         → compare_label k.context.bases o (tree l.ty) (tree r.ty) ≡ label_in k want (compare p o a b)
@@ -196,7 +195,7 @@ module _ (k : Standing) (want : Option Tree) (p : Place) where
     list_is types s t =
         ap (λ ts. list_label k.context.bases (list_item (members_of_expected want)) ts)
         (t ∙ ap (λ (f : ℕ → Seat). types_in k f (exprs_of_list v.items)) s)
-        ∙ sym (label_list k want p (exprs_of_list v.items))
+        ∙ sym (expected_list_label k want p (exprs_of_list v.items))
         ∙ ap (label_in k want) (sym (list_tree p v))
 
     pub list_found : (old new : List Note) → seat ≡ (λ i. item_seat (list_item (members_of_expected want)))
@@ -248,7 +247,7 @@ module _ (k : Standing) (want : Option Tree) (p : Place) where
         (assignable_test k.context.bases) (dict_parts (members_of_expected want))
         (keys_in k (key_seat (dict_parts (members_of_expected want))) x (entries_of_list v.items))
         (values_in k (key_seat (dict_parts (members_of_expected want))) x (entries_of_list v.items))) at_value
-        ∙ sym (label_dict k want p (entries_of_list v.items))
+        ∙ sym (expected_dict_label k want p (entries_of_list v.items))
         ∙ ap (label_in k want) (sym (dict_tree p v))
 
     pub dict_found : (old new : List Note) → new ≡ old ++ entries_find k key value (entries_of_list v.items)
@@ -261,7 +260,7 @@ module _ (k : Standing) (want : Option Tree) (p : Place) where
         ∙ ap (λ fs. old ++ fs) (sym (parts_dict k want p (entries_of_list v.items)))
         ∙ ap (λ x. old ++ parts_find k want x) (sym (dict_tree p v))
 
--- how many expressions a list of them has
+-- the number of expressions in a list
 pub counted : (es : List RustExpr) → length es ≡ count_exprs (exprs_of_list es)
 counted [] = refl
 counted (e ∷ es) = ap suc (counted es)

@@ -1,4 +1,4 @@
--- What a condition tells of an environment both ways, from what narrowing answers.
+-- The environments where a condition is true and where it is false, from the results of narrowing.
 use Rattle.std.proofs.Common.{◌≡◌, ◌++◌, List, Option, refl, sym, ap, length, ◌∙◌}
 use Rattle.std.proofs.lemmas.List.{length-map}
 use Rattle.std.specs.Prelude.{true, false}
@@ -16,13 +16,13 @@ use Rattle.pc_flow.specs.Ways.{GivesBoth, GivesWellFormed}
 use Rattle.pc_flow.specs.declared.narrowing.BothWays.{BothWays}
 use Rattle.pc_flow.proofs.Both.{and_agree, and_gives, or_agree, or_gives}
 use Rattle.pc_rules.specs.Computed.Standing.{Standing, HasGivenAll, standing_of}
-use Rattle.pc_rules.specs.declared.setting.Setting.{Setting}
+use Rattle.pc_rules.specs.declared.expr_context.ExprContext.{ExprContext}
 use Rattle.pc_rules.proofs.Kept.{keeps_both, stands_kept, stands_after}
 use Rattle.pc_expr.specs.Ways.{GivesWays}
 
-module _ {Store Ty : Type 0} (has : Store → Ty → Type 0) (tree : Ty → Tree) (s : Setting Ty) (k : Standing) (e : Expr)
+module _ {Store Ty : Type 0} (has : Store → Ty → Type 0) (tree : Ty → Tree) (s : ExprContext Ty) (k : Standing) (e : Expr)
     (n : BothWays Ty) where
-  -- what narrowing answers of the same environment
+  -- narrowing gives the same for an equal environment
   pub ways_of : (a b : Store) → KeepsTypes has a b → (types : List (Option Ty)) → HasGivenAll (has a) tree s types
       → (env : Env) → env ≡ k.env → GivesWellFormed has tree s.globals.now.outline.now.parents.now b n
       (λ holds. narrow k.context.bases k.declared k.context.resolve holds e env) → GivesWays has tree b s k n e
@@ -60,7 +60,7 @@ module _ {Store Ty : Type 0} (has : Store → Ty → Type 0) (tree : Ty → Tree
   }
 
 -- a negation: the ways of what is negated, the other way round
-pub negation_ways : {Store Ty : Type 0} (has : Store → Ty → Type 0) (tree : Ty → Tree) (s : Setting Ty) (k : Standing)
+pub negation_ways : {Store Ty : Type 0} (has : Store → Ty → Type 0) (tree : Ty → Tree) (s : ExprContext Ty) (k : Standing)
     (e : Expr) (p : Place) (a b : Store) → KeepsTypes has a b → (n : BothWays Ty) → GivesWays has tree a s k n e
     → (m : BothWays Ty) → m.where_true ≡ n.where_false → m.where_false ≡ n.where_true
     → GivesWays has tree b s k m (negation p e)
@@ -72,7 +72,7 @@ negation_ways has tree s k e p a b keeps n w m t f = record {
 }
 
 -- a junction: from the ways of its first part, and from those of its second part where that is asked
-module _ {Store Ty : Type 0} (has : Store → Ty → Type 0) (tree : Ty → Tree) (s : Setting Ty) (types : List (Option Ty))
+module _ {Store Ty : Type 0} (has : Store → Ty → Type 0) (tree : Ty → Tree) (s : ExprContext Ty) (types : List (Option Ty))
     (zero one two : Store) (o : AreSmaller s.globals.now.outline.now.parents.now)
     (h : HasGivenAll (has zero) tree s types) (a b : Expr) (first : BothWays Ty)
     (f : GivesWays has tree one s (standing_of tree s types) first a) (second : BothWays Ty) where

@@ -1,4 +1,4 @@
--- What the program that types expressions answers of callees and of several expressions, in terms of the computed
+-- The results of the program that types expressions for callees and lists of expressions, in terms of the computed
 -- labels. Own rule of the profile.
 use Rattle.std.specs.Prelude.{ℕ, List, Bool as Test, true, false, None}
 use Rattle.pc_tree.specs.declared.code.Code.TheVariants.{E03}
@@ -17,15 +17,15 @@ abbrev pub unnamed_callee : (in_body : Test) → Label → CalleeLabel
 unnamed_callee true m = value_callee m
 unnamed_callee false m = value_callee (in_error E03)
 
--- what an expression is as the callee of a call that gives these arguments
+-- an expression as the callee of a call that gives these arguments
 unfoldable pub callee_in : Standing → GivenArguments → Expr → CalleeLabel
 callee_in k g e = callee_of k.context k.env g e (labels_of k.context k.declared k.env None e)
 
--- what is found in a callee and in its parts
+-- the notes of a callee and its parts
 unfoldable pub callee_finds : Standing → GivenArguments → Expr → List Note
 callee_finds k g e = callee_notes_under k.keeps e (with_label e (labels_of k.context k.declared k.env None e)
     (callee_in k g e).label)
 
--- whether an initializer names the second of several expressions too early
+-- whether the second of several expressions is E03: an initializer names it too early
 unfoldable pub early_in : Standing → (seat : ℕ → Seat) → Exprs → Test
 early_in k seat es = early_second es (items_in k seat es)

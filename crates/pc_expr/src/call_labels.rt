@@ -1,4 +1,4 @@
-//! The label of a call, and what a callee is that is no function, class or method.
+//! The label of a call, and callees that are no function, class or method.
 #![tactic(auto, using(pc_rules::proofs::Checkers::goes_further))]
 
 ghost use Rattle.std.specs.Prelude.{◌≡◌, ◌++◌, true, length, map, All, IfOk, OnOk};
@@ -17,29 +17,29 @@ ghost use Rattle.pc_rules.specs.Computed.Findings.{brief, notes_of_code, shows};
 ghost use Rattle.pc_rules.specs.Computed.Standing.{label_with, context_with};
 ghost use Rattle.pc_calls.specs.JudgedCalls.{offer_called, rule_of, second_code_of, HasCallOffer, IsCallee};
 ghost use Rattle.pc_expr.specs.Typing.{unnamed_callee};
-ghost use Rattle.pc_rules.specs.Computed.Checkers.{Finds, GoesOn, IsLabel};
+ghost use Rattle.pc_rules.specs.Computed.Checkers.{Finds, CheckerKept, IsLabel};
 ghost use Rattle.pc_flow.specs.Naming.{meanings};
 
 use crate::items::Typed;
 use crate::whole::call_label;
-use pc_calls::{Callee, callee_in_error, callee_of_value, second_code};
+use pc_calls::{TypedCallee, callee_in_error, callee_of_value, second_code};
 use pc_flow::Env;
 use pc_notes::Notes;
-use pc_rules::{Checker, Label, Setting, find_codes};
+use pc_rules::{ExprContext, Label, TypingState, find_codes};
 use pc_scope::is_instance_test;
 use pc_source::{OutOfMemory, Place};
 use pc_tree::{Code, Expr, KeywordArgument};
 use pc_types::TypeStore;
 use std::alloc::Global;
 
-/// A callee that is neither a name nor, in a body, an attribute: a value with this label, and in an initializer in
-/// error.
+/// Returns the callee made of a value with this label, for a callee that is neither a name nor, in a body, an
+/// attribute. In an initializer it is E03.
 pub(crate) fn callee_of_other<'t, S: TypeStore>(
     store: &mut S,
     alloc: Global,
-    setting: &Setting<'t, S::Ty>,
+    setting: &ExprContext<'t, S::Ty>,
     label: Label<S::Ty>,
-) -> Result<Callee<'t, S::Ty>, OutOfMemory>
+) -> Result<TypedCallee<'t, S::Ty>, OutOfMemory>
     requires { S.has store.old label.ty }
     ensures callee { (m : LabelOf) → label_with S.tree label ≡ brief m
         → IfOk result (λ c. IsCallee S.has S.tree store.new c (unnamed_callee setting.now.in_body m)) }
@@ -51,7 +51,7 @@ pub(crate) fn callee_of_other<'t, S: TypeStore>(
     callee_in_error(store, alloc, Code::E03)
 }
 
-/// The place of the second argument of a call, that of the call where there is none.
+/// Returns the place of the second argument of a call, or that of the call if there is none.
 fn second_place(arguments: &[Expr], place: Place) -> Place
     ensures { result ≡ second_place (exprs_of_list arguments.now) place }
 {
@@ -61,7 +61,7 @@ fn second_place(arguments: &[Expr], place: Place) -> Place
     }
 }
 
-/// Adds the finding of a code that there may be.
+/// Appends the finding of a code, if there is one.
 fn find_code(place: Place, code: Option<Code>, found: &mut Notes) -> Result<(), OutOfMemory>
     ensures { OnOk result (notes_of found.new ≡ notes_of found.old ++ notes_of_code place code) }
 {
@@ -71,14 +71,14 @@ fn find_code(place: Place, code: Option<Code>, found: &mut Notes) -> Result<(), 
     }
 }
 
-/// The label of a call over the types of its arguments, with what is found at its second argument.
-/// Language Reference 6.3.4 "Calls".
-pub(crate) fn label_call<S: TypeStore>(
-    checker: &mut Checker<'_, S>,
-    setting: &Setting<'_, S::Ty>,
+/// Returns the label of a call, given the types of its arguments. Appends the finding at its second argument, if there
+/// is one. Language Reference 6.3.4 "Calls".
+pub(crate) fn judge_call<S: TypeStore>(
+    checker: &mut TypingState<'_, S>,
+    setting: &ExprContext<'_, S::Ty>,
     env: &Env<S::Ty>,
     place: Place,
-    callee: &Callee<'_, S::Ty>,
+    callee: &TypedCallee<'_, S::Ty>,
     arguments: &[Expr],
     typed: &Typed<S::Ty>,
 ) -> Result<Label<S::Ty>, OutOfMemory>
@@ -95,14 +95,14 @@ pub(crate) fn label_call<S: TypeStore>(
         (notes_of_code (second_place (exprs_of_list arguments.now) place)
         (second_code_of (meanings setting.now.names.now) (rule_of callee.now.rule)
         (exprs_of_list arguments.now) typed.now.early))) }
-    ensures goes_on { GoesOn S.TypeStore checker.old checker.new }
+    ensures goes_on { CheckerKept S.TypeStore checker.old checker.new }
 {
     let code = second_code(setting.names, callee.rule, arguments, typed.early);
     find_code(second_place(arguments, place), code, checker.found)?;
     call_label(checker, setting, env, callee, arguments, &typed.types)
 }
 
-/// Whether a call is a test of an instance; then it has two arguments by position.
+/// Returns whether a call is an instance test: `isinstance` with two positional arguments and no other.
 pub(crate) fn is_test(callee: &Expr, arguments: &[Expr], by_name: &[KeywordArgument]) -> bool
     ensures value { result ≡ is_instance_test (expr_of callee.now) (exprs_of_list arguments.now)
         (keywords_of_list by_name.now) }
@@ -111,7 +111,7 @@ pub(crate) fn is_test(callee: &Expr, arguments: &[Expr], by_name: &[KeywordArgum
     is_instance_test(callee, arguments, by_name)
 }
 
-/// Whether the type of a callee is shown: of a name and of an attribute it is not.
+/// Returns whether the type of a callee is shown: not for a name or an attribute.
 pub(crate) fn shows(callee: &Expr) -> bool
     ensures { result ≡ shows (expr_of callee.now) }
 {

@@ -1,4 +1,4 @@
-//! The labels of calls, with what is found in their callees and arguments.
+//! The labels of calls, and the findings in their callees and arguments.
 #![tactic(auto, using(pc_rules::proofs::Kept::stands_further, pc_rules::proofs::Checkers::goes_further))]
 
 ghost use Rattle.std.specs.Prelude.{◌≡◌, IfOk, OnOk, None, [], true, map, length, All, Option};
@@ -11,28 +11,29 @@ ghost use Rattle.pc_calls.specs.JudgedCalls.{given_with, offer_called, HasCallOf
 ghost use Rattle.pc_expr.specs.Typing.{callee_in};
 ghost use Rattle.pc_expr.specs.Internal.Seats.{AreTyped};
 ghost use Rattle.pc_expr.specs.Internal.Forms.{IsCall};
-ghost use Rattle.pc_rules.specs.Computed.Checkers.{Finds, GoesOn, IsLabel, Stands};
+ghost use Rattle.pc_rules.specs.Computed.Checkers.{Finds, CheckerKept, IsLabel, Stands};
 
-use crate::call_labels::{callee_of_other, is_test, label_call, shows};
+use crate::call_labels::{callee_of_other, is_test, judge_call, shows};
 use crate::items::{Typed, early_at};
-use crate::typing::{label_expr, type_expr, type_seated};
+use crate::typing::{check_expr, label_expr, type_seated};
 use indexmap::IndexSet;
 use pc_calls::given::given;
 use pc_calls::{
-    CallOffer, Callee, Given, callee_of_method, callee_of_name, keyword_seat, positional_seat,
+    CallOffer, Given, TypedCallee, callee_of_method, callee_of_name, keyword_seat, positional_seat,
 };
 use pc_flow::Env;
 use pc_notes::Notes;
-use pc_rules::{Checker, Label, Setting, is_early, note_label};
+use pc_rules::{ExprContext, Label, TypingState, is_early, note_label};
 use pc_source::OutOfMemory;
 use pc_tree::{Expr, KeywordArgument};
 use pc_types::TypeStore;
 
-/// The label of a call, with what is found in its callee and its arguments. Language Reference 6.3.4 "Calls".
+/// Types a call. Appends the findings of its callee and its arguments, and returns its label. Language Reference 6.3.4
+/// "Calls".
 #[cycle(typing)]
-pub(crate) fn label_called<S: TypeStore>(
-    checker: &mut Checker<'_, S>,
-    setting: &Setting<'_, S::Ty>,
+pub(crate) fn type_call<S: TypeStore>(
+    checker: &mut TypingState<'_, S>,
+    setting: &ExprContext<'_, S::Ty>,
     env: &Env<S::Ty>,
     e: &Expr,
 ) -> Result<Label<S::Ty>, OutOfMemory>
@@ -43,13 +44,13 @@ pub(crate) fn label_called<S: TypeStore>(
         (label_in (standing_of S.tree setting.now env.now) expected (expr_of e.now))) }
     ensures found { (expected : Option Tree) → OnOk result (Finds checker.old checker.new
         (parts_find (standing_of S.tree setting.now env.now) expected (expr_of e.now))) }
-    ensures goes_on { GoesOn S.TypeStore checker.old checker.new }
+    ensures goes_on { CheckerKept S.TypeStore checker.old checker.new }
 {
     match e {
         Expr::Call(place, callee, arguments, by_name) => {
             let keys = setting.globals.outline.tree.keys;
             let given = given(checker.alloc, keys, arguments, by_name)?;
-            let called = label_callee(checker, setting, env, &given, callee)?;
+            let called = type_callee(checker, setting, env, &given, callee)?;
             note_label(
                 checker.store,
                 checker.alloc,
@@ -62,35 +63,35 @@ pub(crate) fn label_called<S: TypeStore>(
             let is_test = is_test(callee, arguments, by_name);
             let typed = type_arguments(checker, setting, env, is_test, &called.offers, arguments)?;
             type_keywords(checker, setting, env, &called.offers, by_name)?;
-            label_call(checker, setting, env, *place, &called, arguments, &typed)
+            judge_call(checker, setting, env, *place, &called, arguments, &typed)
         }
         _ => unreachable!(),
     }
 }
 
-/// What the callee of a call is, with what is found in its parts. In an initializer a callee that is no name is in
-/// error.
+/// Types the callee of a call. Appends the findings in its parts and returns it: a name, a method, or a value. In an
+/// initializer a callee other than a name is in error.
 #[cycle(typing)]
-fn label_callee<'t, S: TypeStore>(
-    checker: &mut Checker<'_, S>,
-    setting: &Setting<'t, S::Ty>,
+fn type_callee<'t, S: TypeStore>(
+    checker: &mut TypingState<'_, S>,
+    setting: &ExprContext<'t, S::Ty>,
     env: &Env<S::Ty>,
     given: &Given,
     callee: &Expr,
-) -> Result<Callee<'t, S::Ty>, OutOfMemory>
+) -> Result<TypedCallee<'t, S::Ty>, OutOfMemory>
     requires given { Stands S.TypeStore checker.old setting.now env.now }
     ensures called { IfOk result
         (λ c. IsCallee S.has S.tree checker.new.store.now c
         (callee_in (standing_of S.tree setting.now env.now) (given_with given.now) (expr_of callee.now))) }
     ensures found { OnOk result (Finds checker.old checker.new
         (parts_find (standing_of S.tree setting.now env.now) None (expr_of callee.now))) }
-    ensures goes_on { GoesOn S.TypeStore checker.old checker.new }
+    ensures goes_on { CheckerKept S.TypeStore checker.old checker.new }
 {
     match callee {
         Expr::Name(name) => callee_of_name(checker.store, checker.alloc, setting, env, given, name),
         Expr::Attribute(_, object, field) => {
             if setting.in_body {
-                let label = type_expr(checker, setting, env, &None, object)?;
+                let label = check_expr(checker, setting, env, &None, object)?;
                 return callee_of_method(
                     checker.store,
                     checker.alloc,
@@ -127,12 +128,12 @@ fn label_callee<'t, S: TypeStore>(
     }
 }
 
-/// The types of the two arguments of a test of an instance, with what is found in the first; and whether the second is
-/// named too early.
+/// Types the two arguments of an instance test. Appends the findings in the first only. Returns their types, and
+/// whether the second is E03.
 #[cycle(typing)]
 fn type_tested<S: TypeStore>(
-    checker: &mut Checker<'_, S>,
-    setting: &Setting<'_, S::Ty>,
+    checker: &mut TypingState<'_, S>,
+    setting: &ExprContext<'_, S::Ty>,
     env: &Env<S::Ty>,
     offers: &[CallOffer<'_, S::Ty>],
     arguments: &[Expr],
@@ -146,18 +147,18 @@ fn type_tested<S: TypeStore>(
     ensures found { OnOk result (Finds checker.old checker.new
         (arguments_find (standing_of S.tree setting.now env.now) true
         (positional_seat (map (offer_called S.tree) offers.now)) (exprs_of_list arguments.now))) }
-    ensures goes_on { GoesOn S.TypeStore checker.old checker.new }
+    ensures goes_on { CheckerKept S.TypeStore checker.old checker.new }
 {
     let seat = positional_seat(checker.store, checker.alloc, offers, 0)?;
-    let tested = type_expr(checker, setting, env, &seat.want, &arguments[0])?;
+    let tested = check_expr(checker, setting, env, &seat.want, &arguments[0])?;
     let seat = positional_seat(checker.store, checker.alloc, offers, 1)?;
     let mut unseen = Notes::new(checker.alloc);
-    let mut apart = Checker {
+    let mut apart = TypingState {
         store: checker.store,
         alloc: checker.alloc,
         found: &mut unseen,
     };
-    let kind = type_expr(&mut apart, setting, env, &seat.want, &arguments[1])?;
+    let kind = check_expr(&mut apart, setting, env, &seat.want, &arguments[1])?;
     let early = is_early(&kind.codes);
     let mut types = Vec::new(checker.alloc);
     types.push(tested.ty)?;
@@ -165,12 +166,12 @@ fn type_tested<S: TypeStore>(
     Ok(Typed { types, early })
 }
 
-/// The types of the arguments by position of a call with these offers, with what is found in them and where they flow;
-/// and whether the second is named too early. Of a test of an instance the first alone is looked at.
+/// Types the arguments by position of a call with these offers. Appends the findings in them and of their flows; of an
+/// instance test those in the first only. Returns their types, and whether the second is E03.
 #[cycle(typing)]
 pub(crate) fn type_arguments<S: TypeStore>(
-    checker: &mut Checker<'_, S>,
-    setting: &Setting<'_, S::Ty>,
+    checker: &mut TypingState<'_, S>,
+    setting: &ExprContext<'_, S::Ty>,
     env: &Env<S::Ty>,
     is_test: bool,
     offers: &[CallOffer<'_, S::Ty>],
@@ -185,7 +186,7 @@ pub(crate) fn type_arguments<S: TypeStore>(
     ensures found { OnOk result (Finds checker.old checker.new
         (arguments_find (standing_of S.tree setting.now env.now) is_test
         (positional_seat (map (offer_called S.tree) offers.now)) (exprs_of_list arguments.now))) }
-    ensures goes_on { GoesOn S.TypeStore checker.old checker.new }
+    ensures goes_on { CheckerKept S.TypeStore checker.old checker.new }
 {
     if is_test {
         return type_tested(checker, setting, env, offers, arguments);
@@ -201,11 +202,11 @@ pub(crate) fn type_arguments<S: TypeStore>(
     Ok(Typed { types, early })
 }
 
-/// Adds what is found in the arguments by name of a call with these offers, and where they flow.
+/// Types the arguments by name of a call with these offers. Appends the findings in them and of their flows.
 #[cycle(typing)]
 pub(crate) fn type_keywords<S: TypeStore>(
-    checker: &mut Checker<'_, S>,
-    setting: &Setting<'_, S::Ty>,
+    checker: &mut TypingState<'_, S>,
+    setting: &ExprContext<'_, S::Ty>,
     env: &Env<S::Ty>,
     offers: &[CallOffer<'_, S::Ty>],
     by_name: &[KeywordArgument],
@@ -215,7 +216,7 @@ pub(crate) fn type_keywords<S: TypeStore>(
     ensures found { OnOk result (Finds checker.old checker.new
         (keywords_find (standing_of S.tree setting.now env.now)
         (named_seat (map (offer_called S.tree) offers.now)) [] (keywords_of_list by_name.now))) }
-    ensures goes_on { GoesOn S.TypeStore checker.old checker.new }
+    ensures goes_on { CheckerKept S.TypeStore checker.old checker.new }
 {
     let mut before = IndexSet::with_hasher(checker.alloc, setting.globals.outline.tree.keys);
     for argument in by_name {

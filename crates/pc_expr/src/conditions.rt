@@ -1,6 +1,6 @@
-//! The labels of conditions, with what each tells of the environment it stands in.
+//! The labels of conditions, and the environments where they are true and where they are false.
 //!
-//! Of a chain of `and` and `or` each part is asked once what it tells, in the walk that labels it.
+//! Each part of a chain of `and` and `or` is narrowed once, in the walk that labels it.
 #![tactic(auto, using(pc_rules::proofs::Kept::stands_further, pc_rules::proofs::Checkers::goes_further))]
 
 ghost use Rattle.std.specs.Prelude.{◌≡◌, ◌++◌, IfOk, OnOk, None, length};
@@ -13,17 +13,17 @@ ghost use Rattle.pc_flow.specs.Narrowing.{IsSimple, tested_locals};
 ghost use Rattle.pc_flow.specs.Stored.{env_of, declared_of, HasEach, GivesEnv};
 ghost use Rattle.pc_flow.specs.Ways.{way_on, way_out};
 ghost use Rattle.pc_flow.specs.WellFormed.{IsWellFormedEnv};
-ghost use Rattle.pc_rules.specs.Computed.Checkers.{Finds, GoesOn, IsLabel, Stands};
+ghost use Rattle.pc_rules.specs.Computed.Checkers.{Finds, CheckerKept, IsLabel, Stands};
 ghost use Rattle.pc_rules.specs.Operations.{clean};
 ghost use Rattle.pc_rules.specs.Computed.Standing.{HasGivenAll, standing_of, label_in, finds_in};
 ghost use Rattle.pc_expr.specs.Ways.{GivesWays};
 
-use crate::typing::type_expr;
+use crate::typing::check_expr;
 use pc_flow::{
     BothWays, Connective, Declarations, Env, Junction, copy_env, narrow_junction, narrow_simple,
 };
 use pc_operations::{label_bool, label_junction};
-use pc_rules::{Checker, Label, Setting, note_label};
+use pc_rules::{ExprContext, Label, TypingState, note_label};
 use pc_source::OutOfMemory;
 use pc_tree::Expr;
 use pc_types::TypeStore;
@@ -36,7 +36,8 @@ pub struct Condition<Ty: Drop> {
     pub ways: BothWays<Ty>,
 }
 
-/// What a condition tells where it settles a junction that it is the first part of.
+/// Returns the environment where the first part of a junction decides it: where that part is false for `and`, true for
+/// `or`.
 fn settling<Ty: Drop>(connective: &Connective, first: BothWays<Ty>) -> Env<Ty>
     ensures { result ≡ way_out connective.now first }
 {
@@ -46,11 +47,11 @@ fn settling<Ty: Drop>(connective: &Connective, first: BothWays<Ty>) -> Env<Ty>
     }
 }
 
-/// What a junction of two conditions comes to, from its first part, and from its second part where that is asked.
-/// Language Reference 6.11 "Boolean operations".
+/// Combines the two parts of a junction: returns its label, and the environments where it is true and where it is
+/// false. The second part is typed where the first does not decide. Language Reference 6.11 "Boolean operations".
 fn junction_condition<S: TypeStore>(
-    checker: &mut Checker<'_, S>,
-    setting: &Setting<'_, S::Ty>,
+    checker: &mut TypingState<'_, S>,
+    setting: &ExprContext<'_, S::Ty>,
     junction: &Junction,
     first: Condition<S::Ty>,
     second: Condition<S::Ty>,
@@ -79,7 +80,7 @@ fn junction_condition<S: TypeStore>(
         (env_of S.tree (way_out junction.now.connective first.ways))
         (env_of S.tree (way_out junction.now.connective second.ways)))) }
     ensures found { checker.new.found.now ≡ checker.old.found.now }
-    ensures goes_on { GoesOn S.TypeStore checker.old checker.new }
+    ensures goes_on { CheckerKept S.TypeStore checker.old checker.new }
 {
     let parents = setting.globals.outline.parents;
     let label = label_junction(
@@ -106,11 +107,11 @@ fn junction_condition<S: TypeStore>(
     Ok(Condition { label, ways })
 }
 
-/// What a condition that is no `not`, `and` or `or` tells of the environment it stands in.
+/// Returns the environments where a condition other than `not`, `and` and `or` is true and where it is false.
 fn simple_ways<S: TypeStore>(
     store: &mut S,
     alloc: Global,
-    setting: &Setting<'_, S::Ty>,
+    setting: &ExprContext<'_, S::Ty>,
     env: &Env<S::Ty>,
     e: &Expr,
 ) -> Result<BothWays<S::Ty>, OutOfMemory>
@@ -133,12 +134,12 @@ fn simple_ways<S: TypeStore>(
     Ok(ways)
 }
 
-/// The label of a condition, of which nothing is expected, with what is found in it and what it tells of the
-/// environment. Typing specification, "Type narrowing".
+/// Types a condition, without an expected type. Appends its findings; returns its label and the environments where it
+/// is true and where it is false. Typing specification, "Type narrowing".
 #[cycle(typing)]
 pub fn type_condition<S: TypeStore>(
-    checker: &mut Checker<'_, S>,
-    setting: &Setting<'_, S::Ty>,
+    checker: &mut TypingState<'_, S>,
+    setting: &ExprContext<'_, S::Ty>,
     env: &Env<S::Ty>,
     e: &Expr,
 ) -> Result<Condition<S::Ty>, OutOfMemory>
@@ -151,7 +152,7 @@ pub fn type_condition<S: TypeStore>(
         (expr_of e.now)) }
     ensures found { OnOk result (Finds checker.old checker.new
         (finds_in (standing_of S.tree setting.now env.now) None (expr_of e.now))) }
-    ensures goes_on { GoesOn S.TypeStore checker.old checker.new }
+    ensures goes_on { CheckerKept S.TypeStore checker.old checker.new }
 {
     setting.globals.outline.parents.ordered();
     match e {
@@ -211,7 +212,7 @@ pub fn type_condition<S: TypeStore>(
             Ok(whole)
         }
         _ => {
-            let label = type_expr(checker, setting, env, &None, e)?;
+            let label = check_expr(checker, setting, env, &None, e)?;
             let ways = simple_ways(checker.store, checker.alloc, setting, env, e)?;
             Ok(Condition { label, ways })
         }

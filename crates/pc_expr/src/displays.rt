@@ -1,4 +1,4 @@
-//! The labels of displays, with what is found in their items and entries.
+//! The labels of displays, and the findings in their items and entries.
 #![tactic(auto, using(pc_rules::proofs::Kept::stands_further, pc_rules::proofs::Checkers::goes_further))]
 
 ghost use Rattle.std.specs.Prelude.{◌≡◌, IfOk, OnOk, map, All};
@@ -9,23 +9,24 @@ ghost use Rattle.pc_rules.specs.Computed.Standing.{standing_of, label_in, parts_
 ghost use Rattle.pc_rules.specs.Computed.Standing.{entries_find};
 ghost use Rattle.pc_expr.specs.Internal.Seats.{seats_of, seat_with, HasSeats, HasEntrySeats, AreEntryTypes};
 ghost use Rattle.pc_expr.specs.Internal.Forms.{IsDisplay};
-ghost use Rattle.pc_rules.specs.Computed.Checkers.{Finds, GoesOn, HoldsIfAny, IsLabel, Stands};
+ghost use Rattle.pc_rules.specs.Computed.Checkers.{Finds, CheckerKept, HoldsIfAny, IsLabel, Stands};
 
-use crate::entries::{EntrySeats, EntryTypes, dict_seats, label_dict};
-use crate::items::{Seats, label_list, list_seats, seat_at, tuple_seats};
+use crate::entries::{EntrySeats, EntryTypes, dict_seats, expected_dict_label};
+use crate::items::{Seats, expected_list_label, list_seats, seat_at, tuple_seats};
 use crate::typing::type_seated;
 use pc_flow::Env;
 use pc_operations::tuple_label;
-use pc_rules::{Checker, Label, Setting};
+use pc_rules::{ExprContext, Label, TypingState};
 use pc_source::OutOfMemory;
 use pc_tree::{Entry, Expr};
 use pc_types::TypeStore;
 
-/// The label of a display, with what is found in its items. Language Reference 6.2 "Atoms".
+/// Types a tuple, list or dict display, with `want` as its expected type. Appends the findings in its items and returns
+/// its label. Language Reference 6.2 "Atoms".
 #[cycle(typing)]
 pub(crate) fn label_display<S: TypeStore>(
-    checker: &mut Checker<'_, S>,
-    setting: &Setting<'_, S::Ty>,
+    checker: &mut TypingState<'_, S>,
+    setting: &ExprContext<'_, S::Ty>,
     env: &Env<S::Ty>,
     want: &Option<S::Ty>,
     e: &Expr,
@@ -38,7 +39,7 @@ pub(crate) fn label_display<S: TypeStore>(
         (label_in (standing_of S.tree setting.now env.now) (option_map S.tree want.now) (expr_of e.now))) }
     ensures found { OnOk result (Finds checker.old checker.new
         (parts_find (standing_of S.tree setting.now env.now) (option_map S.tree want.now) (expr_of e.now))) }
-    ensures goes_on { GoesOn S.TypeStore checker.old checker.new }
+    ensures goes_on { CheckerKept S.TypeStore checker.old checker.new }
 {
     match e {
         Expr::Tuple(_, items) => {
@@ -49,7 +50,7 @@ pub(crate) fn label_display<S: TypeStore>(
         Expr::List(_, items) => {
             let seats = list_seats(checker.store, checker.alloc, want)?;
             let types = type_items(checker, setting, env, &seats, items)?;
-            label_list(
+            expected_list_label(
                 checker.store,
                 checker.alloc,
                 setting.globals.outline.parents,
@@ -60,17 +61,18 @@ pub(crate) fn label_display<S: TypeStore>(
         Expr::Dict(_, entries) => {
             let seats = dict_seats(checker.store, checker.alloc, want)?;
             let types = type_entries(checker, setting, env, &seats, entries)?;
-            label_dict(checker.store, checker.alloc, setting, want, &types)
+            expected_dict_label(checker.store, checker.alloc, setting, want, &types)
         }
         _ => unreachable!(),
     }
 }
 
-/// The types of the items of a display, each for its seat, with what is found in them and where they flow.
+/// Types the items of a display, each in its seat. Appends the findings in them and of their flows, and returns their
+/// types in order.
 #[cycle(typing)]
 fn type_items<S: TypeStore>(
-    checker: &mut Checker<'_, S>,
-    setting: &Setting<'_, S::Ty>,
+    checker: &mut TypingState<'_, S>,
+    setting: &ExprContext<'_, S::Ty>,
     env: &Env<S::Ty>,
     seats: &Seats<S::Ty>,
     items: &[Expr],
@@ -85,7 +87,7 @@ fn type_items<S: TypeStore>(
     ensures found { OnOk result (Finds checker.old checker.new
         (items_find (standing_of S.tree setting.now env.now) (seats_of S.tree seats.now)
         (exprs_of_list items.now))) }
-    ensures goes_on { GoesOn S.TypeStore checker.old checker.new }
+    ensures goes_on { CheckerKept S.TypeStore checker.old checker.new }
 {
     let mut types = Vec::new(checker.alloc);
     for item in items {
@@ -96,11 +98,12 @@ fn type_items<S: TypeStore>(
     Ok(types)
 }
 
-/// The types of the keys and of the values of a dict display, with what is found in them and where they flow.
+/// Types the keys and values of a dict display, each in its seat. Appends the findings in them and of their flows, and
+/// returns their types in order.
 #[cycle(typing)]
 fn type_entries<S: TypeStore>(
-    checker: &mut Checker<'_, S>,
-    setting: &Setting<'_, S::Ty>,
+    checker: &mut TypingState<'_, S>,
+    setting: &ExprContext<'_, S::Ty>,
     env: &Env<S::Ty>,
     seats: &EntrySeats<S::Ty>,
     entries: &[Entry],
@@ -113,7 +116,7 @@ fn type_entries<S: TypeStore>(
     ensures found { OnOk result (Finds checker.old checker.new
         (entries_find (standing_of S.tree setting.now env.now) (seat_with S.tree seats.now.key)
         (seat_with S.tree seats.now.value) (entries_of_list entries.now))) }
-    ensures goes_on { GoesOn S.TypeStore checker.old checker.new }
+    ensures goes_on { CheckerKept S.TypeStore checker.old checker.new }
 {
     let mut keys = Vec::new(checker.alloc);
     let mut values = Vec::new(checker.alloc);

@@ -1,4 +1,4 @@
-//! What is expected of the entries of a dict display, and its label.
+//! The seats of the entries of a dict display, and its label.
 
 ghost use Rattle.std.specs.Prelude.{map, All, IfOk};
 ghost use Rattle.std.specs.Option.{option_map};
@@ -14,7 +14,7 @@ ghost use Rattle.pc_expr.specs.Internal.Seats.{AreEntrySeats};
 use crate::items::{nowhere, seat_of_type};
 use pc_calls::Seat;
 use pc_operations::{dict_label, dict_parts};
-use pc_rules::{Label, Setting};
+use pc_rules::{ExprContext, Label};
 use pc_source::OutOfMemory;
 use pc_types::TypeStore;
 use std::alloc::Global;
@@ -33,7 +33,8 @@ pub(crate) struct EntryTypes<Ty: Drop> {
     pub values: Vec<Ty>,
 }
 
-/// The seats of the entries of a dict of which a type is expected.
+/// Returns the seats of the entries of a dict display with this expected type: those of the expected dict, or seats
+/// without expected types and flows.
 pub(crate) fn dict_seats<S: TypeStore>(
     store: &S,
     alloc: Global,
@@ -57,11 +58,11 @@ pub(crate) fn dict_seats<S: TypeStore>(
     }
 }
 
-/// The label of a dict display of which a type is expected, over the types of its keys and values.
-pub(crate) fn label_dict<S: TypeStore>(
+/// Returns the label of a dict display with this expected type, given the types of its keys and values.
+pub(crate) fn expected_dict_label<S: TypeStore>(
     store: &mut S,
     alloc: Global,
-    setting: &Setting<'_, S::Ty>,
+    setting: &ExprContext<'_, S::Ty>,
     want: &Option<S::Ty>,
     types: &EntryTypes<S::Ty>,
 ) -> Result<Label<S::Ty>, OutOfMemory>

@@ -1,4 +1,4 @@
-//! What is expected of the items of a display, and what each of them flows into.
+//! The seats of the items of a display: their expected types, and the types that they flow into.
 
 ghost use Rattle.std.specs.Prelude.{◌≡◌, ◌||◌, ◌&&◌, nat_eq, Some, None, [], map, All, IfOk};
 ghost use Rattle.std.specs.Option.{option_map};
@@ -17,21 +17,22 @@ use pc_tree::Code;
 use pc_types::{Parents, TypeStore};
 use std::alloc::Global;
 
-/// The seats of the items of a display: one for all, of a list; or the parts of an expected tuple.
+/// The seats of the items of a display: one expected type for all of a list, or one for each of a tuple.
 #[derive(Drop)]
 pub(crate) enum Seats<Ty: Drop> {
     Same(Option<Ty>),
     Parts(Vec<Ty>),
 }
 
-/// The types of the arguments of a call, and whether an initializer names the second of them too early.
+/// The types of the arguments of a call, and whether the second argument is E03: an initializer names it too early.
 #[derive(Drop)]
 pub(crate) struct Typed<Ty: Drop> {
     pub types: Vec<Ty>,
     pub early: bool,
 }
 
-/// Whether the second of several expressions is named too early, where the one at a position has these codes.
+/// Returns whether the second of several expressions is E03. `early` is the answer so far, `codes` are those of the
+/// expression at `position`.
 pub(crate) fn early_at(position: usize, codes: &[Code], early: bool) -> bool
     ensures { result ≡ (early || (nat_eq position 1 && is_early codes.now)) }
 {
@@ -40,7 +41,7 @@ pub(crate) fn early_at(position: usize, codes: &[Code], early: bool) -> bool
     early || is_second && is_early
 }
 
-/// A seat where nothing is expected, and which flows nowhere.
+/// Returns a seat without an expected type, which flows nowhere.
 pub(crate) fn nowhere<Ty: Drop>(alloc: Global) -> Seat<Ty>
     ensures want { result.want ≡ None }
     ensures into { result.into.items ≡ [] }
@@ -49,7 +50,7 @@ pub(crate) fn nowhere<Ty: Drop>(alloc: Global) -> Seat<Ty>
     Seat { want: None, into }
 }
 
-/// An item that is expected of a type and flows into it.
+/// Returns the seat of an item of a display: this type is expected of the item, and the item flows into it.
 pub(crate) fn seat_of_type<S: TypeStore>(
     store: &S,
     alloc: Global,
@@ -64,7 +65,8 @@ pub(crate) fn seat_of_type<S: TypeStore>(
     Ok(Seat { want, into })
 }
 
-/// An item that is expected of a type and flows into it, if there is one.
+/// Returns the seat of an item of a display: with a type, that type is expected of the item and the item flows into it;
+/// without one, nothing is expected and the item flows nowhere.
 fn item_seat<S: TypeStore>(
     store: &S,
     alloc: Global,
@@ -82,7 +84,7 @@ fn item_seat<S: TypeStore>(
     }
 }
 
-/// A part of a tuple: it is expected of the type there, and flows nowhere.
+/// Returns the seat of an item of a tuple: the type at its position is expected, and it flows nowhere.
 fn part_seat<S: TypeStore>(
     store: &S,
     alloc: Global,
@@ -100,7 +102,7 @@ fn part_seat<S: TypeStore>(
     Ok(Seat { want, into })
 }
 
-/// The seat of the item at a position.
+/// Returns the seat of the item at a position.
 pub(crate) fn seat_at<S: TypeStore>(
     store: &S,
     alloc: Global,
@@ -116,7 +118,7 @@ pub(crate) fn seat_at<S: TypeStore>(
     }
 }
 
-/// The seats of the items of a list of which a type is expected.
+/// Returns the seats of the items of a list display with this expected type.
 pub(crate) fn list_seats<S: TypeStore>(
     store: &S,
     alloc: Global,
@@ -131,7 +133,7 @@ pub(crate) fn list_seats<S: TypeStore>(
     Ok(Seats::Same(item))
 }
 
-/// The seats of the items of a tuple of this length of which a type is expected.
+/// Returns the seats of the items of a tuple display of this length with this expected type.
 pub(crate) fn tuple_seats<S: TypeStore>(
     store: &S,
     alloc: Global,
@@ -147,8 +149,8 @@ pub(crate) fn tuple_seats<S: TypeStore>(
     Ok(Seats::Parts(parts))
 }
 
-/// The label of a list display of which a type is expected, over the types of its items.
-pub(crate) fn label_list<S: TypeStore>(
+/// Returns the label of a list display with this expected type, given the types of its items.
+pub(crate) fn expected_list_label<S: TypeStore>(
     store: &mut S,
     alloc: Global,
     parents: &Parents,

@@ -1,4 +1,4 @@
-//! The types of expressions, and what is found in them.
+//! The types of expressions, and the findings in them.
 #![tactic(auto)]
 
 mod call_labels;
@@ -13,4 +13,4 @@ mod whole;
 
 pub use conditions::{Condition, type_condition};
 pub use range_typing::{RangeCall, type_range};
-pub use typing::type_expr;
+pub use typing::check_expr;

@@ -1,4 +1,4 @@
-//! What is found in a call of `range` as what a `for` goes over.
+//! A call of `range` as the iterable of a `for`.
 #![tactic(auto, using(pc_rules::proofs::Checkers::goes_further))]
 
 ghost use Rattle.std.specs.Prelude.{IfOk, OnOk};
@@ -7,19 +7,19 @@ ghost use Rattle.pc_tree.specs.Lists.{exprs_of_list, keywords_of_list};
 ghost use Rattle.pc_rules.specs.Calls.{arguments_given, range_item};
 ghost use Rattle.pc_rules.specs.Computed.Standing.{standing_of};
 ghost use Rattle.pc_rules.specs.Computed.Ranges.{range_finds};
-ghost use Rattle.pc_rules.specs.Computed.Checkers.{Finds, GoesOn, IsLabel, Stands};
+ghost use Rattle.pc_rules.specs.Computed.Checkers.{Finds, CheckerKept, IsLabel, Stands};
 
 use crate::calls::{type_arguments, type_keywords};
 use pc_calls::given::given;
 use pc_calls::{call_codes, range_item, range_offers};
 use pc_flow::Env;
-use pc_rules::{Checker, Label, Setting, find_codes};
+use pc_rules::{ExprContext, Label, TypingState, find_codes};
 use pc_scope::is_instance_test;
 use pc_source::{OutOfMemory, Place};
 use pc_tree::{Expr, KeywordArgument};
 use pc_types::TypeStore;
 
-/// A call of `range`: where it stands, and its parts.
+/// A call of `range`: its place and its parts.
 #[derive(Drop)]
 pub struct RangeCall<'e> {
     pub place: Place,
@@ -28,11 +28,11 @@ pub struct RangeCall<'e> {
     pub by_name: &'e [KeywordArgument],
 }
 
-/// Adds what is found in a call of `range` as what a `for` goes over: in its arguments, which flow into
-/// `int`, and at the call.
+/// Appends the findings of a call of `range` as the iterable of a `for`: in its arguments, of their flows into `int`,
+/// and at the call.
 fn find_range<S: TypeStore>(
-    checker: &mut Checker<'_, S>,
-    setting: &Setting<'_, S::Ty>,
+    checker: &mut TypingState<'_, S>,
+    setting: &ExprContext<'_, S::Ty>,
     env: &Env<S::Ty>,
     range: &RangeCall<'_>,
 ) -> Result<(), OutOfMemory>
@@ -41,7 +41,7 @@ fn find_range<S: TypeStore>(
         (range_finds (standing_of S.tree setting.now env.now) range.now.place
         (expr_of range.now.callee.now) (exprs_of_list range.now.arguments.now)
         (keywords_of_list range.now.by_name.now))) }
-    ensures goes_on { GoesOn S.TypeStore checker.old checker.new }
+    ensures goes_on { CheckerKept S.TypeStore checker.old checker.new }
 {
     let keys = setting.globals.outline.tree.keys;
     let given = given(checker.alloc, keys, range.arguments, range.by_name)?;
@@ -53,12 +53,12 @@ fn find_range<S: TypeStore>(
     find_codes(range.place, &codes, checker.found)
 }
 
-/// The label of a turn's item where a `for` goes over a call of `range`, with what is found in the call:
-/// in its arguments, which flow into `int`, and at the call. Library reference, "Built-in Functions"; own rule of the
+/// Types a call of `range` as the iterable of a `for`. Appends the findings in its arguments, of their flows into
+/// `int`, and at the call; returns the label of its items. Library reference, "Built-in Functions"; own rule of the
 /// profile.
 pub fn type_range<S: TypeStore>(
-    checker: &mut Checker<'_, S>,
-    setting: &Setting<'_, S::Ty>,
+    checker: &mut TypingState<'_, S>,
+    setting: &ExprContext<'_, S::Ty>,
     env: &Env<S::Ty>,
     range: &RangeCall<'_>,
 ) -> Result<Label<S::Ty>, OutOfMemory>
@@ -70,7 +70,7 @@ pub fn type_range<S: TypeStore>(
         (range_finds (standing_of S.tree setting.now env.now) range.now.place
         (expr_of range.now.callee.now) (exprs_of_list range.now.arguments.now)
         (keywords_of_list range.now.by_name.now))) }
-    ensures goes_on { GoesOn S.TypeStore checker.old checker.new }
+    ensures goes_on { CheckerKept S.TypeStore checker.old checker.new }
 {
     find_range(checker, setting, env, range)?;
     let keys = setting.globals.outline.tree.keys;

@@ -1,4 +1,4 @@
-//! The labels of expressions, with what is found in them.
+//! The labels of expressions, and the findings in them.
 #![tactic(auto, using(pc_rules::proofs::Kept::stands_further, pc_rules::proofs::Checkers::goes_further))]
 
 ghost use Rattle.std.specs.Prelude.{◌++◌, IfOk, OnOk, None, map, All, Option};
@@ -10,9 +10,9 @@ ghost use Rattle.pc_rules.specs.Computed.Expressions.{flows_of};
 ghost use Rattle.pc_rules.specs.Computed.Findings.{flows_at};
 ghost use Rattle.pc_rules.specs.Computed.Standing.{standing_of, label_in, finds_in, parts_find};
 ghost use Rattle.pc_expr.specs.Internal.Forms.{IsUnary, IsBinary, IsConnective};
-ghost use Rattle.pc_rules.specs.Computed.Checkers.{Finds, GoesOn, HoldsIfAny, IsLabel, Stands};
+ghost use Rattle.pc_rules.specs.Computed.Checkers.{Finds, CheckerKept, HoldsIfAny, IsLabel, Stands};
 
-use crate::calls::label_called;
+use crate::calls::type_call;
 use crate::conditions::type_condition;
 use crate::displays::label_display;
 use pc_calls::Seat;
@@ -21,17 +21,17 @@ use pc_operations::{
     binary_label, label_attribute, label_bool, label_comparison, label_index, label_int,
     label_junction, label_negative, label_none, label_str,
 };
-use pc_rules::{Checker, Label, Setting, find_flows, name_label, note_label};
+use pc_rules::{ExprContext, Label, TypingState, find_flows, name_label, note_label};
 use pc_source::OutOfMemory;
 use pc_tree::Expr;
 use pc_types::TypeStore;
 
-/// The label of an expression, with what is found in it and in its parts.
-/// Language Reference 6 "Expressions"; own rules of the profile.
+/// Types an expression, with `want` as its expected type. Appends the findings in its parts, then its own, and returns
+/// its label. Language Reference 6 "Expressions"; own rules of the profile.
 #[cycle(typing)]
-pub fn type_expr<S: TypeStore>(
-    checker: &mut Checker<'_, S>,
-    setting: &Setting<'_, S::Ty>,
+pub fn check_expr<S: TypeStore>(
+    checker: &mut TypingState<'_, S>,
+    setting: &ExprContext<'_, S::Ty>,
     env: &Env<S::Ty>,
     want: &Option<S::Ty>,
     e: &Expr,
@@ -43,7 +43,7 @@ pub fn type_expr<S: TypeStore>(
         (label_in (standing_of S.tree setting.now env.now) (option_map S.tree want.now) (expr_of e.now))) }
     ensures found { OnOk result (Finds checker.old checker.new
         (finds_in (standing_of S.tree setting.now env.now) (option_map S.tree want.now) (expr_of e.now))) }
-    ensures goes_on { GoesOn S.TypeStore checker.old checker.new }
+    ensures goes_on { CheckerKept S.TypeStore checker.old checker.new }
 {
     let label = label_expr(checker, setting, env, want, e)?;
     note_label(
@@ -58,11 +58,12 @@ pub fn type_expr<S: TypeStore>(
     Ok(label)
 }
 
-/// The label of an expression for its seat, with what is found in it and where it flows.
+/// Types an expression in its seat. Appends its findings and those of its flows into the seat's types, and returns its
+/// label.
 #[cycle(typing)]
 pub(crate) fn type_seated<S: TypeStore>(
-    checker: &mut Checker<'_, S>,
-    setting: &Setting<'_, S::Ty>,
+    checker: &mut TypingState<'_, S>,
+    setting: &ExprContext<'_, S::Ty>,
     env: &Env<S::Ty>,
     seat: &Seat<S::Ty>,
     e: &Expr,
@@ -79,9 +80,9 @@ pub(crate) fn type_seated<S: TypeStore>(
         ++ flows_at (place_of (expr_of e.now))
         (flows_of setting.now.globals.now.outline.now.parents.now (label_in (standing_of S.tree setting.now env.now)
         (option_map S.tree seat.now.want) (expr_of e.now)) (map S.tree seat.now.into.items)))) }
-    ensures goes_on { GoesOn S.TypeStore checker.old checker.new }
+    ensures goes_on { CheckerKept S.TypeStore checker.old checker.new }
 {
-    let label = type_expr(checker, setting, env, &seat.want, e)?;
+    let label = check_expr(checker, setting, env, &seat.want, e)?;
     find_flows(
         checker,
         setting.globals.outline.parents,
@@ -92,11 +93,12 @@ pub(crate) fn type_seated<S: TypeStore>(
     Ok(label)
 }
 
-/// The label of an expression, with what is found in its parts.
+/// Types an expression, with `want` as its expected type. Appends only the findings in its parts, not its own, and
+/// returns its label.
 #[cycle(typing)]
 pub(crate) fn label_expr<S: TypeStore>(
-    checker: &mut Checker<'_, S>,
-    setting: &Setting<'_, S::Ty>,
+    checker: &mut TypingState<'_, S>,
+    setting: &ExprContext<'_, S::Ty>,
     env: &Env<S::Ty>,
     want: &Option<S::Ty>,
     e: &Expr,
@@ -108,7 +110,7 @@ pub(crate) fn label_expr<S: TypeStore>(
         (label_in (standing_of S.tree setting.now env.now) (option_map S.tree want.now) (expr_of e.now))) }
     ensures found { OnOk result (Finds checker.old checker.new
         (parts_find (standing_of S.tree setting.now env.now) (option_map S.tree want.now) (expr_of e.now))) }
-    ensures goes_on { GoesOn S.TypeStore checker.old checker.new }
+    ensures goes_on { CheckerKept S.TypeStore checker.old checker.new }
 {
     match e {
         Expr::Name(name) => name_label(checker.store, checker.alloc, setting, env, name),
@@ -124,20 +126,20 @@ pub(crate) fn label_expr<S: TypeStore>(
         | Expr::Not(_, _)
         | Expr::IsNone(_, _)
         | Expr::IsNotNone(_, _)
-        | Expr::Attribute(_, _, _) => label_unary(checker, setting, env, e),
+        | Expr::Attribute(_, _, _) => type_unary(checker, setting, env, e),
         Expr::Binary(_, _, _, _) | Expr::Compare(_, _, _, _) | Expr::Index(_, _, _) => {
-            label_binary(checker, setting, env, e)
+            type_binary(checker, setting, env, e)
         }
-        Expr::And(_, _, _) | Expr::Or(_, _, _) => { label_connective(checker, setting, env, e) }
-        Expr::Call(_, _, _, _) => label_called(checker, setting, env, e),
+        Expr::And(_, _, _) | Expr::Or(_, _, _) => { type_connective(checker, setting, env, e) }
+        Expr::Call(_, _, _, _) => type_call(checker, setting, env, e),
     }
 }
 
-/// The label of an operation on one operand, with what is found in it.
+/// Types an operation on one operand. Appends the findings in the operand and returns the label of the operation.
 #[cycle(typing)]
-fn label_unary<S: TypeStore>(
-    checker: &mut Checker<'_, S>,
-    setting: &Setting<'_, S::Ty>,
+fn type_unary<S: TypeStore>(
+    checker: &mut TypingState<'_, S>,
+    setting: &ExprContext<'_, S::Ty>,
     env: &Env<S::Ty>,
     e: &Expr,
 ) -> Result<Label<S::Ty>, OutOfMemory>
@@ -148,38 +150,39 @@ fn label_unary<S: TypeStore>(
         (label_in (standing_of S.tree setting.now env.now) expected (expr_of e.now))) }
     ensures found { (expected : Option Tree) → OnOk result (Finds checker.old checker.new
         (parts_find (standing_of S.tree setting.now env.now) expected (expr_of e.now))) }
-    ensures goes_on { GoesOn S.TypeStore checker.old checker.new }
+    ensures goes_on { CheckerKept S.TypeStore checker.old checker.new }
 {
     match e {
         Expr::Negative(_, operand) => {
-            let operand = type_expr(checker, setting, env, &None, operand)?;
+            let operand = check_expr(checker, setting, env, &None, operand)?;
             label_negative(checker.store, checker.alloc, setting, &operand.ty)
         }
         Expr::Not(_, operand) => {
-            type_expr(checker, setting, env, &None, operand)?;
+            check_expr(checker, setting, env, &None, operand)?;
             label_bool(checker.store, checker.alloc)
         }
         Expr::IsNone(_, operand) => {
-            type_expr(checker, setting, env, &None, operand)?;
+            check_expr(checker, setting, env, &None, operand)?;
             label_bool(checker.store, checker.alloc)
         }
         Expr::IsNotNone(_, operand) => {
-            type_expr(checker, setting, env, &None, operand)?;
+            check_expr(checker, setting, env, &None, operand)?;
             label_bool(checker.store, checker.alloc)
         }
         Expr::Attribute(_, object, field) => {
-            let object = type_expr(checker, setting, env, &None, object)?;
+            let object = check_expr(checker, setting, env, &None, object)?;
             label_attribute(checker.store, checker.alloc, setting, field, &object.ty)
         }
         _ => unreachable!(),
     }
 }
 
-/// The label of an operation on two operands that are both evaluated, with what is found in them.
+/// Types an expression with two operands that are both evaluated: a binary operation, a comparison or an index
+/// expression. Appends the findings in the operands and of their flows, and returns the label of the whole.
 #[cycle(typing)]
-fn label_binary<S: TypeStore>(
-    checker: &mut Checker<'_, S>,
-    setting: &Setting<'_, S::Ty>,
+fn type_binary<S: TypeStore>(
+    checker: &mut TypingState<'_, S>,
+    setting: &ExprContext<'_, S::Ty>,
     env: &Env<S::Ty>,
     e: &Expr,
 ) -> Result<Label<S::Ty>, OutOfMemory>
@@ -190,12 +193,12 @@ fn label_binary<S: TypeStore>(
         (label_in (standing_of S.tree setting.now env.now) expected (expr_of e.now))) }
     ensures found { (expected : Option Tree) → OnOk result (Finds checker.old checker.new
         (parts_find (standing_of S.tree setting.now env.now) expected (expr_of e.now))) }
-    ensures goes_on { GoesOn S.TypeStore checker.old checker.new }
+    ensures goes_on { CheckerKept S.TypeStore checker.old checker.new }
 {
     match e {
         Expr::Binary(_, operator, left, right) => {
-            let first = type_expr(checker, setting, env, &None, left)?;
-            let second = type_expr(checker, setting, env, &None, right)?;
+            let first = check_expr(checker, setting, env, &None, left)?;
+            let second = check_expr(checker, setting, env, &None, right)?;
             binary_label(
                 checker.store,
                 checker.alloc,
@@ -206,8 +209,8 @@ fn label_binary<S: TypeStore>(
             )
         }
         Expr::Compare(_, operator, left, right) => {
-            let first = type_expr(checker, setting, env, &None, left)?;
-            let second = type_expr(checker, setting, env, &None, right)?;
+            let first = check_expr(checker, setting, env, &None, left)?;
+            let second = check_expr(checker, setting, env, &None, right)?;
             label_comparison(
                 checker,
                 setting.globals.outline.parents,
@@ -218,19 +221,20 @@ fn label_binary<S: TypeStore>(
             )
         }
         Expr::Index(_, object, key) => {
-            let object = type_expr(checker, setting, env, &None, object)?;
-            let index = type_expr(checker, setting, env, &None, key)?;
+            let object = check_expr(checker, setting, env, &None, object)?;
+            let index = check_expr(checker, setting, env, &None, key)?;
             label_index(checker, setting, &object.ty, key, &index)
         }
         _ => unreachable!(),
     }
 }
 
-/// The label of `and` and of `or`, with what is found in their operands. Language Reference 6.11 "Boolean operations".
+/// Types an `and` or `or`. Appends the findings in its operands and returns its label. Language Reference 6.11 "Boolean
+/// operations".
 #[cycle(typing)]
-fn label_connective<S: TypeStore>(
-    checker: &mut Checker<'_, S>,
-    setting: &Setting<'_, S::Ty>,
+fn type_connective<S: TypeStore>(
+    checker: &mut TypingState<'_, S>,
+    setting: &ExprContext<'_, S::Ty>,
     env: &Env<S::Ty>,
     e: &Expr,
 ) -> Result<Label<S::Ty>, OutOfMemory>
@@ -241,13 +245,13 @@ fn label_connective<S: TypeStore>(
         (label_in (standing_of S.tree setting.now env.now) expected (expr_of e.now))) }
     ensures found { (expected : Option Tree) → OnOk result (Finds checker.old checker.new
         (parts_find (standing_of S.tree setting.now env.now) expected (expr_of e.now))) }
-    ensures goes_on { GoesOn S.TypeStore checker.old checker.new }
+    ensures goes_on { CheckerKept S.TypeStore checker.old checker.new }
 {
     match e {
         Expr::And(_, left, right) => {
             let first = type_condition(checker, setting, env, left)?;
             let after = &first.ways.where_true;
-            let second = type_expr(checker, setting, after, &None, right)?;
+            let second = check_expr(checker, setting, after, &None, right)?;
             label_junction(
                 checker.store,
                 checker.alloc,
@@ -259,7 +263,7 @@ fn label_connective<S: TypeStore>(
         Expr::Or(_, left, right) => {
             let first = type_condition(checker, setting, env, left)?;
             let after = &first.ways.where_false;
-            let second = type_expr(checker, setting, after, &None, right)?;
+            let second = check_expr(checker, setting, after, &None, right)?;
             label_junction(
                 checker.store,
                 checker.alloc,

@@ -6,21 +6,21 @@ ghost use Rattle.pc_types.specs.Store.{KeepsTypes, Means};
 ghost use Rattle.pc_class.specs.Tables.{HasEntries};
 ghost use Rattle.pc_flow.specs.Stored.{HasEach, env_of};
 ghost use Rattle.pc_rules.specs.Calls.{first_type, length_label};
-ghost use Rattle.pc_rules.specs.Computed.Checkers.{GoesOn, IsLabel};
+ghost use Rattle.pc_rules.specs.Computed.Checkers.{CheckerKept, IsLabel};
 ghost use Rattle.pc_rules.specs.Lawful.{whole_call_label};
 ghost use Rattle.pc_rules.specs.Computed.Standing.{context_with, MeansLabel};
 ghost use Rattle.pc_calls.specs.JudgedCalls.{offer_called, rule_of, HasCallOffer};
 
-use pc_calls::{CallRule, Callee, members_label, test_label};
+use pc_calls::{CallRule, TypedCallee, members_label, test_label};
 use pc_flow::Env;
 use pc_operations::{Operation, member_offers, offers_label};
-use pc_rules::{Checker, Label, Setting};
+use pc_rules::{ExprContext, Label, TypingState};
 use pc_source::OutOfMemory;
 use pc_tree::Expr;
 use pc_types::TypeStore;
 use std::alloc::Global;
 
-/// The type of the first argument, `Never` where there is none.
+/// Returns the type of the first argument, `Never` if there is none.
 fn first_type<S: TypeStore>(
     store: &mut S,
     alloc: Global,
@@ -36,11 +36,11 @@ fn first_type<S: TypeStore>(
     store.copy(alloc, &types[0])
 }
 
-/// The label of a call of `len`, by the type of its one argument. Library reference, "Built-in Functions".
+/// Returns the label of a call of `len`, given the types of its arguments. Library reference, "Built-in Functions".
 fn length_label<S: TypeStore>(
     store: &mut S,
     alloc: Global,
-    setting: &Setting<'_, S::Ty>,
+    setting: &ExprContext<'_, S::Ty>,
     types: &[S::Ty],
 ) -> Result<Label<S::Ty>, OutOfMemory>
     requires classes { HasEntries (S.has store.old) setting.now.globals.now.classes.now }
@@ -62,12 +62,14 @@ fn length_label<S: TypeStore>(
     offers_label(store, alloc, setting.globals.outline.parents, &offers)
 }
 
-/// The label of a call, by the rule of its callee. Language Reference 6.3.4 "Calls".
+/// Returns the label of a whole call, given its callee, its arguments and their types: for `len` and an instance test
+/// the label of that operation, for any other callee the label of its offers. Appends nothing. Language Reference 6.3.4
+/// "Calls".
 pub(crate) fn call_label<S: TypeStore>(
-    checker: &mut Checker<'_, S>,
-    setting: &Setting<'_, S::Ty>,
+    checker: &mut TypingState<'_, S>,
+    setting: &ExprContext<'_, S::Ty>,
     env: &Env<S::Ty>,
-    callee: &Callee<'_, S::Ty>,
+    callee: &TypedCallee<'_, S::Ty>,
     arguments: &[Expr],
     types: &[S::Ty],
 ) -> Result<Label<S::Ty>, OutOfMemory>
@@ -80,7 +82,7 @@ pub(crate) fn call_label<S: TypeStore>(
         (whole_call_label (context_with S.tree setting.now) (env_of S.tree env.now) (rule_of callee.now.rule)
         (map (offer_called S.tree) callee.now.offers.items) (exprs_of_list arguments.now) (map S.tree types.now))) }
     ensures found { checker.new.found.now ≡ checker.old.found.now }
-    ensures goes_on { GoesOn S.TypeStore checker.old checker.new }
+    ensures goes_on { CheckerKept S.TypeStore checker.old checker.new }
 {
     match callee.rule {
         CallRule::Member => {

@@ -1,4 +1,4 @@
--- What is among a list of locals of which each stands once.
+-- Membership in a list of distinct locals.
 use Rattle.std.proofs.Common.{◌≡◌, ◌∙◌, ℕ, List, [], ◌∷◌, refl, sym, ap, subst, cond, eqb}
 use Rattle.std.specs.Prelude.{Bool, true, false, ◌||◌, nat_eq}
 use Rattle.std.specs.List.{dedup, dedup_from}

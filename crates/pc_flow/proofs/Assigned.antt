@@ -73,7 +73,7 @@ declared_at tree [] x = refl
 declared_at tree (d ∷ ds) zero = refl
 declared_at tree (d ∷ ds) (suc x) = declared_at tree ds x
 
--- what the current type of a local means
+-- the meaning of the current type of a local
 pub current_env : {Ty : Type 0} (tree : Ty → Tree) (types : List (Option Ty)) (x : ℕ) → current (env_of tree types) x
     ≡ option_map tree (slice_index_or types x None)
 current_env tree [] x = refl

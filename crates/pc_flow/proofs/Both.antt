@@ -1,10 +1,10 @@
--- What is given of the parts of a condition is given of the whole.
+-- A fact given of the operands of a condition is given of the whole.
 use Rattle.std.proofs.Common.{◌≡◌, ℕ, Bool as Test, true, false, not, List, ◌++◌, length, Option, Result, sym, subst}
 use Rattle.std.specs.Prelude.{IfOk}
 use Rattle.std.proofs.lemmas.Result.{IfOk-weaker}
 use Rattle.pc_source.specs.declared.place.Place.{Place}
 use Rattle.pc_tree.specs.Tree.{Expr, conjunction, disjunction}
-use Rattle.pc_scope.specs.declared.resolution.Res.{Res}
+use Rattle.pc_scope.specs.declared.resolution.NameMeaning.{NameMeaning}
 use Rattle.pc_types.specs.Tree.{Tree}
 use Rattle.pc_types.specs.Below.{Bases, AreSmaller}
 use Rattle.pc_types.specs.Store.{KeepsTypes}
@@ -20,8 +20,8 @@ use Rattle.pc_flow.proofs.Conditions.{conditions_well_formed}
 use Rattle.pc_flow.proofs.Untested.{both_agree, either_agrees}
 
 module _ {Store Ty : Type 0} (has : Store → Ty → Type 0) (tree : Ty → Tree) (bases : Bases) (ds : List Tree)
-    (resolve : List ℕ → Res) where
-  -- what a negation gives is given the other way round
+    (resolve : List ℕ → NameMeaning) where
+  -- the environments that a negation gives are those of its operand, swapped
   pub swapped_gives : (store : Store) (n m : BothWays Ty) (env : Test → Env) → m.where_true ≡ n.where_false
       → m.where_false ≡ n.where_true → GivesBoth has tree store n env
       → GivesBoth has tree store m (λ holds. env (not holds))

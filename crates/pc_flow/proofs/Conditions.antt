@@ -4,8 +4,8 @@ use Rattle.std.proofs.Common.{refl, arith}
 use Rattle.std.specs.Prelude.{unwrap_or}
 use Rattle.pc_tree.specs.Tree.{Expr, name, negation, is_none, is_not_none, conjunction, disjunction, call}
 use Rattle.pc_scope.specs.declared.resolution.Builtin.TheVariants as builtin
-use Rattle.pc_scope.specs.declared.resolution.Res.{Res}
-use Rattle.pc_scope.specs.declared.resolution.Res.TheVariants as res
+use Rattle.pc_scope.specs.declared.resolution.NameMeaning.{NameMeaning}
+use Rattle.pc_scope.specs.declared.resolution.NameMeaning.TheVariants as res
 use Rattle.pc_scope.specs.Expressions.{is_instance_test}
 use Rattle.pc_tree.specs.declared.code.Code.{Code}
 use Rattle.pc_types.specs.Tree.{Tree, Object, Union}
@@ -110,12 +110,12 @@ module _ (bases : Bases) (o : AreSmaller bases) where
   at_local holds test (Some x) env g k = at_current holds test x env (current env x) g
       (current_well_formed bases env x k) k
 
-  -- what a name is tested for may be tested for
+  -- a type that a name tests for is one that can be tested for
   abbrev IsFine : Option Tested → Type 0
   IsFine None = Unit {0}
   IsFine (Some test) = IsTestable test
 
-  named_fine : (r : Res) → IsFine (test_named r)
+  named_fine : (r : NameMeaning) → IsFine (test_named r)
   named_fine (res.Class c) = tt
   named_fine (res.Builtin builtin.Int) = tt
   named_fine (res.Builtin builtin.Str) = tt
@@ -123,7 +123,7 @@ module _ (bases : Bases) (o : AreSmaller bases) where
   named_fine (res.Builtin builtin.List) = tt
   named_fine _ = tt
 
-  module _ (declared : List Tree) (g : AreWellFormed bases declared) (resolve : List ℕ → Res) where
+  module _ (declared : List Tree) (g : AreWellFormed bases declared) (resolve : List ℕ → NameMeaning) where
     of_fine : (e : Expr) → IsFine (test_of resolve e)
     of_fine (name n) = named_fine (resolve n.text)
     of_fine _ = tt

@@ -1,4 +1,5 @@
--- What is left of a member by how it stands to a test, and that the members of a type are one each.
+-- The parts of a member that pass and fail a test, by its relation to the tested type; each member of a type is a
+-- single one.
 use Rattle.std.proofs.Common.{◌≡◌, ◌==◌, ◌<◌, ℕ, zero, suc, length, get_or, drop, Bool as Truth, true, false, Some}
 use Rattle.std.proofs.Common.{None, List, [], ◌∷◌, refl, sym, ap, ◌∙◌, subst}
 use Rattle.std.proofs.lemmas.Bool.{true≢false, eqb-true}
@@ -20,7 +21,7 @@ use Rattle.pc_flow.specs.declared.testing.Standing.TheVariants.{Within, Above, B
 use Rattle.pc_flow.specs.Tests.{tested_of, type_for, how_stands, IsOne}
 use Rattle.pc_flow.proofs.Rest.{mapped_rest}
 
--- what is left of a member that stands so
+-- the parts left of a member with this relation to the tested type
 abbrev pub Leaves : Bases → Test → Tree → Standing → Type 0
 Leaves bases test m Within = (member_passing bases (tested_of test) m ≡ Some m)
     × (member_failing bases (tested_of test) m ≡ None)
@@ -78,13 +79,13 @@ leaves bases tests.Bool _ h = (refl, refl)
 leaves bases tests.Str _ h = (refl, refl)
 leaves bases (tests.Class c) _ h = (refl, refl)
 
--- so at the standing that was found
+-- the parts left of a member, by the relation that was found
 pub leaves_at : (bases : Bases) (test : Test) (m : Tree) (head : Head) (r s : Standing) → IsOne m → head ≡ head_of m
     → r ≡ how_stands bases test head → r ≡ s → Leaves bases test m s
 leaves_at bases test m head r s h e f g = subst (Leaves bases test m) (ap (how_stands bases test) (sym e) ∙ sym f ∙ g)
     (leaves bases test m h)
 
--- what the program tests for may be tested for
+-- each test of the program is for a type that can be tested for
 pub is_testable : (test : Test) → IsTestable (tested_of test)
 is_testable tests.None = tt
 is_testable tests.List = tt

@@ -1,4 +1,4 @@
--- What a test leaves of a well-formed type is well-formed.
+-- The parts of a well-formed type that pass and fail a test are well-formed.
 use Rattle.std.proofs.Common.{◌≡◌, ◌⊎◌, ◌+◌, ◌≤◌, ◌||◌, ◌==◌, ℕ, not, Bool as Test, true, false, List, [], ◌∷◌, Option}
 use Rattle.std.proofs.Common.{Some, None, refl, sym, ◌∙◌, subst, arith, inl, inr, ⊎_elim}
 use Rattle.std.proofs.lemmas.Bool.{false≢true, true≢false, and_parts, or_parts, or_cases, not-true, cond_both}
@@ -93,7 +93,7 @@ some_well_formed bases t l o n r h k =
 abbrev Stays : (Tree → Option Tree) → Tree → Type 0
 Stays h m = (h m ≡ None) ⊎ (h m ≡ Some m)
 
--- so does each of several
+-- each of several members stays, or goes
 abbrev AllStay : (Tree → Option Tree) → List Tree → Type 0
 AllStay h [] = Unit {0}
 AllStay h (m ∷ ms) = Stays h m × AllStay h ms
@@ -162,7 +162,7 @@ above_absorbs : (bases : Bases) (c d : ℕ) → AreSmaller bases → (d ≡ c �
 above_absorbs bases c d o n h = and_from (not (c == d)) (reaches bases c c d)
     (not_from_false (c == d) (ne_eqb c d (λ q. n (sym q)))) (below_reaches o h)
 
--- what does not absorb the type tested for stays or goes
+-- a member that does not absorb the tested type stays, or goes
 within_stays : (bases : Bases) (c m : Tree) → absorbs bases m c ≡ false → Stays (member_within bases c) m
 within_stays bases c m e =
     cond_both (is_within bases c m) (Some m) (if absorbs bases m c then Some c else None)
@@ -183,7 +183,7 @@ becomes_by m c false false false p q r = absurd (false≢true r)
 becomes_by m c false true z p q r = absurd (true≢false q)
 becomes_by m c true y z p q r = absurd (true≢false p)
 
--- what absorbs it becomes that type
+-- a member that absorbs the tested type becomes that type
 itself : (bases : Bases) (c d : ℕ) → AreSmaller bases → absorbs bases (Class d) (Class c) ≡ true
     → member_within bases (Class c) (Class d) ≡ Some (Class c)
 itself bases c d o e =

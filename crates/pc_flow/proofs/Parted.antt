@@ -1,4 +1,4 @@
--- The loop over the members of a type that parts what passes a test from what fails it.
+-- The loop over the members of a type that separates those that pass a test from those that fail it.
 use Rattle.std.proofs.Common.{◌≡◌, ◌+◌, ◌<◌, ◌≤◌, ℕ, List, ◌++◌, Option, Some, None, refl, sym, ap, ◌∙◌, append_assoc}
 use Rattle.std.proofs.Common.{length, get_or}
 use Rattle.std.specs.Prelude.{All, map, option_to_list}
@@ -30,7 +30,7 @@ module _ {Store Ty : Type 0} (has : Store → Ty → Type 0) (tree : Ty → Tree
   add_trees types None t rest e = rw (← e, append-nil types) refl
   add_trees types (Some ty) t rest e = rw (← e, map_push tree types ty, append_assoc) refl
 
-  -- what a rule leaves of so many members is among the types; this is left of the rest
+  -- the types left by a rule of so many members are collected; those of the rest are to come
   pub record IsLeft (rule : Tree → Option Tree) (members : List Ty) (store : Store) (i : ℕ) (types : List Ty) : Type
       0 where
     pub given : All (has store) types
@@ -51,7 +51,7 @@ module _ {Store Ty : Type 0} (has : Store → Ty → Type 0) (tree : Ty → Tree
     left_all store i types h l = sym (append-nil (map tree types)) ∙ ap (λ ts. map tree types ++ filter_map rule ts)
         (sym (mapped_end tree members i h)) ∙ l.rest
 
-  -- so where a test is true, and where it is false
+  -- the types left of so many members where a test is true, and where it is false, are collected
   pub record IsParted (bases : Bases) (test : Test) (members : List Ty) (first store : Store) (i : ℕ)
       (ps fs : List Ty) : Type 0 where
     pub kept : KeepsTypes has first store

@@ -1,4 +1,4 @@
--- Loops over mapped lists: what is to come.
+-- Loops over mapped lists: the items still to come.
 use Rattle.std.proofs.Common.{◌≡◌, ◌+◌, ◌<◌, ◌≤◌, ℕ, suc, ◌∷◌, [], List, ap, sym, ◌∙◌, length, drop, get_or, add-one}
 use Rattle.std.proofs.Common.{drop-cons}
 use Rattle.std.specs.Prelude.{map}

@@ -1,4 +1,4 @@
--- Rows of shared chunks: what copies hold, and one local read or changed.
+-- Rows of shared chunks: the contents of copies, and one local read or changed.
 use Rattle.std.proofs.Common.{◌≡◌, ◌<◌, ◌≤◌, ◌+◌, ◌*◌, ◌-◌, ◌/◌, ◌%◌, ℕ, zero, suc, List, [], ◌∷◌, ◌++◌, Option, Some}
 use Rattle.std.proofs.Common.{None, length, refl, sym, ap, subst, ◌∙◌, arith, get_or, take, length-append, add-one}
 use Rattle.std.specs.Prelude.{All, map, slice_set, flat_map, replicate}

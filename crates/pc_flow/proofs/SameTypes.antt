@@ -1,4 +1,4 @@
--- Types of a store with one head are the same where their parts are.
+-- Types of a store with the same head are equal if their parts are.
 use Rattle.std.proofs.Common.{◌≡◌, ◌∙◌, ◌<◌, ◌≤◌, ◌+◌, ◌∷◌, ◌++◌, [], ℕ, List, length, map, take, get_or, refl, sym, ap}
 use Rattle.std.proofs.Common.{subst, Some, All, zero, suc}
 use Rattle.std.proofs.lemmas.List.{length-map, map-append, take_more, take_all}

@@ -1,4 +1,4 @@
--- Environments of which the first takes in the second but at some locals: what their join is, and what it takes in.
+-- Two environments, the first of which subsumes the second outside some locals: their join, and what it subsumes.
 use Rattle.std.proofs.Common.{◌≡◌, ◌∙◌, ◌<◌, ◌≤◌, ◌+◌, ◌++◌, ◌||◌, ℕ, zero, suc, Bool as Test, true, false, List, []}
 use Rattle.std.proofs.Common.{◌∷◌, Option, Some, None, length, nat_eq, take, get_or, refl, sym, ap, subst, inl, inr}
 use Rattle.std.proofs.Common.{⊎_elim}
@@ -19,7 +19,7 @@ neither true b e = cc
 neither false true e = cc
 neither false false e = (refl, refl)
 
--- what is among none of two lists
+-- a local outside two lists together is outside each of them
 pub outside_both : (xs ys : List ℕ) (x : ℕ) → is_among (xs ++ ys) x ≡ false
     → (is_among xs x ≡ false) × (is_among ys x ≡ false)
 outside_both xs ys x e = neither (is_among xs x) (is_among ys x) (sym (list_any-append (nat_eq x) xs ys) ∙ e)
@@ -29,7 +29,7 @@ pub true_false : (b : Test) → b ≡ true → b ≡ false → ⊥
 true_false true t f = cc
 true_false false t f = cc
 
--- what holds of each local joined so far that is not among some, and of one more
+-- a fact of each local joined so far outside some locals, and of one more local
 module _ (P : ℕ → Type 0) (locals unsettled : List ℕ) where
   abbrev pub HoldsOf : (joined : List ℕ) → Type 0
   HoldsOf joined = (x : ℕ) → is_among joined x ≡ true → is_among unsettled x ≡ false → P x

@@ -8,7 +8,7 @@ use Rattle.std.proofs.lemmas.Bool.{cases_lt}
 use Rattle.std.proofs.lemmas.Bool.Decides.{nat_tests}
 use Rattle.std.proofs.lemmas.List.Folds.{list_any-append}
 use Rattle.pc_tree.specs.Tree.{Expr, negation, is_none, is_not_none, conjunction, disjunction, call}
-use Rattle.pc_scope.specs.declared.resolution.Res.{Res}
+use Rattle.pc_scope.specs.declared.resolution.NameMeaning.{NameMeaning}
 use Rattle.pc_scope.specs.Expressions.{is_instance_test}
 use Rattle.pc_types.specs.Tree.{Tree}
 use Rattle.pc_types.specs.Below.{Bases, AreSmaller}
@@ -45,7 +45,7 @@ module _ (bases : Bases) where
   local_stays holds test None env x n = refl
   local_stays holds test (Some y) env x n = current_stays holds test y env (current env y) x (other_of x y n)
 
-  module _ (ds : List Tree) (resolve : List ℕ → Res) where
+  module _ (ds : List Tree) (resolve : List ℕ → NameMeaning) where
     instance_stays : (holds is_test : Test) (y : Option ℕ) (test : Option Tested) (env : Env) (x : ℕ)
         → is_among (tested_by_call is_test y) x ≡ false → current
         (narrow_instance bases ds resolve holds is_test y test env) x ≡ current env x
@@ -123,7 +123,7 @@ module _ (bases : Bases) where
   length_local holds test None env = refl
   length_local holds test (Some y) env = length_at holds test y env (current env y)
 
-  module _ (ds : List Tree) (resolve : List ℕ → Res) where
+  module _ (ds : List Tree) (resolve : List ℕ → NameMeaning) where
     length_instance : (holds is_test : Test) (y : Option ℕ) (test : Option Tested) (env : Env)
         → length (narrow_instance bases ds resolve holds is_test y test env) ≡ length env
     length_instance holds false y test env = refl

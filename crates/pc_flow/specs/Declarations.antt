@@ -1,4 +1,4 @@
--- What conditions and joins tell of environments, by what they go by in the program.
+-- Conditions and joins of environments, given the context that the program passes.
 -- Own rule of the profile.
 use Rattle.std.specs.Prelude.{Bool as Test}
 use Rattle.pc_tree.specs.Tree.{Expr}
@@ -11,10 +11,10 @@ use Rattle.pc_flow.specs.WellFormed.{AreWellFormed}
 use Rattle.pc_flow.specs.declared.declarations.Declarations.{Declarations}
 
 module _ {Ty : Type 0} (tree : Ty → Tree) where
-  -- an environment where a condition is true, and where it is false
+  -- an environment where a condition is true, or where it is false
   abbrev pub narrow_with : Declarations Ty → (holds : Test) → Expr → Env → Env
   narrow_with d holds e env = narrow d.parents.now (declared_of tree d.declared.now) (meanings d.names.now) holds e env
 
-  -- two environments where their ways meet
+  -- two environments joined
   abbrev pub join_with : Declarations Ty → (a b : Env) → Env
   join_with d a b = join_env d.parents.now (declared_of tree d.declared.now) a b

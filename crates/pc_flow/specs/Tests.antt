@@ -1,4 +1,5 @@
--- What the program tests for, and how a member of a type stands to it (its proofs tie it to narrowing).
+-- The tests of the program, and the relation of a member of a type to the tested type; the proofs tie them to
+-- narrowing.
 use Rattle.std.specs.Prelude.{ℕ, Option, Some, None, if◌then◌else◌}
 use Rattle.pc_types.specs.Tree.{Tree, Any, Never, Int, Bool, Str, NoneType, Class, ListOf, Union}
 use Rattle.pc_types.specs.Below.{Bases}
@@ -15,7 +16,7 @@ use Rattle.pc_flow.specs.declared.testing.Test.TheVariants as tests
 use Rattle.pc_flow.specs.declared.testing.Standing.{Standing}
 use Rattle.pc_flow.specs.declared.testing.Standing.TheVariants.{Within, Above, Beside}
 
--- what is tested for
+-- a test of the program as a test of the definitions
 abbrev pub tested_of : Test → Tested
 tested_of tests.None = for_none
 tested_of tests.List = for_list
@@ -24,12 +25,12 @@ tested_of tests.Bool = for_type Bool
 tested_of tests.Str = for_type Str
 tested_of (tests.Class c) = for_type (Class c)
 
--- what is tested for, if anything is
+-- an optional test of the program as one of the definitions
 abbrev pub option_tested : Option Test → Option Tested
 option_tested None = None
 option_tested (Some test) = Some (tested_of test)
 
--- what is left of Any where the test is true
+-- the part of Any that passes a test
 abbrev pub type_for : Test → Tree
 type_for tests.None = NoneType
 type_for tests.List = ListOf Any
@@ -38,11 +39,11 @@ type_for tests.Bool = Bool
 type_for tests.Str = Str
 type_for (tests.Class c) = Class c
 
--- how a class stands to the class tested for
+-- the relation of a class to the tested class
 abbrev pub class_standing : Bases → (tested class : ℕ) → Standing
 class_standing bases c d = if reaches bases d d c then Within else (if reaches bases c c d then Above else Beside)
 
--- how a type with a head stands to a test
+-- the relation of a type with this head to the tested type
 abbrev pub how_stands : Bases → Test → Head → Standing
 how_stands bases test heads.Any = Above
 how_stands bases test heads.Object = Above
@@ -63,12 +64,12 @@ IsOne (Union a b) = ⊥
 IsOne _ = Unit {0}
 
 module _ {Store Ty : Type 0} (has : Store → Ty → Type 0) (tree : Ty → Tree) (store : Store) where
-  -- what is left of a member where a test is true, and where it is false
+  -- the parts of a member that pass and fail a test are stored types that mean these, if any
   pub record GivesLeft (l : Left Ty) (p f : Option Tree) : Type 0 where
     pub passing : GivesOne has tree store l.passing p
     pub failing : GivesOne has tree store l.failing f
 
-  -- types of the store: this one where a test is true, and where it is false
+  -- stored types that mean these: one where a test is true, one where it is false
   pub record Splits (s : Split Ty) (p f : Tree) : Type 0 where
     pub passing : Means has tree store s.passing p
     pub failing : Means has tree store s.failing f

@@ -1,4 +1,4 @@
-//! Types of a store that are the same.
+//! Equality of stored types.
 
 ghost use Rattle.std.specs.Prelude.{◌≡◌, IfOk, true};
 
@@ -6,7 +6,7 @@ use pc_source::OutOfMemory;
 use pc_types::TypeStore;
 use std::alloc::Global;
 
-/// Whether two types are seen to be the same, by their heads and parts.
+/// Returns true only if two types are equal, by comparing their heads and parts.
 pub(crate) fn is_same<S: TypeStore>(
     store: &S,
     alloc: Global,
@@ -21,7 +21,7 @@ pub(crate) fn is_same<S: TypeStore>(
     if head != store.head(t) {
         return Ok(false);
     }
-    // Most types have no parts, and cost no memory here.
+    // Most types have no parts, and allocate nothing here.
     if head.part_count() == 0 {
         return Ok(true);
     }

@@ -9,8 +9,8 @@ use pc_tree::Code;
 use pc_types::{Head, TypeStore};
 use std::alloc::Global;
 
-/// The current type of a local after an assignment from a type to its declared one, with what was found of that flow:
-/// the type assigned where the declared one has two members or more and nothing was found, else the declared one.
+/// Returns the current type of a local after an assignment of a value of type `from`: that type if the declared type is
+/// a union and the flow has no finding, else the declared type.
 ///
 /// Typing specification, "Type narrowing"; own rule of the profile.
 pub fn assigned_type<S: TypeStore>(

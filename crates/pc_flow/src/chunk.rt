@@ -1,4 +1,4 @@
-//! Chunks of environments, which environments share.
+//! Chunks of locals, which environments share.
 
 ghost use Rattle.std.specs.Prelude.{◌≡◌, ◌≤◌, ◌+◌, ◌/◌, Option, None, All, IfOk, OnOk, OnErr, length, replicate};
 ghost use Rattle.std.specs.Prelude.{slice_set, slice_index_or};
@@ -11,7 +11,7 @@ use std::alloc::{AllocError, Global};
 use std::marker::Model;
 use std::rc::Rc;
 
-/// The current types of some locals in a row, each shared by the chunks that have it. Contracts see it as their list.
+/// The current types of some consecutive locals. Chunks share the types. Contracts see a chunk as their list.
 #[derive(Drop)]
 pub(crate) struct Chunk<Ty: Drop> {
     types: Vec<Option<Rc<Ty>>>,
@@ -38,7 +38,7 @@ impl<Ty: Drop> Clone for Chunk<Ty> {
 }
 
 impl<Ty: Drop> Chunk<Ty> {
-    /// A chunk of this number of locals, none of them assigned.
+    /// Returns a chunk of this many locals, none of them assigned.
     fn empty(alloc: Global, width: usize) -> Result<Chunk<Ty>, OutOfMemory>
         ensures { IfOk result (λ c. c ≡ replicate width None) }
     {
@@ -47,7 +47,7 @@ impl<Ty: Drop> Chunk<Ty> {
         })
     }
 
-    /// The current type of a local, or none where it is not assigned or there is no local of this number.
+    /// Returns the current type of a local, or `None` if it is not assigned or there is no local with this number.
     pub(crate) fn get(&self, local: usize) -> Option<&Ty>
         ensures { option_copied result ≡ slice_index_or self.now local None }
     {
@@ -61,7 +61,8 @@ impl<Ty: Drop> Chunk<Ty> {
         }
     }
 
-    /// Gives a local this current type, or none. Where there is no local of this number nothing changes.
+    /// Sets the current type of a local; with `None` the local is not assigned. Does nothing if there is no local with
+    /// this number.
     fn set(&mut self, local: usize, ty: Option<Rc<Ty>>)
         ensures { self.new ≡ slice_set self.old local (option_map rc_value ty) }
     {
@@ -71,8 +72,8 @@ impl<Ty: Drop> Chunk<Ty> {
     }
 }
 
-/// How many of a function's locals stand in a chunk: about as many as there are chunks, so that neither a copy of an
-/// environment nor a change of one of its locals takes long.
+/// Returns the number of locals in a chunk: about as many as there are chunks, so that both a copy of an environment
+/// and a change of one local are cheap.
 pub(crate) fn chunk_width(locals: usize) -> usize
     ensures { 1 ≤ result }
 {
@@ -83,7 +84,7 @@ pub(crate) fn chunk_width(locals: usize) -> usize
     width
 }
 
-/// Chunks of this width, as many as these locals need; none of the locals is assigned.
+/// Returns enough chunks of this width for these locals. None of the locals is assigned.
 pub(crate) fn empty_chunks<Ty: Drop>(
     alloc: Global,
     locals: usize,
@@ -101,7 +102,7 @@ pub(crate) fn empty_chunks<Ty: Drop>(
     Ok(chunks)
 }
 
-/// A current type that chunks can share, if there is one.
+/// Returns a current type in a form that chunks can share, if there is one.
 fn shared<Ty: Drop>(alloc: Global, ty: Option<Ty>) -> Result<Option<Rc<Ty>>, OutOfMemory>
     ensures { IfOk result (λ shared. option_map rc_value shared ≡ ty) }
 {
@@ -111,7 +112,8 @@ fn shared<Ty: Drop>(alloc: Global, ty: Option<Ty>) -> Result<Option<Rc<Ty>>, Out
     }
 }
 
-/// Gives a local of a chunk this current type, or none; others who share the chunk keep it as it is.
+/// Sets the current type of a local of a chunk; with `None` the local is not assigned. Others that share the chunk keep
+/// theirs. A failure changes nothing.
 pub(crate) fn set_in<Ty: Drop>(
     chunk: &mut Rc<Chunk<Ty>>,
     alloc: Global,

@@ -1,4 +1,4 @@
-//! The same environment again.
+//! Copies of environments.
 
 ghost use Rattle.std.specs.Prelude.{IfOk};
 ghost use Rattle.pc_flow.specs.Stored.{env_of, HasEach, GivesEnv};
@@ -8,7 +8,7 @@ use pc_source::OutOfMemory;
 use pc_types::TypeStore;
 use std::alloc::Global;
 
-/// A copy of an environment, at the cost of one pointer for each chunk of locals.
+/// Returns a copy of an environment, at the cost of one pointer for each chunk of locals.
 pub fn copy_env<S: TypeStore>(
     store: &S,
     alloc: Global,

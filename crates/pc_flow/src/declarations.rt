@@ -1,10 +1,10 @@
-//! What conditions and joins go by, apart from environments.
+//! The context of conditions and joins, apart from environments.
 
 use crate::{DeclaredTypes, OwnerNames};
 use pc_types::Parents;
 
-/// What conditions and joins in the body of an owner go by: the bases of the classes, the declared types of its locals
-/// so far, and what names mean there. Own rule of the profile.
+/// The context of conditions and joins in the body of an owner: the bases of the classes, the declared types of its
+/// locals so far, and the meaning of names there. Own rule of the profile.
 #[derive(Drop)]
 pub struct Declarations<'d, Ty: Drop> {
     pub parents: &'d Parents,

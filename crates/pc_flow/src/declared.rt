@@ -8,8 +8,8 @@ use pc_source::OutOfMemory;
 use std::alloc::Global;
 use std::marker::Model;
 
-/// For each local of a function, by its number, its declared type, or none as long as it isn't known: a table that is
-/// filled as the text is read, beside the environments of its function, which share it. Contracts see it as that list.
+/// The declared type of each local of a function, by number, or none while it is unknown. The environments of the
+/// function share this table, which is filled as the text is read. Contracts see it as that list.
 ///
 /// Own rule of the profile.
 #[derive(Drop)]
@@ -24,7 +24,7 @@ impl<Ty: Drop> Model for DeclaredTypes<Ty> {
 }
 
 impl<Ty: Drop> DeclaredTypes<Ty> {
-    /// A table for this number of locals, with no declared type known.
+    /// Returns a table for this many locals, with no declared type known.
     pub fn new(alloc: Global, locals: usize) -> Result<DeclaredTypes<Ty>, OutOfMemory>
         ensures { IfOk result (λ d. d ≡ replicate locals None) }
     {
@@ -33,21 +33,21 @@ impl<Ty: Drop> DeclaredTypes<Ty> {
         })
     }
 
-    /// The declared types, by the locals' numbers.
+    /// Returns the declared types by the numbers of the locals.
     pub(crate) fn types(&self) -> &[Option<Ty>]
         ensures { result.now ≡ self.now }
     {
         &self.types
     }
 
-    /// The declared type of a local, or none where it isn't known or there is no local of this number.
+    /// Returns the declared type of a local, or `None` if it is unknown or there is no local with this number.
     pub fn declared(&self, local: usize) -> Option<&Ty>
         ensures { option_copied result ≡ slice_index_or self.now local None }
     {
         type_of(&self.types, local)
     }
 
-    /// Declares a local: it has this declared type from now on. Where there is no local of this number nothing changes.
+    /// Declares a local: it has this declared type from now on. Does nothing if there is no local with this number.
     pub fn declare(&mut self, local: usize, ty: Ty)
         ensures { self.new ≡ slice_set self.old local (Some ty) }
     {

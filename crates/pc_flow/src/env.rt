@@ -10,9 +10,8 @@ use std::alloc::Global;
 use std::marker::Model;
 use std::rc::Rc;
 
-/// For each local of a function, by its number, its current type, or none where it is not assigned. Contracts see it as
-/// that list. Environments share what they have in common by chunks of locals, of one width each, so that a copy costs
-/// one pointer a chunk.
+/// The current type of each local of a function, by number, or none if it is not assigned. Contracts see it as that
+/// list. Environments share chunks of locals of equal width, so that a copy costs one pointer for each chunk.
 ///
 /// Typing specification, "Type narrowing"; own rules of the profile.
 #[derive(Drop)]
@@ -35,7 +34,7 @@ impl<Ty: Drop> Model for Env<Ty> {
 }
 
 impl<Ty: Drop> Env<Ty> {
-    /// An environment of this number of locals, none of them assigned.
+    /// Returns an environment of this many locals, none of them assigned.
     pub fn new(alloc: Global, locals: usize) -> Result<Env<Ty>, OutOfMemory>
         ensures { IfOk result (λ e. e ≡ replicate locals None) }
     {
@@ -48,7 +47,7 @@ impl<Ty: Drop> Env<Ty> {
         })
     }
 
-    /// A copy: the same current types.
+    /// Returns a copy: the same current types.
     pub(crate) fn copied(&self, alloc: Global) -> Result<Env<Ty>, OutOfMemory>
         ensures { IfOk result (λ e. e ≡ self.now) }
     {
@@ -59,7 +58,7 @@ impl<Ty: Drop> Env<Ty> {
         })
     }
 
-    /// The first locals, of this number, or all where there are fewer.
+    /// Returns the environment of the first `locals` locals, or of all if there are fewer.
     pub(crate) fn first(self, locals: usize) -> Env<Ty>
         ensures { result ≡ take locals self }
     {
@@ -70,14 +69,14 @@ impl<Ty: Drop> Env<Ty> {
         }
     }
 
-    /// The number of locals.
+    /// Returns the number of locals.
     pub(crate) fn len(&self) -> usize
         ensures { result ≡ length self.now }
     {
         self.locals
     }
 
-    /// The current type of a local, or none where it is not assigned or there is no local of this number.
+    /// Returns the current type of a local, or `None` if it is not assigned or there is no local with this number.
     pub fn current(&self, local: usize) -> Option<&Ty>
         ensures { option_copied result ≡ slice_index_or self.now local None }
     {
@@ -88,7 +87,8 @@ impl<Ty: Drop> Env<Ty> {
         }
     }
 
-    /// Gives a local this current type from now on, or none. Where there is no local of this number nothing changes.
+    /// Sets the current type of a local; with `None` the local is not assigned. Does nothing if there is no local with
+    /// this number. A failure changes nothing.
     pub(crate) fn set(
         &mut self,
         alloc: Global,
@@ -105,8 +105,8 @@ impl<Ty: Drop> Env<Ty> {
         set_in(chunk, alloc, local % self.width, ty)
     }
 
-    /// Assigns a local: it has this current type from now on. Where there is no local of this number nothing changes,
-    /// nor where there is no memory for the change.
+    /// Assigns a local: it has this current type from now on. Does nothing if there is no local with this number. A
+    /// failure changes nothing.
     pub fn assign(&mut self, alloc: Global, local: usize, ty: Ty) -> Result<(), OutOfMemory>
         ensures assigned { OnOk result (self.new ≡ slice_set self.old local (Some ty)) }
         ensures unchanged { OnErr result (self.new ≡ self.old) }

@@ -1,4 +1,4 @@
-//! The head of a loop.
+//! Loop heads.
 
 ghost use Rattle.std.specs.Prelude.{IfOk, OnOk, slice_set, true};
 ghost use Rattle.pc_types.specs.Store.{KeepsTypes};
@@ -12,7 +12,7 @@ use pc_source::OutOfMemory;
 use pc_types::TypeStore;
 use std::alloc::Global;
 
-/// Gives a local, if it is assigned, its declared type.
+/// Gives a local its declared type if it is assigned.
 fn set_declared<S: TypeStore>(
     store: &mut S,
     alloc: Global,
@@ -34,8 +34,8 @@ fn set_declared<S: TypeStore>(
     env.assign(alloc, local, ty)
 }
 
-/// The environment at the head of a loop, from the one before it and the locals that the loop's body binds: each of
-/// these that is assigned has its declared type there, the others their current one. Own rule of the profile.
+/// Returns the environment at a loop head, given the one before the loop and the locals that its body binds: each of
+/// these that is assigned has its declared type there, the others keep their current type. Own rule of the profile.
 pub fn loop_head<S: TypeStore>(
     store: &mut S,
     alloc: Global,
@@ -51,7 +51,7 @@ pub fn loop_head<S: TypeStore>(
     ensures kept { KeepsTypes S.has store.old store.new }
 {
     let mut head = env.copied(alloc)?.first(declared.types().len());
-    // A later turn may have assigned any value that the declared type allows.
+    // An earlier iteration may have assigned any value that the declared type allows.
     for local in bound {
         set_declared(store, alloc, declared, *local, &mut head)?;
     }

@@ -1,4 +1,4 @@
-//! Where two ways meet.
+//! Joins of environments where two paths join.
 
 ghost use Rattle.std.specs.Prelude.{Some, IfOk, OnOk, length, slice_set};
 ghost use Rattle.std.specs.Option.{option_copied, option_map};
@@ -14,7 +14,7 @@ use pc_source::OutOfMemory;
 use pc_types::{Parents, TypeStore};
 use std::alloc::Global;
 
-/// The join of two types, or `object` where they have none. Own rule of the profile.
+/// Returns the join of two types, or `object` if there is none. Own rule of the profile.
 pub fn join_or_object<S: TypeStore>(
     store: &mut S,
     alloc: Global,
@@ -34,7 +34,7 @@ pub fn join_or_object<S: TypeStore>(
     }
 }
 
-/// A local's declared type again; `Any` as long as it isn't known.
+/// Returns a copy of a local's declared type, or `Any` while it is unknown.
 pub(crate) fn declared_type<S: TypeStore>(
     store: &mut S,
     alloc: Global,
@@ -51,7 +51,8 @@ pub(crate) fn declared_type<S: TypeStore>(
     }
 }
 
-/// The type of a local that is assigned on both ways: the join, or the declared type where there is none.
+/// Returns the type of a local that both paths assign, which is always there: the join of its types on both paths. If
+/// they have no join, it is the declared type, or `Any` while that is unknown.
 fn join_assigned<S: TypeStore>(
     store: &mut S,
     alloc: Global,
@@ -75,7 +76,7 @@ fn join_assigned<S: TypeStore>(
     }
 }
 
-/// A local where two ways meet.
+/// Returns the type of a local where two paths join, or `None` if it is unassigned on one of them.
 fn join_local<S: TypeStore>(
     store: &mut S,
     alloc: Global,
@@ -102,7 +103,7 @@ fn join_local<S: TypeStore>(
     }
 }
 
-/// Gives a local of an environment what it has where two others meet.
+/// Gives a local of `met` its type where `a` and `b` join.
 fn set_joined<S: TypeStore>(
     store: &mut S,
     alloc: Global,
@@ -134,9 +135,8 @@ fn set_joined<S: TypeStore>(
     met.set(alloc, local, joined)
 }
 
-/// Two environments where their ways meet: a local is assigned that is in both, of the join of its current types, or of
-/// its declared type where there is no join. One whose declared type isn't known counts as declared `Any`. Own rule of
-/// the profile.
+/// Returns the join of two environments: a local is assigned if both assign it, with the join of its current types, or
+/// its declared type if there is no join. A declared type that is unknown counts as `Any`. Own rule of the profile.
 pub fn join_env<S: TypeStore>(
     store: &mut S,
     alloc: Global,
@@ -160,8 +160,8 @@ pub fn join_env<S: TypeStore>(
     Ok(met)
 }
 
-/// The join of two environments that agree at each declared local but for some, which alone are joined, since the join
-/// of a type with itself is that type.
+/// Joins `b` into `a` at `locals`; at all other declared locals they must agree, since the join of a type with itself
+/// is that type. Returns the same environment as `join_env`.
 pub(crate) fn join_some<S: TypeStore>(
     store: &mut S,
     alloc: Global,
@@ -181,7 +181,7 @@ pub(crate) fn join_some<S: TypeStore>(
         (join_with S.tree declarations.now (env_of S.tree a) (env_of S.tree b.now))) }
     ensures kept { KeepsTypes S.has store.old store.new }
 {
-    // The types of before are read while they are replaced; a copy costs a pointer for each chunk.
+    // The old types are read while they are replaced; a copy costs a pointer for each chunk.
     let before = a.copied(alloc)?;
     let mut met = a.first(declarations.declared.types().len().min(b.len()));
     for local in locals {

@@ -1,4 +1,4 @@
-//! What a conjunction or a disjunction tells of locals, from what its parts tell.
+//! Narrowing by a conjunction or a disjunction, given the results of its operands.
 
 ghost use Rattle.std.specs.Prelude.{◌≡◌, ◌++◌, IfOk, length};
 ghost use Rattle.pc_tree.specs.Tree.{expr_of};
@@ -20,15 +20,15 @@ use pc_tree::Expr;
 use pc_types::TypeStore;
 use std::alloc::Global;
 
-/// What connects two conditions.
+/// The connective of two conditions.
 #[derive(Drop)]
 pub enum Connective {
     And,
     Or,
 }
 
-/// A conjunction or a disjunction: its second part is asked where the first is true of `and`, and where it is false of
-/// `or`. Language Reference 6.11 "Boolean operations".
+/// A conjunction or a disjunction. Its second operand is evaluated where the first is true for `and`, false for `or`.
+/// Language Reference 6.11 "Boolean operations".
 #[derive(Drop)]
 pub struct Junction<'e> {
     pub connective: Connective,
@@ -36,9 +36,10 @@ pub struct Junction<'e> {
     pub right: &'e Expr,
 }
 
-/// What a junction tells of an environment, from the environment where its first part settles it, and from what its
-/// second part tells where it is asked. Where either part settles it two ways meet; they are joined at the locals that
-/// the parts test, since they agree at all others. Language Reference 6.11 "Boolean operations".
+/// Returns the environments where a junction is true and where it is false, given `settled`, the environment where the
+/// first operand alone decides it, and `second`, those after the second operand. Two paths lead to the outcome that
+/// either operand can decide; they are joined at the locals that the operands test, and agree at all others. Language
+/// Reference 6.11 "Boolean operations".
 pub fn narrow_junction<S: TypeStore>(
     store: &mut S,
     alloc: Global,

@@ -1,4 +1,4 @@
-//! The laws on environments, narrowing and loops.
+//! Laws of environments, narrowing and loops.
 
 ghost use Rattle.std.specs.Prelude.{◌≡◌, ℕ, length, List, Bool, true, false, Some};
 ghost use Rattle.pc_types.specs.Tree.{Tree};
@@ -8,21 +8,21 @@ ghost use Rattle.pc_flow.specs.Environment.{Env, current, declared_type, join_en
 ghost use Rattle.pc_flow.specs.WellFormed.{PassingIsWellFormed, FailingIsWellFormed, AssignmentsKeepWellFormed};
 ghost use Rattle.pc_flow.specs.WellFormed.{JoinsKeepWellFormed, ConditionsKeepWellFormed, LoopHeadsKeepWellFormed};
 
-/// The law that where two ways meet there are as many locals as before.
+/// The law that a join of environments keeps the number of locals.
 pub fn joins_keep_locals()
     ensures { (bases : Bases) (declared : List Tree) (a b : Env) → length a ≡ length declared
         → length b ≡ length declared → length (join_env bases declared a b) ≡ length declared }
 {}
 
-/// The law that what a test leaves of a type is in normal form, without absorbed members and of at most 256 nodes,
-/// where the type is so.
+/// The law that the parts of a type that pass and fail a test are in normal form, without absorbed members and of at
+/// most 256 nodes, if the type is.
 pub fn tests_keep_types_well_formed()
     ensures passing { PassingIsWellFormed }
     ensures failing { FailingIsWellFormed }
 {}
 
-/// The law that assignments, joins, conditions and heads of loops keep the types of an environment in normal form,
-/// without absorbed members and of at most 256 nodes, where the declared types are so.
+/// The law that assignments, joins, conditions and loop heads keep the types of an environment in normal form, without
+/// absorbed members and of at most 256 nodes, if the declared types are.
 pub fn environments_stay_well_formed()
     ensures assignment { AssignmentsKeepWellFormed }
     ensures join { JoinsKeepWellFormed }
@@ -30,8 +30,8 @@ pub fn environments_stay_well_formed()
     ensures loop_head { LoopHeadsKeepWellFormed }
 {}
 
-/// The law that at the head of a loop an assigned local that the loop binds has its declared type, whatever it was
-/// narrowed to before, and that any other local is as it was.
+/// The law that at a loop head, an assigned local that the loop binds has its declared type, whatever it was narrowed
+/// to before; any other local is unchanged.
 pub fn loops_begin_with_declared_types()
     ensures bound { (bound : ℕ → Bool) (declared : List Tree) (env : Env) (x : ℕ) (t : Tree)
         → length env ≡ length declared → bound x ≡ true → current env x ≡ Some t
@@ -40,14 +40,14 @@ pub fn loops_begin_with_declared_types()
         → bound x ≡ false → current (loop_head bound declared env) x ≡ current env x }
 {}
 
-/// The law that a condition leaves each local that it does not test as it is, where it is true and where it is false,
-/// and keeps the number of locals.
+/// The law that a condition leaves each local that it does not test unchanged, whether it is true or false, and keeps
+/// the number of locals.
 pub fn conditions_keep_untested_locals()
     ensures untested { ConditionsKeepUntested }
     ensures locals { ConditionsKeepLocals }
 {}
 
-/// The law that where two ways meet a local that has the same current type on both keeps it.
+/// The law that where two paths join, a local with the same current type on both keeps it.
 pub fn joins_keep_agreed_locals()
     ensures { JoinsKeepAgreed }
 {}

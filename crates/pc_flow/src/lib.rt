@@ -1,4 +1,4 @@
-//! Environments: which locals are assigned and of which types, at each place of a function.
+//! Environments: the assigned locals and their types at each point of a function.
 #![tactic(auto)]
 
 mod alike;
@@ -10,12 +10,12 @@ mod declared;
 mod env;
 mod heading;
 mod joining;
+mod joining_onto;
 mod junctions;
 mod laws;
 mod locals;
 mod naming;
 mod narrowing;
-mod settling;
 mod tested;
 mod testing;
 
@@ -26,6 +26,7 @@ pub use declared::DeclaredTypes;
 pub use env::Env;
 pub use heading::loop_head;
 pub use joining::{join_env, join_or_object};
+pub use joining_onto::{EnvJoin, join_env_onto};
 pub use junctions::{Connective, Junction, narrow_junction};
 pub use laws::{
     conditions_keep_untested_locals, environments_stay_well_formed, joins_keep_agreed_locals,
@@ -33,6 +34,5 @@ pub use laws::{
 };
 pub use naming::{OwnerNames, local_named, test_of};
 pub use narrowing::{BothWays, narrow_false, narrow_simple, narrow_true};
-pub use settling::{Met, join_env_onto};
 pub use tested::add_tested;
 pub use testing::Test;

@@ -6,7 +6,7 @@ ghost use Rattle.std.specs.Option.{option_copied};
 use pc_source::OutOfMemory;
 use std::alloc::Global;
 
-/// A list for this number of locals, none with a type.
+/// Returns a list for this many locals, none with a type.
 pub(crate) fn no_types<Ty: Drop>(
     alloc: Global,
     locals: usize,
@@ -20,14 +20,14 @@ pub(crate) fn no_types<Ty: Drop>(
     Ok(types)
 }
 
-/// The type of a local, if it has one; after the last local there is none.
+/// Returns the type of a local, or `None` if it has none or there is no local with this number.
 pub(crate) fn type_of<Ty: Drop>(types: &[Option<Ty>], local: usize) -> Option<&Ty>
     ensures { option_copied result ≡ slice_index_or types.now local None }
 {
     types.get(local)?.as_ref()
 }
 
-/// Gives a local a type; after the last local nothing changes.
+/// Gives a local a type. Does nothing if there is no local with this number.
 pub(crate) fn set_type<Ty: Drop>(types: &mut [Option<Ty>], local: usize, ty: Ty)
     ensures { types.new ≡ slice_set types.old local (Some ty) }
 {

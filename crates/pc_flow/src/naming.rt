@@ -1,4 +1,4 @@
-//! The local that an expression names, and what `isinstance` tests for.
+//! The local that an expression names, and the test by a second argument of `isinstance`.
 
 ghost use Rattle.std.specs.Prelude.{◌≡◌};
 ghost use Rattle.pc_tree.specs.Tree.{expr_of};
@@ -7,10 +7,10 @@ ghost use Rattle.pc_flow.specs.Tests.{option_tested};
 ghost use Rattle.pc_flow.specs.Naming.{meanings};
 
 use crate::testing::Test;
-use pc_scope::{Builtin, Owner, Res, Scopes};
+use pc_scope::{Builtin, NameMeaning, Owner, Scopes};
 use pc_tree::Expr;
 
-/// The names of an owner, the module or a function or method of it, by the module's scopes.
+/// The names of an owner, resolved by the scopes of its module. The owner is the module or a function or method of it.
 #[derive(Drop)]
 pub struct OwnerNames<'s> {
     pub scopes: &'s Scopes,
@@ -18,25 +18,27 @@ pub struct OwnerNames<'s> {
 }
 
 impl<'s> OwnerNames<'s> {
-    /// What a name means; the name is in the normal form NFKC. Language Reference 4.2.2 "Resolution of names".
-    pub fn resolve(&self, name: &str) -> Res
+    /// Returns the meaning of a name, which must be in normal form NFKC. Language Reference 4.2.2 "Resolution of
+    /// names".
+    pub fn resolve(&self, name: &str) -> NameMeaning
         ensures { result ≡ meanings self.now name.now }
     {
         self.scopes.resolve(self.owner, name)
     }
 }
 
-/// The local that a name means, if it means one.
-fn as_local(meaning: Res) -> Option<usize>
+/// Returns the local that a name means, if it means a local.
+fn as_local(meaning: NameMeaning) -> Option<usize>
     ensures { result ≡ as_local meaning }
 {
     match meaning {
-        Res::Local(local) => Some(local),
+        NameMeaning::Local(local) => Some(local),
         _ => None,
     }
 }
 
-/// The local that an expression names, if it is a name of one. Language Reference 4.2.2 "Resolution of names".
+/// Returns the local that an expression names, if it is the name of a local. Language Reference 4.2.2 "Resolution of
+/// names".
 pub fn local_named(names: &OwnerNames, e: &Expr) -> Option<usize>
     ensures { result ≡ local_named (meanings names.now) (expr_of e.now) }
 {
@@ -46,21 +48,21 @@ pub fn local_named(names: &OwnerNames, e: &Expr) -> Option<usize>
     }
 }
 
-/// What `isinstance` tests for by a name that means this.
-fn test_named(meaning: Res) -> Option<Test>
+/// Returns the test by `isinstance` with a name of this meaning, if it is one.
+fn test_named(meaning: NameMeaning) -> Option<Test>
     ensures { option_tested result ≡ test_named meaning }
 {
     match meaning {
-        Res::Class(class) => Some(Test::Class(class)),
-        Res::Builtin(Builtin::Int) => Some(Test::Int),
-        Res::Builtin(Builtin::Str) => Some(Test::Str),
-        Res::Builtin(Builtin::Bool) => Some(Test::Bool),
-        Res::Builtin(Builtin::List) => Some(Test::List),
+        NameMeaning::Class(class) => Some(Test::Class(class)),
+        NameMeaning::Builtin(Builtin::Int) => Some(Test::Int),
+        NameMeaning::Builtin(Builtin::Str) => Some(Test::Str),
+        NameMeaning::Builtin(Builtin::Bool) => Some(Test::Bool),
+        NameMeaning::Builtin(Builtin::List) => Some(Test::List),
         _ => None,
     }
 }
 
-/// What an expression that stands second in `isinstance` tests for, if it tests for anything. Own rule of the profile.
+/// Returns the test by `isinstance` with this second argument, if it is one. Own rule of the profile.
 pub fn test_of(names: &OwnerNames, e: &Expr) -> Option<Test>
     ensures { option_tested result ≡ test_of (meanings names.now) (expr_of e.now) }
 {

@@ -1,4 +1,4 @@
-//! What a condition tells of locals where it is true, and where it is false.
+//! Narrowing: the environments where a condition is true and where it is false.
 
 ghost use Rattle.std.specs.Prelude.{◌≡◌, List, IfOk, true, false, if◌then◌else◌};
 ghost use Rattle.pc_tree.specs.Tree.{expr_of};
@@ -26,7 +26,7 @@ use pc_tree::Expr;
 use pc_types::{Parents, TypeStore};
 use std::alloc::Global;
 
-/// The environments where a condition is true, and where it is false.
+/// The environments where a condition is true and where it is false.
 #[derive(Drop)]
 pub struct BothWays<Ty: Drop> {
     pub where_true: Env<Ty>,
@@ -46,7 +46,7 @@ impl<Ty: Drop> BothWays<Ty> {
     }
 }
 
-/// An environment that a condition leaves as it is.
+/// Returns `env` as the environment where a condition is true and where it is false: it narrows nothing.
 fn unchanged<S: TypeStore>(
     store: &S,
     alloc: Global,
@@ -62,7 +62,8 @@ fn unchanged<S: TypeStore>(
     })
 }
 
-/// An environment with the types of a local that a test leaves.
+/// Returns the environments where a test of a local is true and where it is false, given the types that the local has
+/// there.
 fn assign_split<S: TypeStore>(
     store: &S,
     alloc: Global,
@@ -87,7 +88,7 @@ fn assign_split<S: TypeStore>(
     })
 }
 
-/// An environment as a test of a local leaves it.
+/// Returns the environments where a test of a local is true and where it is false.
 fn narrow_at<S: TypeStore>(
     store: &mut S,
     alloc: Global,
@@ -112,7 +113,7 @@ fn narrow_at<S: TypeStore>(
     }
 }
 
-/// An environment as a test leaves it, of a local if it is one that is tested.
+/// Returns the environments where a test of a local is true and where it is false, both `env` if there is no local.
 fn narrow_local<S: TypeStore>(
     store: &mut S,
     alloc: Global,
@@ -134,7 +135,8 @@ fn narrow_local<S: TypeStore>(
     }
 }
 
-/// An environment as a call leaves it, which may be a test of an instance.
+/// Returns the environments where a call is true and where it is false. They differ only if the call is an `isinstance`
+/// test (`is_test`) of a local for a type that can be tested for; else both are `env`.
 fn narrow_instance<S: TypeStore>(
     store: &mut S,
     alloc: Global,
@@ -168,7 +170,8 @@ fn narrow_instance<S: TypeStore>(
     }
 }
 
-/// An environment as a test of an expression against `None` leaves it.
+/// Returns the environments where an expression is `None` and where it is not, both `env` if it is not the name of a
+/// local.
 fn narrow_none<S: TypeStore>(
     store: &mut S,
     alloc: Global,
@@ -187,8 +190,8 @@ fn narrow_none<S: TypeStore>(
     narrow_local(store, alloc, declarations.parents, Test::None, local, env)
 }
 
-/// An environment where a condition that is no `not`, `and` or `or` is true, and where it is false: what is left of it
-/// by the test of one local, against `None` or by `isinstance`.
+/// Returns the environments where a condition other than `not`, `and` and `or` is true and where it is false. It tests
+/// at most one local, against `None` or by `isinstance`.
 ///
 /// Typing specification, "Type narrowing"; own rules of the profile.
 pub fn narrow_simple<S: TypeStore>(
@@ -220,8 +223,8 @@ pub fn narrow_simple<S: TypeStore>(
     }
 }
 
-/// An environment where a condition is true, and where it is false: what is left of it by the tests of locals against
-/// `None` and by `isinstance`, by `not`, `and` and `or`.
+/// Returns the environments where a condition is true and where it is false, by its tests of locals against `None` and
+/// by `isinstance`, and by `not`, `and` and `or`.
 fn narrow<S: TypeStore>(
     store: &mut S,
     alloc: Global,
@@ -278,7 +281,7 @@ fn narrow<S: TypeStore>(
     }
 }
 
-/// An environment where a condition is true. Typing specification, "Type narrowing"; own rules of the profile.
+/// Returns the environment where a condition is true. Typing specification, "Type narrowing"; own rules of the profile.
 pub fn narrow_true<S: TypeStore>(
     store: &mut S,
     alloc: Global,
@@ -299,7 +302,8 @@ pub fn narrow_true<S: TypeStore>(
     Ok(ways.where_true)
 }
 
-/// An environment where a condition is false. Typing specification, "Type narrowing"; own rules of the profile.
+/// Returns the environment where a condition is false. Typing specification, "Type narrowing"; own rules of the
+/// profile.
 pub fn narrow_false<S: TypeStore>(
     store: &mut S,
     alloc: Global,

@@ -16,7 +16,7 @@ use pc_source::OutOfMemory;
 use pc_tree::{Expr, KeywordArgument};
 use std::alloc::Global;
 
-/// Adds the local that an expression names, if it is a name of one.
+/// Appends the local that an expression names, if it is the name of a local.
 fn add_named(names: &OwnerNames, e: &Expr, tested: &mut Vec<usize>) -> Result<(), OutOfMemory>
     ensures { OnOk result
         (tested.new.items ≡ tested.old.items ++ option_to_list (local_named (meanings names.now) (expr_of e.now))) }
@@ -30,7 +30,7 @@ fn add_named(names: &OwnerNames, e: &Expr, tested: &mut Vec<usize>) -> Result<()
     }
 }
 
-/// Adds the local that a call tests, if it is a test of an instance.
+/// Appends the local that a call tests, if it is an `isinstance` test.
 fn add_tested_by_call(
     names: &OwnerNames,
     callee: &Expr,
@@ -53,8 +53,8 @@ fn add_tested_by_call(
     }
 }
 
-/// Adds the locals that a condition tests, against `None` or by `isinstance`, in text order; one that it tests more
-/// than once comes as often. Typing specification, "Type narrowing".
+/// Appends the locals that a condition tests, against `None` or by `isinstance`, in text order, each as often as it is
+/// tested. Typing specification, "Type narrowing".
 pub fn add_tested(
     names: &OwnerNames,
     condition: &Expr,
@@ -95,7 +95,7 @@ pub fn add_tested(
     }
 }
 
-/// The locals that one of two conditions tests, each once and in order.
+/// Returns the locals that at least one of two conditions tests, each once, in ascending order.
 pub(crate) fn tested_by_both(
     alloc: Global,
     names: &OwnerNames,

@@ -1,4 +1,4 @@
-//! A type where a test of it is true, and where it is false.
+//! Tests of types: the parts of a type that pass and fail a test.
 
 ghost use Rattle.std.specs.Prelude.{◌≡◌, ◌≤◌, ◌++◌, IfOk, OnOk, All, map, option_to_list};
 ghost use Rattle.pc_types.specs.Tree.{Any, ListOf};
@@ -13,7 +13,7 @@ use pc_source::OutOfMemory;
 use pc_types::{Head, Parents, TypeStore};
 use std::alloc::Global;
 
-/// What a local may be tested for. Own rule of the profile.
+/// A test that a condition can make of a local. Own rule of the profile.
 #[derive(Clone, Copy, Debug, PartialEq, Eq)]
 pub enum Test {
     None,
@@ -21,22 +21,22 @@ pub enum Test {
     Int,
     Bool,
     Str,
-    /// The class of this number.
+    /// The class with this number.
     Class(usize),
 }
 
-/// How a member of a type stands to what is tested for.
+/// The relation of a member of a type to the tested type.
 #[derive(Clone, Copy, Debug, PartialEq, Eq)]
 pub enum Standing {
-    /// The member is what is tested for, or below it.
+    /// The member is the tested type or a subtype of it.
     Within,
-    /// The member is above what is tested for.
+    /// The member is a proper supertype of the tested type.
     Above,
     /// Neither.
     Beside,
 }
 
-/// What is left of a member where a test is true, and where it is false.
+/// The parts of a member that pass and fail a test.
 #[derive(Drop)]
 pub struct Left<Ty: Drop> {
     pub passing: Option<Ty>,
@@ -50,7 +50,7 @@ pub struct Split<Ty: Drop> {
     pub failing: Ty,
 }
 
-/// How a class stands to the class that is tested for.
+/// Returns the relation of a class to the tested class.
 fn class_stands(parents: &Parents, tested: usize, class: usize) -> Standing
     ensures { result ≡ class_standing parents.now tested class }
 {
@@ -63,7 +63,7 @@ fn class_stands(parents: &Parents, tested: usize, class: usize) -> Standing
     Standing::Beside
 }
 
-/// How a type with a head stands to a test.
+/// Returns the relation of a type with this head to the tested type.
 fn how_stands(parents: &Parents, test: Test, head: Head) -> Standing
     ensures { result ≡ how_stands parents.now test head }
 {
@@ -82,7 +82,7 @@ fn how_stands(parents: &Parents, test: Test, head: Head) -> Standing
     }
 }
 
-/// The type `list[Any]`.
+/// Returns the type `list[Any]`.
 fn list_of_any<S: TypeStore>(store: &mut S, alloc: Global) -> Result<S::Ty, OutOfMemory>
     ensures value { IfOk result (λ t. Means S.has S.tree store.new t (ListOf Any)) }
     ensures kept { KeepsTypes S.has store.old store.new }
@@ -94,7 +94,8 @@ fn list_of_any<S: TypeStore>(store: &mut S, alloc: Global) -> Result<S::Ty, OutO
     }
 }
 
-/// What is left of `Any` where a test is true.
+/// Returns the type that a member wider than the tested type, such as `Any`, becomes where it passes the test: the
+/// tested type, for a list `list[Any]`.
 fn type_for<S: TypeStore>(store: &mut S, alloc: Global, test: Test) -> Result<S::Ty, OutOfMemory>
     ensures value { IfOk result (λ t. Means S.has S.tree store.new t (type_for test)) }
     ensures kept { KeepsTypes S.has store.old store.new }
@@ -109,7 +110,7 @@ fn type_for<S: TypeStore>(store: &mut S, alloc: Global, test: Test) -> Result<S:
     }
 }
 
-/// What is left of a member where a test is true, and where it is false.
+/// Returns the parts of a member of a type that pass and fail a test, each `None` if nothing is left.
 fn left_of<S: TypeStore>(
     store: &mut S,
     alloc: Global,
@@ -151,7 +152,7 @@ fn left_of<S: TypeStore>(
     }
 }
 
-/// Adds a type to a list, if there is one.
+/// Appends a type if there is one.
 fn add_left<Ty: Drop>(types: &mut Vec<Ty>, ty: Option<Ty>) -> Result<(), OutOfMemory>
     ensures { OnOk result (types.new.items ≡ types.old.items ++ option_to_list ty) }
 {
@@ -161,7 +162,8 @@ fn add_left<Ty: Drop>(types: &mut Vec<Ty>, ty: Option<Ty>) -> Result<(), OutOfMe
     Ok(())
 }
 
-/// The union of what is left of a type's members: it has no more nodes than that type.
+/// Returns the union of these types, `Never` if there are none. They are the parts left of a type's members, so the
+/// union has no more nodes than that type.
 fn union_left<S: TypeStore>(
     store: &mut S,
     alloc: Global,
@@ -179,7 +181,7 @@ fn union_left<S: TypeStore>(
     }
 }
 
-/// A type where a test of it is true, and where it is false. Own rule of the profile.
+/// Returns the parts of a type that pass and fail a test. Own rule of the profile.
 pub(crate) fn split_type<S: TypeStore>(
     store: &mut S,
     alloc: Global,

@@ -1,4 +1,4 @@
--- The layers one after another: what comes of the lines of a text, of their layout, and of its tokens.
+-- The stages in order: the results for the lines of a text, for their layout, and for its tokens.
 use Rattle.std.proofs.Common.{◌≡◌, ℕ, List, [], ◌∷◌, ◌++◌, length, map, refl, sym, ap, ◌∙◌, subst, inl, inr, arith}
 use Rattle.std.specs.Prelude.{Option, Some, None, Result, Ok, Err, ◌⊎◌, MatchOption, IfOk, IfErr}
 use Rattle.std.specs.Borrow.{Bor}
@@ -146,7 +146,7 @@ module _ (text : List ℕ) (is_text : IsText text) (lines : Lines) (left : (item
                 (stand_in_order text (lines_came (map line_item_of ks)) line.split));
           })
 
--- what a parser over the tokens answers
+-- the result of a parser over the tokens
 module _ (text : List ℕ) (is_text : IsText text) (lines : Lines) (left : (items : List (Result LogicalLine Refusal))
     → HasLeft lines items → HasLines text items)
     {T : Type 0} (next : T → Option TokenItem → T → Type 0) (toks : T) (lays : LaysOut gives next text lines toks) where

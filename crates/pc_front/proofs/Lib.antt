@@ -1,4 +1,9 @@
 pub mod BytesLaws
 pub mod Composed
+pub mod EveryText
+pub mod NumberRuns
 pub mod OneRefusal
+pub mod Runs
+pub mod SourceAnswers
+pub mod TokenAnswers
 pub mod WithinBytes

@@ -1,4 +1,4 @@
--- What is read of bytes stands within them, and so does their refusal.
+-- The tokens of bytes lie within them, and so does their refusal.
 use Rattle.std.proofs.Common.{◌≡◌, ℕ, ◌≤◌, List, length, map}
 use Rattle.std.specs.Prelude.{Result, Ok, Err, IfErr}
 use Rattle.pc_source.specs.declared.fault.Refusal.{Refusal}
@@ -28,7 +28,7 @@ refusal_of_bytes_within bytes r (of_layout g) = faults_within (length bytes) g.l
 refusal_of_bytes_within bytes r (of_grammar g) = refusal_within (length bytes) g.tokens r
     (laid_out_within bytes g.tokens g.laid_out) g.refused
 
--- what is answered for bytes
+-- the result for bytes
 pub answer_within : {T : Type 0} (bytes : List ℕ) (r : Result T Fault) → IfErr r (OnRefusal (IsRefusalOf bytes))
     → IfErr r (IsWithin (length bytes))
 answer_within bytes (Ok v) h = tt

@@ -1,23 +1,30 @@
-//! The laws on the module that bytes spell.
+//! Laws of the module of bytes. Each function states one and does nothing.
 
 ghost use Rattle.pc_front.specs.Bytes.{OneModuleOfBytes, ModuleOrRefusal, OneRefusalOfBytes, RefusalsOfBytesWithin};
+ghost use Rattle.pc_front.specs.Bytes.{EveryTextIsAnswered};
 
-/// The law that bytes spell at most one module.
+/// Bytes spell at most one module.
 pub fn one_module_of_bytes()
     ensures { OneModuleOfBytes }
 {}
 
-/// The law that bytes that spell a module have no refusal.
+/// Bytes that spell a module have no refusal.
 pub fn module_or_refusal()
     ensures { ModuleOrRefusal }
 {}
 
-/// The law that bytes have at most one refusal.
+/// Bytes that spell no module have a refusal: it cannot be that bytes have neither. So with the laws beside this one,
+/// all bytes have exactly one answer, their module or their refusal.
+pub fn every_text_is_answered()
+    ensures { EveryTextIsAnswered }
+{}
+
+/// Bytes have at most one refusal.
 pub fn one_refusal_of_bytes()
     ensures { OneRefusalOfBytes }
 {}
 
-/// The law that the refusal of bytes stands from 0 to their length.
+/// The refusal of bytes is at a byte from 0 to their length.
 pub fn refusals_of_bytes_within()
     ensures { RefusalsOfBytesWithin }
 {}

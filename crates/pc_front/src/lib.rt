@@ -5,6 +5,7 @@ mod laws;
 mod reading;
 
 pub use laws::{
-    module_or_refusal, one_module_of_bytes, one_refusal_of_bytes, refusals_of_bytes_within,
+    every_text_is_answered, module_or_refusal, one_module_of_bytes, one_refusal_of_bytes,
+    refusals_of_bytes_within,
 };
 pub use reading::{module_in, read_module};

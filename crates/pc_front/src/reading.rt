@@ -1,4 +1,4 @@
-//! The module of a source text.
+//! Reading the module of a source text.
 
 ghost use Rattle.std.specs.Prelude.{◌≡◌, length, IfOk, IfErr};
 ghost use Rattle.pc_source.specs.Answers.{OnRefusal};
@@ -15,7 +15,7 @@ use pc_token::lines;
 use pc_tree::{Keys, Module};
 use std::alloc::Global;
 
-/// The module of a source text, without the keys of that text.
+/// Parses a source text. The module has the hash keys of an empty text.
 fn parsed(alloc: Global, source: &Source) -> Result<Module, Fault>
     requires { IsText source.now }
     ensures read { IfOk result (λ m. IsModuleOf source.now (module_of m)) }
@@ -25,12 +25,12 @@ fn parsed(alloc: Global, source: &Source) -> Result<Module, Fault>
     parse_from(alloc, layout_of(alloc, source, lines(alloc, source)))
 }
 
-/// The module of a source text. Language Reference 10 "Full Grammar specification".
+/// Parses a source text. Language Reference 10 "Full Grammar specification".
 ///
 /// # Errors
 ///
-/// The refusal of the first of tokens, layout and grammar that has no answer, at its fault of the
-/// least byte; `OutOfMemory` where an allocation failed.
+/// The refusal of the first stage that fails, among tokens, layout and grammar, at its lowest byte; `OutOfMemory` if an
+/// allocation fails.
 pub fn module_in(alloc: Global, source: &Source) -> Result<Module, Fault>
     requires { IsText source.now }
     ensures read { IfOk result (λ m. IsModuleOf source.now (module_of m)) }
@@ -43,12 +43,12 @@ pub fn module_in(alloc: Global, source: &Source) -> Result<Module, Fault>
     Ok(module)
 }
 
-/// The module that the bytes spell. Language Reference 10 "Full Grammar specification".
+/// Parses the bytes of a module. Language Reference 10 "Full Grammar specification".
 ///
 /// # Errors
 ///
-/// The refusal of the first of source, tokens, layout and grammar that has no answer, at its fault of the
-/// least byte; `OutOfMemory` where an allocation failed.
+/// The refusal of the first stage that fails, among source, tokens, layout and grammar, at its lowest byte;
+/// `OutOfMemory` if an allocation fails.
 pub fn read_module(alloc: Global, bytes: &[u8]) -> Result<Module, Fault>
     ensures read { IfOk result (λ m. IsModuleOf bytes.now (module_of m)) }
     ensures keyed { IfOk result (λ m. m.keys ≡ keys_of bytes.now) }

@@ -47,7 +47,7 @@ add_more : (xs : Anns) (y : Ann) → IsMore (add_ann xs y)
 add_more no_anns y = tt
 add_more (more_anns x xs) y = tt
 
--- ---- what comes after
+-- ---- the tokens after an annotation
 
 -- no bracket and no bar comes next
 abbrev pub IsClear : TokenKind → Type 0
@@ -75,7 +75,7 @@ no_bracket_just : (k : TokenKind) → same_kind k (kind.Operator sign.LeftBracke
 no_bracket_just k h ts (t, tk, is) rest = subst (λ x. NoBracket (x ++ rest)) (sym is)
     (subst (λ x. same_kind x (kind.Operator sign.LeftBracket) ≡ false) (sym tk) h)
 
--- ---- what is to be shown
+-- ---- the statement to prove
 
 -- a part of a union, after others
 abbrev pub ReadsPart : Ann → Type 0
@@ -160,7 +160,7 @@ mutual
   starts_separated no_anns o whole ts h = absurd h
   starts_separated (more_anns a rest) o whole ts h = starts_ann_first h (starts_ann a whole h.front h.left)
 
--- so it is no `(` after a bracket
+-- tokens that begin an annotation are read as the first argument after a bracket
 argument_begins : (head : Name) (eaten : List Lexeme) (parts : Anns) (before : List Lexeme) (s : AnnStack)
     (ts : List Lexeme) → StartsAnn ts
     → run (at (argument_due head eaten parts before s)) ts ≡ run
@@ -343,7 +343,7 @@ more_arguments a xs one others ts b e is ha (inr (none, i)) head done eaten part
 
 -- ---- every annotation
 
--- what is no union
+-- the annotation is no union
 part_alone : (a : Ann) → ReadsPart a → (ts : List Lexeme) → SpellsAnn a false ts → (s : AnnStack) (rest : List Lexeme)
     → Clear rest
     → run (at (part_due no_anns [] s)) (ts ++ rest) ≡ run (at (part_read a ts no_anns [] s)) rest

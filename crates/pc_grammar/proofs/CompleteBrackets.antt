@@ -1,4 +1,4 @@
--- What stands in brackets is read, and so each expression.
+-- Tokens that spell parts in brackets are read, and so is each expression.
 use Rattle.std.proofs.Common.{◌≡◌, ℕ, Bool, true, false, List, [], ◌∷◌, ◌++◌, refl, ap, sym, ◌∙◌, subst, inl, inr}
 use Rattle.std.proofs.Common.{append_assoc, append-nil, arith}
 use Rattle.std.specs.Prelude.{⊤}

@@ -38,7 +38,7 @@ part_at n m ts = record { tree = m; tokens = ts; plain = is_zero n }
 pub placed : (make : Place → Expr) (p : Place) (ts : List Lexeme) → p ≡ span ts → part make ts ≡ part_at 0 (make p) ts
 placed make p ts e = ap (λ q. part_at 0 (make q) ts) (sym e)
 
--- ---- what is to be shown of a node
+-- ---- the statement to prove of a node
 
 abbrev pub ReadsPlain : Expr → Type 0
 ReadsPlain m = (ts : List Lexeme) → Spells m ts → (s : Stack) → rank s ≤ own_level m → (rest : List Lexeme)

@@ -148,7 +148,7 @@ reads_literal (none_literal p) c = record {
 
 -- ---- parameters
 
--- what ends a parameter
+-- the tokens that end a parameter
 abbrev end_kind : (last : Bool) → TokenKind
 end_kind true = kind.Operator sign.RightParenthesis
 end_kind false = kind.Operator sign.Comma
@@ -462,7 +462,7 @@ reads_module m = reads_map (header_first (codes "__future__") (codes "annotation
     (reads_import (codes "annotations") refl (reads_headers m.imports_dataclass m.imports_any
     (λ later. reads_items_of m.items later (top_of m.imports_dataclass m.imports_any) m.main)))))
 
--- What is spelled is read.
+-- A module that tokens spell is read.
 pub spelled_reads : (m : Module) (ts : List Lexeme) → SpellsModule m ts → outcome_of ts ≡ reads m
 spelled_reads m ts h = let r = reads_module m in
     ap (run (at start)) (sym (append-nil ts)) ∙ r.over ts h [] tt ∙ run_none (ended m)

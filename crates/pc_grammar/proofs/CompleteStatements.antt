@@ -171,7 +171,7 @@ begins_token p k {s = s} next to r = record {
       ∙ r.over w.back w.right rest g;
 }
 
--- ---- what comes after a statement
+-- ---- the tokens after a statement
 
 -- neither `elif` nor `else`
 abbrev pub IsClosed : TokenKind → Type 0

@@ -141,7 +141,7 @@ twice_in_class : stopping_places
     ≡ at_byte 2 ∷ []
 twice_in_class = refl
 
--- what clashed binds nothing: below it the name is a method still
+-- a clashing member binds nothing: below it the name is still a method
 hidden_field : stopping_places (module_with (class_at 0 (codes "A") None (method_at 1 (codes "m") ∷ [])
     ∷ class_at 2 (codes "B") (Some (called 3 (codes "A"))) (field_at 4 (codes "m") ∷ [])
     ∷ class_at 5 (codes "C") (Some (called 6 (codes "B"))) (method_at 7 (codes "m") ∷ []) ∷ [])) E06 ≡ at_byte 4 ∷ []

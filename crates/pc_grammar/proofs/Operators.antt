@@ -1,4 +1,4 @@
--- How operators are read.
+-- Reading of operators.
 use Rattle.std.proofs.Common.{◌≡◌, ◌≢◌, ℕ, ◌+◌, ◌≤◌, ◌<◌, nat_le, Bool, true, false, if◌then◌else◌, List, ◌++◌, refl}
 use Rattle.std.proofs.Common.{ap, sym, ◌∙◌, subst, append_assoc, arith}
 use Rattle.pc_token.specs.declared.token.TokenKind.TheVariants as kind
@@ -93,7 +93,7 @@ reduce_keeps low own p (naming e xs ks n ts s) r h two small = refl
 reduce_keeps low own p (keying es ts s) r h two small = refl
 reduce_keeps low own p (valuing es k ts s) r h two small = refl
 
--- so the operator is taken
+-- an operator whose node has the level that the stack needs is taken
 pub link_go : (l : Link) (p : Part) (s : Stack) (t : Lexeme) → rank s ≤ own_of_link l
     → have_turn (left_of_link l) p s t (link l) ≡ go (linked l t p s)
 link_go l p s t r = tight (left_of_link l) (left_of_link l) _ (omega arith)

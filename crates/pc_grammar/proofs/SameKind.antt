@@ -1,4 +1,4 @@
--- What the tests of kinds say.
+-- Meaning of the tests of kinds.
 use Rattle.std.proofs.Common.{◌≡◌, ℕ, ◌-◌, nat_lt, true, if◌then◌else◌, List, [], ◌∷◌, slice_index_or, refl, ap, sym}
 use Rattle.std.proofs.Common.{◌∙◌, eqb-true}
 use Rattle.pc_token.specs.declared.token.TokenKind.{TokenKind}

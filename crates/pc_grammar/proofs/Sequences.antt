@@ -1,4 +1,4 @@
--- How sequences of tokens are read, and what they begin with.
+-- Reading of sequences of tokens, and their first tokens.
 use Rattle.std.proofs.Common.{◌≡◌, List, [], ◌∷◌, ◌++◌, refl, ap, sym, ◌∙◌, append_assoc}
 use Rattle.pc_token.specs.declared.token.TokenKind.{TokenKind}
 use Rattle.pc_token.specs.Lexeme.{Lexeme}

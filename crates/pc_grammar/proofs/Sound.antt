@@ -1,4 +1,4 @@
--- What is read is spelled.
+-- A module that is read is spelled by its tokens.
 use Rattle.std.proofs.Common.{◌≡◌, List, [], ◌∷◌, ◌++◌, refl, sym, subst, append_assoc, append-nil}
 use Rattle.pc_token.specs.Lexeme.{Lexeme}
 use Rattle.pc_tree.specs.Tree.{Module}
@@ -101,6 +101,6 @@ start_stands = λ us f. (
       (end_nothing us (map_right (λ vs v. map_right (λ ws w. map_right (λ xs x. map_right no_back x) w) v) f))),
 )
 
--- What is read is spelled.
+-- A module that is read is spelled by its tokens.
 pub reads_spells : (ts : List Lexeme) (m : Module) → outcome_of ts ≡ reads m → SpellsModule m ts
 reads_spells ts m e = run_spells ts [] start m start_stands e

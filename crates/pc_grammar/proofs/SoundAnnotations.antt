@@ -1,4 +1,4 @@
--- What is read as an annotation is spelled.
+-- An annotation that is read is spelled by its tokens.
 use Rattle.std.proofs.Common.{◌≡◌, Bool, true, false, List, [], ◌∷◌, ◌++◌, refl, ap, sym, inl, inr, append-nil}
 use Rattle.std.proofs.Common.{true≢false}
 use Rattle.pc_token.specs.declared.token.TokenKind.{TokenKind}
@@ -82,7 +82,7 @@ behind_one o t k ts e w = map_right (λ us v. kept_join o (t ∷ []) us v)
 pub first_part : (s : AnnStack) (ts : List Lexeme) → BeforeAnn s ts → Parts no_anns [] s ts
 first_part s ts h = record { front = ts; back = []; all = sym (append-nil ts); left = h; right = (refl, refl) }
 
--- what ends a whole annotation, in the lines
+-- the tokens that end a whole annotation, in the lines
 abbrev pub FinishesAnn : Type 0
 FinishesAnn = (c : AnnotationPosition) (a : Ann) (us : List Lexeme) (t : Lexeme) (ts : List Lexeme)
     → Sequence (BeforeAnnContext c) (Kept us (Annotation a)) ts → Stood (finish_ann c a t.kind) (ts ++ (t ∷ []))

@@ -1,4 +1,4 @@
--- What is read in brackets is spelled.
+-- A part in brackets that is read is spelled by its tokens.
 use Rattle.std.proofs.Common.{◌≡◌, ℕ, suc, ◌≤◌, Bool, true, false, List, [], ◌∷◌, ◌++◌, Option, Some, None, refl, subst}
 use Rattle.std.proofs.Common.{inl, inr, arith}
 use Rattle.std.specs.Prelude.{⊤}
@@ -110,7 +110,7 @@ entries_add (more_entries a b es) x y us w =
     map_right (λ vs v. map_right (λ ws z. map_right (λ xs q. map_right (λ ys r. entries_add es x y ys r) (to_right q))
     (to_right z)) (to_right v)) (to_right w)
 
--- ---- what was kept, the operand, and one more token
+-- ---- the kept tokens, the operand, and one more token
 
 -- after a stack
 behind_as : {S A : Spelling} (C : Spelling) (o : List Lexeme) (p : Part) (t : Lexeme) (k : TokenKind) (ts : List Lexeme)
@@ -357,7 +357,7 @@ value_closed es x us s p t closes_brace ts e w = kept_node (λ q. dict q (add_en
     (behind_stack us p t (kind.Operator sign.RightBrace) ts e w)
 value_closed es x us s p t _ ts e w = tt
 
--- what ends a whole expression, in the lines
+-- the tokens that end a whole expression, in the lines
 abbrev pub Finishes : Type 0
 Finishes = (c : ExpressionPosition) (p : Part) (t : Lexeme) (e : Ending) (ts : List Lexeme) → EndMeans e t.kind
     → Sequence (BeforeContext c) (Holds 0 p) ts → Stood (finish c p e) (ts ++ (t ∷ []))

@@ -1,4 +1,4 @@
--- What is read as an expression is spelled.
+-- An expression that is read is spelled by its tokens.
 use Rattle.std.proofs.Common.{◌≡◌, ◌⊎◌, ℕ, ◌≤◌, ◌<◌, nat_le, Bool, true, false, if◌then◌else◌, List, [], ◌∷◌, ◌++◌}
 use Rattle.std.proofs.Common.{refl, ap, inl, inr, arith, leb-true}
 use Rattle.pc_source.specs.declared.place.Place.{Place}
@@ -26,7 +26,7 @@ use Rattle.pc_grammar.proofs.Runs.{own_small}
 use Rattle.pc_grammar.proofs.Sequences.{to_right, map_left, map_right}
 use Rattle.pc_grammar.proofs.Stood.{Stood, grow, just, is_name, on_le, kept_join, end_nothing}
 
--- ---- what the classes of kinds mean
+-- ---- meaning of the classes of kinds
 
 abbrev pub StartMeans : Start → TokenKind → Type 0
 StartMeans a_name k = k ≡ kind.Name

@@ -1,4 +1,4 @@
--- What a whole expression, annotation, literal or suite completes is spelled.
+-- The thing that a whole expression, annotation, literal or suite completes is spelled by its tokens.
 use Rattle.std.proofs.Common.{◌≡◌, List, [], ◌∷◌, ◌++◌, Option, Some, None, refl, ap, sym, ◌∙◌, subst, inl, inr}
 use Rattle.std.proofs.Common.{append-nil}
 use Rattle.pc_source.specs.declared.place.Place.{Place}

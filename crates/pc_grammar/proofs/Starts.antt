@@ -1,4 +1,4 @@
--- What spelled expressions begin with.
+-- The first tokens of spelled expressions.
 use Rattle.std.proofs.Common.{◌≡◌, ℕ, zero, suc, ◌≤◌, Bool, true, false, List, [], ◌∷◌, ◌++◌, refl, ap, sym, ◌∙◌, subst}
 use Rattle.std.proofs.Common.{arith}
 use Rattle.pc_token.specs.declared.token.TokenKind.{TokenKind}
@@ -81,7 +81,7 @@ pub starts_operand : (level : ℕ) (m : Expr) (ts : List Lexeme) → Operand lev
     → Starts ts
 starts_operand level m ts h = starts_wrapped h.0 (λ x. Spells m x) (λ x y. starts m x y) ts h.2
 
--- what begins an operand is no closing bracket, nor another kind that begins none
+-- a token that begins an operand is no closing bracket, nor another kind that begins none
 pub not_start : (k c : TokenKind) → start_of c ≡ no_start → IsStart (start_of k) → same_kind k c ≡ false
 not_start k c none h = by_test (same_kind k c) refl
   where

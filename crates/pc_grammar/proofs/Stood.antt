@@ -1,4 +1,4 @@
--- How the tokens that led to a state grow by one.
+-- One more token after the tokens that led to a state.
 use Rattle.std.proofs.Common.{◌≡◌, ℕ, ◌≤◌, nat_le, ◌&&◌, Bool, true, false, if◌then◌else◌, List, [], ◌∷◌, ◌++◌, refl}
 use Rattle.std.proofs.Common.{ap₂, sym, ◌∙◌, append-nil, leb-true}
 use Rattle.pc_token.specs.declared.token.TokenKind.{TokenKind}

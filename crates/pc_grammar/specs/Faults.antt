@@ -1,4 +1,4 @@
--- Where a list of tokens stops being a module. Own rule of the profile.
+-- The refusals of a list of tokens that is no module. Own rule of the profile.
 use Rattle.std.specs.Prelude.{◌≡◌, ◌⊎◌, ℕ, List, [], ◌∷◌, ◌++◌, Some, None}
 use Rattle.pc_source.specs.declared.fault.Refusal.{Refusal}
 use Rattle.pc_source.specs.declared.fault.RefusalCode.TheVariants as code
@@ -13,7 +13,7 @@ pub record IsModule (ts : List Lexeme) (m : Module) : Type 0 where
   pub spelled : SpellsModule m ts
   pub shallow : too_deep_at m ≡ None
 
--- a token begins at the byte after which no module can follow, and before which one still could
+-- a token begins at the byte; some module begins with the tokens before it, but none with these and the token
 pub record IsMisfit (ts : List Lexeme) (byte : ℕ) : Type 0 where
   pub before : List Lexeme
   pub token : Lexeme
@@ -23,7 +23,7 @@ pub record IsMisfit (ts : List Lexeme) (byte : ℕ) : Type 0 where
   pub front : IsFront before
   pub refused : ¬ (IsFront (before ++ (token ∷ [])))
 
--- a module could still follow, but the tokens spell none; the byte is where they end
+-- some module begins with the tokens, but they spell none; the byte is where they end
 pub record EndsEarly (ts : List Lexeme) (byte : ℕ) : Type 0 where
   pub front : IsFront ts
   pub unspelled : (m : Module) → ¬ (SpellsModule m ts)
@@ -35,7 +35,7 @@ pub record IsTooDeep (ts : List Lexeme) (byte : ℕ) : Type 0 where
   pub spelled : SpellsModule tree ts
   pub first : too_deep_at tree ≡ Some byte
 
--- G1 where the tokens spell no module, and else G2 where it is too deep
+-- the refusal of tokens: G1 if they spell no module, otherwise G2 if their module is too deep
 abbrev pub IsRefusal : List Lexeme → Refusal → Type 0
 IsRefusal ts r = ((r.code ≡ code.G1) × (IsMisfit ts r.byte ⊎ EndsEarly ts r.byte))
     ⊎ ((r.code ≡ code.G2) × IsTooDeep ts r.byte)

@@ -1,4 +1,4 @@
--- Fronts of modules by cases: the tokens that led to each state of the machine.
+-- Prefixes of modules by cases: the tokens that lead to each state of the machine.
 pub mod Expressions
 pub mod Lines
 use Rattle.std.specs.Prelude.{◌≡◌, ◌≤◌, ◌⊎◌, ℕ, Bool, true, false, List, [], ◌∷◌, ◌++◌, Option, Some, None, codes}
@@ -25,7 +25,7 @@ use Rattle.pc_grammar.specs.Fronts.Lines.{BeforeMembers, DefWord, BeforeParams, 
 use Rattle.pc_grammar.specs.Fronts.Lines.{BeforeStmts, IfBranches, BeforeAnn, Parts, SelfRead}
 use Rattle.pc_grammar.specs.Fronts.Expressions.{Before, Holds, ItemsBefore, KeywordsBefore, EntriesBefore}
 
--- these tokens led to the state
+-- the tokens lead to this state
 abbrev pub LedTo : State → Spelling
 LedTo (fixed w ws next) = λ ts. (us : List Lexeme) → SpellsAllFixed (w ∷ ws) us → LedTo next (ts ++ us)
 LedTo (items stage top) = λ ts. AtStage stage top × BeforeItems top ts
@@ -70,10 +70,10 @@ LedTo (keyword_named e xs ks n us s) = Before s ⟫ Kept us (KeywordsBefore e xs
 LedTo (key_due es us s) = Before s ⟫ Kept us (EntriesBefore es)
 LedTo (ended m) = SpellsModule m
 
--- the tokens led to some state
+-- the tokens lead to some state
 abbrev pub IsFrontByCases : Spelling
 IsFrontByCases ts = (s : State) × LedTo s ts
 
--- the fronts by cases are the tokens that some module begins with
+-- the tokens with which some module begins are those that lead to some state
 abbrev pub FrontsAgree : Type 0
 FrontsAgree = (ts : List Lexeme) → (IsFront ts → IsFrontByCases ts) × (IsFrontByCases ts → IsFront ts)

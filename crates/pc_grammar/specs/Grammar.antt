@@ -1,5 +1,5 @@
--- The words in which the grammar is written: what a list of tokens spells, and where it stands.
--- Python Language Reference 3.12, 1.2 "Notation" and 10 "Full Grammar specification".
+-- The terms of the grammar: the tokens that spell a thing, and its place. Python Language Reference 3.12, 1.2
+-- "Notation" and 10 "Full Grammar specification".
 pub mod Annotations
 pub mod Expressions
 pub mod Modules
@@ -17,7 +17,7 @@ use Rattle.pc_token.specs.Strings.{is_quote}
 use Rattle.pc_tree.specs.Tree.{Name}
 
 infixr 30 ◌⟫◌
--- what whole lists of tokens a part of the grammar takes
+-- a set of token lists: those that spell a part of the grammar
 abbrev pub Spelling : Type 1
 Spelling = List Lexeme → Type 0
 
@@ -38,21 +38,21 @@ last_place [] = no_place
 last_place (t ∷ []) = t.place
 last_place (t ∷ u ∷ ts) = last_place (u ∷ ts)
 
--- from the first token to the last
+-- the place from the first token to the last
 abbrev pub span : List Lexeme → Place
 span ts = record { start = (first_place ts).start; end = (last_place ts).end }
 
--- the place runs from the first of these tokens to the last
+-- tokens of A, with the place from the first to the last
 abbrev pub At : Place → Spelling → Spelling
 At place A ts = (place ≡ span ts) × A ts
 
--- the place is that of the first of these tokens
+-- tokens of A, with the place of the first
 abbrev pub Begins : Place → Spelling → Spelling
 Begins place A ts = (place ≡ first_place ts) × A ts
 
 -- ---- sequences and choices
 
--- one after the other
+-- tokens of A and then tokens of B
 pub record Sequence (A B : Spelling) (ts : List Lexeme) : Type 0 where
   pub front : List Lexeme
   pub back : List Lexeme
@@ -68,12 +68,12 @@ abbrev pub ◌⟫◌ : Spelling → Spelling → Spelling
 abbrev pub Nothing : Spelling
 Nothing ts = ts ≡ []
 
--- what is there, or no token where there is nothing
+-- the tokens of the thing if there is one, otherwise no token
 abbrev pub Maybe : {X : Type 0} → (X → Spelling) → Option X → Spelling
 Maybe A None ts = Nothing ts
 Maybe A (Some x) ts = A x ts
 
--- what follows, or no token where this was the last
+-- tokens of A, or no token if nothing more may follow
 abbrev pub Rest : Type 0 → Spelling → Spelling
 Rest last A ts = A ts ⊎ (last × Nothing ts)
 
@@ -91,7 +91,7 @@ Sign o = Just (kind.Operator o)
 abbrev pub Word : Keyword → Spelling
 Word w = Just (kind.Keyword w)
 
--- a name, in the form by which it is compared
+-- the name that the token is, in the form by which names are compared
 abbrev pub name_at : Lexeme → Name
 name_at t = record { place = t.place; text = t.form }
 
@@ -107,7 +107,7 @@ Named form ts = (t : Lexeme) × (t.kind ≡ kind.Name) × (t.form ≡ form) × (
 abbrev pub NamedAt : List ℕ → Place → Spelling
 NamedAt form place ts = (t : Lexeme) × (t.kind ≡ kind.Name) × (t.form ≡ form) × (place ≡ t.place) × (ts ≡ t ∷ [])
 
--- a comma, and what follows it, or no token where this was the last
+-- a comma and tokens of A, or no token if nothing more may follow
 abbrev pub AfterComma : Type 0 → Spelling → Spelling
 AfterComma last A = Rest last (Sign sign.Comma ⟫ A)
 
@@ -117,11 +117,12 @@ AfterComma last A = Rest last (Sign sign.Comma ⟫ A)
 abbrev pub digits_of : List ℕ → List ℕ
 digits_of text = filter (λ b. not (b == 95)) text
 
--- what a backslash and this character stand for: `\n`, `\t`, `\r`, or the character
+-- the character that a backslash and this character mean: the control character for n, t and r, otherwise the
+-- character itself
 abbrev pub escaped : ℕ → ℕ
 escaped c = if c == 110 then 10 else (if c == 116 then 9 else (if c == 114 then 13 else c))
 
--- the characters between the quotes, where a backslash may come before them
+-- the characters between the quotes, decoded; the flag says whether a backslash is before them
 abbrev pub decoded : Bool → List ℕ → List ℕ
 decoded after_backslash [] = []
 decoded true (c ∷ rest) = escaped c ∷ decoded false rest
@@ -138,14 +139,14 @@ unclosed [] = []
 unclosed (b ∷ []) = if is_quote b then [] else b ∷ []
 unclosed (b ∷ c ∷ text) = b ∷ unclosed (c ∷ text)
 
--- the characters of a string: its text without the quotes, with the escapes replaced by what they stand for
+-- the characters of a string: its text without the quotes, with each escape replaced by the character that it means
 abbrev pub characters_of : List ℕ → List ℕ
 characters_of text = decoded false (unclosed (unopened text))
 
--- one token, a number of these digits
+-- one token, the number with these digits
 abbrev pub IsNumber : List ℕ → Spelling
 IsNumber digits ts = (t : Lexeme) × (t.kind ≡ kind.Int) × (digits ≡ digits_of t.text) × (ts ≡ t ∷ [])
 
--- one token, a string of these characters
+-- one token, the string with these characters
 abbrev pub IsString : List ℕ → Spelling
 IsString characters ts = (t : Lexeme) × (t.kind ≡ kind.Str) × (characters ≡ characters_of t.text) × (ts ≡ t ∷ [])

@@ -1,4 +1,4 @@
--- Reading tokens one at a time, with what is still open on a stack.
+-- A machine that reads tokens one at a time, with the open nodes on a stack.
 pub mod Kinds
 pub mod States
 pub mod Finishing
@@ -29,7 +29,7 @@ use Rattle.pc_grammar.specs.Machine.Lines.{class_turn, class_named_turn, base_tu
 use Rattle.pc_grammar.specs.Machine.Lines.{param_turn, param_named_turn, params_read_turn, literal_turn, minus_turn}
 use Rattle.pc_grammar.specs.Machine.Lines.{literal_read_turn, stmts_turn, return_turn, target_turn, branch_turn}
 
--- where a token of this kind leads
+-- the turn at a token of this kind
 abbrev pub turn : State → Lexeme → TokenKind → Turn
 turn (fixed w ws next) t k = fixed_turn w ws next t k
 turn (items stage top) t k = items_turn stage top t k
@@ -71,12 +71,12 @@ turn (keyword_named e xs ks n ts s) t k = named_turn e xs ks n ts s t k
 turn (key_due es ts s) t k = key_turn es ts s t k
 turn (ended m) t k = stuck
 
--- The machine reads on after a fault, whose byte it keeps.
+-- a reading of tokens: in a state, or lost at the byte of the first token that did not fit
 pub data Reading : Type 0 where
   at : (s : State) → Reading
   lost : (byte : ℕ) → Reading
 
--- the reading that a turn at this token leads to: the turn's state, or lost at the token's first byte
+-- the reading after a turn at this token: in the turn's state, or lost at the token's first byte
 abbrev pub arrive : Turn → Lexeme → Reading
 arrive (go s) t = at s
 arrive stuck t = lost t.place.start
@@ -86,27 +86,27 @@ abbrev pub step : Reading → Lexeme → Reading
 step (at s) t = arrive (turn s t t.kind) t
 step (lost byte) t = lost byte
 
--- what came of it: a module, a token after which no module can follow, or tokens that end too early
+-- the outcome of a reading: a module, a token after which no module can follow, or tokens that end too early
 pub data Outcome : Type 0 where
   reads : (m : Module) → Outcome
   refuses : (byte : ℕ) → Outcome
   short : Outcome
 
--- what comes of tokens that end in this state: the module where the text has ended, else they end too early
+-- the outcome of tokens that end in this state: the module if the text has ended, otherwise they end too early
 abbrev pub stop_at : State → Outcome
 stop_at (ended m) = reads m
 stop_at _ = short
 
--- what comes of a reading that no token follows
+-- the outcome of a reading that no token follows
 abbrev pub stop : Reading → Outcome
 stop (at s) = stop_at s
 stop (lost byte) = refuses byte
 
--- from a reading, over these tokens
+-- the outcome of a reading over these tokens
 unfoldable pub run : Reading → List Lexeme → Outcome
 run r [] = stop r
 run r (t ∷ ts) = run (step r t) ts
 
--- over all tokens
+-- the outcome of all tokens of a text
 abbrev pub outcome_of : List Lexeme → Outcome
 outcome_of ts = run (at start) ts

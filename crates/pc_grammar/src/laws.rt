@@ -1,4 +1,4 @@
-//! Laws of the grammar, as contracts of functions that do nothing.
+//! Laws of the grammar. Each function states one and does nothing.
 
 ghost use Rattle.pc_grammar.specs.Faults.{OneModule};
 ghost use Rattle.pc_grammar.specs.Fronts.{FrontsAgree};
@@ -8,8 +8,8 @@ pub fn one_module()
     ensures { OneModule }
 {}
 
-/// The tokens that some module begins with are those that lead to a state, told by cases, of reading one.
-/// Own rule of the profile.
+/// The tokens with which some module begins are those that lead to some state of the machine that reads one. Own rule
+/// of the profile.
 pub fn fronts()
     ensures { FrontsAgree }
 {}

@@ -1,4 +1,4 @@
-//! Which token lists spell a module, why others spell none, and the laws of that grammar.
+//! The grammar of modules: the token lists that spell one, the refusals of all others, and laws.
 #![tactic(auto)]
 
 mod laws;

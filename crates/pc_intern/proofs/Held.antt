@@ -1,4 +1,4 @@
--- What a store's types mean while the table grows, and what follows from the numbers of parts.
+-- The meaning of a store's types while the table grows, and consequences of the numbers of parts.
 use Rattle.std.proofs.Common.{◌≡◌, ◌<◌, ◌≤◌, ◌+◌, ◌↔◌, ℕ, zero, suc, Bool, IsTrue, List, [], ◌∷◌, ◌++◌, length, map}
 use Rattle.std.proofs.Common.{take, get_or, replicate, All, Option, Some, None, MatchOption, refl, sym, ap, subst, ◌∙◌}
 use Rattle.std.proofs.Common.{arith}
@@ -21,7 +21,7 @@ use Rattle.pc_types.specs.JoinedTypes.{types_joined}
 use Rattle.pc_intern.specs.declared.memo.Answers.{Answers}
 use Rattle.pc_intern.specs.declared.memo.Joined.{Joined}
 use Rattle.pc_intern.specs.declared.store.TypeId.{TypeId}
-use Rattle.pc_intern.specs.declared.table.Node.{Node}
+use Rattle.pc_intern.specs.declared.table.TypeNode.{TypeNode}
 use Rattle.pc_intern.specs.Table.{tree_at, IsNodeAt, Grows}
 use Rattle.pc_intern.specs.Store.{meaning, number_of, IsHeld, IsRightAt, AreRight, IsJoinedAt, AreJoined}
 use Rattle.pc_intern.proofs.Places.{map_at, at_map, same_items}
@@ -173,11 +173,11 @@ box_means types ty b h at =
     cc
 
 -- what a held type means that a node tells
-told_meaning : (types : List BoxType) (node : Node) (n : ℕ) (r : TypeId) (w : IsNodeAt types node n) → IsHeld types r
+told_meaning : (types : List BoxType) (node : TypeNode) (n : ℕ) (r : TypeId) (w : IsNodeAt types node n) → IsHeld types r
     → r.number ≡ n → meaning r ≡ tree_of w.ty
 told_meaning types node n r w h e = meant types r n (tree_of w.ty) h e (map_at tree_of types n w.ty w.at)
 
-pub known_parts : (types : List BoxType) (node : Node) (n : ℕ) (r : TypeId) (us : List Tree) → IsNodeAt types node n
+pub known_parts : (types : List BoxType) (node : TypeNode) (n : ℕ) (r : TypeId) (us : List Tree) → IsNodeAt types node n
     → IsHeld types r → r.number ≡ n → map (tree_at types) node.parts.items ≡ map Some us → parts (meaning r) ≡ us
 known_parts types node n r us w h e k =
     ap parts (told_meaning types node n r w h e) ∙ same_items (parts (tree_of w.ty)) us (sym w.told.parts ∙ k)

@@ -5,16 +5,16 @@ use Rattle.std.proofs.lemmas.Slice.Eq.{slice_eq-Decides}
 use Rattle.std.proofs.lemmas.Bool.Decides.{Decides-eqb}
 use Rattle.pc_types.specs.declared.head.Head.{Head}
 use Rattle.pc_types.specs.contracts.head.HeadPartialEq.TheImpl as heads
-use Rattle.pc_intern.specs.declared.table.Node.{Node}
-use Rattle.pc_intern.specs.contracts.table.NodePartialEq.TheImpl as nodes
+use Rattle.pc_intern.specs.declared.table.TypeNode.{TypeNode}
+use Rattle.pc_intern.specs.contracts.table.TypeNodePartialEq.TheImpl as nodes
 
 abbrev pub head_eq : Head → Head → Bool
 head_eq = (heads.ghosts).eq
 
-abbrev pub node_eq : Node → Node → Bool
+abbrev pub node_eq : TypeNode → TypeNode → Bool
 node_eq = (nodes.ghosts).eq
 
-node_eq_is : (m n : Node) → node_eq m n ≡ (head_eq m.head n.head && pointwise nat_eq m.parts.items n.parts.items)
+node_eq_is : (m n : TypeNode) → node_eq m n ≡ (head_eq m.head n.head && pointwise nat_eq m.parts.items n.parts.items)
 node_eq_is m n = refl
 
 head_same : (a b : Head) → head_eq a b ≡ true → a ≡ b
@@ -29,7 +29,7 @@ both true false h = cc
 both false b h = cc
 
 -- two nodes are equal exactly where they have one head and the same parts
-pub node_decides : (m n : Node) → Decides (node_eq m n) ((m.head ≡ n.head) × (m.parts.items ≡ n.parts.items))
+pub node_decides : (m n : TypeNode) → Decides (node_eq m n) ((m.head ≡ n.head) × (m.parts.items ≡ n.parts.items))
 node_decides m n =
     let d = slice_eq-Decides Decides-eqb m.parts.items n.parts.items (pointwise nat_eq m.parts.items n.parts.items)
     refl in (

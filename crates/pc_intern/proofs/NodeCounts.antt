@@ -1,4 +1,4 @@
--- How many nodes types have together.
+-- The number of nodes of several types together.
 use Rattle.std.proofs.Common.{◌≡◌, ◌<◌, ◌≤◌, ◌+◌, ◌-◌, ℕ, zero, suc, List, [], ◌∷◌, ◌++◌, length, map, take, get_or}
 use Rattle.std.proofs.Common.{refl, ap, arith}
 use Rattle.pc_types.specs.Tree.{Tree, TupleOf}

@@ -1,4 +1,4 @@
--- Items of lists by place: what stays where a list grows, and lists of places.
+-- Items of lists by place: the items that are kept while a list grows, and lists of places.
 use Rattle.std.proofs.Common.{◌≡◌, ℕ, zero, suc, ◌⊎◌, inl, inr, Bool, true, false, cond, List, [], ◌∷◌, ◌++◌, length}
 use Rattle.std.proofs.Common.{map, Some, None, refl, ap, subst, ◌∙◌}
 use Rattle.std.specs.List.{slice_get, AllByRecursion}

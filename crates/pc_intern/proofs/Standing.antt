@@ -1,4 +1,4 @@
--- What stands in a table, and what a table keeps where a type is put after the others.
+-- The contents of a table, and the facts that are kept when a type is added at its end.
 use Rattle.std.proofs.Common.{◌≡◌, ◌<◌, ◌+◌, take, get_or, All, ℕ, Bool, true, true≢false, inl, inr, List, [], ◌∷◌}
 use Rattle.std.proofs.Common.{◌++◌, length, map, Some, None, refl, sym, ap, subst, ◌∙◌, append_assoc}
 use Rattle.std.proofs.lemmas.List.{map-append, take_more}
@@ -10,7 +10,7 @@ use Rattle.pc_types.specs.Tree.{Tree}
 use Rattle.pc_types.specs.Shape.{parts, nodes}
 use Rattle.pc_types.specs.Boxed.{tree_of, IsGiven}
 use Rattle.pc_types.specs.declared.boxed.BoxType.{BoxType}
-use Rattle.pc_intern.specs.declared.table.Node.{Node}
+use Rattle.pc_intern.specs.declared.table.TypeNode.{TypeNode}
 use Rattle.pc_intern.specs.Table.{tree_at, IsNode, IsNodeAt, IsTable, Grows}
 use Rattle.pc_intern.proofs.Places.{each_push, stays, each_stays, pushed, IsOnce, same_places, same_items, map_at}
 use Rattle.pc_intern.proofs.Places.{at_map, fails}
@@ -30,7 +30,7 @@ trees_stay old more ps us h =
     subst (λ (ts : List Tree). map (slice_get ts) ps ≡ map Some us) (sym (map-append tree_of old more))
     (each_stays (map tree_of old) (map tree_of more) ps us h)
 
-pub node_stays : (old more : List BoxType) (node : Node) (t : Tree) → IsNode old node t → IsNode (old ++ more) node t
+pub node_stays : (old more : List BoxType) (node : TypeNode) (t : Tree) → IsNode old node t → IsNode (old ++ more) node t
 node_stays old more node t h =
     record { head = h.head; parts = trees_stay old more node.parts.items (parts t) h.parts }
 
@@ -44,38 +44,38 @@ once_push ts t once new m n x a b =
     ]
 
 -- two nodes that tell one tree have one head and the same parts
-same_node : (types : List BoxType) → IsOnce (map tree_of types) → (m n : Node) (t : Tree) → IsNode types m t
+same_node : (types : List BoxType) → IsOnce (map tree_of types) → (m n : TypeNode) (t : Tree) → IsNode types m t
     → IsNode types n t → (m.head ≡ n.head) × (m.parts.items ≡ n.parts.items)
 same_node types once m n t h g =
     (h.head ∙ sym g.head, same_places (map tree_of types) once m.parts.items n.parts.items (parts t) h.parts g.parts)
 
 -- two types of a store that nodes of one head and the same parts tell mean one tree
-pub same_tree : (types : List BoxType) (m n : Node) (b c : BoxType) → IsGiven b → IsGiven c → m.head ≡ n.head
+pub same_tree : (types : List BoxType) (m n : TypeNode) (b c : BoxType) → IsGiven b → IsGiven c → m.head ≡ n.head
     → m.parts.items ≡ n.parts.items → IsNode types m (tree_of b) → IsNode types n (tree_of c) → tree_of b ≡ tree_of c
 same_tree types m n b c f g e q h k =
     told (tree_of b) (tree_of c) f.normal g.normal (sym h.head ∙ e ∙ k.head)
     (same_items (parts (tree_of b)) (parts (tree_of c)) (sym h.parts ∙ ap (map (tree_at types)) q ∙ k.parts))
 
 -- where no node is equal to that of a type, the type doesn't stand in the table
-not_yet : (es : List (Node × BoxType)) (test : Node → Bool) (node : Node) (t : Tree) → IsTable es
-    → ((n : Node) → node.head ≡ n.head → node.parts.items ≡ n.parts.items → test n ≡ true)
+not_yet : (es : List (TypeNode × BoxType)) (test : TypeNode → Bool) (node : TypeNode) (t : Tree) → IsTable es
+    → ((n : TypeNode) → node.head ≡ n.head → node.parts.items ≡ n.parts.items → test n ≡ true)
     → IsNode (values_of es) node t → lookup test es ≡ None → (n : ℕ) → tree_at (values_of es) n ≡ Some t → ⊥
 not_yet es test node t table same h none n at =
     let b = at_map tree_of (values_of es) n t at in
-    let e = at_map (λ (x : Node × BoxType). x.1) es n b.0 b.1 in
+    let e = at_map (λ (x : TypeNode × BoxType). x.1) es n b.0 b.1 in
     let q : tree_of e.0.1 ≡ t = ap tree_of e.2 ∙ b.2 in
     let k : IsNode (values_of es) e.0.0 t = subst (IsNode (values_of es) e.0.0) q (table.told n e.0 e.1) in
     let s = same_node (values_of es) table.once node e.0.0 t h k in
     true≢false (sym (same e.0.0 s.0 s.1) ∙ fails test es none n e.0 e.1)
 
 -- a type that doesn't stand in the table is put after the others
-pub added : (es : List (Node × BoxType)) (test : Node → Bool) (node : Node) (b : BoxType) → IsTable es
-    → ((n : Node) → node.head ≡ n.head → node.parts.items ≡ n.parts.items → test n ≡ true) → IsGiven b
+pub added : (es : List (TypeNode × BoxType)) (test : TypeNode → Bool) (node : TypeNode) (b : BoxType) → IsTable es
+    → ((n : TypeNode) → node.head ≡ n.head → node.parts.items ≡ n.parts.items → test n ≡ true) → IsGiven b
     → IsNode (values_of es) node (tree_of b) → lookup test es ≡ None → IsTable (es ++ (node, b) ∷ [])
 added es test node b table same g h none = record { given = given'; told = told'; once = once' }
   where
     values : values_of (es ++ (node, b) ∷ []) ≡ values_of es ++ b ∷ []
-    values = map-append (λ (x : Node × BoxType). x.1) es ((node, b) ∷ [])
+    values = map-append (λ (x : TypeNode × BoxType). x.1) es ((node, b) ∷ [])
 
     given' : (n : ℕ) (c : BoxType) → slice_get (values_of (es ++ (node, b) ∷ [])) n ≡ Some c → IsGiven c
     given' n c at =
@@ -84,7 +84,7 @@ added es test node b table same g h none = record { given = given'; told = told'
           | inr p ↦ subst IsGiven p.1 g
         ]
 
-    told' : (n : ℕ) (e : Node × BoxType) → slice_get (es ++ (node, b) ∷ []) n ≡ Some e
+    told' : (n : ℕ) (e : TypeNode × BoxType) → slice_get (es ++ (node, b) ∷ []) n ≡ Some e
         → IsNode (values_of (es ++ (node, b) ∷ [])) e.0 (tree_of e.1)
     told' n e at =
         subst (λ l. IsNode l e.0 (tree_of e.1)) (sym values)
@@ -92,7 +92,7 @@ added es test node b table same g h none = record { given = given'; told = told'
         (elim (pushed es (node, b) n e at) [
           | inl p ↦ table.told n e p
           | inr p ↦
-              subst (λ (x : Node × BoxType). IsNode (values_of es) x.0 (tree_of x.1)) p.1 h
+              subst (λ (x : TypeNode × BoxType). IsNode (values_of es) x.0 (tree_of x.1)) p.1 h
         ]))
 
     once' : IsOnce (map tree_of (values_of (es ++ (node, b) ∷ [])))
@@ -107,10 +107,10 @@ grows_twice a b c g h =
     record { added = g.added ++ h.added; is = h.is ∙ ap (λ l. l ++ h.added) g.is ∙ append_assoc a g.added h.added }
 
 -- the entry of a node that is equal to another one
-pub found : (es : List (Node × BoxType)) (node : Node) (e : Node × BoxType) (n : ℕ) → IsTable es
+pub found : (es : List (TypeNode × BoxType)) (node : TypeNode) (e : TypeNode × BoxType) (n : ℕ) → IsTable es
     → slice_get es n ≡ Some e → node_eq node e.0 ≡ true → IsNodeAt (values_of es) node n
 found es node e n table at same =
-    let v = map_at (λ (x : Node × BoxType). x.1) es n e at in
+    let v = map_at (λ (x : TypeNode × BoxType). x.1) es n e at in
     let t = table.told n e at in
     let d = (node_decides node e.0).0 same in
     record {
@@ -121,13 +121,13 @@ found es node e n table at same =
     }
 
 -- the tree that a node tells is the one at a number whose type the node tells
-pub found_tree : (types : List BoxType) (node : Node) (n : ℕ) (b : BoxType) → IsNodeAt types node n → IsGiven b
+pub found_tree : (types : List BoxType) (node : TypeNode) (n : ℕ) (b : BoxType) → IsNodeAt types node n → IsGiven b
     → IsNode types node (tree_of b) → tree_at types n ≡ Some (tree_of b)
 found_tree types node n b w g h =
     map_at tree_of types n w.ty w.at ∙ ap Some (same_tree types node node w.ty b w.given g refl refl w.told h)
 
 -- the tree of the type that was put after the others
-pub pushed_tree : (es : List (Node × BoxType)) (node : Node) (b : BoxType) → tree_at (values_of (es ++ (node, b) ∷ []))
+pub pushed_tree : (es : List (TypeNode × BoxType)) (node : TypeNode) (b : BoxType) → tree_at (values_of (es ++ (node, b) ∷ []))
     (length es) ≡ Some (tree_of b)
 pushed_tree [] node b = refl
 pushed_tree (e ∷ es) node b = pushed_tree es node b

@@ -1,4 +1,4 @@
--- What the types of an interned store mean, and when the answers that it remembers are right.
+-- The meaning of the types of an interned store, and the correctness of the results that it remembers.
 -- Own rule of the profile.
 use Rattle.std.specs.Prelude.{◌≡◌, ◌≤◌, ℕ, List, Option, Some, None, All, Contains, map, unwrap_or}
 use Rattle.pc_types.specs.Tree.{Tree, Object}
@@ -24,13 +24,13 @@ meaning t = tree_of t.meaning.value
 abbrev pub number_of : TypeId → ℕ
 number_of t = t.number
 
--- the type's number stands for what it means, which is in normal form and has at most 256 nodes
+-- the type's number is that of its meaning, which is in normal form and has at most 256 nodes
 pub record IsHeld (types : List BoxType) (t : TypeId) : Type 0 where
   pub at : tree_at types t.number ≡ Some (meaning t)
   pub normal : IsNormal (meaning t)
   pub small : nodes (meaning t) ≤ node_limit
 
--- the answers are those about the trees of the two numbers
+-- the results are those of comparing the trees of the two numbers
 pub record IsRight (bases : Bases) (types : List BoxType) (a : Answers) : Type 0 where
   pub left : Tree
   pub right : Tree
@@ -39,35 +39,35 @@ pub record IsRight (bases : Bases) (types : List BoxType) (a : Answers) : Type 0
   pub is_static : a.is_static ≡ static_test bases left right
   pub is_assignable : a.is_assignable ≡ assignable_test bases left right
 
--- a place that keeps answers keeps right ones
+-- a slot of the memo is empty or has right results
 abbrev pub IsRightAt : Bases → List BoxType → Option Answers → Type 0
 IsRightAt bases types None = Unit {0}
 IsRightAt bases types (Some a) = IsRight bases types a
 
--- each place that keeps answers keeps right ones
+-- each slot of the memo is empty or has right results
 abbrev pub AreRight : Bases → List BoxType → List (Option Answers) → Type 0
 AreRight bases types places = All (IsRightAt bases types) places
 
--- the last number is that of the join of the types of the others
+-- the last number is that of the join of the types with the other numbers
 pub record IsJoined (bases : Bases) (types : List BoxType) (j : Joined) : Type 0 where
   pub trees : List Tree
   pub at_types : map (tree_at types) j.types.items ≡ map Some trees
   pub at_joined : tree_at types j.joined ≡ Some (types_joined bases trees)
 
--- a place that keeps a join keeps a right one
+-- a slot of the table of joins is empty or has a right join
 abbrev pub IsJoinedAt : Bases → List BoxType → Option Joined → Type 0
 IsJoinedAt bases types None = Unit {0}
 IsJoinedAt bases types (Some j) = IsJoined bases types j
 
--- each place that keeps a join keeps a right one
+-- each slot of the table of joins is empty or has a right join
 abbrev pub AreJoined : Bases → List BoxType → List (Option Joined) → Type 0
 AreJoined bases types places = All (IsJoinedAt bases types) places
 
--- a type stays as it is where the type of a number is joined to it
+-- joining the type with this number to a type leaves that type unchanged
 abbrev pub AddsNothing : Bases → List BoxType → Tree → ℕ → Type 0
 AddsNothing bases types t n = (u : Tree) → tree_at types n ≡ Some u → unwrap_or (join bases t u) Object ≡ t
 
--- a join in the making is one that a store may give, and what is known to add nothing to it does
+-- a join in progress is a type that a store may give, and the types noted as changing nothing change nothing
 pub record IsGathered (bases : Bases) (types : List BoxType) (g : Gathered) : Type 0 where
   pub given : IsGiven g.joined
   pub settled : (n : ℕ) → Contains g.settled.items n → AddsNothing bases types (tree_of g.joined) n

@@ -1,13 +1,13 @@
-//! Whether two types in boxes are the same.
+//! Equality of boxed types.
 
 ghost use Rattle.std.specs.Prelude.{◌≡◌, IsTrue, map};
 ghost use Rattle.pc_types.specs.Boxed.{tree_of};
 
 use pc_types::BoxType;
 
-/// Whether two types are the same.
+/// Returns true only if two types are equal.
 #[cycle(alike)]
-pub(crate) fn is_alike(s: &BoxType, t: &BoxType) -> bool
+pub fn is_alike(s: &BoxType, t: &BoxType) -> bool
     ensures { IsTrue result → tree_of s.now ≡ tree_of t.now }
 {
     match s {
@@ -41,7 +41,7 @@ pub(crate) fn is_alike(s: &BoxType, t: &BoxType) -> bool
     }
 }
 
-/// Whether the parts of two tuples are the same.
+/// Returns true only if two tuples have equal parts.
 #[cycle(alike)]
 fn are_alike(ss: &[BoxType], ts: &[BoxType]) -> bool
     ensures { IsTrue result → map tree_of ss.now ≡ map tree_of ts.now }

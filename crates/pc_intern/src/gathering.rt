@@ -1,4 +1,4 @@
-//! A join in the making, to which types are joined one after another.
+//! A join in progress, to which types are joined one after another.
 
 ghost use Rattle.std.specs.Prelude.{◌≡◌, ◌⊎◌, [], ℕ, Contains, IfOk, IsTrue, OnOk, unwrap_or};
 ghost use Rattle.pc_types.specs.Tree.{Never, Object};
@@ -13,11 +13,11 @@ use pc_source::OutOfMemory;
 use pc_types::{BoxStore, BoxType, Parents, TypeStore};
 use std::alloc::Global;
 
-/// How many numbers are kept of the types that add nothing, and of those that were joined before.
+/// Most numbers kept of the types that change nothing, and of those that were joined before.
 const MANY: usize = 64;
 
-/// What types join to so far; some types that are known to add nothing to it; and some that were joined before. Types
-/// are told by their numbers.
+/// A join in progress: the join so far; some types known to leave it unchanged; and some that were joined before. These
+/// types are given by their numbers.
 #[derive(Drop)]
 pub(crate) struct Gathered {
     pub(crate) joined: BoxType,
@@ -26,7 +26,7 @@ pub(crate) struct Gathered {
 }
 
 impl Gathered {
-    /// What no types join to.
+    /// Returns the join of no types.
     pub(crate) fn new(alloc: Global) -> Gathered
         ensures joined { tree_of result.joined ≡ Never }
         ensures settled { result.settled.items ≡ [] }
@@ -39,7 +39,7 @@ impl Gathered {
     }
 }
 
-/// Whether a number is one of these.
+/// Returns true only if a number is one of these.
 fn is_among(numbers: &Numbers, number: usize) -> bool
     ensures { IsTrue result → Contains numbers.now.items number }
 {
@@ -52,7 +52,7 @@ fn is_among(numbers: &Numbers, number: usize) -> bool
     false
 }
 
-/// Adds a number to others, which are forgotten where there are many.
+/// Adds a number to others, which are dropped first if there are many.
 fn note(numbers: &mut Numbers, number: usize) -> Result<(), OutOfMemory>
     ensures { OnOk result ((n : ℕ) → Contains numbers.new.items n → Contains numbers.old.items n ⊎ (number ≡ n)) }
 {
@@ -64,7 +64,7 @@ fn note(numbers: &mut Numbers, number: usize) -> Result<(), OutOfMemory>
 }
 
 impl InternStore {
-    /// A join in the making with one type more. A type that is known to add nothing is not looked at.
+    /// Returns a join in progress with one more type. A type known to change nothing is skipped.
     pub(crate) fn gather(
         &self,
         alloc: Global,
@@ -99,7 +99,7 @@ impl InternStore {
         })
     }
 
-    /// A join in the making with one type more, which was joined before and so may add nothing.
+    /// Returns a join in progress with one more type that was joined before and may therefore change nothing.
     fn gather_again(
         &self,
         alloc: Global,

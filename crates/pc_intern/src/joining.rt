@@ -1,4 +1,4 @@
-//! Joins of types of an interned store: of two that tell it at once, and of several.
+//! Joins of types of an interned store.
 
 ghost use Rattle.std.specs.Prelude.{◌≡◌, ◌↔◌, ◌∷◌, [], All, IfOk, IfSome, IsTrue, List, MatchOption, None, Some, map};
 ghost use Rattle.pc_types.specs.Tree.{Tree, Never, Object};
@@ -18,21 +18,21 @@ use pc_source::OutOfMemory;
 use pc_types::{BoxStore, BoxType, Parents, TypeStore};
 use std::alloc::Global;
 
-/// From how many types on what they join to is kept, also where none of them has parts: fewer are joined sooner than
-/// two lists of parents are compared.
+/// Fewest types whose join is kept even if none of them has parts: fewer are joined faster than two lists of parents
+/// are compared.
 const MANY_TYPES: usize = 8;
 
-/// Up to how many types what they join to is kept, so that what is kept stays small.
+/// Most types whose join is kept, so that the kept lists are short.
 const MOST_TYPES: usize = 256;
 
-/// How many classes may be compared, of two lists of parents, for each part of the types that are joined.
+/// Most classes of two lists of parents that may be compared for each part of the types to join.
 const CLASSES_FOR_A_NODE: usize = 16;
 
-/// From how many nodes of two types on their join is kept: smaller ones are joined sooner.
+/// Fewest nodes of two types whose join is kept: the join of smaller ones is faster than a lookup.
 const MANY_NODES: usize = 16;
 
 impl InternStore {
-    /// Whether a type of the store is `Never`.
+    /// Returns whether a type of the store is `Never`.
     fn is_never(&self, ty: &TypeId) -> bool
         requires { IsHeld self.now ty.now }
         ensures { IsTrue result ↔ (meaning ty.now ≡ Never) }
@@ -40,7 +40,7 @@ impl InternStore {
         matches!(self.table.ty(ty.number), BoxType::Never)
     }
 
-    /// The join of two types where it is one of them without a look at their members: of equal types, and where one is
+    /// Returns the join of two types if it is found without looking at their members: if they are equal, or one is
     /// `Never`.
     pub(crate) fn join_at_once(&self, s: &TypeId, t: &TypeId) -> Option<TypeId>
         requires left { IsHeld self.now s.now }
@@ -58,13 +58,14 @@ impl InternStore {
         None
     }
 
-    /// Whether the parents are few beside the members of types, so that comparing the lists of parents takes no longer than
-    /// a join of the types.
+    /// Returns whether there are few parents in proportion to the members of types, so that comparing the lists of
+    /// parents takes no longer than a join of the types.
     fn are_parents_few(&self, size: usize) -> bool {
         self.parents.count() / CLASSES_FOR_A_NODE <= size
     }
 
-    /// Whether what types join to is kept: they are many, or one has parts, and they are not too many.
+    /// Returns whether the join of types is to be kept: there are many types or one has parts, and there are not too
+    /// many.
     pub(crate) fn are_kept(&self, types: &[TypeId]) -> bool
         requires { All (IsHeld self.now) types.now }
     {
@@ -79,14 +80,14 @@ impl InternStore {
         (size > count || count >= MANY_TYPES) && self.are_parents_few(size)
     }
 
-    /// Whether what two types join to is kept: they are large.
+    /// Returns whether the join of two types is to be kept: they are large.
     pub(crate) fn is_pair_kept(&self, s: &TypeId, t: &TypeId) -> bool
         requires left { IsHeld self.now s.now }
         requires right { IsHeld self.now t.now }
     {
         let (left, right) = (self.table.parts(s.number), self.table.parts(t.number));
         let mut size = left.len().saturating_add(right.len());
-        // Types of few parts may still be large: nodes are counted where that does not take long.
+        // Types with few parts may still be large: their nodes are counted if that does not take long.
         if size < MANY_NODES {
             let store = BoxStore::new();
             let nodes = store.nodes(self.table.ty(s.number));
@@ -95,7 +96,7 @@ impl InternStore {
         size >= MANY_NODES && self.are_parents_few(size)
     }
 
-    /// The join of several types from the left, in boxes: what stands between is put into no table.
+    /// Returns the join of several types from the left, as a boxed type: intermediate joins are not put into the table.
     fn boxes_joined(
         &self,
         alloc: Global,
@@ -113,7 +114,7 @@ impl InternStore {
         Ok(gathered.joined)
     }
 
-    /// The join of several types from the left.
+    /// Returns the join of several types from the left.
     pub(crate) fn joined(
         &mut self,
         alloc: Global,
@@ -129,7 +130,7 @@ impl InternStore {
         self.made(alloc, &joined)
     }
 
-    /// The join of several types from the left; what is kept about them is taken.
+    /// Returns the join of several types from the left. A join kept earlier is reused, a new one is kept.
     #[tactic(auto, using(crate::proofs::Kept::many_kept))]
     pub(crate) fn joined_once(
         &mut self,
@@ -158,7 +159,7 @@ impl InternStore {
         Ok(ty)
     }
 
-    /// The join of two types, or none; what is kept about them is taken.
+    /// Returns the join of two types, if there is one. A join kept earlier is reused, a new one is kept.
     #[tactic(auto, using(crate::proofs::Kept::two_kept))]
     pub(crate) fn pair_joined(
         &mut self,
@@ -186,7 +187,7 @@ impl InternStore {
         Ok(Some(made))
     }
 
-    /// The join of two types in boxes, or none.
+    /// Returns the join of two types as a boxed type, if there is one.
     pub(crate) fn boxes_join(
         &self,
         alloc: Global,
@@ -204,7 +205,7 @@ impl InternStore {
         Ok(BoxStore::new().join(alloc, parents, s, t)?)
     }
 
-    /// Whether a type of the store is `object`.
+    /// Returns whether a type of the store is `object`.
     fn is_object(&self, ty: &TypeId) -> bool
         requires { IsHeld self.now ty.now }
         ensures { meaning ty.now ≡ Object → IsTrue result }
@@ -212,7 +213,7 @@ impl InternStore {
         matches!(self.table.ty(ty.number), BoxType::Object)
     }
 
-    /// The join of types, told by their numbers, where the store has kept it under the same parents.
+    /// Returns the join of types, given by their numbers, if the store has kept it under the same parents.
     fn kept_join(&self, parents: &Parents, types: &Numbers) -> Option<TypeId>
         ensures held { IfSome result (IsHeld self.now) }
         ensures value { (us : List Tree) → map (tree_at self.now) types.now.items ≡ map Some us
@@ -225,7 +226,7 @@ impl InternStore {
         Some(self.held(joined))
     }
 
-    /// The join of two types, which are told by their numbers too, where the store has kept it under the same parents.
+    /// Returns the join of two types, given by their numbers too, if the store has kept it under the same parents.
     fn kept_pair(
         &self,
         parents: &Parents,
@@ -241,14 +242,14 @@ impl InternStore {
             (λ u. join parents.now (meaning s.now) (meaning t.now) ≡ Some (meaning u)) }
     {
         let kept = self.kept_join(parents, types)?;
-        // Where two types have no join, `object` is what several types join to.
+        // `object` may be kept for two types without a join, as the join of several types.
         if self.is_object(&kept) {
             return None;
         }
         Some(kept)
     }
 
-    /// Keeps a join, if the parents are the store's.
+    /// Keeps a join if the parents are the store's.
     fn keep_join(&mut self, parents: &Parents, joined: Joined)
         requires { IsJoined parents.now self.old joined }
         ensures { self.new ≡ self.old }

@@ -1,4 +1,4 @@
-//! Types as numbers: a store in which each type tree stands once.
+//! Types as numbers: a store that has each type tree once.
 #![tactic(auto)]
 
 mod alike;
@@ -9,4 +9,5 @@ mod sizes;
 mod store;
 mod table;
 
+pub use alike::is_alike;
 pub use store::{InternStore, TypeId};

@@ -1,4 +1,4 @@
-//! Answers that a store remembers: about pairs of its types, and what several of them join to.
+//! Results that a store remembers: of comparing pairs of its types, and of joining several.
 
 ghost use Rattle.std.specs.Prelude.{◌≡◌, All, ◌+◌, ◌*◌, ◌%◌, ◌^◌, ◌<◌, Contains, IfOk, IfSome, None, Some, slice_set};
 ghost use Rattle.std.specs.Prelude.{List, vec_len};
@@ -10,10 +10,10 @@ use crate::table::Numbers;
 use pc_source::OutOfMemory;
 use std::alloc::Global;
 
-/// How many places a memo has.
+/// The number of slots of a memo.
 const PLACES: usize = 4096;
 
-/// The answers about a pair of types, which are told by their numbers.
+/// The results of comparing a pair of types, given by their numbers.
 #[derive(Clone, Copy)]
 pub(crate) struct Answers {
     pub(crate) s: usize,
@@ -22,14 +22,14 @@ pub(crate) struct Answers {
     pub(crate) is_assignable: bool,
 }
 
-/// A table of places, each of which keeps the answers about one pair, or none yet.
+/// A table of slots, each of which keeps the results of one pair or is empty.
 #[derive(Drop)]
 pub(crate) struct Memo {
     places: Vec<Option<Answers>>,
     pub ghost all_places: { vec_len places ≡ 4096 },
 }
 
-/// The place of a pair of numbers, the product and the sum wrapping.
+/// Returns the slot of a pair of numbers. The product and the sum wrap.
 fn place_of(s: usize, t: usize) -> usize
     ensures { result ≡ ((31 * s) % 2 ^ 64 + t) % 2 ^ 64 % 4096 }
 {
@@ -37,7 +37,7 @@ fn place_of(s: usize, t: usize) -> usize
 }
 
 impl Memo {
-    /// A memo that keeps nothing yet.
+    /// Returns an empty memo.
     pub(crate) fn new(alloc: Global) -> Result<Memo, OutOfMemory>
         ensures { IfOk result (λ m. All (λ o. o ≡ None) m.places.items) }
     {
@@ -46,7 +46,7 @@ impl Memo {
         Ok(Memo { places })
     }
 
-    /// What is kept about a pair.
+    /// Returns the results kept of a pair, if there are any.
     pub(crate) fn recall(&self, s: usize, t: usize) -> Option<Answers>
         ensures pair { IfSome result (λ a. (a.s ≡ s) × (a.t ≡ t)) }
         ensures kept { IfSome result (λ a. Contains self.now.places.items (Some a)) }
@@ -58,35 +58,35 @@ impl Memo {
         Some(answers)
     }
 
-    /// Keeps the answers about a pair, in place of those of another pair of its place.
+    /// Keeps the results of a pair in place of those of another pair with the same slot.
     pub(crate) fn keep(&mut self, answers: Answers)
         ensures { self.new.places.items
             ≡ slice_set self.old.places.items (((31 * answers.s) % 2 ^ 64 + answers.t) % 2 ^ 64 % 4096) (Some answers) }
     {
-        // An answer that is lost is found again from the types; so the memo never has to grow.
+        // A lost result is computed again from the types; so the memo never has to grow.
         let place = place_of(answers.s, answers.t);
         self.places[place] = Some(answers);
     }
 }
 
-/// How many places the table of joins has.
+/// The number of slots of the table of joins.
 const JOIN_PLACES: usize = 1024;
 
-/// What types join to, all told by their numbers.
+/// Types and their join, all given by their numbers.
 #[derive(Drop)]
 pub(crate) struct Joined {
     pub(crate) types: Numbers,
     pub(crate) joined: usize,
 }
 
-/// A table of places, each of which keeps what some types join to, or nothing yet.
+/// A table of slots, each of which keeps the join of some types or is empty.
 #[derive(Drop)]
 pub(crate) struct Joins {
     places: Vec<Option<Joined>>,
     pub ghost all_places: { vec_len places ≡ 1024 },
 }
 
-/// The place of several numbers.
+/// Returns the slot of several numbers.
 fn place_of_all(numbers: &[usize]) -> usize
     ensures { result < 1024 }
 {
@@ -98,7 +98,7 @@ fn place_of_all(numbers: &[usize]) -> usize
 }
 
 impl Joins {
-    /// A table that keeps nothing yet.
+    /// Returns an empty table.
     pub(crate) fn new(alloc: Global) -> Result<Joins, OutOfMemory>
         ensures { IfOk result (λ m. All (λ o. o ≡ None) m.places.items) }
     {
@@ -109,7 +109,7 @@ impl Joins {
         Ok(Joins { places })
     }
 
-    /// What is kept about types.
+    /// Returns the join kept of these types, if there is one.
     pub(crate) fn recall(&self, types: &Numbers) -> Option<usize>
         ensures { (bases : Bases) (table : List BoxType) → AreJoined bases table self.now.places.items
             → IfSome result (λ n. IsJoined bases table (record { types = types.now; joined = n })) }
@@ -121,7 +121,7 @@ impl Joins {
         Some(joined.joined)
     }
 
-    /// Keeps what types join to, in place of what is kept about others of their place.
+    /// Keeps a join of types in place of another with the same slot.
     pub(crate) fn keep(&mut self, joined: Joined)
         ensures { (bases : Bases) (table : List BoxType) → AreJoined bases table self.old.places.items
             → IsJoined bases table joined → AreJoined bases table self.new.places.items }

@@ -1,4 +1,4 @@
-//! Sizes of types that a store holds, by which it is decided how they are looked at.
+//! Sizes of stored types, which decide how types are compared.
 
 ghost use Rattle.std.specs.Prelude.{◌<◌, All, IsTrue, map};
 ghost use Rattle.pc_types.specs.Tree.{TupleOf};
@@ -8,15 +8,16 @@ ghost use Rattle.pc_intern.specs.Store.{IsHeld, meaning};
 use crate::store::{InternStore, TypeId};
 use pc_types::{Head, TypeStore};
 
-/// How many nodes a type may have.
+/// Most nodes of a type.
 const MOST_NODES: usize = 256;
 
-/// Up to how many classes the memo is asked of any two types. Whether parents are the store's is told by comparing the
-/// two lists, and of more classes that takes longer than most types take to be compared in boxes.
+/// Most classes with which the memo is used for any two types. Whether parents are the store's is found by comparing
+/// the two lists; with more classes that takes longer than comparing most types structurally.
 const MEMO_CLASSES: usize = 256;
 
 impl InternStore {
-    /// Whether the memo is asked of two types: the parents are few classes, or no more than pairs of members.
+    /// Returns whether the memo is used for two types: there are few classes, or two unions with no fewer pairs of
+    /// members.
     pub(crate) fn is_memo_asked(&self, s: &TypeId, t: &TypeId) -> bool
         requires left { IsHeld self.now s.now }
         requires right { IsHeld self.now t.now }
@@ -30,7 +31,8 @@ impl InternStore {
         }
     }
 
-    /// Whether a tuple of these types has more nodes than a type may have, so that none of them need be copied.
+    /// Returns true only if a tuple of these types has more nodes than a type may have, so that none of them need be
+    /// copied.
     pub(crate) fn is_tuple_large(&self, types: &[TypeId]) -> bool
         requires { All (IsHeld self.now) types.now }
         ensures { IsTrue result → node_limit < nodes (TupleOf (trees (map meaning types.now))) }

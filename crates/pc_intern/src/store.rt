@@ -12,7 +12,7 @@ ghost use Rattle.pc_intern.specs.Table.{tree_at};
 ghost use Rattle.pc_intern.specs.Store.{IsHeld, IsRight, meaning, number_of};
 
 use crate::memo::{Answers, Joins, Memo};
-use crate::table::{Node, Numbers, Table};
+use crate::table::{Numbers, Table, TypeNode};
 use pc_source::OutOfMemory;
 use pc_tree::Keys;
 use pc_types::{BoxStore, BoxType, Head, Parents, TypeStore};
@@ -20,15 +20,15 @@ use std::alloc::Global;
 use std::marker::Model;
 use std::snapshot::Snapshot;
 
-/// A type of an interned store: its number, and what it means, of which only contracts know.
+/// A type of an interned store: its number, and its meaning, which only contracts use.
 #[derive(Drop)]
 pub struct TypeId {
     pub(crate) number: usize,
     meaning: Snapshot<BoxType>,
 }
 
-/// A store whose types are numbers: each type tree stands once, so two types are equal exactly where
-/// their numbers are. It remembers how pairs of types compared.
+/// A store whose types are numbers: it has each type tree once, so two types are equal exactly if their numbers are. It
+/// remembers the results of comparing pairs of types.
 #[derive(Drop)]
 pub struct InternStore {
     pub(crate) table: Table,
@@ -55,7 +55,7 @@ impl Model for InternStore {
         × AreJoined s.parents s.table s.joins.places.items };
 }
 
-/// How two types of a table compare.
+/// Compares two types of a table.
 fn compare(table: &Table, parents: &Parents, s: usize, t: usize) -> Answers
     requires left { s < length table.now }
     requires right { t < length table.now }
@@ -72,7 +72,7 @@ fn compare(table: &Table, parents: &Parents, s: usize, t: usize) -> Answers
 }
 
 impl InternStore {
-    /// A store without types, which remembers how types compare under these parents.
+    /// Returns a store without types, which remembers how types compare under these parents.
     pub fn new(alloc: Global, keys: Keys, parents: Parents) -> Result<InternStore, OutOfMemory>
         ensures { IfOk result (λ s. s ≡ []) }
     {
@@ -84,7 +84,7 @@ impl InternStore {
         })
     }
 
-    /// Whether two types of the store are the same: their numbers tell.
+    /// Returns whether two types of the store are equal, by their numbers.
     pub fn is_same(&self, s: &TypeId, t: &TypeId) -> bool
         requires left { IsHeld self.now s.now }
         requires right { IsHeld self.now t.now }
@@ -94,7 +94,7 @@ impl InternStore {
         s.number == t.number
     }
 
-    /// The type of a number.
+    /// Returns the type with this number.
     pub(crate) fn held(&self, number: usize) -> TypeId
         requires { number < length self.now }
         ensures held { IsHeld self.now result }
@@ -106,7 +106,7 @@ impl InternStore {
         }
     }
 
-    /// A type of the store that means the tree of a type in boxes.
+    /// Returns a type of the store that means the tree of a boxed type.
     pub(crate) fn made(&mut self, alloc: Global, ty: &BoxType) -> Result<TypeId, OutOfMemory>
         requires { IsGiven ty.now }
         ensures value { IfOk result (λ t. Means IsHeld meaning self.new t (tree_of ty.now)) }
@@ -119,21 +119,21 @@ impl InternStore {
         })
     }
 
-    /// The type with this head and parts of these numbers, if the store has it.
+    /// Returns the type with this head and parts with these numbers, if the store has it.
     fn known(&self, head: Head, numbers: Numbers) -> Option<TypeId>
         ensures held { IfSome result (IsHeld self.now) }
         ensures head { IfSome result (λ t. head_of (meaning t) ≡ head) }
         ensures parts { (us : List Tree) → map (tree_at self.now) numbers.items ≡ map Some us
             → IfSome result (λ t. parts (meaning t) ≡ us) }
     {
-        let number = self.table.find(&Node {
+        let number = self.table.find(&TypeNode {
             head,
             parts: numbers,
         })?;
         Some(self.held(number))
     }
 
-    /// The numbers of types.
+    /// Returns the numbers of types.
     pub(crate) fn numbers(&self, alloc: Global, types: &[TypeId]) -> Result<Numbers, OutOfMemory>
         requires { All (IsHeld self.now) types.now }
         ensures numbers { IfOk result (λ v. v.items ≡ map number_of types.now) }
@@ -146,7 +146,7 @@ impl InternStore {
         Ok(numbers)
     }
 
-    /// Types in boxes that mean the same as types of the store.
+    /// Returns boxed types with the same meaning as types of the store.
     fn boxes(&self, alloc: Global, types: &[TypeId]) -> Result<Vec<BoxType>, OutOfMemory>
         requires { All (IsHeld self.now) types.now }
         ensures given { IfOk result (λ v. All IsGiven v.items) }
@@ -160,8 +160,8 @@ impl InternStore {
         Ok(boxes)
     }
 
-    /// How two types compare, where that is told at once or by the memo, which is asked of types with parts under the
-    /// store's parents, if these tell few classes. None where boxes are to be compared.
+    /// Compares two types by number or memo. The memo is used for types with parts, under the store's parents, if these
+    /// are few. `None` if the types must be compared structurally.
     fn answers(&mut self, parents: &Parents, s: &TypeId, t: &TypeId) -> Option<Answers>
         requires left { IsHeld self.old s.now }
         requires right { IsHeld self.old t.now }
@@ -297,6 +297,14 @@ impl TypeStore for InternStore {
 
     fn part(&self, _alloc: Global, ty: &TypeId, number: usize) -> Result<TypeId, OutOfMemory> {
         Ok(self.held(self.table.parts(ty.number)[number]))
+    }
+
+    fn boxed<'t>(&'t self, ty: &'t TypeId) -> &'t BoxType {
+        self.table.ty(ty.number)
+    }
+
+    fn mark(&self, ty: &TypeId) -> usize {
+        ty.number
     }
 
     fn members(&self, alloc: Global, ty: &TypeId) -> Result<Vec<TypeId>, OutOfMemory> {

@@ -1,4 +1,4 @@
-//! The table of an interned store, in which each type tree stands once.
+//! The table of an interned store, which has each type tree once.
 
 ghost use Rattle.std.specs.Prelude.{◌≡◌, ◌↔◌, ◌<◌, ◌++◌, ℕ, List, [], All, length, slice_get, map, IfOk, IfSome};
 ghost use Rattle.std.specs.Prelude.{IsTrue, OnOk, Some};
@@ -16,23 +16,23 @@ use smallvec::SmallVec;
 use std::alloc::Global;
 use std::marker::Model;
 
-/// How many basic types there are: types that have no parts and are no class.
+/// The number of basic types: types that have no parts and are not classes.
 const BASIC_TYPES: usize = 7;
 
 /// Numbers of types, in order. Few types have more than four parts.
 pub(crate) type Numbers = SmallVec<usize, 4>;
 
-/// What a type is told by in the table: its head, and the numbers of its parts.
+/// The key of a type in the table: its head, and the numbers of its parts.
 #[derive(PartialEq, Eq, Hash, Drop)]
-pub(crate) struct Node {
+pub(crate) struct TypeNode {
     pub(crate) head: Head,
     pub(crate) parts: Numbers,
 }
 
-/// The types of a store, by number. Contracts see them as the list of what the numbers mean.
+/// The types of a store, by number. Contracts see them as the list of the types in this order.
 #[derive(Drop)]
 pub(crate) struct Table {
-    entries: IndexMap<Node, BoxType, Keys>,
+    entries: IndexMap<TypeNode, BoxType, Keys>,
     /// The number of each basic type that is in the table, at its place, so that it is found without hashing.
     basic: [Option<usize>; BASIC_TYPES],
 }
@@ -55,7 +55,7 @@ impl Model for Table {
     ghost invariant = { λ t. IsTable t.entries.entries × AreBasic (values_of t.entries.entries) t.basic };
 }
 
-/// The place of a basic type.
+/// Returns the place of a basic type, or `None` for any other type.
 fn basic_place(ty: &BoxType) -> Option<usize>
     ensures { IfSome result (λ p. slice_get basic_types p ≡ Some (tree_of ty.now)) }
 {
@@ -72,7 +72,7 @@ fn basic_place(ty: &BoxType) -> Option<usize>
 }
 
 impl Table {
-    /// An empty table.
+    /// Returns an empty table.
     pub(crate) fn new(alloc: Global, keys: Keys) -> Table
         ensures { result ≡ [] }
     {
@@ -82,7 +82,7 @@ impl Table {
         }
     }
 
-    /// The type of a number.
+    /// Returns the type with this number.
     pub(crate) fn ty(&self, number: usize) -> &BoxType
         requires { number < length self.now }
         ensures value { slice_get self.now number ≡ Some result.now }
@@ -91,7 +91,7 @@ impl Table {
         &self.entries[number]
     }
 
-    /// The head of a type, which its node has.
+    /// Returns the head of a type, which its node has.
     pub(crate) fn head(&self, number: usize) -> Head
         requires { number < length self.now }
         ensures { (b : _) → slice_get self.now number ≡ Some b → result ≡ head_of (tree_of b) }
@@ -99,7 +99,7 @@ impl Table {
         self.entries.keys().as_slice()[number].head
     }
 
-    /// The numbers of a type's parts in order.
+    /// Returns the numbers of a type's parts, in order.
     pub(crate) fn parts(&self, number: usize) -> &[usize]
         requires { number < length self.now }
         ensures { (b : _) → slice_get self.now number ≡ Some b
@@ -108,7 +108,7 @@ impl Table {
         self.entries.keys().as_slice()[number].parts.as_slice()
     }
 
-    /// Whether a type has no parts.
+    /// Returns whether a type has no parts.
     pub(crate) fn is_simple(&self, number: usize) -> bool
         requires { number < length self.now }
         ensures { (b : _) → slice_get self.now number ≡ Some b → IsTrue result ↔ (parts (tree_of b) ≡ []) }
@@ -116,23 +116,23 @@ impl Table {
         self.parts(number).is_empty()
     }
 
-    /// The fact, for proofs, that no tree stands at two numbers. It does nothing.
+    /// Gives proofs the fact that no tree has two numbers. It does nothing.
     pub(crate) fn stands_once(&self)
         ensures { (m : ℕ) (n : ℕ) (t : Tree) → tree_at self.now m ≡ Some t → tree_at self.now n ≡ Some t → m ≡ n }
     {
         let _ = &self.entries;
     }
 
-    /// The number of the type that a head and parts tell, if it is in the table.
-    pub(crate) fn find(&self, node: &Node) -> Option<usize>
+    /// Returns the number of the type with this head and these parts, if it is in the table.
+    pub(crate) fn find(&self, node: &TypeNode) -> Option<usize>
         ensures { IfSome result (λ n. IsNodeAt self.now node.now n) }
     {
         let (number, _, _) = self.entries.get_full(node)?;
         Some(number)
     }
 
-    /// The number of a type that has this head and parts. One that isn't in the table is put into it.
-    fn add(&mut self, alloc: Global, node: Node, ty: &BoxType) -> Result<usize, OutOfMemory>
+    /// Returns the number of a type with this head and these parts. Adds the type if it is not in the table.
+    fn add(&mut self, alloc: Global, node: TypeNode, ty: &BoxType) -> Result<usize, OutOfMemory>
         requires given { IsGiven ty.now }
         requires node { IsNode self.old node (tree_of ty.now) }
         ensures value { IfOk result (λ n. tree_at self.new n ≡ Some (tree_of ty.now)) }
@@ -147,7 +147,7 @@ impl Table {
         Ok(number)
     }
 
-    /// The number of the basic type of a place. It is put into the table where it isn't in it.
+    /// Returns the number of the basic type with this place. Adds it if it is not in the table.
     fn intern_basic(
         &mut self,
         alloc: Global,
@@ -162,7 +162,7 @@ impl Table {
         if let Some(known) = self.basic[place] {
             return Ok(known);
         }
-        let node = Node {
+        let node = TypeNode {
             head: BoxStore::new().head(ty),
             parts: Numbers::new(alloc),
         };
@@ -171,7 +171,7 @@ impl Table {
         Ok(number)
     }
 
-    /// The number of a type. It and its parts are put into the table where they aren't in it.
+    /// Returns the number of a type. Adds the type and its parts if they are not in the table.
     #[cycle(intern)]
     pub(crate) fn intern(&mut self, alloc: Global, ty: &BoxType) -> Result<usize, OutOfMemory>
         requires { IsGiven ty.now }
@@ -182,14 +182,14 @@ impl Table {
             return self.intern_basic(alloc, place, ty);
         }
         let parts = self.intern_parts(alloc, ty)?;
-        let node = Node {
+        let node = TypeNode {
             head: BoxStore::new().head(ty),
             parts,
         };
         self.add(alloc, node, ty)
     }
 
-    /// The numbers of a type's parts, each put into the table where it isn't in it.
+    /// Returns the numbers of a type's parts. Adds each part that is not in the table.
     #[cycle(intern)]
     fn intern_parts(&mut self, alloc: Global, ty: &BoxType) -> Result<Numbers, OutOfMemory>
         requires { IsGiven ty.now }
@@ -217,7 +217,7 @@ impl Table {
         }
     }
 
-    /// The numbers of types, each put into the table where it isn't in it.
+    /// Returns the numbers of types. Adds each type that is not in the table.
     #[cycle(intern)]
     fn intern_each(&mut self, alloc: Global, types: &[BoxType]) -> Result<Numbers, OutOfMemory>
         requires { All IsGiven types.now }
@@ -231,7 +231,7 @@ impl Table {
         Ok(numbers)
     }
 
-    /// Puts the numbers of a type's members after others, each member into the table where it isn't in it.
+    /// Appends the numbers of a type's members. Adds each member that is not in the table.
     #[cycle(intern)]
     fn intern_members(
         &mut self,

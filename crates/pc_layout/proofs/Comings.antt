@@ -1,4 +1,4 @@
--- The tokens that come from the iterator, as a whole.
+-- The items of the iterator of tokens, as a whole.
 use Rattle.std.proofs.Common.{◌≡◌, ◌⊎◌, ℕ, List, [], ◌∷◌, ◌++◌, true, false, Option, Some, None, Result, Ok, Err, Bor}
 use Rattle.std.proofs.Common.{map, length, refl, ap, sym, ◌∙◌, inl, inr, subst}
 use Rattle.pc_source.specs.declared.fault.Refusal.{Refusal}
@@ -11,13 +11,13 @@ use Rattle.pc_token.specs.Lexeme.{Lexeme, LogicalLine}
 use Rattle.pc_layout.specs.Flat.{flat, written_line}
 use Rattle.pc_layout.specs.Spelling.{first_byte}
 use Rattle.pc_layout.specs.Placing.{LayoutContext}
-use Rattle.pc_layout.specs.Stepping.{layout_lexemes, start, settle, give, placed_line, step, after, dedents, indents}
+use Rattle.pc_layout.specs.Stepping.{layout_lexemes, start, outrank, give, placed_line, step, after, dedents, indents}
 use Rattle.pc_layout.specs.TokenIterator.PendingTokens.{asks}
 use Rattle.pc_layout.specs.TokenIterator.Items.{line_item_of, token_item_of, Left}
 use Rattle.pc_layout.specs.TokenIterator.NextToken.{gives_next_token}
 use Rattle.pc_layout.specs.Answering.{lines_came, fault_came, AnswersLines, Refuses, LaysOut}
 use Rattle.pc_layout.specs.TokenIterator.Start.{IsAtStart}
-use Rattle.pc_layout.specs.declared.toks.Toks.{Toks}
+use Rattle.pc_layout.specs.declared.layout_tokens.LayoutTokens.{LayoutTokens}
 use Rattle.pc_layout.proofs.Laying.{laid_line, laid_refused, laid_fault}
 use Rattle.pc_layout.proofs.Forests.{came, given_is, planted, Planted}
 use Rattle.pc_layout.proofs.Verdicts.{verdict, laid_out, laid_wrong, refused_given, IsGivenFault}
@@ -32,12 +32,12 @@ give_all [] = refl
 give_all (x ∷ xs) = ap (λ z. Ok x ∷ z) (give_all xs)
 
 settle_fault : (r : Refusal) (ls : List (Result LogicalLine Fault)) (e : Fault) → fault_came ls ≡ Some e
-    → settle r ls ≡ e
+    → outrank r ls ≡ e
 settle_fault r [] e h = absurd (cc)
 settle_fault r (Ok l ∷ ls) e h = settle_fault r ls e h
 settle_fault r (Err f ∷ ls) e h = cc
 
--- a fault among the lines comes after some tokens
+-- a fault among the lines is given after some tokens
 pub faulty : (text : List ℕ) (x : LayoutContext) (ls : List (Result LogicalLine Fault)) (e : Fault)
     → fault_came ls ≡ Some e → (front : List Lexeme) × (layout_lexemes text x ls ≡ give front (Err e ∷ []))
 faulty text x [] e h = absurd (cc)
@@ -62,7 +62,7 @@ all_came [] = inl (refl, refl)
 all_came (Ok l ∷ ls) = elim (all_came ls) [ inl h ↦ inl (ap (λ z. Ok l ∷ z) h.0, h.1) | inr h ↦ inr h ]
 all_came (Err e ∷ ls) = inr (e, refl)
 
--- what is laid answers the lines
+-- the tokens laid out are the result of the lines
 pub answers : (text : List ℕ) (ls : List (Result LogicalLine Fault)) (ys : List (Result Lexeme Fault))
     → layout_lexemes text start ls ≡ ys → AnswersLines text ls ys
 answers text ls ys h = elim (all_came ls) [
@@ -93,18 +93,18 @@ answers text ls ys h = elim (all_came ls) [
 ]
 
 module _ {I : Type 0} (steps : I → Option (Result Line Fault) → I → Type 0) where
-  abbrev pub toks_gives : Toks I → Option (Result (Token (Bor (List ℕ))) Fault) → Toks I → Type 0
+  abbrev pub toks_gives : LayoutTokens I → Option (Result (Token (Bor (List ℕ))) Fault) → LayoutTokens I → Type 0
   toks_gives s r t = gives_next_token steps s.hand s.lines r t.hand t.lines
 
   -- the tokens that come are those that are left
-  pub comes_left : (s : Toks I) (xs : List (Result (Token (Bor (List ℕ))) Fault)) → Yields toks_gives s xs
+  pub comes_left : (s : LayoutTokens I) (xs : List (Result (Token (Bor (List ℕ))) Fault)) → Yields toks_gives s xs
       → Left steps s.hand s.lines (map token_item_of xs)
   comes_left s [] (t, (d, l)) = l
   comes_left s (Ok x ∷ xs) (j, g, cm) = g (map token_item_of xs) (comes_left j xs cm)
   comes_left s (Err e ∷ xs) (q, j, (d, l)) = rw q l
 
   -- from the first token on they are the layout of the lines that come
-  pub lays_out : (text : List ℕ) (it : I) (s : Toks I) → IsAtStart text it s → LaysOut steps toks_gives text it s
+  pub lays_out : (text : List ℕ) (it : I) (s : LayoutTokens I) → IsAtStart text it s → LaysOut steps toks_gives text it s
   lays_out text it s b xs cm = elim (comes_left s xs cm) [
     | inl h ↦ absurd (let q : true ≡ false = sym (ap asks b.due) ∙ h.0 in cc)
     | inr h ↦ (

@@ -1,4 +1,4 @@
--- Lines that were placed one after another are a forest, and what was given is the forest written flat.
+-- Lines placed in order are a forest, and their tokens are the forest written flat.
 use Rattle.std.proofs.Common.{◌≡◌, ◌⊎◌, ℕ, ◌<◌, ◌≤◌, ◌-◌, Bool, true, false, nat_lt, if◌then◌else◌, suc, List, [], ◌∷◌}
 use Rattle.std.proofs.Common.{◌++◌, Result, Ok, length, map, refl, ap, sym, ◌∙◌, arith, inl, inr}
 use Rattle.std.proofs.lemmas.List.{append-nil, append_assoc}
@@ -7,7 +7,7 @@ use Rattle.pc_token.specs.declared.token.TokenKind.TheVariants.{Dedent, Indent, 
 use Rattle.pc_token.specs.Lexeme.{Lexeme, LogicalLine}
 use Rattle.pc_layout.specs.Spelling.{first_byte}
 use Rattle.pc_layout.specs.Forest.{Suite, nothing, line, lines_of, IsSuite}
-use Rattle.pc_layout.specs.Flat.{mark, newline, flat_lexemes, written_line, indented_lexemes, starts_at, flat}
+use Rattle.pc_layout.specs.Flat.{empty_token, newline, flat_lexemes, written_line, indented_lexemes, starts_at, flat}
 use Rattle.pc_layout.specs.Stepping.{start, give, dedents, indents, placed_line, layout_lexemes, after, step}
 use Rattle.pc_layout.specs.declared.levels.Level.{Level}
 use Rattle.pc_layout.specs.Placing.{LayoutContext, Placement, column_of, levels_up_to}
@@ -24,7 +24,7 @@ abbrev pub spine_lines : List Suite → List LogicalLine
 spine_lines [] = []
 spine_lines (s ∷ ss) = lines_of s ++ spine_lines ss
 
--- what is left of the open suites, the innermost first, and at last of column 0
+-- the rest of the open suites, the innermost first, and finally of column 0
 abbrev pub IsSpine : List Level → List Suite → Type 0
 IsSpine [] [] = ⊥
 IsSpine [] (s ∷ []) = IsSuite 0 s
@@ -36,12 +36,12 @@ IsSpine (v ∷ vs) (s ∷ ss) = IsSuite v.column s × IsSpine vs ss
 abbrev pub spine_start : List ℕ → List Suite → ℕ
 spine_start text ss = starts_at text (length text) (spine_lines ss)
 
--- what comes after a suite: the DEDENT before the next one, or END
+-- the token after a suite: the DEDENT before the next one, or END
 abbrev pub then_written : List ℕ → List Suite → List Lexeme → List Lexeme
-then_written text [] others = mark End (length text) ∷ []
-then_written text (s ∷ ss) others = mark Dedent (spine_start text (s ∷ ss)) ∷ others
+then_written text [] others = empty_token End (length text) ∷ []
+then_written text (s ∷ ss) others = empty_token Dedent (spine_start text (s ∷ ss)) ∷ others
 
--- what is left of the open suites written flat
+-- the rest of the open suites written flat
 abbrev pub spine_written : List ℕ → List Suite → List Lexeme
 spine_written text [] = []
 spine_written text (s ∷ ss) = flat_lexemes text s (spine_start text ss) ++ then_written text ss (spine_written text ss)
@@ -100,7 +100,7 @@ pub record Spined (text : List ℕ) (vs : List Level) (ls : List LogicalLine) (x
   pub written : spine_written text spine ≡ xs
 
 then_dedent : (text : List ℕ) (vs : List Level) (ss : List Suite) (o : List Lexeme) → IsSpine vs ss
-    → then_written text ss o ≡ mark Dedent (spine_start text ss) ∷ o
+    → then_written text ss o ≡ empty_token Dedent (spine_start text ss) ∷ o
 then_dedent text [] [] o h = absurd h
 then_dedent text (v ∷ vs) [] o h = absurd h
 then_dedent text vs (s ∷ ss) o h = refl
@@ -124,8 +124,8 @@ module _ (text : List ℕ) (c : ℕ) (l : LogicalLine) (inner s : Suite) (ss : L
     suites = (tt, r.suites);
     its_lines = r.its_lines;
     written = then_dedent text vs r.spine (spine_written text r.spine) r.suites
-        ∙ ap (λ z. mark Dedent (starts_at text (length text) z) ∷ spine_written text r.spine) r.its_lines
-        ∙ ap (λ z. mark Dedent (first_byte (length text) l.lexemes) ∷ z) r.written ∙ ap closed_written (sym e);
+        ∙ ap (λ z. empty_token Dedent (starts_at text (length text) z) ∷ spine_written text r.spine) r.its_lines
+        ∙ ap (λ z. empty_token Dedent (first_byte (length text) l.lexemes) ∷ z) r.written ∙ ap closed_written (sym e);
   }
 
   here : (vs : List Level) (m : ℕ) → m ≡ 0 → l.column ≡ c → column_of vs ≡ c → IsDeeper c inner → IsSpine vs (s ∷ ss)
@@ -178,20 +178,20 @@ nothing_spine [] = nothing ∷ []
 nothing_spine (v ∷ vs) = nothing ∷ nothing_spine vs
 
 nothing_is : (text : List ℕ) (vs : List Level) → Spined text vs []
-    (dedents (length vs) (length text) ++ mark End (length text) ∷ [])
+    (dedents (length vs) (length text) ++ empty_token End (length text) ∷ [])
 nothing_is text [] = record { spine = nothing ∷ []; suites = tt; its_lines = refl; written = refl }
-nothing_is text (v ∷ vs) = let r : Spined text vs [] (dedents (length vs) (length text) ++ mark End (length text)
+nothing_is text (v ∷ vs) = let r : Spined text vs [] (dedents (length vs) (length text) ++ empty_token End (length text)
     ∷ []) = nothing_is text vs in record {
       spine = nothing ∷ r.spine;
       suites = (tt, r.suites);
       its_lines = r.its_lines;
       written = then_dedent text vs r.spine (spine_written text r.spine) r.suites
-          ∙ ap (λ z. mark Dedent (starts_at text (length text) z) ∷ spine_written text r.spine) r.its_lines
-          ∙ ap (λ z. mark Dedent (length text) ∷ z) r.written;
+          ∙ ap (λ z. empty_token Dedent (starts_at text (length text) z) ∷ spine_written text r.spine) r.its_lines
+          ∙ ap (λ z. empty_token Dedent (length text) ∷ z) r.written;
     }
 
 grown_end : (text : List ℕ) (x : LayoutContext) → Grown text x []
-grown_end text x = let r : Spined text x.levels [] (dedents (length x.levels) (length text) ++ mark End (length text)
+grown_end text x = let r : Spined text x.levels [] (dedents (length x.levels) (length text) ++ empty_token End (length text)
     ∷ []) = nothing_is text x.levels in record {
       inner = nothing;
       spine = r.spine;
@@ -199,11 +199,11 @@ grown_end text x = let r : Spined text x.levels [] (dedents (length x.levels) (l
       suites = r.suites;
       its_lines = r.its_lines;
       alone = λ _. refl;
-      written = laid_end text x ∙ give_append (dedents (length x.levels) (length text)) (mark End (length text) ∷ []) []
+      written = laid_end text x ∙ give_append (dedents (length x.levels) (length text)) (empty_token End (length text) ∷ []) []
           ∙ ap (λ z. give z []) (sym r.written);
     }
 
--- what a placed line gives, all in a row
+-- the tokens of a placed line, in order
 pub given_is : (text : List ℕ) (p : Placement) (xs rest : List Lexeme) (o : List (Result Lexeme Fault)) →
     placed_line text p xs (give rest o)
     ≡ give (dedents p.dedents (first_byte (length text) xs) ++ (indents p.indent (first_byte (length text) xs)
@@ -230,12 +230,12 @@ opens_parts text x l ls inner (s ∷ ss) e lt colon d h q w = record {
   alone = λ f. absurd (let t : true ≡ false = sym colon ∙ f in cc);
   written = laid_line text x l (pushed x l.column) (came ls) e ∙ ap (placed_line text (pushed x l.column) l.lexemes) w
       ∙ given_is text (pushed x l.column) l.lexemes (written_from text inner (s ∷ ss)) []
-      ∙ ap (λ z. give (mark Indent (first_byte (length text) l.lexemes) ∷ z) [])
+      ∙ ap (λ z. give (empty_token Indent (first_byte (length text) l.lexemes) ∷ z) [])
       (sym (grown_written text l inner s ss)
       ∙ ap (λ z. flat_lexemes text (line l inner s) (spine_start text ss) ++ z)
       (then_dedent text x.levels ss (spine_written text ss) h.1)
       ∙ sym (append_assoc (flat_lexemes text (line l inner s) (spine_start text ss))
-      (mark Dedent (spine_start text ss) ∷ []) (spine_written text ss)));
+      (empty_token Dedent (spine_start text ss) ∷ []) (spine_written text ss)));
 }
 
 grown_opens : (text : List ℕ) (x : LayoutContext) (l : LogicalLine) (ls : List LogicalLine) (p : Placement)

@@ -15,7 +15,7 @@ use Rattle.pc_layout.specs.Answering.{fault_came, Refuses}
 use Rattle.pc_layout.specs.TokenIterator.Start.{IsAtStart}
 use Rattle.pc_layout.specs.Internal.ListedLines.{lines_left, gives_line}
 use Rattle.pc_layout.specs.declared.listed.Listed.{Listed}
-use Rattle.pc_layout.specs.declared.toks.Toks.{Toks}
+use Rattle.pc_layout.specs.declared.layout_tokens.LayoutTokens.{LayoutTokens}
 use Rattle.pc_layout.proofs.Forests.{came, give_append}
 use Rattle.pc_layout.proofs.Verdicts.{laid_out, laid_wrong, give_fault, same_fault, IsGivenFault}
 use Rattle.pc_layout.proofs.Comings.{faulty}
@@ -37,7 +37,7 @@ pub record Gathers (text : List ℕ) (ls : List LogicalLine) (ts : List Lexeme) 
   pub copied : (items ≡ came ls) ⊎ (fault_came items ≡ Some OutOfMemory)
   pub given : layout_lexemes text start items ≡ give ts ys
 
-pub gathers_first : (text : List ℕ) (it : Listed) (s : Toks Listed) (ys : List (Result Lexeme Fault))
+pub gathers_first : (text : List ℕ) (it : Listed) (s : LayoutTokens Listed) (ys : List (Result Lexeme Fault))
     → IsAtStart text it s → Left gives_line s.hand s.lines ys → Gathers text (lines_left it) [] ys
 gathers_first text it s ys b (inl h) = absurd (let q : true ≡ false = sym (ap asks b.due) ∙ h.0 in cc)
 gathers_first text it s ys b (inr (a, (ks, cm, p))) = record {

@@ -7,9 +7,9 @@ use Rattle.pc_layout.specs.Placing.{LayoutContext, Placement}
 use Rattle.pc_layout.specs.Spelling.{first_byte, last_byte}
 use Rattle.pc_layout.specs.Flat.{newline, line_end}
 use Rattle.pc_layout.specs.TokenIterator.PendingTokens.{end_of_line}
-use Rattle.pc_layout.specs.declared.sign.LineEnd.{LineEnd}
+use Rattle.pc_layout.specs.declared.line_end.LineEnd.{LineEnd}
 use Rattle.pc_layout.specs.Stepping.{layout_lexemes, layout_lexemes_by, give, dedents, indents, placed_line, closed_all}
-use Rattle.pc_layout.specs.Stepping.{step, after, settle}
+use Rattle.pc_layout.specs.Stepping.{step, after, outrank}
 
 pub laid_end : (text : List ℕ) (x : LayoutContext) → layout_lexemes text x [] ≡ closed_all (length text) x
 unfolding layout_lexemes
@@ -28,7 +28,7 @@ laid_line text x l p ls e = ap (λ r. layout_lexemes_by r text l.lexemes ls (λ 
 
 pub laid_refused : (text : List ℕ) (x : LayoutContext) (l : LogicalLine) (r : Refusal)
     (ls : List (Result LogicalLine Fault)) → step (length text) x l ≡ Err r →
-    layout_lexemes text x (Ok l ∷ ls) ≡ Err (settle r ls) ∷ []
+    layout_lexemes text x (Ok l ∷ ls) ≡ Err (outrank r ls) ∷ []
 unfolding layout_lexemes
 laid_refused text x l r ls e = ap (λ q. layout_lexemes_by q text l.lexemes ls (λ y. layout_lexemes text y ls)) e
 

@@ -1,4 +1,4 @@
--- Where a line feed stands.
+-- The place of a line feed.
 use Rattle.std.proofs.Common.{◌≡◌, ℕ, ◌<◌, ◌≤◌, ◌+◌, ◌==◌, true, false, List, Some, None, length, drop, get_or, ap, sym}
 use Rattle.std.proofs.Common.{◌∙◌, arith}
 use Rattle.std.specs.List.{position}

@@ -4,7 +4,7 @@ use Rattle.pc_source.specs.declared.place.Place.{Place}
 use Rattle.pc_token.specs.declared.token.TokenKind.TheVariants.{Name, Newline, Indent, Dedent, End}
 use Rattle.pc_token.specs.Lexeme.{LogicalLine}
 use Rattle.pc_layout.specs.Forest.{nothing, line}
-use Rattle.pc_layout.specs.Flat.{line_end, flat, mark}
+use Rattle.pc_layout.specs.Flat.{line_end, flat, empty_token}
 use Rattle.pc_layout.specs.Faults.{IsOpen, ReturnsNowhere}
 
 abbrev place : ℕ → ℕ → Place
@@ -53,10 +53,10 @@ nowhere_row = (
 flat_row : flat (120 ∷ 10 ∷ 32 ∷ 120 ∷ 10 ∷ []) (line (name_at 0 0) (line (name_at 1 3) nothing nothing) nothing)
     ≡ record { kind = Name; place = place 0 1; text = 120 ∷ []; form = 120 ∷ [] }
     ∷ record { kind = Newline; place = place 1 2; text = 10 ∷ []; form = 10 ∷ [] }
-    ∷ mark Indent 3
+    ∷ empty_token Indent 3
     ∷ record { kind = Name; place = place 3 4; text = 120 ∷ []; form = 120 ∷ [] }
     ∷ record { kind = Newline; place = place 4 5; text = 10 ∷ []; form = 10 ∷ [] }
-    ∷ mark Dedent 5
-    ∷ mark End 5
+    ∷ empty_token Dedent 5
+    ∷ empty_token End 5
     ∷ []
 flat_row = refl

@@ -1,4 +1,5 @@
--- The logical lines of a text stand in order: each has a token, and the tokens stand one after the other.
+-- The logical lines of a text are in order: each has a token, and each token begins at or after the end of the one
+-- before.
 use Rattle.std.proofs.Common.{◌≡◌, ℕ, ◌+◌, ◌-◌, ◌<◌, ◌≤◌, List, [], ◌∷◌, ◌++◌, length, map, refl, subst, arith}
 use Rattle.std.specs.Prelude.{Result, Ok, Err}
 use Rattle.pc_source.specs.declared.fault.Refusal.{Refusal}
@@ -68,7 +69,7 @@ closed start from to (x ∷ xs) items h rest (l ∷ ls) e =
     subst (λ (m : LogicalLine). Ordered from (m ∷ ls)) (line_same line l items (map Ok ls) e)
     (ahead from to line ls (omega arith) h (rest ls (others_same line l items (map Ok ls) e)))
 
--- what holds of the lines after a piece
+-- facts about the lines after a piece
 abbrev Behind : List Lexeme → ℕ → Items → Type 0
 Behind done at items = (from : ℕ) → StandBetween from done at → (ls : List LogicalLine) → items ≡ map Ok ls
     → Ordered from ls

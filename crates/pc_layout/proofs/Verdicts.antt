@@ -13,7 +13,7 @@ use Rattle.pc_layout.specs.Spelling.{first_byte}
 use Rattle.pc_layout.specs.Faults.{IsFault, HasFault, IsLayoutRefusal}
 use Rattle.pc_layout.specs.Flat.{flat, written_line}
 use Rattle.pc_layout.specs.Layouts.{IsLayout, StandInOrder, all_lexemes, HaveTokens, AreInOrder}
-use Rattle.pc_layout.specs.Stepping.{step, after, start, give, layout_lexemes, settle, placed_line, dedents, indents}
+use Rattle.pc_layout.specs.Stepping.{step, after, start, give, layout_lexemes, outrank, placed_line, dedents, indents}
 use Rattle.pc_layout.specs.Placing.{LayoutContext, Placement}
 use Rattle.pc_layout.proofs.Laying.{laid_line, laid_refused}
 use Rattle.pc_layout.proofs.Placings.{placed_cases, step_ok}
@@ -127,7 +127,7 @@ refused_least len from before x (l ∷ ls) r f (inr (p, e, h)) n o code byte (in
     refused_least len m.0 (l ∷ before) (after p l.lexemes) ls r
     (follows before x l p f (placed_cases x l.column p (step_ok len x l p e).0)) h n.1 m.1 code byte g
 
-settle_came : (r : Refusal) (ls : List LogicalLine) → settle r (came ls) ≡ Refused r
+settle_came : (r : Refusal) (ls : List LogicalLine) → outrank r (came ls) ≡ Refused r
 settle_came r [] = refl
 settle_came r (l ∷ ls) = settle_came r ls
 

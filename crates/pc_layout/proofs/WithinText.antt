@@ -1,4 +1,4 @@
--- Where lines stand within a text, their layout and their refusal do.
+-- The layout of lines within a text, and their refusal, lie within it.
 use Rattle.std.proofs.Common.{◌≡◌, ℕ, zero, suc, ◌+◌, ◌-◌, ◌<◌, ◌≤◌, ◌⊎◌, Bool, true, false, if◌then◌else◌, List, []}
 use Rattle.std.proofs.Common.{◌∷◌, ◌++◌, length, map, drop, Option, Some, None, Result, Ok, Err, refl, sym, ap, ◌∙◌}
 use Rattle.std.proofs.Common.{subst, inl, inr, arith}
@@ -23,7 +23,7 @@ use Rattle.pc_token.specs.Lexeme.{Lexeme, LogicalLine, line_of}
 use Rattle.pc_token.specs.Within.{AreWithin, LinesWithin}
 use Rattle.pc_layout.specs.Spelling.{first_byte, last_byte}
 use Rattle.pc_layout.specs.Faults.{IsFault, HasFault}
-use Rattle.pc_layout.specs.Flat.{line_feed_from, line_end_at, line_end, newline, mark, starts_at, indented_lexemes}
+use Rattle.pc_layout.specs.Flat.{line_feed_from, line_end_at, line_end, newline, empty_token, starts_at, indented_lexemes}
 use Rattle.pc_layout.specs.Flat.{flat_lexemes, flat}
 use Rattle.pc_layout.specs.Forest.{Suite, nothing, line, lines_of}
 use Rattle.pc_layout.specs.Layouts.{IsLayout}
@@ -133,7 +133,7 @@ enclosed_within : (text : List ℕ) (ls : List LogicalLine) (next : ℕ) (ws : L
 enclosed_within text [] next ws le h g = tt
 enclosed_within text (l ∷ ls) next ws le h g = (
   (omega arith, first_within (length text) l.lexemes h.0),
-  append (length text) ws (mark Dedent next ∷ []) g
+  append (length text) ws (empty_token Dedent next ∷ []) g
       ((omega arith, le), tt),
 )
 
@@ -161,7 +161,7 @@ layout_within text ls tokens h g =
     (written_within text g.forest (length text) le (subst (λ ms. LinesWithin (length text) ms) (sym g.its_lines) h))
     ((omega arith, le), tt))
 
--- ---- what is answered for lines
+-- ---- the result for lines
 
 pub answer_within : {T : Type 0} (text : List ℕ) (ls : List LogicalLine) (r : Result T Fault)
     → LinesWithin (length text) ls → IfErr r (OnRefusal (Refuses text ls)) → IfErr r (IsWithin (length text))

@@ -1,4 +1,4 @@
--- What is wrong with the words of a line.
+-- Faults of the words of a line.
 use Rattle.std.proofs.Common.{◌≡◌, ◌⊎◌, ℕ, zero, suc, ◌<◌, ◌≤◌, Bool, true, false, nat_lt, if◌then◌else◌, List, [], ◌∷◌}
 use Rattle.std.proofs.Common.{Option, Some, None, refl, ap, sym, ◌∙◌, inl, inr, arith}
 use Rattle.std.specs.Bool.{Decides}
@@ -31,7 +31,7 @@ header_tells l = Decides-and _ _ (Decides-eqb l.column 0)
     (Decides-or _ _ (spelled_tells l.lexemes future_header) (Decides-or _ _ (spelled_tells l.lexemes dataclass_header)
     (spelled_tells l.lexemes any_header)))
 
--- what is wrong with how a line begins
+-- the fault of a line's first token
 pub data BeginsWrong (in_def : Bool) (c : ℕ) (xs : List Lexeme) (o : Option TokenKind) (code : RefusalCode) : Type
     0 where
   nested : o ≡ Some (k.Keyword Def) → in_def ≡ true → code ≡ N3 → BeginsWrong in_def c xs o code
@@ -62,7 +62,7 @@ begins_wrong in_def c xs (Some (k.Operator At)) code e = at_wrong in_def (is_spe
     refl e
 begins_wrong in_def c xs _ code e = absurd (cc)
 
--- what is wrong with a token
+-- the fault of a token
 pub data IsLeftOut (header : Bool) (kind : TokenKind) (code : RefusalCode) : Type 0 where
   keyword : (w : Keyword) → kind ≡ k.Keyword w → excludes_keyword w ≡ true → header ≡ false → code ≡ N1
       → IsLeftOut header kind code

@@ -11,11 +11,11 @@ use Rattle.pc_token.specs.Lexeme.{Lexeme, LogicalLine}
 use Rattle.pc_layout.specs.Spelling.{first_byte, last_byte}
 use Rattle.pc_layout.specs.Forest.{Suite, nothing, line, lines_of}
 
--- the first line feed at or after a byte; the text's length where there is none
+-- the first line feed at or after a byte, or the length of the text if there is none
 abbrev pub line_feed_from : List ℕ → ℕ → ℕ
 line_feed_from text from = option_map_or (λ n. from + n) (position (λ b. b == 10) (drop from text)) (length text)
 
--- from a line feed, or the carriage return before it, up to the line feed's end; empty at the text's length
+-- the place of a line end: the line feed with a carriage return before it, if any; empty at the end of the text
 abbrev pub line_end_at : List ℕ → ℕ → ℕ → Place
 line_end_at text from feed = record {
   start = if nat_lt feed (length text) && (nat_lt from feed && slice_index text (feed - 1) == 13) then feed - 1
@@ -23,11 +23,11 @@ line_end_at text from feed = record {
   end = if nat_lt feed (length text) then feed + 1 else feed;
 }
 
--- the end of the line that goes on at a byte
+-- the place of the first line end at or after this byte, or the empty place at the end of the text
 abbrev pub line_end : List ℕ → ℕ → Place
 line_end text from = line_end_at text from (line_feed_from text from)
 
--- a token of the layout, which has the text of its place
+-- a token of the layout with the text of its place
 abbrev pub sign : TokenKind → List ℕ → Place → Lexeme
 sign kind text place = record {
   kind = kind;
@@ -36,30 +36,30 @@ sign kind text place = record {
   form = slice_range text place.start place.end;
 }
 
--- a token of the layout that has no text
-abbrev pub mark : TokenKind → ℕ → Lexeme
-mark kind byte = record { kind = kind; place = record { start = byte; end = byte }; text = []; form = [] }
+-- a token of the layout with no text
+abbrev pub empty_token : TokenKind → ℕ → Lexeme
+empty_token kind byte = record { kind = kind; place = record { start = byte; end = byte }; text = []; form = [] }
 
 -- the NEWLINE after these tokens
 abbrev pub newline : List ℕ → List Lexeme → Lexeme
 newline text xs = sign Newline text (line_end text (last_byte (length text) xs))
 
--- a line and its end
+-- the tokens of a line and its NEWLINE
 abbrev pub written_line : List ℕ → List Lexeme → List Lexeme
 written_line text xs = xs ++ newline text xs ∷ []
 
--- the byte at which the first of these lines begins; another byte where there is none
+-- the byte at which the first of these lines begins, or this byte if there is no line
 abbrev pub starts_at : List ℕ → ℕ → List LogicalLine → ℕ
 starts_at text byte [] = byte
 starts_at text byte (l ∷ ls) = first_byte (length text) l.lexemes
 
--- a deeper suite that is written so, between its INDENT and its DEDENT at the next line; nothing where there is none
+-- a deeper suite between its INDENT, at its first line, and its DEDENT, at the next line; nothing if it has no lines
 abbrev pub indented_lexemes : List ℕ → List LogicalLine → ℕ → List Lexeme → List Lexeme
 indented_lexemes text [] next flat_lexemes = []
 indented_lexemes text (l ∷ ls) next flat_lexemes =
-    mark Indent (first_byte (length text) l.lexemes) ∷ (flat_lexemes ++ mark Dedent next ∷ [])
+    empty_token Indent (first_byte (length text) l.lexemes) ∷ (flat_lexemes ++ empty_token Dedent next ∷ [])
 
--- a suite written flat, before a line that begins at the next byte
+-- a suite written flat, before a line that begins at this byte
 abbrev pub flat_lexemes : List ℕ → Suite → ℕ → List Lexeme
 flat_lexemes text nothing next = []
 flat_lexemes text (line l deeper others) next =
@@ -68,6 +68,6 @@ flat_lexemes text (line l deeper others) next =
     (flat_lexemes text deeper (starts_at text next (lines_of others)))
     ++ flat_lexemes text others next)
 
--- the forest of the whole text, and END
+-- the forest of the whole text written flat, and END
 abbrev pub flat : List ℕ → Suite → List Lexeme
-flat text forest = flat_lexemes text forest (length text) ++ mark End (length text) ∷ []
+flat text forest = flat_lexemes text forest (length text) ++ empty_token End (length text) ∷ []

@@ -1,4 +1,4 @@
--- The layout of lines: their forest of column 0 written flat, where no line has a fault.
+-- The layout of lines: their forest at column 0 written flat, if no line has a fault.
 use Rattle.std.specs.Prelude.{◌≡◌, ℕ, ◌<◌, ◌≤◌, List, [], ◌∷◌, ◌++◌, length}
 use Rattle.pc_source.specs.declared.fault.RefusalCode.{RefusalCode}
 use Rattle.pc_token.specs.Lexeme.{Lexeme, LogicalLine}
@@ -18,12 +18,12 @@ pub record IsLayout (text : List ℕ) (ls : List LogicalLine) (tokens : List Lex
   pub faultless : AreFaultless (length text) ls
   pub written : tokens ≡ flat text forest
 
--- tokens stand one after the other from a byte on
+-- each token begins at or after this byte and where the one before ends, and is not empty
 abbrev pub StandInOrder : ℕ → List Lexeme → Type 0
 StandInOrder from [] = Unit {0}
 StandInOrder from (x ∷ xs) = (from ≤ x.place.start) × (x.place.start < x.place.end) × StandInOrder x.place.end xs
 
--- the tokens of lines, in a row
+-- the tokens of all lines, in order
 abbrev pub all_lexemes : List LogicalLine → List Lexeme
 all_lexemes [] = []
 all_lexemes (l ∷ ls) = l.lexemes ++ all_lexemes ls
@@ -33,7 +33,7 @@ abbrev pub HaveTokens : List LogicalLine → Type 0
 HaveTokens [] = Unit {0}
 HaveTokens (l ∷ ls) = (0 < length l.lexemes) × HaveTokens ls
 
--- lines as the text has them: each with a token, their tokens one after the other
+-- the lines are in order: each has a token, and each token begins at or after the end of the one before
 pub record AreInOrder (ls : List LogicalLine) : Type 0 where
   pub tokens : HaveTokens ls
   pub order : StandInOrder 0 (all_lexemes ls)

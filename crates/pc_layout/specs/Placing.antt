@@ -1,5 +1,5 @@
--- The layout line by line: which suites are open, and what a line does to them.
--- (The laws in proofs/ tie this to the forest of suites and to the refusals.)
+-- The layout line by line: the open suites, and the effect of a line on them. (Laws in proofs/ relate this to the
+-- forest of suites and to the refusals.)
 use Rattle.std.specs.Prelude.{ℕ, ◌-◌, Bool, true, false, ◌&&◌, ◌||◌, ◌==◌, nat_lt, if◌then◌else◌, List, [], ◌∷◌, length}
 use Rattle.std.specs.Prelude.{Option, Some, None, Result, Ok, Err}
 use Rattle.std.specs.Str.{bytes_eq}
@@ -17,34 +17,36 @@ use Rattle.pc_layout.specs.Spelling.{dataclass_decorator, excludes_keyword, excl
 use Rattle.pc_layout.specs.Faults.{deepest}
 use Rattle.pc_layout.specs.declared.levels.Level.{Level}
 
--- the suites that are open, the innermost first, and what the last line lets come after it
+-- the context between two lines: the open suites, the innermost first, whether the last line ends with `:`, and whether
+-- it begins with `def`
 pub record LayoutContext : Type 0 where
   pub levels : List Level
   pub after_colon : Bool
   pub after_def : Bool
 
--- the column of the innermost open suite
+-- the column of the innermost open suite, 0 if none is open
 abbrev pub column_of : List Level → ℕ
 column_of [] = 0
 column_of (v ∷ vs) = v.column
 
--- whether it lies inside the suite of a line that begins with `def`
+-- whether the innermost open suite is inside the suite of a line that begins with `def`
 abbrev pub in_def_of : List Level → Bool
 in_def_of [] = false
 in_def_of (v ∷ vs) = v.in_def
 
--- without the suites that are deeper than a column
+-- the open suites without those deeper than this column
 abbrev pub levels_up_to : ℕ → List Level → List Level
 levels_up_to c [] = []
 levels_up_to c (v ∷ vs) = if nat_lt c v.column then levels_up_to c vs else v ∷ vs
 
--- the suites that are open at a line, and which signs stand before it
+-- the placement of a line: the suites open at it, the number of DEDENTs before it, and whether an INDENT is
 pub record Placement : Type 0 where
   pub levels : List Level
   pub dedents : ℕ
   pub indent : Bool
 
--- a line of a column opens a suite
+-- the placement of a line at this column that opens a suite: I2 if the last line does not end with `:`, I3 over the
+-- limit
 abbrev pub opening_placement : LayoutContext → ℕ → Result Placement RefusalCode
 opening_placement x c = if x.after_colon
     then (if nat_lt (length x.levels) deepest
@@ -55,7 +57,7 @@ opening_placement x c = if x.after_colon
     }) else Err I3)
     else Err I2
 
--- a line of a column closes suites, or none
+-- the placement of a line at this column that closes suites, or none: I1 if no open suite has the column
 abbrev pub closing_placement : LayoutContext → ℕ → Result Placement RefusalCode
 closing_placement x c = if column_of (levels_up_to c x.levels) == c
     then Ok (record {
@@ -65,43 +67,44 @@ closing_placement x c = if column_of (levels_up_to c x.levels) == c
     })
     else Err I1
 
--- a line of a column opens a suite where it is deeper than the innermost, and else closes suites
+-- the placement of a line at this column: it opens a suite if it is deeper than the innermost, otherwise it closes
+-- suites
 abbrev pub placement : LayoutContext → ℕ → Result Placement RefusalCode
 placement x c = if nat_lt (column_of x.levels) c then opening_placement x c else closing_placement x c
 
--- the tokens are spelled so
+-- the tokens are these words
 abbrev pub is_spelled : List Lexeme → List (List ℕ) → Bool
 is_spelled xs words = pointwise bytes_eq (forms xs) words
 
--- they are one of the three import headers, at a column
+-- the tokens are one of the three import headers, at column 0
 abbrev pub is_header : ℕ → List Lexeme → Bool
 is_header column xs = (column == 0)
     && (is_spelled xs future_header || (is_spelled xs dataclass_header || is_spelled xs any_header))
 
--- what is wrong with how a line begins
+-- the fault of the first token of a line, if any
 abbrev pub opening_fault : Bool → ℕ → List Lexeme → Option TokenKind → Option RefusalCode
 opening_fault in_def column xs (Some (k.Keyword Def)) = if in_def then Some N3 else None
 opening_fault in_def column xs (Some (k.Keyword Class)) = if nat_lt 0 column then Some N4 else None
 opening_fault in_def column xs (Some (k.Operator At)) = if is_spelled xs dataclass_decorator then None else Some N5
 opening_fault in_def column xs _ = None
 
--- what is wrong with a token
+-- the fault of a token that the profile excludes
 abbrev pub exclusion : Bool → TokenKind → Option RefusalCode
 exclusion header (k.Keyword word) = if excludes_keyword word then (if header then None else Some N1) else None
 exclusion header (k.Operator operator) = if excludes_operator operator then Some N2 else None
 exclusion header _ = None
 
--- the refusal at a byte, or else the other
+-- the refusal with this code at this byte, or the other if there is no code
 abbrev pub refused_or : Option RefusalCode → ℕ → Option Refusal → Option Refusal
 refused_or None byte other = other
 refused_or (Some code) byte other = Some (record { code = code; byte = byte })
 
--- the first token that the profile leaves out
+-- the refusal of the first token that the profile excludes
 abbrev pub first_excluded : Bool → List Lexeme → Option Refusal
 first_excluded header [] = None
 first_excluded header (x ∷ xs) = refused_or (exclusion header x.kind) x.place.start (first_excluded header xs)
 
--- what is wrong with the words of a line
+-- the refusal of the words of a line, if any
 abbrev pub word_fault : ℕ → Bool → ℕ → List Lexeme → Option Refusal
 word_fault len in_def column xs =
     refused_or (opening_fault in_def column xs (first_kind xs)) (first_byte len xs)

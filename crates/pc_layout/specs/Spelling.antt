@@ -1,6 +1,6 @@
--- How a logical line begins, ends and is spelled, and which words and signs the profile leaves out.
--- Python Language Reference 3.12, 2.3.1 "Keywords", 2.5 "Operators", 2.6 "Delimiters"; what is left out is an own rule
--- of the profile.
+-- The first and last token of a logical line, its words, and the words and signs that the profile excludes. Python
+-- Language Reference 3.12, 2.3.1 "Keywords", 2.5 "Operators", 2.6 "Delimiters"; the exclusions are own rules of the
+-- profile.
 use Rattle.std.specs.Prelude.{◌≡◌, ◌⊎◌, ℕ, ◌-◌, Bool, true, false, List, [], ◌∷◌, Option, Some, None, map, codes}
 use Rattle.std.specs.Prelude.{length, option_map}
 use Rattle.std.specs.List.{slice_get}
@@ -14,25 +14,25 @@ use Rattle.pc_token.specs.declared.token.TokenKind.{TokenKind}
 use Rattle.pc_token.specs.declared.token.TokenKind.TheVariants as k
 use Rattle.pc_token.specs.Lexeme.{Lexeme, LogicalLine}
 
--- what the first token is, where there is one
+-- the kind of the first token, if there is one
 abbrev pub first_kind : List Lexeme → Option TokenKind
 first_kind [] = None
 first_kind (x ∷ xs) = Some x.kind
 
--- the last token, where there is one
+-- the last token, if there is one
 abbrev pub last_lexeme : List Lexeme → Option Lexeme
 last_lexeme xs = slice_get xs (length xs - 1)
 
--- what the last token is
+-- the kind of the last token, if there is one
 abbrev pub last_kind : List Lexeme → Option TokenKind
 last_kind xs = option_map (λ x. x.kind) (last_lexeme xs)
 
--- the byte at which the first token begins; the text's length where there is none
+-- the byte at which the first token begins, or the length of the text if there is none
 abbrev pub first_byte : ℕ → List Lexeme → ℕ
 first_byte len [] = len
 first_byte len (x ∷ xs) = x.place.start
 
--- the byte at which the last token ends; the text's length where there is none
+-- the byte at which the last token ends, or the length of the text if there is none
 abbrev pub last_byte : ℕ → List Lexeme → ℕ
 last_byte len xs = option_map_or (λ x. x.place.end) (last_lexeme xs) len
 
@@ -44,11 +44,11 @@ BeginsWith kind l = first_kind l.lexemes ≡ Some kind
 abbrev pub EndsInColon : LogicalLine → Type 0
 EndsInColon l = last_kind l.lexemes ≡ Some (k.Operator o.Colon)
 
--- what the tokens are compared by: of a name its normal form, of any other token its text
+-- the words of the tokens: the normal form of a name, the text of any other token
 abbrev pub forms : List Lexeme → List (List ℕ)
 forms xs = map (λ x. x.form) xs
 
--- the line has just these words
+-- the line is exactly these words
 abbrev pub IsSpelled : List (List ℕ) → LogicalLine → Type 0
 IsSpelled words l = forms l.lexemes ≡ words
 
@@ -56,15 +56,15 @@ IsSpelled words l = forms l.lexemes ≡ words
 abbrev pub future_header : List (List ℕ)
 future_header = codes "from" ∷ codes "__future__" ∷ codes "import" ∷ codes "annotations" ∷ []
 
--- the second
+-- the words of the second import header
 abbrev pub dataclass_header : List (List ℕ)
 dataclass_header = codes "from" ∷ codes "dataclasses" ∷ codes "import" ∷ codes "dataclass" ∷ []
 
--- the third
+-- the words of the third import header
 abbrev pub any_header : List (List ℕ)
 any_header = codes "from" ∷ codes "typing" ∷ codes "import" ∷ codes "Any" ∷ []
 
--- the only decorator
+-- the words of the only decorator
 abbrev pub dataclass_decorator : List (List ℕ)
 dataclass_decorator = codes "@" ∷ codes "dataclass" ∷ []
 
@@ -72,7 +72,7 @@ dataclass_decorator = codes "@" ∷ codes "dataclass" ∷ []
 abbrev pub IsHeader : LogicalLine → Type 0
 IsHeader l = (l.column ≡ 0) × (IsSpelled future_header l ⊎ (IsSpelled dataclass_header l ⊎ IsSpelled any_header l))
 
--- the keywords that the profile leaves out (two of them stand in the import headers)
+-- the keywords that the profile excludes (two of them are used in the import headers)
 abbrev pub excludes_keyword : Keyword → Bool
 excludes_keyword As = true
 excludes_keyword Async = true
@@ -91,7 +91,7 @@ excludes_keyword With = true
 excludes_keyword Yield = true
 excludes_keyword _ = false
 
--- the operators that the profile leaves out
+-- the operators that the profile excludes
 abbrev pub excludes_operator : Operator → Bool
 excludes_operator o.Slash = true
 excludes_operator o.DoubleStar = true

@@ -1,4 +1,4 @@
--- The iterator of tokens: what is due, what is left of the line at hand, and what it gives next.
+-- The iterator of tokens: its state, the tokens left of the current line, and the token that it gives next.
 pub mod Start
 pub mod Items
 pub mod NextToken

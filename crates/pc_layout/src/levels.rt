@@ -1,23 +1,22 @@
-//! The suites that are open.
+//! The open suites.
 ghost use Rattle.std.specs.Prelude.{◌≡◌, ℕ, ◌+◌, ◌-◌, ◌<◌, ◌≤◌, true, false, List, [], ◌∷◌, length, reverse, Ok, Err};
 ghost use Rattle.std.specs.Prelude.{MatchResult};
 
 use arrayvec::ArrayVec;
 use pc_source::RefusalCode;
 
-/// How many suites deeper than column 0 may be open inside each other.
+/// The greatest number of nested suites deeper than column 0.
 const DEEPEST: usize = 50;
 
-/// An open suite: its column in spaces, and whether it lies inside the suite of a line that begins
-/// with `def`.
+/// An open suite: its column in spaces, and whether it is inside the suite of a line that begins with `def`.
 #[derive(Clone, Copy, Debug, Default)]
 pub struct Level {
     column: usize,
     in_def: bool,
 }
 
-/// The suites deeper than column 0 that are open, the innermost last, and what the last line lets
-/// come after it.
+/// The open suites deeper than column 0, the innermost last, and two flags of the last line: whether it ends with `:`,
+/// and whether it begins with `def`.
 #[derive(Drop)]
 pub struct Levels {
     suites: ArrayVec<Level, DEEPEST>,
@@ -25,9 +24,9 @@ pub struct Levels {
     after_def: bool,
 }
 
-/// The signs that stand before a line.
+/// The signs before a line: the number of DEDENTs, and whether there is an INDENT.
 #[derive(Clone, Copy, Debug)]
-pub struct Signs {
+pub struct SuiteChange {
     pub dedents: usize,
     pub indent: bool,
 }
@@ -37,7 +36,7 @@ impl Levels {
     ghost use Rattle.pc_layout.specs.Stepping.{start};
     ghost use Rattle.pc_layout.specs.TokenIterator.Levels.{context_of};
 
-    /// The levels before any line came: no suite is open.
+    /// Returns the state before the first line: no suite is open.
     pub fn new() -> Levels
         ensures { context_of result ≡ start }
     {
@@ -48,14 +47,14 @@ impl Levels {
         }
     }
 
-    /// How many suites are open.
+    /// Returns the number of open suites.
     pub fn len(&self) -> usize
         ensures { result ≡ length (context_of self.now).levels }
     {
         self.suites.len()
     }
 
-    /// The column of the innermost suite.
+    /// Returns the column of the innermost open suite, 0 if none is open.
     pub fn column(&self) -> usize
         ensures { result ≡ column_of (context_of self.now).levels }
     {
@@ -65,7 +64,7 @@ impl Levels {
         }
     }
 
-    /// Whether the innermost suite lies inside the suite of a line that begins with `def`.
+    /// Whether the innermost open suite is inside the suite of a line that begins with `def`.
     pub fn in_def(&self) -> bool
         ensures { result ≡ in_def_of (context_of self.now).levels }
     {
@@ -75,7 +74,7 @@ impl Levels {
         }
     }
 
-    /// Closes the suites that are deeper than a column, and counts them.
+    /// Closes the suites deeper than `column` and returns their number.
     fn close(&mut self, column: usize) -> usize
         ensures levels { (context_of self.new).levels ≡ levels_up_to column (context_of self.old).levels }
         ensures count { result ≡ length (context_of self.old).levels - length (context_of self.new).levels }
@@ -89,8 +88,8 @@ impl Levels {
         before - self.suites.len()
     }
 
-    /// Opens and closes suites for a line of a column.
-    pub fn place(&mut self, column: usize) -> Result<Signs, RefusalCode>
+    /// Opens or closes suites for a line at `column` and returns the signs before it. Fails with `I1`, `I2` or `I3`.
+    pub fn place(&mut self, column: usize) -> Result<SuiteChange, RefusalCode>
         ensures places { MatchResult result
             (λ s. placement (context_of self.old) column
             ≡ Ok (record { levels = (context_of self.new).levels; dedents = s.dedents; indent = s.indent }))
@@ -107,7 +106,7 @@ impl Levels {
             }
             let in_def = self.in_def() || self.after_def;
             self.suites.push(Level { column, in_def });
-            return Ok(Signs {
+            return Ok(SuiteChange {
                 dedents: 0,
                 indent: true,
             });
@@ -116,13 +115,13 @@ impl Levels {
         if self.column() != column {
             return Err(RefusalCode::I1);
         }
-        Ok(Signs {
+        Ok(SuiteChange {
             dedents,
             indent: false,
         })
     }
 
-    /// What the line that was placed lets come after it.
+    /// Records whether the line just placed ends with `:`, and whether it begins with `def`.
     pub fn note(&mut self, after_colon: bool, after_def: bool)
         ensures { context_of self.new ≡ record {
           levels = (context_of self.old).levels;

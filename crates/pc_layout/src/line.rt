@@ -1,4 +1,4 @@
-//! How a logical line begins, ends and is spelled.
+//! The first and last token of a logical line, its words, and their faults.
 ghost use Rattle.std.specs.Prelude.{◌≡◌, ℕ, ◌+◌, ◌-◌, ◌<◌, ◌≤◌, ◌&&◌, ◌==◌, true, false, List, [], ◌∷◌, length, map};
 ghost use Rattle.std.specs.Prelude.{drop, take};
 ghost use Rattle.std.specs.Str.{bytes_eq};
@@ -14,10 +14,10 @@ ghost use Rattle.pc_layout.specs.Placing.{opening_fault as opening_fault_of, exc
 ghost use Rattle.pc_layout.specs.Placing.{first_excluded as first_excluded_of, word_fault as word_fault_of};
 
 use pc_source::{Refusal, RefusalCode};
-use pc_token::{Keyword, Operator, Tok, TokenKind};
+use pc_token::{Keyword, Operator, TextToken, TokenKind};
 
-/// What the first token is, where there is one.
-pub fn first_kind(tokens: &[Tok<'_>]) -> Option<TokenKind>
+/// Returns the kind of the first token, if there is one.
+pub fn first_kind(tokens: &[TextToken<'_>]) -> Option<TokenKind>
     ensures { result ≡ first_kind_of (map lexeme_of tokens.now) }
 {
     match tokens.first() {
@@ -26,8 +26,8 @@ pub fn first_kind(tokens: &[Tok<'_>]) -> Option<TokenKind>
     }
 }
 
-/// What the last token is, where there is one.
-pub fn last_kind(tokens: &[Tok<'_>]) -> Option<TokenKind>
+/// Returns the kind of the last token, if there is one.
+pub fn last_kind(tokens: &[TextToken<'_>]) -> Option<TokenKind>
     ensures { result ≡ last_kind_of (map lexeme_of tokens.now) }
 {
     match tokens.last() {
@@ -36,8 +36,8 @@ pub fn last_kind(tokens: &[Tok<'_>]) -> Option<TokenKind>
     }
 }
 
-/// The byte at which the first token begins; the text's length where there is none.
-pub fn first_byte(len: usize, tokens: &[Tok<'_>]) -> usize
+/// Returns the byte at which the first token begins, or the length of the text if there is none.
+pub fn first_byte(len: usize, tokens: &[TextToken<'_>]) -> usize
     ensures { result ≡ first_byte_of len (map lexeme_of tokens.now) }
 {
     match tokens.first() {
@@ -46,8 +46,8 @@ pub fn first_byte(len: usize, tokens: &[Tok<'_>]) -> usize
     }
 }
 
-/// The byte at which the last token ends; the text's length where there is none.
-pub fn last_byte(len: usize, tokens: &[Tok<'_>]) -> usize
+/// Returns the byte at which the last token ends, or the length of the text if there is none.
+pub fn last_byte(len: usize, tokens: &[TextToken<'_>]) -> usize
     ensures { result ≡ last_byte_of len (map lexeme_of tokens.now) }
 {
     match tokens.last() {
@@ -56,8 +56,8 @@ pub fn last_byte(len: usize, tokens: &[Tok<'_>]) -> usize
     }
 }
 
-/// What a token is compared by: a name's normal form, any other token's text.
-fn form<'t>(token: &'t Tok<'_>) -> &'t str
+/// Returns the word of a token: the normal form of a name, the text of any other token.
+fn form<'t>(token: &'t TextToken<'_>) -> &'t str
     ensures { result.now ≡ form_of token.now.text.now token.now.form }
 {
     match &token.form {
@@ -66,8 +66,8 @@ fn form<'t>(token: &'t Tok<'_>) -> &'t str
     }
 }
 
-/// Whether the tokens are spelled so.
-fn is_spelled(tokens: &[Tok<'_>], words: &[&str]) -> bool
+/// Whether the tokens are these words.
+fn is_spelled(tokens: &[TextToken<'_>], words: &[&str]) -> bool
     ensures { result ≡ spelled (map lexeme_of tokens.now) (map (λ w. w.now) words.now) }
 {
     if tokens.len() != words.len() {
@@ -81,8 +81,8 @@ fn is_spelled(tokens: &[Tok<'_>], words: &[&str]) -> bool
     true
 }
 
-/// Whether a line of a column is one of the three import headers.
-fn is_header(column: usize, tokens: &[Tok<'_>]) -> bool
+/// Whether a line at `column` is one of the three import headers.
+fn is_header(column: usize, tokens: &[TextToken<'_>]) -> bool
     ensures { result ≡ header_of column (map lexeme_of tokens.now) }
 {
     column == 0
@@ -91,7 +91,7 @@ fn is_header(column: usize, tokens: &[Tok<'_>]) -> bool
             || is_spelled(tokens, &["from", "typing", "import", "Any"]))
 }
 
-/// Whether the profile leaves the keyword out.
+/// Whether the profile excludes the keyword.
 fn excludes_keyword(keyword: Keyword) -> bool
     ensures { result ≡ excluded_keywords keyword }
 {
@@ -115,7 +115,7 @@ fn excludes_keyword(keyword: Keyword) -> bool
     )
 }
 
-/// Whether the profile leaves the operator out.
+/// Whether the profile excludes the operator.
 fn excludes_operator(operator: Operator) -> bool
     ensures { result ≡ excluded_operators operator }
 {
@@ -148,14 +148,14 @@ fn excludes_operator(operator: Operator) -> bool
 }
 
 /// Whether the tokens are the only decorator.
-fn is_dataclass(tokens: &[Tok<'_>]) -> bool
+fn is_dataclass(tokens: &[TextToken<'_>]) -> bool
     ensures { result ≡ spelled (map lexeme_of tokens.now) dataclass_decorator }
 {
     is_spelled(tokens, &["@", "dataclass"])
 }
 
-/// What is wrong with how a line begins.
-fn opening_fault(in_def: bool, column: usize, tokens: &[Tok<'_>]) -> Option<RefusalCode>
+/// Returns the code of the fault of a line's first token: `N3`, `N4` or `N5`.
+fn opening_fault(in_def: bool, column: usize, tokens: &[TextToken<'_>]) -> Option<RefusalCode>
     ensures { let xs = map lexeme_of tokens.now in result ≡ opening_fault_of in_def column xs (first_kind_of xs) }
 {
     match first_kind(tokens) {
@@ -180,7 +180,7 @@ fn opening_fault(in_def: bool, column: usize, tokens: &[Tok<'_>]) -> Option<Refu
     }
 }
 
-/// What is wrong with a token.
+/// Returns the code of a token that the profile excludes: `N1` or `N2`.
 fn excluded(header: bool, kind: TokenKind) -> Option<RefusalCode>
     ensures { result ≡ excluded_of header kind }
 {
@@ -203,8 +203,8 @@ fn excluded(header: bool, kind: TokenKind) -> Option<RefusalCode>
     }
 }
 
-/// The first token that the profile leaves out.
-fn first_excluded(header: bool, tokens: &[Tok<'_>]) -> Option<Refusal>
+/// Returns the refusal of the first token that the profile excludes.
+fn first_excluded(header: bool, tokens: &[TextToken<'_>]) -> Option<Refusal>
     ensures { result ≡ first_excluded_of header (map lexeme_of tokens.now) }
 {
     for token in tokens {
@@ -218,8 +218,13 @@ fn first_excluded(header: bool, tokens: &[Tok<'_>]) -> Option<Refusal>
     None
 }
 
-/// What is wrong with the words of a line of a column, in a text of this length.
-pub fn word_fault(len: usize, in_def: bool, column: usize, tokens: &[Tok<'_>]) -> Option<Refusal>
+/// Returns the refusal of the words of a line at `column`, if any. `len` is the length of the text.
+pub fn word_fault(
+    len: usize,
+    in_def: bool,
+    column: usize,
+    tokens: &[TextToken<'_>],
+) -> Option<Refusal>
     ensures { result ≡ word_fault_of len in_def column (map lexeme_of tokens.now) }
 {
     match opening_fault(in_def, column, tokens) {
@@ -232,7 +237,7 @@ pub fn word_fault(len: usize, in_def: bool, column: usize, tokens: &[Tok<'_>]) -
 }
 
 /// Whether the last token is `:`.
-pub fn ends_in_colon(tokens: &[Tok<'_>]) -> bool
+pub fn ends_in_colon(tokens: &[TextToken<'_>]) -> bool
     ensures { result ≡ is_colon (last_kind_of (map lexeme_of tokens.now)) }
 {
     matches!(
@@ -242,7 +247,7 @@ pub fn ends_in_colon(tokens: &[Tok<'_>]) -> bool
 }
 
 /// Whether the first token is `def`.
-pub fn begins_with_def(tokens: &[Tok<'_>]) -> bool
+pub fn begins_with_def(tokens: &[TextToken<'_>]) -> bool
     ensures { result ≡ is_def (first_kind_of (map lexeme_of tokens.now)) }
 {
     matches!(first_kind(tokens), Some(TokenKind::Keyword(Keyword::Def)))

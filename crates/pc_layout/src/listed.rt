@@ -9,12 +9,12 @@ ghost use Rattle.pc_token.specs.Within.{LinesWithin};
 ghost use Rattle.pc_layout.specs.Layouts.{IsLayout};
 ghost use Rattle.pc_layout.specs.Answering.{Refuses};
 
-use crate::toks::layout_of;
+use crate::layout_tokens::layout_of;
 use pc_source::{Fault, Source};
-use pc_token::{Line, Tok};
+use pc_token::{Line, TextToken};
 use std::alloc::Global;
 
-/// The lines of a list that are left, copied one at a time.
+/// The remaining lines of a list, copied one at a time.
 #[derive(Drop)]
 struct Listed<'t, 'a> {
     lines: &'t [Line<'a>],
@@ -22,7 +22,7 @@ struct Listed<'t, 'a> {
     alloc: Global,
 }
 
-/// A copy of a line.
+/// Copies a line.
 fn copied<'a>(alloc: Global, line: &Line<'a>) -> Result<Line<'a>, Fault>
     ensures { MatchResult result (λ l. line_of l ≡ line_of line.now) (λ e. e ≡ fault.OutOfMemory) }
 {
@@ -60,19 +60,18 @@ impl<'t, 'a> Iterator for Listed<'t, 'a> {
     }
 }
 
-/// The layout of lines: their tokens, with a NEWLINE after each line, an INDENT before and a DEDENT
-/// after a deeper suite, and END last. Python Language Reference 3.12, 2.1.8 "Indentation".
+/// Returns the layout of lines: their tokens, with a NEWLINE after each line, an INDENT before and a DEDENT after a
+/// deeper suite, and END last. Python Language Reference 3.12, 2.1.8 "Indentation".
 ///
 /// # Errors
 ///
-/// `I1` to `I3` at the first token of a line, `N1` and `N2` at a token, `N3` to `N5` at the first
-/// token of a line: the first of all, where the lines are those of the source.
-/// `OutOfMemory` where the tokens have no room.
+/// `I1` to `I3` at the first token of a line, `N1` and `N2` at a token, `N3` to `N5` at the first token of a line: the
+/// first of all, if the lines are those of the source. `OutOfMemory` if the tokens cannot be allocated.
 pub fn layout<'a>(
     alloc: Global,
     source: &'a Source,
     lines: &[Line<'a>],
-) -> Result<Vec<Tok<'a>>, Fault>
+) -> Result<Vec<TextToken<'a>>, Fault>
     ensures laid { IfOk result (λ tokens. IsLayout source.now (map line_of lines.now) (map lexeme_of tokens.items)) }
     ensures refused { IfErr result (OnRefusal (Refuses source.now (map line_of lines.now))) }
     ensures within { LinesWithin (length source.now) (map line_of lines.now)

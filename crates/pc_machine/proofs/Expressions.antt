@@ -1,4 +1,4 @@
--- What happens plainly may happen: expressions, by cases on the node.
+-- A plain run is a possible run: expressions, by cases on the node.
 use Rattle.std.proofs.Common.{ℕ, Bool, true, false, List, [], ◌∷◌, refl}
 use Rattle.std.specs.Prelude.{Option, Some, None}
 use Rattle.pc_source.specs.declared.place.Place.{Place}

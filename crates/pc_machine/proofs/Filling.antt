@@ -1,4 +1,4 @@
--- Parameters that take their arguments, one after another.
+-- Binding of arguments to parameters, one after another.
 use Rattle.std.proofs.Common.{◌≡◌, ◌<◌, ◌≤◌, ◌+◌, ℕ, zero, suc, refl, ap, ◌∙◌, sym, arith, List, [], ◌∷◌, ◌++◌, map}
 use Rattle.std.proofs.Common.{length, get_or, drop, append_assoc, inl, inr}
 use Rattle.std.specs.Prelude.{Option, Some, None, slice_get, MatchOption, IfSome}
@@ -10,8 +10,8 @@ use Rattle.pc_value.specs.Value.{Value}
 use Rattle.pc_value.specs.declared.value.Value.{Value as RustValue}
 use Rattle.pc_value.specs.Meaning.{value_of}
 use Rattle.pc_value.specs.Internal.Keys.{option_value}
-use Rattle.pc_machine.specs.declared.state.Parameter.{Parameter as RustParameter}
-use Rattle.pc_machine.specs.State.{Local, Parameter}
+use Rattle.pc_machine.specs.declared.state.FormalParameter.{FormalParameter as RustParameter}
+use Rattle.pc_machine.specs.State.{Local, FormalParameter}
 use Rattle.pc_machine.specs.Calls.{NamedValue, value_named, filled_parameters, value_taken, and_others}
 use Rattle.pc_machine.specs.Machine.{parameter_of}
 use Rattle.pc_machine.proofs.Lists.{before}
@@ -59,7 +59,7 @@ next_filled ps vs ns i p lt is =
     ]
 
 -- a parameter with its value goes before the others
-pub value_before : (ls : List Local) (p : Parameter) (v : Value) (others : Option (List Local))
+pub value_before : (ls : List Local) (p : FormalParameter) (v : Value) (others : Option (List Local))
     → before ls (and_others p (Some v) others) ≡ before (ls ++ record { name = p.name; value = Some v } ∷ []) others
 value_before ls p v None = refl
 value_before ls p v (Some os) = ap (λ (xs : List Local). Some xs)

@@ -1,4 +1,4 @@
--- What happens plainly may happen: each step that the text is made of.
+-- A plain run is a possible run: each step that the text of the model is built from.
 use Rattle.std.proofs.Common.{◌≡◌, ℕ, zero, suc, Bool, true, false, List, [], ◌∷◌, ◌++◌, refl, ap, ◌∙◌, subst, sym, inl}
 use Rattle.std.proofs.Common.{inr, append_assoc, true≢false}
 use Rattle.std.specs.Prelude.{nat_eq, if◌then◌else◌}

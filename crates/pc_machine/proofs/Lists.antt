@@ -1,9 +1,9 @@
 -- Frames, arguments and suites as lists.
 use Rattle.std.proofs.Common.{◌≡◌, ◌<◌, ◌≤◌, ℕ, zero, suc, List, [], ◌∷◌, ◌++◌, length, get_or, take, drop, map, refl}
 use Rattle.std.proofs.Common.{ap, ◌∙◌, arith, true}
-use Rattle.pc_machine.specs.State.{Local, Parameter}
+use Rattle.pc_machine.specs.State.{Local, FormalParameter}
 use Rattle.pc_machine.specs.Calls.{NamedValue, filled_parameters}
-use Rattle.pc_machine.specs.declared.state.Parameter.{Parameter as RustParameter}
+use Rattle.pc_machine.specs.declared.state.FormalParameter.{FormalParameter as RustParameter}
 use Rattle.std.specs.Prelude.{Option, Some, None, slice_set}
 use Rattle.pc_tree.specs.declared.tree.Stmt.{Stmt as RustStmt}
 use Rattle.pc_tree.specs.Tree.{stmts_of_list}
@@ -56,5 +56,5 @@ past (p ∷ ps) (suc i) h = past ps i (omega arith)
 pub too_many : (ps : List RustParameter) (vs : List RustValue) (ns : List NamedValue) (ls : List Local) (i : ℕ)
     → length ps ≤ i → i < length vs → before ls (filled_parameters (map parameter_of (drop i ps))
     (map value_of (drop i vs)) ns) ≡ None
-too_many ps vs ns ls i le lt = ap (λ (qs : List Parameter). before ls
+too_many ps vs ns ls i le lt = ap (λ (qs : List FormalParameter). before ls
     (filled_parameters qs (map value_of (drop i vs)) ns)) (past ps i le) ∙ ap (before ls) (left_over vs ns i lt)

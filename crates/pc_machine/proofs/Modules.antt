@@ -1,4 +1,4 @@
--- What happens plainly may happen: the items of a module, `main`, and so each plain run.
+-- A plain run is a possible run: the items of a module, `main`, and thus each plain run.
 use Rattle.std.proofs.Common.{ℕ, suc, Bool, List, [], ◌∷◌, sym, ◌∙◌, subst, arith, inl, inr}
 use Rattle.std.specs.Prelude.{Option, Some, None}
 use Rattle.pc_source.specs.declared.place.Place.{Place}

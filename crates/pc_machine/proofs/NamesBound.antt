@@ -1,4 +1,4 @@
--- The names that a statement binds, as locals that are not bound yet.
+-- The names that a statement binds, as unbound locals.
 use Rattle.std.proofs.Common.{◌≡◌, ◌++◌, map, refl}
 use Rattle.pc_tree.specs.Suites.{own_names, branches_of_stmt, last_suite}
 use Rattle.pc_tree.specs.Tree.{Name, Stmt, pass, breaks, continues, returns, asserts, annotated, assigns, evaluates}

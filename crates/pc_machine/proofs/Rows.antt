@@ -1,4 +1,4 @@
--- Small modules against the definitions: what their plain runs evaluate, and how they end.
+-- Small modules against the definitions: the places that their plain runs evaluate, and their ends.
 use Rattle.std.proofs.Common.{◌≡◌, ℕ, List, [], ◌∷◌, refl}
 use Rattle.std.specs.Prelude.{Some, None, false}
 use Rattle.pc_source.specs.declared.place.Place.{Place}

@@ -1,4 +1,4 @@
--- What happens plainly may happen: statements, loops, and nested steps by induction on their number.
+-- A plain run is a possible run: statements, loops, and nested steps by induction on their number.
 use Rattle.std.proofs.Common.{ℕ, zero, suc, List, refl}
 use Rattle.std.specs.Prelude.{Option, Some, None}
 use Rattle.pc_tree.specs.Tree.{Expr, Target, to_name, to_attribute, to_index, Stmt, pass, breaks, continues, returns}

@@ -1,4 +1,4 @@
--- The run model: what each expression and each statement does, in order, then the items of a module and `main`.
+-- The run model: the evaluation of expressions, the execution of statements, then the items of a module and `main`.
 -- Language Reference 4 "Execution model", 6 "Expressions", 7 "Simple statements", 8 "Compound statements"; events,
 -- charges and ends: own rules of the profile.
 use Rattle.std.specs.Prelude.{ℕ, zero, suc, Bool, true, false, not, List, [], ◌∷◌, ◌++◌, length, if◌then◌else◌, Option}
@@ -14,13 +14,13 @@ use Rattle.pc_tree.specs.Tree.{conditional, Stmts, no_stmts, more_stmts, Branche
 use Rattle.pc_tree.specs.Tree.{FuncDef, Member, field_member, method_member, ClassDef, Item, constant_item, class_item}
 use Rattle.pc_tree.specs.Tree.{def_item, Module}
 use Rattle.pc_value.specs.Value as value
-use Rattle.pc_value.specs.Value.{Value, whole, boolean, string, tuple_of, location, values_of, Entry, is_true, Stop}
+use Rattle.pc_value.specs.Value.{Value, whole, boolean, string, tuple_of, location, values_of, DictEntry, is_true, Stop}
 use Rattle.pc_value.specs.Value.{Raised, Other, Outside, Cut, TypeError, NameError, Out, Gives, Stops}
 use Rattle.pc_value.specs.Actions as action
 use Rattle.pc_value.specs.Actions.{Action, Iteration}
 use Rattle.pc_value.specs.Numbers.{number_of_digits, negative_of_digits}
 use Rattle.pc_value.specs.Texts.{same_text}
-use Rattle.pc_machine.specs.State.{State, Parameter, Function, Class, GlobalBinding, a_value, a_function, a_class}
+use Rattle.pc_machine.specs.State.{State, FormalParameter, Function, Class, GlobalBinding, a_value, a_function, a_class}
 use Rattle.pc_machine.specs.State.{Local}
 use Rattle.pc_machine.specs.Names.{Meaning, means_class, means_nothing, meaning_in_run, with_local, frame_of}
 use Rattle.pc_machine.specs.Calls.{Callee, calls_value, calls_function, calls_class, calls_reserved, calls_method}
@@ -31,19 +31,19 @@ use Rattle.pc_machine.specs.Calls.{instance_test_of, passes}
 use Rattle.pc_machine.specs.Steps.{Interpretation, Parts, StatementEnd, next, breaking, continuing, leaves, value_out}
 use Rattle.pc_machine.specs.Steps.{iteration_out, item_out}
 
--- a value is None
+-- whether a value is None
 abbrev pub is_none_value : Value → Bool
 is_none_value value.none = true
 is_none_value v = false
 
--- what a call gives, by how the body ended
+-- the value of a call, given the way the body ended
 abbrev pub value_of_flow : StatementEnd → Value
 value_of_flow next = value.none
 value_of_flow breaking = value.none
 value_of_flow continuing = value.none
 value_of_flow (leaves v) = v
 
--- a call is a test `isinstance(e, T)`, which has exactly two arguments by position, or an ordinary one
+-- the form of a call: a test `isinstance(e, T)` with exactly two arguments by position, or an ordinary call
 pub data CallForm : Type 0 where
   instance_test : (callee : Name) (object test : Expr) → CallForm
   ordinary : CallForm
@@ -54,12 +54,12 @@ call_form (name n) (more_exprs e (more_exprs t no_exprs)) no_keywords = if same_
     then instance_test n e t else ordinary
 call_form callee arguments by_name = ordinary
 
--- what a `for` goes over is a call of `range`, or a value
+-- the form of a `for`'s iterable: a call of `range`, or any other expression
 pub data IterableForm : Type 0 where
   range_call : (place : Place) (callee : Name) (arguments : Exprs) (keywords : Keywords) → IterableForm
   any_iterable : IterableForm
 
--- the form of what a `for` goes over: a call of the name `range`, or any other expression
+-- the form of a `for`'s iterable, given its expression
 abbrev pub iterable_form : Expr → IterableForm
 iterable_form (call p (name n) arguments keywords) = if same_text n.text (codes "range")
     then range_call p n arguments keywords else any_iterable
@@ -70,7 +70,7 @@ abbrev pub self_local : Value → Local
 self_local v = record { name = codes "self"; value = Some v }
 
 -- the fields of a class
-abbrev pub fields_of : Option Class → List Parameter
+abbrev pub fields_of : Option Class → List FormalParameter
 fields_of None = []
 fields_of (Some c) = c.fields
 
@@ -84,42 +84,43 @@ abbrev pub ancestors_of : Option Class → List ℕ
 ancestors_of None = []
 ancestors_of (Some c) = c.ancestors
 
--- `@dataclass` without its header
+-- the use of `@dataclass`, which is NameError if it is not imported
 abbrev pub dataclass_found : Bool → Out (Unit {0})
 dataclass_found true = Gives tt
 dataclass_found false = Stops (Raised NameError)
 
--- a base is a class that was made; a name bound to nothing is NameError, all else out of the profile
+-- the base of a class, given the meaning of its name: a name bound to nothing is NameError, any but a class out of the
+-- profile
 abbrev pub base_of_meaning : Meaning → Out (Option ℕ)
 base_of_meaning (means_class c) = Gives (Some c)
 base_of_meaning means_nothing = Stops (Raised NameError)
 base_of_meaning m = Stops Outside
 
--- the number of the base that a class names, if it names one
+-- the number of the base that a class names, if any
 abbrev pub base_number : Option Name → State → Out (Option ℕ)
 base_number None s = Gives None
 base_number (Some n) s = base_of_meaning (meaning_in_run n.text s)
 
--- each of these fields has a default
-abbrev pub all_have_defaults : List Parameter → Bool
+-- whether each of these fields has a default
+abbrev pub all_have_defaults : List FormalParameter → Bool
 all_have_defaults [] = true
 all_have_defaults (p ∷ rest) = if is_some p.default then all_have_defaults rest else false
 
--- the parameters with a default stand after the others
-abbrev pub defaults_last : List Parameter → Bool
+-- whether the parameters with a default come after all others
+abbrev pub defaults_last : List FormalParameter → Bool
 defaults_last [] = true
 defaults_last (p ∷ rest) = if is_some p.default then all_have_defaults rest else defaults_last rest
 
--- a field without default after one with default is TypeError
-abbrev pub defaults_in_order : List Parameter → Out (Unit {0})
+-- TypeError for a field without default after one with default
+abbrev pub defaults_in_order : List FormalParameter → Out (Unit {0})
 defaults_in_order fields = if defaults_last fields then Gives tt else Stops (Raised TypeError)
 
--- the fields and methods of a class that are its own
+-- the fields and methods that a class defines itself
 pub record Members : Type 0 where
-  pub fields : List Parameter
+  pub fields : List FormalParameter
   pub methods : List Function
 
--- the class that a number will name, after its base
+-- a class with this number, given its base and its own members
 abbrev pub class_behind : Option Class → Members → ℕ → Class
 class_behind base own n = record {
   ancestors = n ∷ ancestors_of base;
@@ -127,15 +128,15 @@ class_behind base own n = record {
   methods = own.methods ++ methods_of base;
 }
 
--- the state after a local, a name of the module or a class was bound
+-- the state after a local is bound
 abbrev pub binds_local : List ℕ → Value → State → State
 binds_local n v s = record s { frame = with_local n v s.frame }
 
--- the state after the module bound a name
+-- the state after the module binds a name
 abbrev pub binds_global : List ℕ → GlobalBinding → State → State
 binds_global n b s = record s { globals = s.globals ++ record { name = n; is = b } ∷ [] }
 
--- the state after a class was made and its name was bound to its number
+-- the state after a class is made and its name bound to its number
 abbrev pub binds_class : List ℕ → Class → State → State
 binds_class n c s = record s {
   classes = s.classes ++ c ∷ [];
@@ -146,20 +147,20 @@ module _ {ℓ} (Step : Type 0 → Type ℓ) (reading : Interpretation Step) wher
   infixl 20 ◌>>=◌ ◌>>◌
   open reading use {pure, ◌>>=◌, stop, charge, emit, look, change, act, enter}
 
-  -- one step and then another, whatever value the first one came to
+  -- one step and then another that ignores its value
   abbrev pub ◌>>◌ : {A B : Type 0} → Step A → Step B → Step B
   m >> n = m >>= λ a. n
 
-  -- it comes to this
+  -- a step that gives this value or stop
   abbrev pub answer : {A : Type 0} → Out A → Step A
   answer out = look (λ s. out)
 
-  -- one of two steps
+  -- the first step if the truth value is true, else the second
   abbrev pub choose : {A : Type 0} → Bool → Step A → Step A → Step A
   choose true first second = first
   choose false first second = second
 
-  -- the truth of a value
+  -- the truth of a value in the current state
   abbrev pub condition : Value → Step Bool
   condition v = look (λ s. Gives (is_true s.heap v))
 
@@ -173,8 +174,8 @@ module _ {ℓ} (Step : Type 0 → Type ℓ) (reading : Interpretation Step) wher
     values ← eval_all eval rest
     pure (v ∷ values)
 
-  -- key, value, key, value
-  abbrev pub eval_entries : (Expr → Step Value) → Entries → Step (List Entry)
+  -- the entries of a dict display: key, value, key, value
+  abbrev pub eval_entries : (Expr → Step Value) → Entries → Step (List DictEntry)
   eval_entries eval no_entries = pure []
   eval_entries eval (more_entries key e rest) = do
     k ← eval key
@@ -182,7 +183,7 @@ module _ {ℓ} (Step : Type 0 → Type ℓ) (reading : Interpretation Step) wher
     entries ← eval_entries eval rest
     pure (record { key = k; value = v } ∷ entries)
 
-  -- arguments by name, as they are written
+  -- arguments by name, in the order of the text
   abbrev pub eval_keywords : (Expr → Step Value) → Keywords → Step (List NamedValue)
   eval_keywords eval no_keywords = pure []
   eval_keywords eval (more_keywords n e rest) = do
@@ -190,14 +191,14 @@ module _ {ℓ} (Step : Type 0 → Type ℓ) (reading : Interpretation Step) wher
     named ← eval_keywords eval rest
     pure (record { name = n.text; value = v } ∷ named)
 
-  -- what `e.m` is as a callee: a method, else what reading `e.m` gives
+  -- the callee of `e.m`: its method if there is one, else the value of reading `e.m`
   abbrev pub callee_of_attribute : Value → List ℕ → Option Callee → Step Callee
   callee_of_attribute v m (Some callee) = pure callee
   callee_of_attribute v m None = do
     field ← act value_out (action.read_attribute v m false)
     pure (calls_value field)
 
-  -- a callee: a name or attribute is looked up, and its place evaluated, before the arguments
+  -- a callee: a name or attribute is looked up, with its event, before the arguments
   abbrev pub eval_callee : Parts Step → Expr → Step Callee
   eval_callee parts (name n) = do
     charge
@@ -213,33 +214,33 @@ module _ {ℓ} (Step : Type 0 → Type ℓ) (reading : Interpretation Step) wher
     v ← parts.eval e
     pure (calls_value v)
 
-  -- a function runs from a frame of its own
+  -- a call of a function, in a frame of its own
   abbrev pub call_function : Parts Step → Function → List Value → List NamedValue → Step Value
   call_function parts f values named = do
     arguments ← answer (or_type_error (bound_arguments f.parameters values named))
     flow ← enter (frame_of f arguments) (parts.exec f.body)
     pure (value_of_flow flow)
 
-  -- a method too, with its object as `self`; its name's place is evaluated as it is entered
+  -- a call of a method, with its object as `self`; its name's event comes at entry
   abbrev pub call_method : Parts Step → Value → Function → List Value → List NamedValue → Step Value
   call_method parts object f values named = do
     arguments ← answer (or_type_error (bound_arguments f.parameters values named))
     flow ← enter (frame_of f (self_local object ∷ arguments)) (emit f.name.place >> parts.exec f.body)
     pure (value_of_flow flow)
 
-  -- a class makes an instance, its fields from the arguments
+  -- a call of a class makes an instance, its fields from the arguments
   abbrev pub call_class : ℕ → List Value → List NamedValue → Step Value
   call_class c values named = do
     fields ← look (λ s. Gives (fields_of (class_at s.classes (Some c))))
     arguments ← answer (or_type_error (bound_arguments fields values named))
     act value_out (action.new_instance c (slots_of arguments))
 
-  -- what a call of a reserved name gives: None for `print`, else what its action gives
+  -- the value of a call of a reserved name: None for `print`, else the value of its action
   abbrev pub do_reserved : ReservedCall → Step Value
   do_reserved prints = pure value.none
   do_reserved (performs a) = act value_out a
 
-  -- what a callee does with its arguments
+  -- a call of a callee with evaluated arguments
   abbrev pub call_callee : Parts Step → Callee → List Value → List NamedValue → Step Value
   call_callee parts (calls_value v) values named = stop (Raised TypeError)
   call_callee parts (calls_function f) values named = call_function parts f values named
@@ -252,7 +253,7 @@ module _ {ℓ} (Step : Type 0 → Type ℓ) (reading : Interpretation Step) wher
     a ← answer (builtin_method_action object method values named)
     act value_out a
 
-  -- a call: the callee, the arguments, its event, its action. The second argument of `isinstance` is not evaluated
+  -- a call: the callee, the arguments, its event, its action; the second argument of `isinstance` is not evaluated
   abbrev pub eval_call : Parts Step → Place → Expr → Exprs → Keywords → CallForm → Step Value
   eval_call parts p callee arguments by_name (instance_test n e t) = do
     charge
@@ -268,7 +269,7 @@ module _ {ℓ} (Step : Type 0 → Type ℓ) (reading : Interpretation Step) wher
     emit p
     call_callee parts called values named
 
-  -- an expression: its parts, its event, its action
+  -- the evaluation of an expression: its parts, its event, its action
   abbrev pub eval_node : Parts Step → Expr → Step Value
   eval_node parts (name n) = do
     emit n.place
@@ -323,7 +324,7 @@ module _ {ℓ} (Step : Type 0 → Type ℓ) (reading : Interpretation Step) wher
     v ← parts.eval e
     emit p
     pure (boolean (not (is_none_value v)))
-  -- the right side only where it is needed; the deciding operand's value
+  -- the right operand is evaluated only if needed; the value is that of the deciding operand
   eval_node parts (conjunction p l r) = do
     v ← parts.eval l
     b ← condition v
@@ -351,7 +352,7 @@ module _ {ℓ} (Step : Type 0 → Type ℓ) (reading : Interpretation Step) wher
 
   -- ---- statements
 
-  -- after its value, a target: its parts, its event, the store
+  -- an assignment of a value to a target: the target's parts, its event, the store
   abbrev pub assign : Parts Step → Target → Value → Step StatementEnd
   assign parts (to_name n) v = do
     change (binds_local n.text v)
@@ -368,7 +369,7 @@ module _ {ℓ} (Step : Type 0 → Type ℓ) (reading : Interpretation Step) wher
     stored ← act value_out (action.store_item object k v)
     pure next
 
-  -- an `assert` whose condition was false: its message, then another exception
+  -- an `assert` with a false condition: its message, then another exception
   abbrev pub fail : Parts Step → Option Expr → Step StatementEnd
   fail parts None = stop Other
   fail parts (Some e) = do
@@ -383,7 +384,7 @@ module _ {ℓ} (Step : Type 0 → Type ℓ) (reading : Interpretation Step) wher
     b ← condition v
     choose b (parts.exec body) (exec_branches parts rest otherwise)
 
-  -- what a `for` goes over; `range(e)` evaluates its name, its argument and its call as any call does
+  -- the source of a `for`'s items; `range(e)` evaluates its name, its argument and its call like any other call
   abbrev pub eval_iterable : Parts Step → Expr → IterableForm → Step Iteration
   eval_iterable parts e (range_call p n arguments keywords) = do
     charge
@@ -398,7 +399,7 @@ module _ {ℓ} (Step : Type 0 → Type ℓ) (reading : Interpretation Step) wher
     v ← parts.eval e
     act iteration_out (action.iterate v)
 
-  -- a statement: its expressions, what it binds or stores, its suites, and how it ends
+  -- the execution of a statement: its expressions, its binding or store, its suites, and the way it ends
   abbrev pub exec_node : Parts Step → Stmt → Step StatementEnd
   exec_node parts (pass p) = pure next
   exec_node parts (breaks p) = pure breaking
@@ -428,7 +429,7 @@ module _ {ℓ} (Step : Type 0 → Type ℓ) (reading : Interpretation Step) wher
     parts.turns over 0 n.text body
   exec_node parts (conditional p branches otherwise) = exec_branches parts branches otherwise
 
-  -- what follows a statement, if anything does
+  -- the rest after a statement, if the statement ended with `next`
   abbrev pub then_follows : StatementEnd → Step StatementEnd → Step StatementEnd
   then_follows next rest = rest
   then_follows breaking rest = pure breaking
@@ -445,14 +446,14 @@ module _ {ℓ} (Step : Type 0 → Type ℓ) (reading : Interpretation Step) wher
 
   -- ---- loops
 
-  -- the suite of a loop; an empty one, which no text spells, runs as `pass` does
+  -- the suite of a loop; an empty one, which no text can contain, runs like `pass`
   abbrev pub exec_body : (Stmts → Step StatementEnd) → Stmts → Step StatementEnd
   exec_body exec no_stmts = do
     charge
     pure next
   exec_body exec (more_stmts s rest) = exec (more_stmts s rest)
 
-  -- what follows the suite of a loop: `break` leaves the loop
+  -- the rest of a loop after its suite; `break` leaves the loop
   abbrev pub after_turn : StatementEnd → Step StatementEnd → Step StatementEnd
   after_turn next more = more
   after_turn continuing more = more
@@ -467,7 +468,7 @@ module _ {ℓ} (Step : Type 0 → Type ℓ) (reading : Interpretation Step) wher
     b ← condition v
     choose b (exec_body exec body >>= λ flow. after_turn flow more) (pure next)
 
-  -- a turn of a `for`: the item if there is one, the target, the suite, the further turns
+  -- a turn of a `for` with its item, if there is one: the target, the suite, the further turns
   abbrev pub with_item : (Stmts → Step StatementEnd) → Step StatementEnd → List ℕ → Stmts → Option Value
       → Step StatementEnd
   with_item exec more n body None = pure next
@@ -485,13 +486,13 @@ module _ {ℓ} (Step : Type 0 → Type ℓ) (reading : Interpretation Step) wher
 
   -- ---- nested steps
 
-  -- an expression, whose parts take one nested step less: its charge, and then the node
+  -- an expression whose parts have one nested step less: its charge, and then the node
   abbrev pub eval_over : Parts Step → Expr → Step Value
   eval_over parts e = do
     charge
     eval_node parts e
 
-  -- the parts that take one nested step more than these
+  -- the parts with one nested step more than these
   abbrev pub over_parts : Parts Step → Parts Step
   over_parts parts = record {
     eval = eval_over parts;
@@ -500,7 +501,7 @@ module _ {ℓ} (Step : Type 0 → Type ℓ) (reading : Interpretation Step) wher
     turns = λ over i n body. for_turn (exec_all parts) (parts.turns over (suc i) n body) over i n body;
   }
 
-  -- at most n nested steps
+  -- the parts with at most n nested steps
   abbrev pub steps : ℕ → Parts Step
   steps zero = record {
     eval = λ e. stop Cut;
@@ -512,7 +513,7 @@ module _ {ℓ} (Step : Type 0 → Type ℓ) (reading : Interpretation Step) wher
 
   -- ---- the module
 
-  -- a literal as a default: it has no event, and a `-` and its number are one number
+  -- the value of a literal as a default, which has no event; a `-` and its number are one number
   abbrev pub make_literal : Literal → Step Value
   make_literal (number_literal p digits) = act value_out (action.number (number_of_digits digits))
   make_literal (negative_literal p digits) = act value_out (action.number (negative_of_digits digits))
@@ -527,21 +528,21 @@ module _ {ℓ} (Step : Type 0 → Type ℓ) (reading : Interpretation Step) wher
     v ← make_literal l
     pure (Some v)
 
-  -- the parameters of a def that runs, with their defaults
-  abbrev pub make_parameters : List Param → Step (List Parameter)
+  -- the parameters of a def, with the values of their defaults
+  abbrev pub make_parameters : List Param → Step (List FormalParameter)
   make_parameters [] = pure []
   make_parameters (p ∷ rest) = do
     default ← make_default p.default
     others ← make_parameters rest
     pure (record { name = p.name.text; default = default } ∷ others)
 
-  -- a def makes a function: its parameters with their defaults
+  -- the function that a def makes: its parameters with their defaults
   abbrev pub make_function : FuncDef → Step Function
   make_function f = do
     parameters ← make_parameters f.params
     pure (record { name = f.name; parameters = parameters; body = f.body })
 
-  -- the members of a class that is made: fields and methods with their defaults
+  -- the members of a class: fields and methods with their defaults
   abbrev pub make_members : List Member → Step Members
   make_members [] = pure (record { fields = []; methods = [] })
   make_members (field_member f ∷ rest) = do
@@ -556,7 +557,7 @@ module _ {ℓ} (Step : Type 0 → Type ℓ) (reading : Interpretation Step) wher
     others ← make_members rest
     pure (record { fields = others.fields; methods = method ∷ others.methods })
 
-  -- a class is made: `@dataclass`, the base, the members with their defaults, the order of its fields
+  -- the making of a class: `@dataclass`, the base, the members with their defaults, the order of its fields
   abbrev pub make_class : Bool → ClassDef → Step (Unit {0})
   make_class imports_dataclass c = do
     answer (dataclass_found imports_dataclass)
@@ -566,7 +567,7 @@ module _ {ℓ} (Step : Type 0 → Type ℓ) (reading : Interpretation Step) wher
     answer (defaults_in_order class.fields)
     change (binds_class c.name.text class)
 
-  -- a constant, a class or a def runs
+  -- the execution of a constant, a class or a def
   abbrev pub exec_item : Parts Step → Bool → Item → Step (Unit {0})
   exec_item parts imports_dataclass (constant_item p c) = do
     charge
@@ -584,13 +585,13 @@ module _ {ℓ} (Step : Type 0 → Type ℓ) (reading : Interpretation Step) wher
     exec_item parts imports_dataclass i
     exec_items parts imports_dataclass rest
 
-  -- the last line: `main` is entered, without an event
+  -- the call of `main` on the last line, without an event
   abbrev pub enter_main : Parts Step → Step Value
   enter_main parts = do
     called ← look (λ s. callee_of_meaning (codes "main") (meaning_in_run (codes "main") s))
     call_callee parts called [] []
 
-  -- a module runs: its items, then `main`
+  -- the run of a module: its items, then `main`
   abbrev pub exec_module : Parts Step → Module → Step Value
   exec_module parts m = do
     exec_items parts m.imports_dataclass m.items

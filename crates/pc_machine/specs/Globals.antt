@@ -1,4 +1,4 @@
--- Where a name is bound first among what the module has bound.
+-- The position of a name's first binding among those of the module.
 -- Own device; the names: Language Reference 4.2.1 "Binding of names".
 use Rattle.std.specs.Prelude.{◌≡◌, ℕ, suc, List, [], ◌∷◌, Option, Some, None, if◌then◌else◌}
 use Rattle.std.specs.Option.{option_map}
@@ -12,11 +12,11 @@ use Rattle.pc_machine.specs.declared.state.Global.{Global as RustGlobal}
 abbrev pub name_of_global : RustGlobal → List ℕ
 name_of_global g = g.name.now
 
--- where a name stands first
+-- the position of a name's first occurrence
 abbrev pub place_of : List ℕ → List (List ℕ) → Option ℕ
 place_of name [] = None
 place_of name (n ∷ rest) = if same_text n name then Some 0 else option_map suc (place_of name rest)
 
--- a map tells where each name stands first
+-- a map holds the position of each name's first occurrence
 abbrev pub ArePlaced : {S : Type 0} → IndexMap (Bor (List ℕ)) ℕ S → List (List ℕ) → Type 0
 ArePlaced places names = (name : List ℕ) → at_text places name ≡ place_of name names

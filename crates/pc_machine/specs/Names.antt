@@ -1,4 +1,4 @@
--- Names at run time: what a function binds, what the module binds, the reserved names.
+-- Names at run time: the names a function binds, the module's bindings, the reserved names.
 -- Language Reference 4.2 "Naming and binding"; the reserved names: own rule of the profile.
 use Rattle.std.specs.Prelude.{ℕ, Bool, true, false, List, [], ◌∷◌, ◌++◌, map, if◌then◌else◌, Option, Some, None}
 use Rattle.pc_source.specs.ReservedNames.{is_reserved}
@@ -44,27 +44,27 @@ abbrev mutual
 abbrev pub unbound : List ℕ → Local
 unbound name = record { name = name; value = None }
 
--- the frame of a function that is entered: its parameters with their values, then the other names that it binds
+-- the frame of a call: the parameters with their values, then the other names that the function binds
 abbrev pub frame_of : Function → List Local → Frame
 frame_of f arguments = arguments ++ map unbound (names_bound f.body)
 
--- a local of the frame: none of that name, or one with its value if it is bound
+-- the local of a name, if the frame has one, with its value if it is bound
 abbrev pub local_by_name : List ℕ → Frame → Option (Option Value)
 local_by_name name [] = None
 local_by_name name (l ∷ rest) = if same_text l.name name then Some l.value else local_by_name name rest
 
--- the frame after a local was bound
+-- the frame after a local is bound
 abbrev pub with_local : List ℕ → Value → Frame → Frame
 with_local name v [] = []
 with_local name v (l ∷ rest) = if same_text l.name name then record { name = l.name; value = Some v } ∷ rest
     else l ∷ with_local name v rest
 
--- what the module has bound to a name so far
+-- the module's binding of a name so far
 abbrev pub global_by_name : List ℕ → Globals → Option GlobalBinding
 global_by_name name [] = None
 global_by_name name (g ∷ rest) = if same_text g.name name then Some g.is else global_by_name name rest
 
--- what a name means where it is read: a value, a local that is not bound, a function, a class, a reserved name, nothing
+-- the meaning of a name where it is read: a value, an unbound local, a function, a class, a reserved name, or nothing
 pub data Meaning : Type 0 where
   means_value : (value : Value) → Meaning
   means_unbound : Meaning
@@ -73,25 +73,25 @@ pub data Meaning : Type 0 where
   means_reserved : Meaning
   means_nothing : Meaning
 
--- what a name means that the module has bound to this
+-- the meaning of a binding of the module
 abbrev pub meaning_of_bound : GlobalBinding → Meaning
 meaning_of_bound (a_value v) = means_value v
 meaning_of_bound (a_function f) = means_function f
 meaning_of_bound (a_class c) = means_class c
 
--- the module, then the reserved names
+-- the meaning of a name outside functions: the module's binding, else reserved or nothing
 abbrev pub meaning_of_global : Bool → Option GlobalBinding → Meaning
 meaning_of_global reserved (Some g) = meaning_of_bound g
 meaning_of_global true None = means_reserved
 meaning_of_global false None = means_nothing
 
--- the local of a name, bound or not; where there is none, what the name means outside the function
+-- the meaning of a name, given its local, bound or not; without a local, its meaning outside the function
 abbrev pub meaning_of_local : Meaning → Option (Option Value) → Meaning
 meaning_of_local outer None = outer
 meaning_of_local outer (Some None) = means_unbound
 meaning_of_local outer (Some (Some v)) = means_value v
 
--- a name that the function binds is local in all of it; others are the module's, then reserved
+-- the meaning of a name: local in all of a function that binds it, else the module's, else reserved
 abbrev pub meaning_in_run : List ℕ → State → Meaning
 meaning_in_run name s = meaning_of_local (meaning_of_global (is_reserved name) (global_by_name name s.globals))
     (local_by_name name s.frame)

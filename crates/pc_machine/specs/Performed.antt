@@ -1,4 +1,4 @@
--- The nodes of the text that evaluate nothing further, in a plain run, and the parts of others that do so.
+-- Steps of a plain run that evaluate no further expression: whole nodes, and parts of others.
 -- Own rule of the profile.
 use Rattle.std.specs.Prelude.{ℕ, Bool, true, false, nat_eq, List, ◌∷◌, Option, Some, None}
 use Rattle.pc_tree.specs.Tree.{Expr, Stmts, no_stmts, more_stmts}
@@ -16,7 +16,7 @@ use Rattle.pc_machine.specs.Runs.{plain_parts}
 use Rattle.pc_machine.specs.Evaluation as text
 use Rattle.pc_machine.specs.Evaluation.{self_local}
 
--- a callee
+-- the evaluation of a callee
 abbrev pub callee_in : ℕ → Expr → Step Callee
 callee_in n e = text.eval_callee Step plain (plain_parts n) e
 
@@ -24,39 +24,39 @@ callee_in n e = text.eval_callee Step plain (plain_parts n) e
 abbrev pub callee_called : ℕ → Callee → List Value → List NamedValue → Step Value
 callee_called n callee values named = text.call_callee Step plain (plain_parts n) callee values named
 
--- what `e.m` is as a callee, once e has its value and the event is left
+-- the callee of `e.m`, once e has its value and its event is recorded
 abbrev pub attribute_callee : Value → List ℕ → Step Callee
 attribute_callee v m w = text.callee_of_attribute Step plain v m (named_method w.state v m) w
 
--- what `isinstance(e, T)` gives, once e has its value and the event is left
+-- the value of `isinstance(e, T)`, once e has its value and its event is recorded
 abbrev pub instance_tested : Value → Expr → Step Value
 instance_tested v t w = and_then (comes (instance_test_of t w.state) w)
     (λ test v'. Came (boolean (passes v'.state v test)) v')
 
--- the store of `e.f = v`, once v and e have their values and the event is left
+-- the store of `e.f = v`, once v and e have their values and its event is recorded
 abbrev pub attribute_stored : Value → List ℕ → Value → Step StatementEnd
 attribute_stored o f v w = and_then (act value_out (action.store_attribute o f v) w) (λ stored w'. Came next w')
 
--- the store of `e[i] = v`, once v, e and i have their values and the event is left
+-- the store of `e[i] = v`, once v, e and i have their values and its event is recorded
 abbrev pub item_stored : Value → Value → Value → Step StatementEnd
 item_stored o k v w = and_then (act value_out (action.store_item o k v) w) (λ stored w'. Came next w')
 
--- what a `for` goes over at `range(..)`, once the arguments have their values and the event is left
+-- the source of a `for`'s items at `range(..)`, once the arguments have their values and its event is recorded
 abbrev pub range_begun : List Value → List NamedValue → Step Iteration
 range_begun values named w =
     and_then (comes (range_argument values named) w) (λ limit w'. act iteration_out (action.iterate_range limit) w')
 
--- an empty suite of a loop is charged as `pass` is
+-- the charge for an empty suite of a loop, the same as for `pass`
 abbrev pub empty_charged : Stmts → Step (Unit {0})
 empty_charged no_stmts w = charge w
 empty_charged (more_stmts s rest) w = Came tt w
 
--- a frame is entered, if a further call may be open; what it comes to is the caller's frame
+-- a frame is entered unless the call limit is reached; the result is the caller's frame
 abbrev pub entered_unless : Bool → Frame → Step Frame
 entered_unless true frame w = Ended Cut w
 entered_unless false frame w = Came w.state.frame (after_entry frame w)
 
--- a function, or a method with its object, is entered with its arguments; what it comes to is the caller's frame
+-- a function, or a method with its object, is entered with its arguments; the result is the caller's frame
 abbrev pub opened_frame : Function → Option Value → List Value → List NamedValue → Step Frame
 opened_frame f None values named w =
     and_then (comes (or_type_error (bound_arguments f.parameters values named)) w)

@@ -12,29 +12,29 @@ use Rattle.pc_machine.specs.Free as free
 use Rattle.pc_machine.specs.Plain as plain
 use Rattle.pc_machine.specs.Plain.{Progress, After, Came, Ended}
 
--- how a run ends
+-- the end of a run
 pub data End : Type 0 where
   done : End
   stopped : (stop : Stop) → End
 
--- how a run ends that came to this
+-- the end of a run with this result
 abbrev pub end_of : Out Value → End
 end_of (Gives v) = done
 end_of (Stops stop) = stopped stop
 
--- what may happen, and what happens plainly, in at most n nested steps
+-- the steps of all possible runs, with at most n nested steps
 abbrev pub free_parts : ℕ → Parts free.Step
 free_parts n = steps free.Step free.free n
 
--- what happens plainly, in at most n nested steps
+-- the steps of a plain run, with at most n nested steps
 abbrev pub plain_parts : ℕ → Parts plain.Step
 plain_parts n = steps plain.Step plain.plain n
 
--- what may happen as a module runs, in at most n nested steps
+-- all possible runs of a module, with at most n nested steps
 abbrev pub free_module : ℕ → Module → free.Step Value
 free_module n m = exec_module free.Step free.free (free_parts n) m
 
--- what happens plainly as a module runs, in at most n nested steps
+-- the plain run of a module, with at most n nested steps
 abbrev pub plain_module : ℕ → Module → plain.Step Value
 plain_module n m = exec_module plain.Step plain.plain (plain_parts n) m
 
@@ -46,16 +46,16 @@ pub record Ran (m : Module) (events : List Place) (end : End) : Type 0 where
   pub runs : free_module bound m nothing_bound events out left
   pub is : end ≡ end_of out
 
--- the one run of a module that a code stops: no event, out of the profile
+-- the only run of a module with a code that prevents running: no event, out of the profile
 pub record NeverRan (events : List Place) (end : End) : Type 0 where
   pub quiet : events ≡ []
   pub is : end ≡ stopped Outside
 
--- a run of a module: the one where a code stops it, else any of its items and `main`
+-- a run of a module: if a code prevents running, that one, else any of its items and `main`
 abbrev pub Run : Module → List Place → End → Type 0
 Run m events end = (IsFalse (is_runnable m) × NeverRan events end) ⊎ (IsTrue (is_runnable m) × Ran m events end)
 
--- a plain run left these events, and this end
+-- a plain run has these events and this end
 abbrev pub Leaves : After Value → List Place → End → Type 0
 Leaves (Came v w) events end = (events ≡ w.events) × (end ≡ done)
 Leaves (Ended stop w) events end = (events ≡ w.events) × (end ≡ stopped stop)
@@ -69,7 +69,7 @@ abbrev pub PlainRun : Module → ℕ → List ℕ → List Place → End → Typ
 PlainRun m fuel choices events end = (IsFalse (is_runnable m) × NeverRan events end)
     ⊎ (IsTrue (is_runnable m) × PlainlyRan m fuel choices events end)
 
--- the ends that the report speaks of: one of the four exceptions, or out of the profile
+-- the ends that the report covers: one of the four exceptions, or out of the profile
 abbrev pub IsFaultyEnd : End → Type 0
 IsFaultyEnd done = ⊥
 IsFaultyEnd (stopped (Raised exception)) = Unit {0}

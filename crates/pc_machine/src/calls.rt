@@ -1,4 +1,4 @@
-//! The values of literals, how arguments fill parameters, and what a call is entered with.
+//! Values of literals, binding of arguments to parameters, and the frame of a call.
 
 ghost use Rattle.std.specs.Prelude.{◌≡◌, map, IfOk, List, ℕ, chars, string_bytes};
 ghost use Rattle.std.specs.List.{list_all};
@@ -18,7 +18,7 @@ ghost use Rattle.pc_machine.specs.Machine.{frame_of_vec, method_of_def};
 use crate::halt::{Halt, Stop};
 use crate::machine::raised;
 use crate::names::add_names;
-use crate::state::{BuiltinMethod, Local, NamedValue, Parameter};
+use crate::state::{BuiltinMethod, FormalParameter, Local, NamedValue};
 use indexmap::{IndexMap, IndexSet};
 use pc_source::OutOfMemory;
 use pc_tree::{FuncDef, Literal, LiteralKind, NameMap, NameSet, Param, bind_first, put};
@@ -26,7 +26,7 @@ use pc_value::{Action, Exception, Slot, Value};
 use std::alloc::Global;
 use std::hash::RandomState;
 
-/// The value of a literal; a whole number has one where it fits 128 signed bits.
+/// Returns the value of a literal, or `None` for a whole number that does not fit 128 signed bits.
 /// Language Reference 2.4 "Literals".
 pub fn literal_value(alloc: Global, literal: &Literal) -> Result<Option<Value>, OutOfMemory>
     ensures { IfOk result (λ o. value_if_any o ≡ literal_value (literal_of literal.now)) }
@@ -45,27 +45,30 @@ pub fn literal_value(alloc: Global, literal: &Literal) -> Result<Option<Value>, 
     }
 }
 
-/// The characters of a text.
+/// Returns the characters of a text.
 pub fn characters(alloc: Global, text: &str) -> Result<Vec<char>, OutOfMemory>
     ensures { IfOk result (λ cs. cs.items ≡ chars text.now) }
 {
     Ok(text.chars().collect(alloc)?)
 }
 
-/// A text of its own.
+/// Returns an owned copy of a text.
 pub fn text_of(alloc: Global, text: &str) -> Result<String, OutOfMemory>
     ensures { IfOk result (λ s. string_bytes s ≡ text.now) }
 {
     Ok(String::from_str(alloc, text)?)
 }
 
-/// The parameters of a def, with their defaults.
-pub fn parameters<'m>(alloc: Global, params: &'m [Param]) -> Result<Vec<Parameter<'m>>, OutOfMemory>
+/// Returns the parameters of a def, with their defaults.
+pub fn parameters<'m>(
+    alloc: Global,
+    params: &'m [Param],
+) -> Result<Vec<FormalParameter<'m>>, OutOfMemory>
     ensures { IfOk result (λ ps. map parameter_of ps.items ≡ map parameter_of_param (map param_of params.now)) }
 {
     let mut parameters = Vec::new(alloc);
     for param in params {
-        parameters.push(Parameter {
+        parameters.push(FormalParameter {
             name: param.name.text.as_str(),
             default: param.default.as_ref(),
         })?;
@@ -73,7 +76,7 @@ pub fn parameters<'m>(alloc: Global, params: &'m [Param]) -> Result<Vec<Paramete
     Ok(parameters)
 }
 
-/// The value of the first argument of each name.
+/// Maps each name to the value of the first argument given by that name.
 fn first_values<'a, 'm>(
     alloc: Global,
     keys: RandomState,
@@ -89,11 +92,11 @@ fn first_values<'a, 'm>(
     Ok(values)
 }
 
-/// The names of parameters.
+/// Returns the set of the parameters' names.
 fn parameter_names<'m>(
     alloc: Global,
     keys: RandomState,
-    parameters: &[Parameter<'m>],
+    parameters: &[FormalParameter<'m>],
 ) -> Result<NameSet<'m>, OutOfMemory>
     ensures { IfOk result (λ s. (name : List ℕ)
         → is_among (texts_in s) name ≡ is_parameter name (map parameter_of parameters.now)) }
@@ -105,7 +108,7 @@ fn parameter_names<'m>(
     Ok(names)
 }
 
-/// Whether each argument by name is for a parameter, where these are their names.
+/// Returns whether every argument given by name has its name among these.
 fn are_among(named: &[NamedValue<'_>], names: &NameSet<'_>) -> bool
     ensures { result ≡ list_all (λ a. is_among (texts_in names.now) a.name.now) named.now }
 {
@@ -117,12 +120,12 @@ fn are_among(named: &[NamedValue<'_>], names: &NameSet<'_>) -> bool
     true
 }
 
-/// Each argument by name is for a parameter.
+/// Returns whether every argument given by name is for a parameter.
 fn are_parameters(
     alloc: Global,
     keys: RandomState,
     named: &[NamedValue<'_>],
-    parameters: &[Parameter<'_>],
+    parameters: &[FormalParameter<'_>],
 ) -> Result<bool, OutOfMemory>
     ensures { IfOk result (λ b. b ≡ are_parameters (map named_of named.now) (map parameter_of parameters.now)) }
 {
@@ -133,7 +136,8 @@ fn are_parameters(
     Ok(are_among(named, &names))
 }
 
-/// The value of a parameter's default, if it has one.
+/// Returns the value of a parameter's default. `None` if there is no default, or it is a whole number that does not
+/// fit.
 fn default_value(alloc: Global, default: Option<&Literal>) -> Result<Option<Value>, OutOfMemory>
     ensures { IfOk result (λ o. value_if_any o ≡ default_of default.entry) }
 {
@@ -143,10 +147,11 @@ fn default_value(alloc: Global, default: Option<&Literal>) -> Result<Option<Valu
     }
 }
 
-/// What a parameter takes: an argument by position, or one by name, or its default; not two arguments.
+/// Returns the value of a parameter: its argument by position, else by name, else its default. `None` if it has both
+/// arguments or no value.
 fn take(
     alloc: Global,
-    parameter: Parameter<'_>,
+    parameter: FormalParameter<'_>,
     by_position: Option<&Value>,
     by_name: Option<&Value>,
 ) -> Result<Option<Value>, OutOfMemory>
@@ -161,12 +166,12 @@ fn take(
     }
 }
 
-/// The parameters with the values that they take, if the arguments suit them.
+/// Binds the arguments to the parameters, as the locals of a call. `None` if they do not match.
 /// Language Reference 6.3.4 "Calls".
 pub fn bound_arguments<'m>(
     alloc: Global,
     keys: RandomState,
-    parameters: &[Parameter<'m>],
+    parameters: &[FormalParameter<'m>],
     values: &[Value],
     named: &[NamedValue<'_>],
 ) -> Result<Option<Vec<Local<'m>>>, OutOfMemory>
@@ -198,7 +203,7 @@ pub fn bound_arguments<'m>(
     Ok(Some(locals))
 }
 
-/// The fields of a new instance, from the values that its class's fields took.
+/// Returns the fields of a new instance, given the values bound to its class's fields.
 pub fn slots_of(alloc: Global, locals: &[Local<'_>]) -> Result<Vec<Slot>, OutOfMemory>
     ensures { IfOk result (λ ss. map slot_of ss.items ≡ slots_of (map local_of locals.now)) }
 {
@@ -213,7 +218,8 @@ pub fn slots_of(alloc: Global, locals: &[Local<'_>]) -> Result<Vec<Slot>, OutOfM
     Ok(slots)
 }
 
-/// What a call of a built-in method does.
+/// Returns the action of a call of a built-in method. Ends the run out of the profile for arguments by name or a wrong
+/// count.
 pub fn builtin_action(
     alloc: Global,
     object: Value,
@@ -236,7 +242,7 @@ pub fn builtin_action(
     }
 }
 
-/// The parameters of a def with the values that they take; arguments that do not suit are TypeError.
+/// Binds the arguments to the parameters of a def; TypeError if they do not match.
 pub fn suited_arguments<'m>(
     alloc: Global,
     keys: RandomState,
@@ -255,7 +261,7 @@ pub fn suited_arguments<'m>(
     }
 }
 
-/// The frame of a function that is entered.
+/// Returns the frame of a call: `self` for a method, then the arguments, then the other names that the def binds.
 pub fn frame_of<'m>(
     alloc: Global,
     object: Option<Value>,

@@ -1,4 +1,4 @@
-//! What the module has bound, looked up by name.
+//! The module's bindings, looked up by name.
 ghost use Rattle.std.specs.Prelude.{◌≡◌, ◌++◌, ◌∷◌, [], map, OnOk};
 ghost use Rattle.pc_machine.specs.Names.{global_by_name};
 ghost use Rattle.pc_machine.specs.Machine.{global_of as global_seen, bound_of, found_global};
@@ -11,7 +11,7 @@ use std::alloc::Global;
 use std::hash::RandomState;
 
 impl<'m> Globals<'m> {
-    /// Nothing is bound.
+    /// Returns a table without bindings.
     pub fn new(alloc: Global, keys: RandomState) -> Globals<'m>
         ensures { result.bindings.items ≡ [] }
     {
@@ -21,7 +21,7 @@ impl<'m> Globals<'m> {
         }
     }
 
-    /// What is bound to a name, if anything.
+    /// Returns the first binding of a name, or `None` if the module has not bound it.
     pub fn get(&self, name: &str) -> Option<&Bound<'m>>
         ensures { found_global result ≡ global_by_name name.now (map global_seen self.now.bindings.items) }
     {
@@ -34,11 +34,11 @@ impl<'m> Globals<'m> {
         }
     }
 
-    /// Binds a name of the module.
+    /// Adds a binding of a name of the module.
     ///
     /// # Errors
     ///
-    /// `OutOfMemory` where there is no room; nothing is bound then.
+    /// `OutOfMemory` if an allocation failed; nothing is bound then.
     pub fn bind(&mut self, name: &'m str, bound: Bound<'m>) -> Result<(), OutOfMemory>
         ensures { OnOk result (map global_seen self.new.bindings.items
             ≡ map global_seen self.old.bindings.items ++ record { name = name.now; is = bound_of bound.entry } ∷ []) }
@@ -48,7 +48,7 @@ impl<'m> Globals<'m> {
         match bind_first(&mut self.places, name, place) {
             Ok(()) => Ok(()),
             Err(_) => {
-                // Without its entry in the map by name the global would be found by its place alone.
+                // Without its entry in the map by name, lookups would never find the binding.
                 let _ = self.bindings.pop();
                 Err(OutOfMemory)
             }

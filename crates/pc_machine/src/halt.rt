@@ -1,4 +1,4 @@
-//! How a run ends before its time.
+//! Early ends of a run.
 
 ghost use Rattle.std.specs.Prelude.{◌≡◌};
 ghost use Rattle.pc_machine.specs.declared.halt.Halt.TheVariants as halt;
@@ -6,10 +6,10 @@ ghost use Rattle.pc_machine.specs.declared.halt.Halt.TheVariants as halt;
 use pc_source::OutOfMemory;
 use pc_value::Exception;
 
-/// How a run ends before its time. Own rule of the profile.
+/// The way a run ends early. Own rule of the profile.
 #[derive(Clone, Copy, Debug, PartialEq, Eq)]
 pub enum Stop {
-    /// The run raised one of the exceptions that are told apart.
+    /// The run raised one of the exceptions that the report distinguishes.
     Raised(Exception),
     /// Another exception.
     Other,
@@ -19,12 +19,12 @@ pub enum Stop {
     Cut,
 }
 
-/// Why a step comes to no value. Own rule of the profile.
+/// The reason that a step gives no value. Own rule of the profile.
 #[derive(Clone, Copy, Debug, PartialEq, Eq)]
 pub enum Halt {
     /// The run ends.
     Stopped(Stop),
-    /// An allocation failed; the model says nothing of it.
+    /// An allocation failed, which the model does not cover.
     OutOfMemory,
 }
 

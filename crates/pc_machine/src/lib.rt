@@ -1,4 +1,4 @@
-//! The run model, what a module may do when it runs, and the machine that follows a plain run of one.
+//! The run model, which defines the runs of a module, and the machine that carries out a plain run.
 #![tactic(auto)]
 
 mod calls;
@@ -17,6 +17,6 @@ pub use halt::{Halt, Stop};
 pub use laws::plain_runs_are_runs;
 pub use machine::{Machine, raised};
 pub use state::{
-    Bound, BuiltinMethod, Callee, Class, Flow, Global, Globals, Local, Meaning, NamedValue,
-    Parameter, Test,
+    Bound, BuiltinMethod, Callee, Class, Completion, FormalParameter, Global, Globals,
+    InstanceTest, Local, Meaning, NamedValue,
 };

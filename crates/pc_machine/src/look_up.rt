@@ -14,12 +14,12 @@ ghost use Rattle.pc_machine.specs.Machine.{test_seen, progress_of, state_of, cal
 use crate::halt::{Halt, Stop};
 use crate::machine::{Machine, raised};
 use crate::names::is_same;
-use crate::state::{BuiltinMethod, Callee, Class, Meaning, Test};
+use crate::state::{BuiltinMethod, Callee, Class, InstanceTest, Meaning};
 use pc_tree::{Expr, FuncDef, Name};
 use pc_value::{Exception, Seen, Value, see};
 use std::alloc::Global;
 
-/// The method of a name.
+/// Returns the first method with a name, or `None` if there is none.
 fn method_named<'m>(methods: &[&'m FuncDef], name: &str) -> Option<&'m FuncDef>
     ensures { found_method result ≡ method_among name.now (map method_of_def methods.now) }
 {
@@ -31,7 +31,7 @@ fn method_named<'m>(methods: &[&'m FuncDef], name: &str) -> Option<&'m FuncDef>
     None
 }
 
-/// The built-in method of lists of a name.
+/// Returns the built-in method of lists with a name, or `None` if there is none.
 fn list_method(name: &str) -> Option<BuiltinMethod>
     ensures { found_builtin result ≡ builtin_method_of (a_list 0 []) name.now }
 {
@@ -44,7 +44,7 @@ fn list_method(name: &str) -> Option<BuiltinMethod>
     }
 }
 
-/// The built-in method of dicts of a name.
+/// Returns the built-in method of dicts with a name, or `None` if there is none.
 fn dict_method(name: &str) -> Option<BuiltinMethod>
     ensures { found_builtin result ≡ builtin_method_of (a_dict 0 []) name.now }
 {
@@ -55,24 +55,25 @@ fn dict_method(name: &str) -> Option<BuiltinMethod>
     }
 }
 
-/// What the second argument of `isinstance` tests for, where it is a reserved name.
-fn reserved_test(name: &str) -> Result<Test, Halt>
+/// Returns the test of `isinstance` for a reserved name; names other than `int`, `str`, `bool` and `list` are out of
+/// the profile.
+fn reserved_test(name: &str) -> Result<InstanceTest, Halt>
     ensures { TellsOutcome test_seen result (test_of_reserved name.now) }
 {
     if is_same(name, "int") {
-        Ok(Test::Int)
+        Ok(InstanceTest::Int)
     } else if is_same(name, "str") {
-        Ok(Test::Str)
+        Ok(InstanceTest::Str)
     } else if is_same(name, "bool") {
-        Ok(Test::Bool)
+        Ok(InstanceTest::Bool)
     } else if is_same(name, "list") {
-        Ok(Test::List)
+        Ok(InstanceTest::List)
     } else {
         Err(Halt::Stopped(Stop::Outside))
     }
 }
 
-/// Whether a class is itself or an ancestor of the one with these.
+/// Returns whether a class is among `ancestors`, the numbers of another class and its ancestors.
 fn is_ancestor(class: usize, ancestors: &[usize]) -> bool
     ensures { result ≡ is_ancestor class ancestors.now }
 {
@@ -85,7 +86,7 @@ fn is_ancestor(class: usize, ancestors: &[usize]) -> bool
 }
 
 impl<'m> Machine<'m> {
-    /// The class of an instance.
+    /// Returns the class of an instance, or `None` for any other value.
     fn class_of(&self, object: &Value) -> Option<&Class<'m>>
         ensures { found_class result
             ≡ class_at (state_of self.now).classes (class_number_of (heap_of self.now.heap) (value_of object.now)) }
@@ -102,7 +103,7 @@ impl<'m> Machine<'m> {
         }
     }
 
-    /// The method that an object's class has by a name.
+    /// Returns the method with a name in an object's class, or `None` if it has none.
     pub(crate) fn find_method(&self, object: &Value, name: &str) -> Option<&'m FuncDef>
         ensures { found_method result ≡ method_of (state_of self.now) (value_of object.now) name.now }
     {
@@ -112,7 +113,7 @@ impl<'m> Machine<'m> {
         }
     }
 
-    /// The built-in method that an object has by a name.
+    /// Returns the built-in method with a name of a list or dict, or `None` if it has none.
     pub(crate) fn find_builtin_method(&self, object: &Value, name: &str) -> Option<BuiltinMethod>
         ensures { found_builtin result
             ≡ builtin_method_of (seen (heap_of self.now.heap) (value_of object.now)) name.now }
@@ -129,7 +130,8 @@ impl<'m> Machine<'m> {
         }
     }
 
-    /// What a name is as a callee. Language Reference 6.3.4 "Calls".
+    /// Returns the meaning of a name as a callee; UnboundLocalError or NameError if it has none.
+    /// Language Reference 6.3.4 "Calls".
     pub fn look_up_callee(&self, alloc: Global, name: &'m str) -> Result<Callee<'m>, Halt>
         ensures { TellsProgress callee_seen result self.now
             (comes (callee_of_meaning name.now (meaning_in_run name.now (state_of self.now))) (progress_of self.now)) }
@@ -144,8 +146,8 @@ impl<'m> Machine<'m> {
         }
     }
 
-    /// What the second argument of `isinstance` tests for.
-    pub(crate) fn test_of(&self, e: &Expr) -> Result<Test, Halt>
+    /// Returns the test that the second argument of `isinstance` names; anything else is out of the profile.
+    pub(crate) fn test_of(&self, e: &Expr) -> Result<InstanceTest, Halt>
         ensures { TellsOutcome test_seen result (instance_test_of (expr_of e.now) (state_of self.now)) }
     {
         let Expr::Name(name) = e else {
@@ -155,13 +157,13 @@ impl<'m> Machine<'m> {
             Meaning::Value(_) => Err(Halt::Stopped(Stop::Outside)),
             Meaning::Unbound => Err(Halt::Stopped(Stop::Outside)),
             Meaning::Function(_) => Err(Halt::Stopped(Stop::Outside)),
-            Meaning::Class(class) => Ok(Test::Class(class)),
+            Meaning::Class(class) => Ok(InstanceTest::Class(class)),
             Meaning::Reserved => reserved_test(name.text.as_str()),
             Meaning::Nothing => Err(Halt::Stopped(Stop::Outside)),
         }
     }
 
-    /// Whether an object is an instance of a class or of a descendant of it.
+    /// Returns whether an object is an instance of a class or of a descendant of it.
     fn is_instance(&self, object: &Value, class: usize) -> bool
         ensures { result ≡ descends_from class
             (class_at (state_of self.now).classes (class_number_of (heap_of self.now.heap) (value_of object.now))) }
@@ -172,12 +174,12 @@ impl<'m> Machine<'m> {
         }
     }
 
-    /// Whether a value passes a test; bool counts as int.
-    pub(crate) fn passes(&self, object: &Value, test: Test) -> bool
+    /// Returns whether a value passes a test of `isinstance`; bool counts as int.
+    pub(crate) fn passes(&self, object: &Value, test: InstanceTest) -> bool
         ensures { result ≡ passes (state_of self.now) (value_of object.now) (test_seen test) }
     {
         match test {
-            Test::Int => match object {
+            InstanceTest::Int => match object {
                 Value::Int(_) => true,
                 Value::Bool(_) => true,
                 Value::Str(_) => false,
@@ -185,7 +187,7 @@ impl<'m> Machine<'m> {
                 Value::Tuple(_) => false,
                 Value::Location(_) => false,
             },
-            Test::Bool => match object {
+            InstanceTest::Bool => match object {
                 Value::Int(_) => false,
                 Value::Bool(_) => true,
                 Value::Str(_) => false,
@@ -193,7 +195,7 @@ impl<'m> Machine<'m> {
                 Value::Tuple(_) => false,
                 Value::Location(_) => false,
             },
-            Test::Str => match object {
+            InstanceTest::Str => match object {
                 Value::Int(_) => false,
                 Value::Bool(_) => false,
                 Value::Str(_) => true,
@@ -201,12 +203,12 @@ impl<'m> Machine<'m> {
                 Value::Tuple(_) => false,
                 Value::Location(_) => false,
             },
-            Test::List => self.heap.is_list(object),
-            Test::Class(class) => self.is_instance(object, class),
+            InstanceTest::List => self.heap.is_list(object),
+            InstanceTest::Class(class) => self.is_instance(object, class),
         }
     }
 
-    /// The truth of a value. Language Reference 6.11 "Boolean operations".
+    /// Returns the truth of a value. Language Reference 6.11 "Boolean operations".
     pub fn is_true(&self, value: &Value) -> bool
         ensures { result ≡ is_true (heap_of self.now.heap) (value_of value.now) }
     {

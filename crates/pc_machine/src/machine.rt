@@ -1,4 +1,4 @@
-//! A plain run so far.
+//! State of a plain run.
 
 ghost use Rattle.std.specs.Prelude.{◌≡◌, ◌≤◌, ◌<◌, OnOk, IfOk};
 ghost use Rattle.pc_value.specs.Meaning.{value_of};
@@ -25,27 +25,27 @@ use std::hash::RandomState;
 /// A plain run so far. Own rule of the profile.
 #[derive(Drop)]
 pub struct Machine<'m> {
-    /// The classes made, each under its number.
+    /// The classes made, indexed by their number.
     pub classes: Vec<Class<'m>>,
-    /// The names that the module has bound, in their order.
+    /// The names that the module has bound, in order of binding.
     pub globals: Globals<'m>,
-    /// The locals of the function that runs.
+    /// The locals of the running function.
     pub frame: Vec<Local<'m>>,
-    /// The lists, dicts and instances.
+    /// The heap of lists, dicts and instances.
     pub heap: Heap,
-    /// The places evaluated, in their order.
+    /// The places evaluated so far, in order.
     pub events: Vec<Place>,
-    /// The fuel that is left.
+    /// The fuel left.
     pub fuel: u64,
-    /// The choice bytes that are left.
+    /// The choice bytes left.
     pub choices: &'m [u8],
     /// The open calls.
     pub depth: Depth,
-    /// The keys of the hashes of names, which no author of a text may know.
+    /// The keys for hashing names, which no author of a text may know.
     pub keys: RandomState,
 }
 
-/// The run ends in an exception. Own rule of the profile.
+/// Returns the halt that ends the run in an exception. Own rule of the profile.
 pub fn raised(exception: Exception) -> Halt
     ensures { result ≡ halt.Stopped (stop.Raised exception) }
 {
@@ -53,7 +53,7 @@ pub fn raised(exception: Exception) -> Halt
 }
 
 impl<'m> Machine<'m> {
-    /// The machine before the first item, with nothing bound. Own rule of the profile.
+    /// Returns the machine before the first item, with nothing bound. Own rule of the profile.
     pub fn begin(alloc: Global, keys: RandomState, fuel: u64, choices: &'m [u8]) -> Machine<'m>
         ensures { progress_of result ≡ begin fuel choices.now }
     {
@@ -70,7 +70,7 @@ impl<'m> Machine<'m> {
         }
     }
 
-    /// What a name means where it is read: a local, what the module has bound, or a reserved name.
+    /// Returns the meaning of a name where it is read: a local, a binding of the module, or a reserved name.
     /// Language Reference 4.2.2 "Resolution of names".
     pub fn meaning(&self, name: &str) -> Meaning<'_, 'm>
         ensures { meaning_seen result ≡ meaning_in_run name.now (state_of self.now) }
@@ -90,7 +90,8 @@ impl<'m> Machine<'m> {
         }
     }
 
-    /// The value of a name.
+    /// Returns the value of a name. UnboundLocalError or NameError if it has none; a function, class or reserved name
+    /// is out of the profile.
     fn value_of_name(&self, alloc: Global, name: &str) -> Result<Value, Halt>
         ensures { TellsProgress value_of result self.now
             (comes (value_of_meaning (meaning_in_run name.now (state_of self.now))) (progress_of self.now)) }
@@ -105,7 +106,7 @@ impl<'m> Machine<'m> {
         }
     }
 
-    /// A name as an expression: its place, then its value. Language Reference 6.2.1 "Identifiers (Names)".
+    /// Evaluates a name: its event, then its value. Language Reference 6.2.1 "Identifiers (Names)".
     #[inline(never)]
     pub fn read_name(&mut self, alloc: Global, place: Place, name: &str) -> Result<Value, Halt>
         ensures plain { TellsProgress value_of result self.new
@@ -117,7 +118,7 @@ impl<'m> Machine<'m> {
         self.value_of_name(alloc, name)
     }
 
-    /// A local is bound to a value. Language Reference 4.2.1 "Binding of names".
+    /// Binds a local to a value. Language Reference 4.2.1 "Binding of names".
     #[inline(never)]
     pub fn bind_local(&mut self, name: &str, value: Value)
         ensures plain { progress_of self.new
@@ -127,7 +128,7 @@ impl<'m> Machine<'m> {
         set_local(&mut self.frame, name, value);
     }
 
-    /// Takes one unit of fuel, or cuts the run off where none is left. Own rule of the profile.
+    /// Takes one unit of fuel, or cuts the run off if none is left. Own rule of the profile.
     pub fn charge(&mut self) -> Result<(), Halt>
         ensures plain { TellsProgress unit result self.new (charge (progress_of self.old)) }
         ensures fuel { self.new.fuel ≤ self.old.fuel }
@@ -140,7 +141,7 @@ impl<'m> Machine<'m> {
         Ok(())
     }
 
-    /// A place is evaluated. Own rule of the profile.
+    /// Records the event that a place is evaluated. Own rule of the profile.
     #[inline(never)]
     pub fn emit(&mut self, place: Place) -> Result<(), OutOfMemory>
         ensures ok { OnOk result (progress_of self.new ≡ after_event place (progress_of self.old)) }
@@ -152,7 +153,7 @@ impl<'m> Machine<'m> {
         }
     }
 
-    /// A value, at its place. Own rule of the profile.
+    /// Records the event of a place and returns a value. Own rule of the profile.
     #[inline(never)]
     pub fn give(&mut self, place: Place, value: Value) -> Result<Value, Halt>
         ensures plain { TellsProgress value_of result self.new
@@ -163,7 +164,7 @@ impl<'m> Machine<'m> {
         Ok(value)
     }
 
-    /// The next choice byte, 0 where they are used up.
+    /// Returns the next choice byte, or 0 if they are used up.
     fn choice(&self) -> u8
         ensures { result ≡ next_choice self.now.choices.now }
     {
@@ -173,7 +174,7 @@ impl<'m> Machine<'m> {
         }
     }
 
-    /// Uses the next choice byte.
+    /// Removes the next choice byte.
     fn use_choice(&mut self)
         ensures { progress_of self.new ≡ after_choice (progress_of self.old) }
     {
@@ -182,7 +183,7 @@ impl<'m> Machine<'m> {
         }
     }
 
-    /// An action on values; a free answer takes the next choice.
+    /// Performs an action on values; a free answer uses up the next choice byte.
     fn act(&mut self, alloc: Global, action: &Action) -> Result<Outcome, OutOfMemory>
         ensures acts { IfOk result (λ o. Performs o self.new (action_of action.now) (progress_of self.old)) }
         ensures fuel { self.new.fuel ≡ self.old.fuel }
@@ -196,7 +197,8 @@ impl<'m> Machine<'m> {
         Ok(outcome)
     }
 
-    /// An action that comes to a value.
+    /// Performs an action that gives a value; an exception, leaving the profile, or a number that does not fit ends the
+    /// run.
     pub(crate) fn act_value(&mut self, alloc: Global, action: Action) -> Result<Value, Halt>
         ensures plain { TellsProgress value_of result self.new
             (act value_out (action_of action) (progress_of self.old)) }
@@ -213,7 +215,8 @@ impl<'m> Machine<'m> {
         }
     }
 
-    /// An action that comes to what a `for` goes over. Language Reference 8.3 "The for statement".
+    /// Performs the action that starts a `for` and returns its source of items.
+    /// Language Reference 8.3 "The for statement".
     #[inline(never)]
     pub fn act_iteration(&mut self, alloc: Global, action: Action) -> Result<Iteration, Halt>
         ensures plain { TellsProgress iteration_of result self.new
@@ -231,7 +234,7 @@ impl<'m> Machine<'m> {
         }
     }
 
-    /// A turn of a `for`: the item, or none at the end. Language Reference 8.3 "The for statement".
+    /// Performs a turn of a `for`; returns its item, or `None` at the end. Language Reference 8.3 "The for statement".
     #[inline(never)]
     pub fn act_item(&mut self, alloc: Global, action: &Action) -> Result<Option<Value>, Halt>
         ensures plain { TellsProgress value_if_any result self.new
@@ -249,7 +252,7 @@ impl<'m> Machine<'m> {
         }
     }
 
-    /// An action that comes to a value, at its place. Own rule of the profile.
+    /// Records the event of a place, then performs an action that gives a value. Own rule of the profile.
     #[inline(never)]
     pub fn perform(&mut self, alloc: Global, place: Place, action: Action) -> Result<Value, Halt>
         ensures plain { TellsProgress value_of result self.new

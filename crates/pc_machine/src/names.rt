@@ -16,14 +16,14 @@ use pc_source::OutOfMemory;
 use pc_tree::{Branch, Name, Stmt, StmtKind};
 use pc_value::Value;
 
-/// Whether two names are the same.
+/// Returns whether two names are the same.
 pub fn is_same(a: &str, b: &str) -> bool
     ensures { result ≡ same_text a.now b.now }
 {
     a == b
 }
 
-/// The local of a name, if the frame has one.
+/// Returns the local of a name, or `None` if the frame has none.
 pub fn find_local<'a, 'm>(frame: &'a [Local<'m>], name: &str) -> Option<&'a Local<'m>>
     ensures { found_local result ≡ local_by_name name.now (map local_seen frame.now) }
 {
@@ -35,7 +35,7 @@ pub fn find_local<'a, 'm>(frame: &'a [Local<'m>], name: &str) -> Option<&'a Loca
     None
 }
 
-/// Binds a local to a value.
+/// Binds a local to a value; does nothing if the frame has no local of that name.
 pub fn set_local(frame: &mut [Local<'_>], name: &str, value: Value)
     ensures { map local_seen frame.new ≡ with_local name.now (value_of value) (map local_seen frame.old) }
 {
@@ -48,7 +48,7 @@ pub fn set_local(frame: &mut [Local<'_>], name: &str, value: Value)
     }
 }
 
-/// Adds a local that is not bound yet.
+/// Adds an unbound local.
 fn add_name<'m>(frame: &mut Vec<Local<'m>>, name: &'m str) -> Result<(), OutOfMemory>
     ensures { OnOk result (map local_seen frame.new.items
         ≡ map local_seen frame.old.items ++ map unbound (name.now ∷ [])) }
@@ -59,7 +59,7 @@ fn add_name<'m>(frame: &mut Vec<Local<'m>>, name: &'m str) -> Result<(), OutOfMe
     }
 }
 
-/// The names that statements bind, as locals that are not bound yet.
+/// Adds an unbound local for each name that the statements bind.
 #[cycle(names)]
 pub fn add_names<'m>(frame: &mut Vec<Local<'m>>, body: &'m [Stmt]) -> Result<(), OutOfMemory>
     ensures { OnOk result (map local_seen frame.new.items
@@ -71,7 +71,7 @@ pub fn add_names<'m>(frame: &mut Vec<Local<'m>>, body: &'m [Stmt]) -> Result<(),
     Ok(())
 }
 
-/// The names that a statement binds.
+/// Adds an unbound local for each name that a statement binds, with those of its suites.
 #[cycle(names)]
 fn add_names_of<'m>(frame: &mut Vec<Local<'m>>, kind: &'m StmtKind) -> Result<(), OutOfMemory>
     ensures { (p : PlaceOf) → OnOk result
@@ -84,7 +84,7 @@ fn add_names_of<'m>(frame: &mut Vec<Local<'m>>, kind: &'m StmtKind) -> Result<()
     add_names(frame, last)
 }
 
-/// The name that a statement binds by itself, if it binds one.
+/// Adds an unbound local for the name that a statement binds itself, if there is one.
 fn add_own<'m>(frame: &mut Vec<Local<'m>>, own: Option<&'m Name>) -> Result<(), OutOfMemory>
     ensures { OnOk result (map local_seen frame.new.items
         ≡ map local_seen frame.old.items ++ map (λ n. unbound n.text) (map name_seen (option_to_list own.entry))) }
@@ -95,7 +95,7 @@ fn add_own<'m>(frame: &mut Vec<Local<'m>>, own: Option<&'m Name>) -> Result<(), 
     }
 }
 
-/// The names that the suites of conditions bind.
+/// Adds an unbound local for each name that the suites after `if` and `elif` bind.
 #[cycle(names)]
 fn add_names_in<'m>(frame: &mut Vec<Local<'m>>, branches: &'m [Branch]) -> Result<(), OutOfMemory>
     ensures { OnOk result (map local_seen frame.new.items

@@ -1,5 +1,5 @@
-//! What a machine does at a node: calls, actions, stores. Its functions are kept out of those that evaluate
-//! (`inline(never)`), whose frames the deepest runs pile up.
+//! The machine's work at a node: calls, actions, stores. These functions stay out of those that evaluate
+//! (`inline(never)`), whose stack frames pile up in the deepest runs.
 
 ghost use Rattle.std.specs.Prelude.{◌≡◌, ◌≤◌, ◌<◌, ◌-◌, [], ℕ, map, OnOk, chars, is_some};
 ghost use Rattle.pc_tree.specs.Tree.{expr_of, stmts_of_list, name_of};
@@ -26,7 +26,7 @@ use crate::calls::{
 use crate::halt::{Halt, Stop};
 use crate::machine::{Machine, raised};
 use crate::names::is_same;
-use crate::state::{BuiltinMethod, Callee, Flow, Local, NamedValue};
+use crate::state::{BuiltinMethod, Callee, Completion, Local, NamedValue};
 use pc_source::Place;
 use pc_tree::{Expr, FuncDef, Name, Stmt};
 use pc_value::{Action, Exception, Iteration, Value};
@@ -34,7 +34,7 @@ use std::alloc::Global;
 use std::mem;
 
 impl<'m> Machine<'m> {
-    /// A whole number as it is written. Language Reference 2.4.5 "Integer literals".
+    /// Evaluates a whole number as written. Language Reference 2.4.5 "Integer literals".
     #[inline(never)]
     pub fn number(&mut self, alloc: Global, place: Place, digits: &str) -> Result<Value, Halt>
         ensures plain { TellsProgress value_of result self.new
@@ -45,7 +45,7 @@ impl<'m> Machine<'m> {
         self.perform(alloc, place, Action::Number(false, digits))
     }
 
-    /// A text. Language Reference 2.4.1 "String and Bytes literals".
+    /// Evaluates a text literal. Language Reference 2.4.1 "String and Bytes literals".
     #[inline(never)]
     pub fn text(&mut self, alloc: Global, place: Place, text: &str) -> Result<Value, Halt>
         ensures plain { TellsProgress value_of result self.new
@@ -56,7 +56,7 @@ impl<'m> Machine<'m> {
         self.give(place, Value::Str(characters))
     }
 
-    /// An attribute that is read. Language Reference 6.3.1 "Attribute references".
+    /// Reads an attribute of an object. Language Reference 6.3.1 "Attribute references".
     #[inline(never)]
     pub fn read_attribute(
         &mut self,
@@ -76,7 +76,7 @@ impl<'m> Machine<'m> {
         self.perform(alloc, place, Action::ReadAttribute(object, name, is_method))
     }
 
-    /// A name as a callee: it is charged, then its place, then what it is. Language Reference 6.3.4 "Calls".
+    /// Looks up a name as a callee: its charge, its event, then its meaning. Language Reference 6.3.4 "Calls".
     #[inline(never)]
     pub fn callee_of_name(&mut self, alloc: Global, name: &'m Name) -> Result<Callee<'m>, Halt>
         ensures plain { (n : ℕ) → TellsProgress callee_seen result self.new
@@ -88,7 +88,7 @@ impl<'m> Machine<'m> {
         self.look_up_callee(alloc, name.text.as_str())
     }
 
-    /// An attribute as a callee: a method, a built-in method, or what reading it gives.
+    /// Looks up an attribute as a callee: a method, a built-in method, or else the value of reading it.
     /// Language Reference 6.3.1 "Attribute references", 6.3.4 "Calls".
     #[inline(never)]
     pub fn callee_of_attribute(
@@ -114,7 +114,7 @@ impl<'m> Machine<'m> {
         Ok(Callee::Value(field))
     }
 
-    /// The test of `isinstance`. Library Reference, "Built-in Functions".
+    /// Evaluates `isinstance` on an object and an unevaluated test. Library Reference, "Built-in Functions".
     #[inline(never)]
     pub fn test_instance(
         &mut self,
@@ -131,7 +131,8 @@ impl<'m> Machine<'m> {
         Ok(Value::Bool(self.passes(object, test)))
     }
 
-    /// A call of a class: an instance, its fields from the arguments. Language Reference 6.3.4 "Calls".
+    /// Calls a class: makes an instance whose fields have the values of the arguments.
+    /// Language Reference 6.3.4 "Calls".
     #[inline(never)]
     pub fn make_instance(
         &mut self,
@@ -158,8 +159,8 @@ impl<'m> Machine<'m> {
         }
     }
 
-    /// A call of a reserved name, after its arguments. Library Reference, "Built-in Functions"; own rule of the
-    /// profile.
+    /// Calls a reserved name with its evaluated arguments.
+    /// Library Reference, "Built-in Functions"; own rule of the profile.
     #[inline(never)]
     pub fn call_reserved(
         &mut self,
@@ -197,7 +198,7 @@ impl<'m> Machine<'m> {
         Err(Halt::Stopped(Stop::Outside))
     }
 
-    /// A call of a built-in method, after its arguments.
+    /// Calls a built-in method with its evaluated arguments.
     /// Library Reference, "Mutable Sequence Types" and "Mapping Types".
     #[inline(never)]
     pub fn call_builtin_method(
@@ -217,8 +218,9 @@ impl<'m> Machine<'m> {
         self.act_value(alloc, action)
     }
 
-    /// A function or method is entered, where a further call may be open: what it comes to is the caller's
-    /// frame. Language Reference 6.3.4 "Calls"; own rule of the profile.
+    /// Enters a function or method and returns the caller's frame. TypeError if the arguments do not match; cut off if
+    /// 64 calls are open.
+    /// Language Reference 6.3.4 "Calls"; own rule of the profile.
     #[inline(never)]
     pub fn open(
         &mut self,
@@ -234,7 +236,7 @@ impl<'m> Machine<'m> {
         ensures fuel { self.new.fuel ≤ self.old.fuel }
     {
         let arguments = suited_arguments(alloc, self.keys, def, values, named)?;
-        // After the arguments: where they do not fit, that is a TypeError at any depth.
+        // After the arguments: if they do not match, that is a TypeError at any depth.
         let Some(depth) = self.depth.deeper() else {
             return Err(Halt::Stopped(Stop::Cut));
         };
@@ -255,7 +257,7 @@ impl<'m> Machine<'m> {
         }
     }
 
-    /// A loop's suite that is empty is charged. Own rule of the profile.
+    /// Charges for the suite of a loop if it is empty. Own rule of the profile.
     #[inline(never)]
     pub fn charge_empty(&mut self, body: &[Stmt]) -> Result<(), Halt>
         ensures plain { TellsProgress unit result self.new
@@ -269,7 +271,7 @@ impl<'m> Machine<'m> {
         }
     }
 
-    /// An attribute that is stored to. Language Reference 7.2 "Assignment statements".
+    /// Stores a value to an attribute. Language Reference 7.2 "Assignment statements".
     #[inline(never)]
     pub fn store_attribute(
         &mut self,
@@ -278,17 +280,17 @@ impl<'m> Machine<'m> {
         object: Value,
         name: &str,
         value: Value,
-    ) -> Result<Flow, Halt>
+    ) -> Result<Completion, Halt>
         ensures plain { TellsProgress flow_of result self.new
             (attribute_stored (value_of object) name.now (value_of value) (after_event place (progress_of self.old))) }
         ensures fuel { self.new.fuel ≤ self.old.fuel }
     {
         let name = text_of(alloc, name)?;
         self.perform(alloc, place, Action::StoreAttribute(object, name, value))?;
-        Ok(Flow::Next)
+        Ok(Completion::Next)
     }
 
-    /// An item that is stored to. Language Reference 7.2 "Assignment statements".
+    /// Stores a value to an item. Language Reference 7.2 "Assignment statements".
     #[inline(never)]
     pub fn store_item(
         &mut self,
@@ -297,16 +299,18 @@ impl<'m> Machine<'m> {
         object: Value,
         key: Value,
         value: Value,
-    ) -> Result<Flow, Halt>
+    ) -> Result<Completion, Halt>
         ensures plain { TellsProgress flow_of result self.new
             (item_stored (value_of object) (value_of key) (value_of value) (after_event place (progress_of self.old))) }
         ensures fuel { self.new.fuel ≤ self.old.fuel }
     {
         self.perform(alloc, place, Action::StoreItem(object, key, value))?;
-        Ok(Flow::Next)
+        Ok(Completion::Next)
     }
 
-    /// What a `for` over `range(..)` goes over, after its arguments. Language Reference 8.3 "The for statement".
+    /// Returns the source of items of a `for` over `range(..)`, given its evaluated arguments; any but one by position
+    /// is out of the profile.
+    /// Language Reference 8.3 "The for statement".
     #[inline(never)]
     pub fn iterate_range(
         &mut self,

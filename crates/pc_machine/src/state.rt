@@ -8,25 +8,25 @@ use pc_value::Value;
 
 /// A parameter of a def, or a field of a class. Language Reference 8.7 "Function definitions".
 #[derive(Clone, Copy)]
-pub struct Parameter<'m> {
-    /// The name by which an argument may be given.
+pub struct FormalParameter<'m> {
+    /// The name that an argument by name uses.
     pub name: &'m str,
-    /// The parameter's default as it is written, where it has one.
+    /// The parameter's default as written, if it has one.
     pub default: Option<&'m Literal>,
 }
 
 /// A class that was made. Language Reference 8.8 "Class definitions".
 #[derive(Drop)]
 pub struct Class<'m> {
-    /// The numbers of itself and its ancestors.
+    /// The numbers of the class itself and its ancestors.
     pub ancestors: Vec<usize>,
-    /// All its fields, those of its ancestors first.
-    pub fields: Vec<Parameter<'m>>,
+    /// All its fields, inherited ones first.
+    pub fields: Vec<FormalParameter<'m>>,
     /// All its methods, the nearest first.
     pub methods: Vec<&'m FuncDef>,
 }
 
-/// What the module binds to a name. Language Reference 4.2.1 "Binding of names".
+/// The meaning of a name that the module binds. Language Reference 4.2.1 "Binding of names".
 #[derive(Drop)]
 pub enum Bound<'m> {
     /// The value of a constant.
@@ -42,17 +42,17 @@ pub enum Bound<'m> {
 pub struct Global<'m> {
     /// The name.
     pub name: &'m str,
-    /// What it is bound to.
+    /// The meaning of the name.
     pub bound: Bound<'m>,
 }
 
-/// The names that the module has bound, in their order; a name means what was bound to it first.
+/// The names that the module has bound, in order; the first binding of a name counts.
 /// Language Reference 4.2.1 "Binding of names".
 #[derive(Drop)]
 pub struct Globals<'m> {
-    /// The names with what they are bound to.
+    /// The names and their bindings.
     pub bindings: Vec<Global<'m>>,
-    /// Where each name is bound first.
+    /// The position of each name's first binding.
     pub places: NameMap<'m, usize>,
     ghost placed: { ArePlaced places (map name_of_global bindings.items) },
 }
@@ -62,23 +62,23 @@ pub struct Globals<'m> {
 pub struct Local<'m> {
     /// The name.
     pub name: &'m str,
-    /// The local's value, where it is bound.
+    /// The local's value, if it is bound.
     pub value: Option<Value>,
 }
 
 /// An argument by name. Language Reference 6.3.4 "Calls".
 #[derive(Drop)]
 pub struct NamedValue<'m> {
-    /// The name of the parameter that it is for.
+    /// The name of the parameter.
     pub name: &'m str,
     /// The argument's value.
     pub value: Value,
 }
 
-/// How a statement ends. Language Reference 7 "Simple statements".
+/// The way a statement ends. Language Reference 7 "Simple statements".
 #[derive(Drop)]
-pub enum Flow {
-    /// The next one follows.
+pub enum Completion {
+    /// The next statement follows.
     Next,
     /// The innermost loop is left.
     Breaking,
@@ -88,10 +88,10 @@ pub enum Flow {
     Leaves(Value),
 }
 
-/// What a name means where it is read. Language Reference 4.2.2 "Resolution of names".
+/// The meaning of a name where it is read. Language Reference 4.2.2 "Resolution of names".
 #[derive(Clone, Copy)]
 pub enum Meaning<'a, 'm> {
-    /// A value that a local or the module has.
+    /// The value of a local or of the module.
     Value(&'a Value),
     /// A local that is not bound.
     Unbound,
@@ -99,7 +99,7 @@ pub enum Meaning<'a, 'm> {
     Function(&'m FuncDef),
     /// The number of a class.
     Class(usize),
-    /// A name that the language has before a module binds any.
+    /// A name predefined by the language.
     Reserved,
     /// Nothing has that name.
     Nothing,
@@ -116,10 +116,10 @@ pub enum BuiltinMethod {
     DictGet,
 }
 
-/// What a callee turns out to be. Language Reference 6.3.4 "Calls".
+/// The meaning of a callee. Language Reference 6.3.4 "Calls".
 #[derive(Drop)]
 pub enum Callee<'m> {
-    /// A value, which is none that can be called.
+    /// A value, which cannot be called.
     Value(Value),
     /// A def of the module.
     Function(&'m FuncDef),
@@ -133,9 +133,9 @@ pub enum Callee<'m> {
     BuiltinMethod(Value, BuiltinMethod),
 }
 
-/// What the second argument of `isinstance` tests for. Library Reference, "Built-in Functions".
+/// The test of a call of `isinstance`. Library Reference, "Built-in Functions".
 #[derive(Clone, Copy)]
-pub enum Test {
+pub enum InstanceTest {
     /// A whole number or a truth value.
     Int,
     /// A text.
@@ -144,6 +144,6 @@ pub enum Test {
     Bool,
     /// A list.
     List,
-    /// An instance of the class of this number, or of one that descends from it.
+    /// An instance of the class with this number, or of one that descends from it.
     Class(usize),
 }

@@ -1,4 +1,4 @@
--- The labels of a module say of scopes what is found of them.
+-- The labels of a module have E02 and E03 exactly where scope analysis finds them.
 use Rattle.std.proofs.Common.{◌≡◌, ℕ, zero, suc, ◌+◌, ◌<◌, ◌≤◌, List, [], ◌∷◌, ◌++◌, length, refl, sym, ap, ◌∙◌, subst}
 use Rattle.std.proofs.Common.{inl, inr, arith, Contains, append_assoc, append-nil, length-append}
 use Rattle.std.specs.List.{cons_option}
@@ -20,8 +20,8 @@ use Rattle.pc_tree.specs.Tree.{field_member, method_member, Constant, Item, cons
 use Rattle.pc_scope.specs.declared.resolution.Builtin.{Builtin}
 use Rattle.pc_scope.specs.declared.resolution.Owner.{Owner}
 use Rattle.pc_scope.specs.declared.resolution.Owner.TheVariants as owners
-use Rattle.pc_scope.specs.declared.resolution.Res.{Res}
-use Rattle.pc_scope.specs.declared.resolution.Res.TheVariants as res
+use Rattle.pc_scope.specs.declared.resolution.NameMeaning.{NameMeaning}
+use Rattle.pc_scope.specs.declared.resolution.NameMeaning.TheVariants as res
 use Rattle.pc_scope.specs.Reserved.{builtin_of}
 use Rattle.pc_scope.specs.Bindings.{as_constant, as_class, as_function, constants_in, classes_in, functions_in}
 use Rattle.pc_scope.specs.Bindings.{methods_in, Body, bodies}
@@ -33,7 +33,7 @@ use Rattle.pc_scope_findings.specs.Findings as scope
 use Rattle.pc_scope_findings.specs.Findings.{IsUnknownIn, IsEarlyMeaning, IsEarlyName, IsEarlyCallee, ScopeFinds}
 use Rattle.pc_types.specs.Tree.{Tree}
 use Rattle.pc_types.specs.Below.{Bases}
-use Rattle.pc_ann.specs.Annotations.{OptionAnnFinds}
+use Rattle.pc_annotations.specs.Annotations.{OptionAnnFinds}
 use Rattle.pc_class.specs.Bases.{bases_of}
 use Rattle.pc_class.specs.Facts.{ClassFacts, return_type}
 use Rattle.pc_class.specs.Findings.{base_class}
@@ -74,7 +74,7 @@ is_part : (e : Expr) (es : List Expr) → Contains es e → IsPart e es
 is_part e [] c = absurd (none_among e c)
 is_part e (x ∷ xs) c = elim (among_first x xs e c) [ inl a ↦ inl a | inr b ↦ inr (is_part e xs b) ]
 
--- what a function gives of the elements of a list
+-- the elements of a list for which a function gives something
 module _ {A : Type 0} (gives : Expr → Option A) where
   first_given : (x : Expr) (xs : List Expr) (y : A) → gives x ≡ Some y → Contains (filter_map gives (x ∷ xs)) y
   first_given x xs y e = subst (λ o. Contains (cons_option o (filter_map gives xs)) y) (sym e) (0, omega arith, refl)
@@ -157,18 +157,18 @@ is_other _ callee h = absurd (none-some _ h)
 -- ---- what a module's names mean
 
 -- the constants and classes that names mean are there
-abbrev IsThere : ℕ → ℕ → Res → Type 0
+abbrev IsThere : ℕ → ℕ → NameMeaning → Type 0
 IsThere k c (res.Const i) = i < k
 IsThere k c (res.Class i) = i < c
 IsThere k c _ = Unit {0}
 
-first_there : (k f c : ℕ) (items : List Item) (word : List ℕ) (r : Res) → bound_first k f c items word ≡ Some r
+first_there : (k f c : ℕ) (items : List Item) (word : List ℕ) (r : NameMeaning) → bound_first k f c items word ≡ Some r
     → IsThere (k + length (constants_in items)) (c + length (classes_in items)) r
 first_there k f c [] word r e = absurd (none-some _ e)
 first_there k f c (constant_item p x ∷ rest) word r e = go (bytes_eq x.name.text word) e
     (first_there (suc k) f c rest word r)
   where
-    moved : (r : Res) → IsThere (suc k + length (constants_in rest)) (c + length (classes_in rest)) r
+    moved : (r : NameMeaning) → IsThere (suc k + length (constants_in rest)) (c + length (classes_in rest)) r
         → IsThere (k + length (constants_in (constant_item p x ∷ rest))) (c + length (classes_in rest)) r
     moved (res.Const i) h = omega arith
     moved (res.Class i) h = h
@@ -194,7 +194,7 @@ first_there k f c (constant_item p x ∷ rest) word r e = go (bytes_eq x.name.te
 first_there k f c (class_item p x ∷ rest) word r e = go (bytes_eq x.name.text word) e
     (first_there k f (suc c) rest word r)
   where
-    moved : (r : Res) → IsThere (k + length (constants_in rest)) (suc c + length (classes_in rest)) r
+    moved : (r : NameMeaning) → IsThere (k + length (constants_in rest)) (suc c + length (classes_in rest)) r
         → IsThere (k + length (constants_in rest)) (c + length (classes_in (class_item p x ∷ rest))) r
     moved (res.Const i) h = h
     moved (res.Class i) h = omega arith
@@ -233,7 +233,7 @@ there_in_module : (m : Module) (word : List ℕ) → IsThere (length (constants_
     (resolve_in_module m word)
 there_in_module m word = go (builtin_of word) (bound_first 0 0 0 m.items word) refl
   where
-    zero_more : (k c : ℕ) (r : Res) → IsThere (0 + k) (0 + c) r → IsThere k c r
+    zero_more : (k c : ℕ) (r : NameMeaning) → IsThere (0 + k) (0 + c) r → IsThere k c r
     zero_more k c (res.Const i) h = omega arith
     zero_more k c (res.Class i) h = omega arith
     zero_more k c (res.Local i) h = tt
@@ -241,7 +241,7 @@ there_in_module m word = go (builtin_of word) (bound_first 0 0 0 m.items word) r
     zero_more k c (res.Builtin i) h = tt
     zero_more k c res.None h = tt
 
-    go : (b : Option Builtin) (r : Option Res) → bound_first 0 0 0 m.items word ≡ r
+    go : (b : Option Builtin) (r : Option NameMeaning) → bound_first 0 0 0 m.items word ≡ r
         → IsThere (length (constants_in m.items)) (length (classes_in m.items))
         (or_meaning (builtin_meaning b) (or_meaning r res.None))
     go (Some b) r is = tt
@@ -285,8 +285,8 @@ not_below c n e = grind (arith, nat_tests)
 at_most_not_below : (c n : ℕ) → n ≤ c → nat_lt c n ≡ false
 at_most_not_below c n l = grind (arith, nat_tests)
 
--- what may not be named after constants and classes, as an initializer sees it
-early_meaning : (m : Module) (constants : List Tree) (k c : ℕ) → length constants ≡ k → (r : Res)
+-- a meaning that an initializer may not name yet is an early one after so many constants and classes
+early_meaning : (m : Module) (constants : List Tree) (k c : ℕ) → length constants ≡ k → (r : NameMeaning)
     → IsEarlyHere (initializer_context m constants c) r → IsEarlyMeaning k c r
 early_meaning m constants k c n (res.Func i) h = tt
 early_meaning m constants k c n (res.Const i) h = let l = none_past constants i h in omega (arith, l, n)
@@ -295,7 +295,7 @@ early_meaning m constants k c n (res.Local i) h = h
 early_meaning m constants k c n (res.Builtin i) h = h
 early_meaning m constants k c n res.None h = h
 
-early_here : (m : Module) (constants : List Tree) (k c : ℕ) → length constants ≡ k → (r : Res) → IsEarlyMeaning k c r
+early_here : (m : Module) (constants : List Tree) (k c : ℕ) → length constants ≡ k → (r : NameMeaning) → IsEarlyMeaning k c r
     → IsEarlyHere (initializer_context m constants c) r
 early_here m constants k c n (res.Func i) h = refl
 early_here m constants k c n (res.Const i) h = past_none constants i (omega (arith, h, n))
@@ -306,7 +306,7 @@ early_here m constants k c n res.None h = h
 
 -- a body may name all that there is
 never_early : (m : Module) (constants : List Tree) (names : List (List ℕ))
-    → length constants ≡ length (constants_in m.items) → (r : Res) → IsThere (length (constants_in m.items))
+    → length constants ≡ length (constants_in m.items) → (r : NameMeaning) → IsThere (length (constants_in m.items))
     (length (classes_in m.items)) r → IsEarlyHere (body_context m constants names) r → ⊥
 never_early m constants names n (res.Func i) there h = both refl h
 never_early m constants names n (res.Const i) there h = get_there constants i (omega (arith, there, n)) h
@@ -455,7 +455,7 @@ module _ (m : Module) (labels : Labelling m) (f : Finding) (s : is_of_scopes f.c
         among_constants (class_item p x ∷ rest) (suc i) e = among_constants rest i e
         among_constants (def_item p x ∷ rest) (suc i) e = among_constants rest i e
 
-    -- what is said of all parts, and what of the judged ones
+    -- a finding that a judged part and a part of a constant say is a finding of scopes
     part_in_constant : Said Here (parts_in true c.value) f → (part : Expr) → IsPart part (parts_in false c.value)
         → PartSays Here part f → ScopeFinds m f
     part_in_constant judged (name n) among says = elim says [
@@ -499,7 +499,7 @@ module _ (m : Module) (labels : Labelling m) (f : Finding) (s : is_of_scopes f.c
 
 -- ---- items after those before them
 
--- what stands before an item, as the items before it say
+-- the state before an item counts the items before it
 pub record Reached (done : List Item) (b : BeforeItem) : Type 0 where
   pub constants : length b.constants ≡ length (constants_in done)
   pub classes : b.classes ≡ length (classes_in done)

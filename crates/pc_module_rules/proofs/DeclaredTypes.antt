@@ -1,5 +1,5 @@
--- What a name that is bound is declared as: with the type that a table of declared types has for it, if any, lawful
--- labels declare what is known of it.
+-- The declared type of a bound name: with the type in a table of declared types, if any, lawful labels declare the
+-- known type.
 use Rattle.std.proofs.Common.{◌≡◌, ℕ, List, refl, sym, ap, ◌∙◌}
 use Rattle.std.specs.Prelude.{Bool as Test, true, false, not, Option, Some, None, unwrap_or}
 use Rattle.pc_tree.specs.Tree.{Module}
@@ -11,7 +11,7 @@ use Rattle.pc_rules.specs.Context.{Context}
 use Rattle.pc_module_rules.specs.Statements.{DeclaredAt, known_type}
 use Rattle.pc_module_rules.specs.Computed.Statements.{known_declared}
 
--- what is expected of what is bound
+-- the declared type known for a bound name is well-formed
 pub known_well_formed : (bases : Bases) (o a : Option Tree) → IsWellFormedIfAny bases o → IsWellFormedIfAny bases a
     → IsWellFormedIfAny bases (known_declared o a)
 known_well_formed bases None a h k = k

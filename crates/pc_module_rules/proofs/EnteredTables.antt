@@ -1,8 +1,8 @@
 -- A walk over a function is entered with a table and an environment that fit its lawful labels.
 use Rattle.std.proofs.Common.{◌≡◌, ℕ, zero, suc, List, [], ◌∷◌, length, refl, sym, ap, ◌∙◌, subst, arith}
 use Rattle.std.specs.Prelude.{Bool as Test, true, false, not, unwrap_or, Some, None, slice_set}
-use Rattle.pc_scope.specs.declared.resolution.Res.{Res}
-use Rattle.pc_scope.specs.declared.resolution.Res.TheVariants as res
+use Rattle.pc_scope.specs.declared.resolution.NameMeaning.{NameMeaning}
+use Rattle.pc_scope.specs.declared.resolution.NameMeaning.TheVariants as res
 use Rattle.pc_scope.specs.Resolution.{is_one_of}
 use Rattle.pc_types.specs.Tree.{Tree, Any}
 use Rattle.pc_types.specs.WellFormed.{IsWellFormed}
@@ -85,7 +85,7 @@ module _ (setting : Surroundings) (declared : List Tree) where
       env_fits = f;
     }
 
-    none_entered : (b : Test) (r : Res) → ((x : ℕ) → r ≡ res.Local x → ⊥) → assigned_at_entry b r type env ≡ env
+    none_entered : (b : Test) (r : NameMeaning) → ((x : ℕ) → r ≡ res.Local x → ⊥) → assigned_at_entry b r type env ≡ env
     none_entered b (res.Local x) other = absurd (other x refl)
     none_entered true (res.Const c) other = refl
     none_entered true (res.Func c) other = refl
@@ -98,12 +98,12 @@ module _ (setting : Surroundings) (declared : List Tree) where
     none_entered false (res.Builtin c) other = refl
     none_entered false res.None other = refl
 
-    plain_entered : (r : Res) → ctx.resolve word ≡ r → ((x : ℕ) → r ≡ res.Local x → ⊥)
+    plain_entered : (r : NameMeaning) → ctx.resolve word ≡ r → ((x : ℕ) → r ≡ res.Local x → ⊥)
         → EntryFits (word ∷ seen) (table, env) (assigned_at_entry (not (is_one_of word seen)) r type env)
     plain_entered r i other = subst (EntryFits (word ∷ seen) (table, env))
         (sym (none_entered (not (is_one_of word seen)) r other)) (other_entered (λ x j. other x (sym i ∙ j)))
 
-    name_entered : (r : Res) → ctx.resolve word ≡ r → DeclaredEntry declared (not (is_one_of word seen)) r type
+    name_entered : (r : NameMeaning) → ctx.resolve word ≡ r → DeclaredEntry declared (not (is_one_of word seen)) r type
         → EntryFits (word ∷ seen) (enter_name table env r type) (assigned_at_entry (not (is_one_of word seen)) r type
         env)
     name_entered (res.Local x) i d = local_entered x i d

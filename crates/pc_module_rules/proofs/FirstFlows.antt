@@ -1,5 +1,5 @@
--- The first dynamic flow at a place; notes that tell of just the dynamic flows of a list, at each place of the first
--- one there.
+-- The first dynamic flow at a place; notes that hold exactly the dynamic flows of a list, at each place the first one
+-- there.
 use Rattle.std.proofs.Common.{◌≡◌, List, [], ◌∷◌, ◌++◌, Option, Some, None, refl, sym, ap, ◌∙◌, subst, inl, inr, map}
 use Rattle.std.proofs.Common.{append_assoc, Contains}
 use Rattle.std.specs.Prelude.{Bool as Test, true, false, if◌then◌else◌, unwrap_or}

@@ -1,4 +1,4 @@
--- A walk that keeps types comes to the same declared types and environments as one that does not, whatever was found
+-- A walk that keeps types reaches the same declared types and environments as one that does not, whatever was found
 -- before.
 use Rattle.std.proofs.Common.{◌≡◌, List, ◌∷◌, ◌++◌, map, refl, ap, ◌∙◌}
 use Rattle.std.specs.Prelude.{Bool as Test, true, false, if◌then◌else◌, Option, Some, None}
@@ -9,11 +9,11 @@ use Rattle.pc_tree.specs.Tree.{Branches, pass, breaks, continues, returns, asser
 use Rattle.pc_tree.specs.Tree.{while_loop, for_loop, conditional, no_stmts, more_stmts, no_branches, more_branches}
 use Rattle.pc_tree.specs.Tree.{Module}
 use Rattle.pc_tree.specs.Stopping.{bound_by}
-use Rattle.pc_scope.specs.declared.resolution.Res.{Res}
-use Rattle.pc_scope.specs.declared.resolution.Res.TheVariants as res
+use Rattle.pc_scope.specs.declared.resolution.NameMeaning.{NameMeaning}
+use Rattle.pc_scope.specs.declared.resolution.NameMeaning.TheVariants as res
 use Rattle.pc_types.specs.Tree.{Tree}
 use Rattle.pc_types.specs.Shape.{members}
-use Rattle.pc_ann.specs.Annotations.{read_ann}
+use Rattle.pc_annotations.specs.Annotations.{read_ann}
 use Rattle.pc_flow.specs.Environment.{Env}
 use Rattle.pc_notes.specs.Notes.{Note}
 use Rattle.pc_rules.specs.Operations.{Label, clean, offers_label, iterate_member}
@@ -33,7 +33,7 @@ pub record SameWalk (v w : Walk) : Type 0 where
   pub env : v.env ≡ w.env
   pub broken : v.broken ≡ w.broken
 
--- so with a name bound, and with branches
+-- likewise with a name bound, and with branches
 pub record SameBinding (v w : BindingResult) : Type 0 where
   pub table : v.table ≡ w.table
   pub env : v.env ≡ w.env
@@ -45,7 +45,7 @@ pub record SameFork (v w : BranchesResult) : Type 0 where
   pub broken : v.broken ≡ w.broken
 
 module _ (m : Module) (ctx : Context) (returned : Tree) where
-  -- what statements stand in, where types are kept or not
+  -- the context of statements, where types are kept or not
   abbrev pub standing : (keeps : Test) → BodyContext
   standing keeps = record { whole = m; context = ctx; returned = returned; keeps = keeps }
 
@@ -63,7 +63,7 @@ module _ (m : Module) (ctx : Context) (returned : Tree) where
 
     -- ---- names bound
 
-    same_value : (table : Table) (env : Env) (r : Res) (annotation : Option Tree) (e : Expr) (f g : List Note)
+    same_value : (table : Table) (env : Env) (r : NameMeaning) (annotation : Option Tree) (e : Expr) (f g : List Note)
         → SameBinding (bind_value a table env r annotation e f) (bind_value b table env r annotation e g)
     same_value table env (res.Local x) annotation e f g =
         let want = known_declared (bound_type table x) annotation in
@@ -102,7 +102,7 @@ module _ (m : Module) (ctx : Context) (returned : Tree) where
         (same_values table env (call p (name n) args kws))
     same_item table env e = same_values table env e
 
-    pub same_target : (table : Table) (head : Env) (r : Res) (p : Place) (t u : Tree) → t ≡ u → (f g : List Note)
+    pub same_target : (table : Table) (head : Env) (r : NameMeaning) (p : Place) (t u : Tree) → t ≡ u → (f g : List Note)
         → SameBinding (bind_item a table head r p t f) (bind_item b table head r p u g)
     same_target table head (res.Local x) p t u e f g = record {
       table = ap (λ (v : Tree). (bind_label b table head x (bound_type table x) p (clean v) g).table) e;

@@ -2,12 +2,12 @@
 use Rattle.std.proofs.Common.{List, [], ap, arith, refl, subst, sym, ℕ, ◌∙◌, ◌∷◌, ◌≡◌}
 use Rattle.std.specs.Prelude.{Bool as Test, None, Option, Some, false, not, slice_set, true}
 use Rattle.pc_tree.specs.Tree.{Ann, Expr, Name}
-use Rattle.pc_scope.specs.declared.resolution.Res.{Res}
-use Rattle.pc_scope.specs.declared.resolution.Res.TheVariants as res
+use Rattle.pc_scope.specs.declared.resolution.NameMeaning.{NameMeaning}
+use Rattle.pc_scope.specs.declared.resolution.NameMeaning.TheVariants as res
 use Rattle.pc_scope.specs.Resolution.{is_one_of}
 use Rattle.pc_types.specs.Tree.{Tree}
-use Rattle.pc_ann.specs.Annotations.{read_ann}
-use Rattle.pc_ann.proofs.Readings.{read_ann_well_formed}
+use Rattle.pc_annotations.specs.Annotations.{read_ann}
+use Rattle.pc_annotations.proofs.Readings.{read_ann_well_formed}
 use Rattle.pc_types.specs.WellFormed.{IsWellFormed}
 use Rattle.pc_flow.specs.Environment.{Env, assign, assigned_type, declared_type}
 use Rattle.pc_flow.specs.WellFormed.{IsWellFormedIfAny}
@@ -37,14 +37,14 @@ module _ (setting : Surroundings) where
   not_first false e = refl
 
   -- the declared type of a name that is bound here with this type
-  pub record NameSet (ds : List Tree) (seen : NamesBound) (word : List ℕ) (r : Res) (t : Tree) : Type 0 where
+  pub record NameSet (ds : List Tree) (seen : NamesBound) (word : List ℕ) (r : NameMeaning) (t : Tree) : Type 0 where
     pub table : List Tree
     pub is_table : IsDeclaredTable setting table
     pub same : Agree ctx ds table seen
     pub is : (F : List Tree) → Agree ctx table F (word ∷ seen) → (x : ℕ) → r ≡ res.Local x → not (is_one_of word seen)
         ≡ true → declared_type F x ≡ t
 
-  unset : (ds : List Tree) (seen : NamesBound) → IsDeclaredTable setting ds → (word : List ℕ) (r : Res) (t : Tree)
+  unset : (ds : List Tree) (seen : NamesBound) → IsDeclaredTable setting ds → (word : List ℕ) (r : NameMeaning) (t : Tree)
       → ((x : ℕ) → r ≡ res.Local x → ⊥) → NameSet ds seen word r t
   unset ds seen g word r t nowhere_local = record {
     table = ds;
@@ -72,7 +72,7 @@ module _ (setting : Surroundings) where
         λ F s y j f. absurd (grind (arith, e, f));
   }
 
-  pub name_set : (ds : List Tree) (seen : NamesBound) → IsDeclaredTable setting ds → (word : List ℕ) (r : Res)
+  pub name_set : (ds : List Tree) (seen : NamesBound) → IsDeclaredTable setting ds → (word : List ℕ) (r : NameMeaning)
       → ctx.resolve word ≡ r → (t : Tree) → IsWellFormed ctx.bases t → NameSet ds seen word r t
   name_set ds seen g word (res.Local x) i t k = local_set ds seen g word x i t k (not (is_one_of word seen)) refl
   name_set ds seen g word (res.Const c) i t k = unset ds seen g word (res.Const c) t (λ x e. grind (arith, e))
@@ -151,7 +151,7 @@ module _ (setting : Surroundings) where
       }
 
   -- a name that is bound has a declared type, labels of its value, and an environment after it
-  pub record BindingLabelled (ds : List Tree) (seen : NamesBound) (env : Env) (n : Name) (r : Res) (a : Option Tree)
+  pub record BindingLabelled (ds : List Tree) (seen : NamesBound) (env : Env) (n : Name) (r : NameMeaning) (a : Option Tree)
       (e : Expr) : Type 0 where
     pub table : List Tree
     pub is_table : IsDeclaredTable setting table
@@ -163,7 +163,7 @@ module _ (setting : Surroundings) where
     pub lawful : (F : List Tree) → IsDeclaredTable setting F → Agree ctx table F (n.text ∷ seen)
         → LawfulBinding m ctx F env seen n r a e labels flows after
 
-  -- what is no local binds nothing
+  -- a name that means no local binds nothing
   pub record PlainLabelled (ds : List Tree) (seen : NamesBound) (env : Env) (n : Name) (e : Expr) : Type 0 where
     pub labels : Labels e
     pub settled : GoesByNames setting ds (n.text ∷ seen) env
@@ -181,7 +181,7 @@ module _ (setting : Surroundings) where
       }
 
   pub binding_labelled : (ds : List Tree) (seen : NamesBound) (env : Env) → IsDeclaredTable setting ds
-      → GoesByNames setting ds seen env → (n : Name) (r : Res) → ctx.resolve n.text ≡ r → (a : Option Tree)
+      → GoesByNames setting ds seen env → (n : Name) (r : NameMeaning) → ctx.resolve n.text ≡ r → (a : Option Tree)
       → IsWellFormedIfAny ctx.bases a → (e : Expr) → BindingLabelled ds seen env n r a e
   binding_labelled ds seen env g h n (res.Local x) i a k e =
       let l = local_labelled ds seen env g h (is_first seen n) n x refl i a k e in
@@ -275,7 +275,7 @@ module _ (setting : Surroundings) where
     pub lawful : (F : List Tree) → IsDeclaredTable setting F → Agree ctx table F (n.text ∷ seen)
         → LawfulAnnotated m ctx F env seen n a e labels flows after
 
-  declaration_labelled : (F : List Tree) (seen : NamesBound) (n : Name) (r : Res) (t : Tree)
+  declaration_labelled : (F : List Tree) (seen : NamesBound) (n : Name) (r : NameMeaning) (t : Tree)
       → ((x : ℕ) → r ≡ res.Local x → is_first seen n ≡ true → declared_type F x ≡ t)
       → LawfulDeclaration m ctx F seen n r t
   declaration_labelled F seen n (res.Local x) t h = at_annotation F (is_first seen n) x t (h x refl)

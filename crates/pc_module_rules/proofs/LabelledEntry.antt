@@ -1,8 +1,8 @@
 -- The entry of a function: its parameters are declared and assigned.
 use Rattle.std.proofs.Common.{List, [], refl, ℕ, ◌∷◌, ◌≡◌}
 use Rattle.std.specs.Prelude.{Bool as Test, bytes_eq, false, not, true}
-use Rattle.pc_scope.specs.declared.resolution.Res.{Res}
-use Rattle.pc_scope.specs.declared.resolution.Res.TheVariants as res
+use Rattle.pc_scope.specs.declared.resolution.NameMeaning.{NameMeaning}
+use Rattle.pc_scope.specs.declared.resolution.NameMeaning.TheVariants as res
 use Rattle.pc_scope.specs.Resolution.{is_one_of}
 use Rattle.pc_types.specs.Tree.{Tree}
 use Rattle.pc_types.specs.WellFormed.{IsWellFormed}
@@ -37,7 +37,7 @@ module _ (setting : Surroundings) where
     pub settled : GoesByNames setting table (names_entered seen ps) (entry_env ctx.resolve seen ps env)
     pub lawful : (F : List Tree) → Agree ctx table F (names_entered seen ps) → LawfulEntry ctx.resolve F seen ps
 
-  entry_declared : (F : List Tree) (b : Test) (r : Res) (t : Tree)
+  entry_declared : (F : List Tree) (b : Test) (r : NameMeaning) (t : Tree)
       → ((x : ℕ) → r ≡ res.Local x → b ≡ true → declared_type F x ≡ t) → DeclaredEntry F b r t
   entry_declared F false r t h = tt
   entry_declared F true (res.Local x) t h = h x refl refl
@@ -47,7 +47,7 @@ module _ (setting : Surroundings) where
   entry_declared F true (res.Builtin c) t h = tt
   entry_declared F true res.None t h = tt
 
-  entered_settled : (ds : List Tree) (seen : NamesBound) (env : Env) (b : Test) (word : List ℕ) (r : Res) (t : Tree)
+  entered_settled : (ds : List Tree) (seen : NamesBound) (env : Env) (b : Test) (word : List ℕ) (r : NameMeaning) (t : Tree)
       → IsAmong word seen → ctx.resolve word ≡ r → IsWellFormed ctx.bases t → GoesByNames setting ds seen env
       → GoesByNames setting ds seen (assigned_at_entry b r t env)
   entered_settled ds seen env true word (res.Local x) t a i k h = assign_settled setting ds seen env word x t a i k h

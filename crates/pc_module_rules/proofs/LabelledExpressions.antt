@@ -1,5 +1,5 @@
--- Expressions have labels that are lawful with every table that agrees on the names bound so far; and so has what a
--- `for` goes over.
+-- Expressions, and the iterable of a `for`, have labels that are lawful with every table that agrees on the names bound
+-- so far.
 use Rattle.std.proofs.Common.{List, [], arith, refl, subst, suc, sym, ℕ, ◌∷◌, ◌≡◌}
 use Rattle.std.specs.Prelude.{Bool as Test, None, Option, false, if◌then◌else◌, map, true}
 use Rattle.pc_tree.specs.declared.code.Code.TheVariants.{A5}
@@ -77,7 +77,7 @@ module _ (setting : Surroundings) where
 
   -- ---- items and arguments, each for a well-formed seat
 
-  -- so have items
+  -- likewise items
   pub record ItemsLabelled (ds : List Tree) (seen : NamesBound) (env : Env) (seat : ℕ → Seat) (es : Exprs) : Type
       0 where
     pub labels : ItemsLabels es
@@ -98,7 +98,7 @@ module _ (setting : Surroundings) where
             λ F gF s. record { first = v.lawful F gF s; flows = fl.lawful; rest = r.lawful F gF s };
       }
 
-  -- so have arguments by name
+  -- likewise arguments by name
   pub record KeywordsLabelled (ds : List Tree) (seen : NamesBound) (env : Env) (seat : List ℕ → Seat)
       (before : List (List ℕ)) (es : Keywords) : Type 0 where
     pub labels : KeywordsLabels es
@@ -124,7 +124,7 @@ module _ (setting : Surroundings) where
 
   -- ---- what a `for` goes over
 
-  -- what a `for` goes over has such labels, and a turn gives a well-formed type
+  -- the iterable of a `for` has lawful labels, and each turn binds a well-formed type
   pub record IterableLabelled (ds : List Tree) (seen : NamesBound) (env : Env) (e : Expr) : Type 0 where
     pub labels : Labels e
     pub item : Label
@@ -132,7 +132,7 @@ module _ (setting : Surroundings) where
     pub lawful : (F : List Tree) → IsDeclaredTable setting F → Agree ctx ds F seen
         → LawfulIterable m ctx F env e labels item
 
-  -- so of values
+  -- likewise of values
   pub record ValuesLabelled (ds : List Tree) (seen : NamesBound) (env : Env) (e : Expr) : Type 0 where
     pub labels : Labels e
     pub item : Label
@@ -151,7 +151,7 @@ module _ (setting : Surroundings) where
         lawful = λ F gF s. (v.lawful F gF s, refl);
       }
 
-  -- so of a `range`
+  -- likewise of a `range`
   pub record RangeLabelled (ds : List Tree) (seen : NamesBound) (env : Env) (c : Expr) (args : Exprs) (kws : Keywords)
       (p : Place) : Type 0 where
     pub labels : Labels (call p c args kws)
@@ -199,7 +199,7 @@ module _ (setting : Surroundings) where
   range_item_well_formed true = (tt, tt, omega arith)
   range_item_well_formed false = (tt, tt, omega arith)
 
-  -- so of a call that is a `range` or not
+  -- likewise of a call that is a `range` or not
   pub record CallLabelled (b : Test) (ds : List Tree) (seen : NamesBound) (env : Env) (c : Expr) (args : Exprs)
       (kws : Keywords) (p : Place) : Type 0 where
     pub labels : Labels (call p c args kws)

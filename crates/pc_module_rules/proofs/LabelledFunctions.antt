@@ -10,12 +10,12 @@ use Rattle.pc_scope.specs.Resolution.{locals, receiver}
 use Rattle.pc_types.specs.Tree.{Any, NoneType, Tree}
 use Rattle.pc_types.specs.Below.{AreSmaller, Bases, Static}
 use Rattle.pc_types.specs.WellFormed.{IsWellFormed}
-use Rattle.pc_ann.specs.Annotations.{read_ann, read_option}
+use Rattle.pc_annotations.specs.Annotations.{read_ann, read_option}
 use Rattle.pc_types.proofs.DecidedSubtyping.{Decision, decide_static}
-use Rattle.pc_ann.proofs.Readings.{read_ann_well_formed, read_option_well_formed}
+use Rattle.pc_annotations.proofs.Readings.{read_ann_well_formed, read_option_well_formed}
 use Rattle.pc_class.specs.Bases.{bases_of}
 use Rattle.pc_class.specs.Facts.{binds_field, return_type}
-use Rattle.pc_ann.proofs.Earlier.{smaller}
+use Rattle.pc_annotations.proofs.Earlier.{smaller}
 use Rattle.pc_class.specs.WellFormed.{ParametersWellFormed}
 use Rattle.pc_class.proofs.WellFormed.{params_well_formed, returned_well_formed}
 use Rattle.pc_flow.specs.Environment.{Env, none_assigned}
@@ -81,7 +81,7 @@ params_labelled m before (p ∷ ps) =
 
 -- ---- functions
 
--- what a function is entered with
+-- a function is entered with parameters of well-formed types
 pub entries_well_formed : (m : Module) (owner : Owner) (f : FuncDef)
     → ParametersWellFormed (bases_of m) (entry_parameters m owner f)
 entries_well_formed m owners.Module f = params_well_formed m f.params

@@ -5,10 +5,10 @@ use Rattle.std.specs.Prelude.{Bool as Test, None, Option, Some, false, true}
 use Rattle.pc_tree.specs.Tree.{Ann, Constant, Item, Module, class_item, constant_item, def_item}
 use Rattle.pc_types.specs.Tree.{Tree}
 use Rattle.pc_types.specs.WellFormed.{IsWellFormed}
-use Rattle.pc_ann.proofs.Readings.{read_ann_well_formed}
+use Rattle.pc_annotations.proofs.Readings.{read_ann_well_formed}
 use Rattle.pc_class.specs.Bases.{bases_of}
 use Rattle.pc_class.specs.Findings.{base_class}
-use Rattle.pc_ann.proofs.Earlier.{smaller}
+use Rattle.pc_annotations.proofs.Earlier.{smaller}
 use Rattle.pc_flow.specs.WellFormed.{AreWellFormed, IsWellFormedIfAny}
 use Rattle.pc_rules.specs.Labels.{whole_label, type_of}
 use Rattle.pc_rules.specs.Signatures.{binds_name, initializer_context, annotated_types, constant_type, first_of_types}

@@ -1,4 +1,4 @@
--- A statement with what stands after it, what is returned, and assignments.
+-- A statement with those after it, the value of a `return`, and assignments.
 use Rattle.std.proofs.Common.{List, [], arith, refl, ◌++◌, ◌∷◌, ◌≡◌}
 use Rattle.std.specs.Prelude.{Bool as Test, None, Option, Some, false, is_some, option_to_list, true, ◌&&◌, ◌||◌}
 use Rattle.pc_source.specs.declared.place.Place.{Place}

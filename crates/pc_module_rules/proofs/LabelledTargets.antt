@@ -1,10 +1,10 @@
--- The target of a `for`, names bound where no run comes, and what is stored to attributes and items.
+-- The target of a `for`, names bound in unreachable code, and stores to attributes and items.
 use Rattle.std.proofs.Common.{List, [], ap, arith, refl, subst, ℕ, ◌++◌, ◌∷◌, ◌≡◌}
 use Rattle.std.specs.Prelude.{Bool as Test, None, false, true}
 use Rattle.pc_source.specs.declared.place.Place.{Place}
 use Rattle.pc_tree.specs.Tree.{Expr, Name, Target, to_attribute, to_index}
-use Rattle.pc_scope.specs.declared.resolution.Res.{Res}
-use Rattle.pc_scope.specs.declared.resolution.Res.TheVariants as res
+use Rattle.pc_scope.specs.declared.resolution.NameMeaning.{NameMeaning}
+use Rattle.pc_scope.specs.declared.resolution.NameMeaning.TheVariants as res
 use Rattle.pc_scope.specs.Bindings.{texts}
 use Rattle.pc_types.specs.Tree.{Any, Tree}
 use Rattle.pc_types.specs.WellFormed.{IsWellFormed}
@@ -29,7 +29,7 @@ module _ (setting : Surroundings) where
   open setting use {whole as m, context as ctx, context_well_formed as ck, count, locals as names}
 
   -- the target of a `for`
-  pub record TargetLabelled (ds : List Tree) (seen : NamesBound) (head : Env) (n : Name) (r : Res) (item : Label) : Type
+  pub record TargetLabelled (ds : List Tree) (seen : NamesBound) (head : Env) (n : Name) (r : NameMeaning) (item : Label) : Type
       0 where
     pub table : List Tree
     pub is_table : IsDeclaredTable setting table
@@ -41,7 +41,7 @@ module _ (setting : Surroundings) where
         → LawfulTarget m ctx F seen n r head item flows inside
 
   pub target_labelled : (ds : List Tree) (seen : NamesBound) (head : Env) → IsDeclaredTable setting ds
-      → GoesByNames setting ds seen head → (n : Name) (r : Res) → ctx.resolve n.text ≡ r → (item : Label)
+      → GoesByNames setting ds seen head → (n : Name) (r : NameMeaning) → ctx.resolve n.text ≡ r → (item : Label)
       → IsWellFormed ctx.bases item.type → TargetLabelled ds seen head n r item
   target_labelled ds seen head g h n (res.Local x) i item k =
       let st = local_set setting ds seen g n.text x i item.type k (is_first seen n) refl in
@@ -127,7 +127,7 @@ module _ (setting : Surroundings) where
     pub same : Agree ctx ds table seen
     pub lawful : (F : List Tree) → Agree ctx table F (texts ns ++ seen) → AreUndeclared m ctx F seen ns
 
-  undeclared_name : (F : List Tree) (b : Test) (r : Res) → ((x : ℕ) → r ≡ res.Local x → b ≡ true
+  undeclared_name : (F : List Tree) (b : Test) (r : NameMeaning) → ((x : ℕ) → r ≡ res.Local x → b ≡ true
       → declared_type F x ≡ Any) → UndeclaredName m ctx F b r
   undeclared_name F false r h = tt
   undeclared_name F true (res.Local x) h = h x refl refl

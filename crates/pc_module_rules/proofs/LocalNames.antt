@@ -1,12 +1,12 @@
--- What the names of a function mean as locals: as many as there are, no two the same.
-use Rattle.pc_scope.specs.declared.resolution.Res.TheVariants as res
+-- The names of a function as locals: as many as there are, no two the same.
+use Rattle.pc_scope.specs.declared.resolution.NameMeaning.TheVariants as res
 use Rattle.std.proofs.Common.{List, [], ap, arith, length, refl, subst, suc, sym, zero, ℕ, ◌<◌, ◌∙◌, ◌∷◌, ◌≡◌}
 use Rattle.std.specs.Prelude.{Bool as Test, None, Option, Some, bytes_eq, false, if◌then◌else◌, slice_get, true}
 use Rattle.std.specs.Option.{option_map}
 use Rattle.std.proofs.lemmas.Slice.Eq.{bytes_eq-Decides}
 use Rattle.pc_tree.specs.Tree.{Item, Module, class_item, constant_item, def_item}
 use Rattle.pc_scope.specs.declared.resolution.Builtin.{Builtin}
-use Rattle.pc_scope.specs.declared.resolution.Res.{Res}
+use Rattle.pc_scope.specs.declared.resolution.NameMeaning.{NameMeaning}
 use Rattle.pc_scope.specs.Reserved.{builtin_of}
 use Rattle.pc_scope.specs.Resolution.{bound_first, builtin_meaning, index_of, local_meaning, or_meaning, resolve_among}
 use Rattle.pc_scope.specs.Resolution.{resolve_in_module}
@@ -42,7 +42,7 @@ get_below [] x word e = absurd (grind (arith, e))
 get_below (t ∷ ts) zero word e = omega arith
 get_below (t ∷ ts) (suc x) word e = let h = get_below ts x word e in omega arith
 
--- what the items of a module bind is no local
+-- no name that the items of a module bind means a local
 bound_local : (k f c : ℕ) (items : List Item) (word : List ℕ) (x : ℕ) → bound_first k f c items word
     ≡ Some (res.Local x) → ⊥
 bound_local k f c [] word x e = grind (arith, e)
@@ -72,7 +72,7 @@ bound_local k f c (def_item p i ∷ rest) word x e = go (bytes_eq i.name.text wo
 pub module_local : (m : Module) (word : List ℕ) (x : ℕ) → resolve_in_module m word ≡ res.Local x → ⊥
 module_local m word x e = go (builtin_of word) (bound_first 0 0 0 m.items word) refl e
   where
-    go : (b : Option Builtin) (r : Option Res) → bound_first 0 0 0 m.items word ≡ r
+    go : (b : Option Builtin) (r : Option NameMeaning) → bound_first 0 0 0 m.items word ≡ r
         → or_meaning (builtin_meaning b) (or_meaning r res.None) ≡ res.Local x → ⊥
     go (Some b) r i e = grind (arith, e)
     go None None i e = grind (arith, e)

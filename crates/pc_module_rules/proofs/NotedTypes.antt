@@ -1,4 +1,4 @@
--- What is noted of types in an expression, where types are kept, is the types under its labels; findings show none.
+-- The types noted in an expression, if types are kept, are those under its labels; findings note none.
 use Rattle.std.proofs.Common.{◌≡◌, List, [], ◌∷◌, ◌++◌, Option, Some, None, refl, sym, ap, ◌∙◌, subst, append-nil}
 use Rattle.std.proofs.Common.{append_assoc, map}
 use Rattle.std.proofs.lemmas.Grind.{flat_map-append}
@@ -207,6 +207,6 @@ mutual
   show_keywords (more_keywords parameter value rest) m = show_both _ _ _ _ (show_whole value m.first _ _ (show_inside value m.first))
       (show_after _ _ _ (show_flows (place_of value) m.flows) (show_keywords rest m.rest))
 
--- what is noted of types in an expression is the types under its labels
+-- the types noted in an expression are the types under its labels
 pub show_expression : (e : Expr) (m : Labels e) → Shows (notes_under true e m) (types_in e m)
 show_expression e m = show_whole e m (found_in_parts true e m) (types_inside e m) (show_inside e m)

@@ -12,15 +12,15 @@ use Rattle.pc_tree.specs.Tree.{constant_item, class_item, def_item, Module}
 use Rattle.pc_tree.specs.Stopping.{bound_by}
 use Rattle.pc_scope.specs.declared.resolution.Owner.{Owner}
 use Rattle.pc_scope.specs.declared.resolution.Owner.TheVariants as owners
-use Rattle.pc_scope.specs.declared.resolution.Res.{Res}
-use Rattle.pc_scope.specs.declared.resolution.Res.TheVariants as res
+use Rattle.pc_scope.specs.declared.resolution.NameMeaning.{NameMeaning}
+use Rattle.pc_scope.specs.declared.resolution.NameMeaning.TheVariants as res
 use Rattle.pc_scope.specs.Reserved.{is_builtin_name}
 use Rattle.pc_scope.specs.Bindings.{texts, param_names}
 use Rattle.pc_scope.specs.Resolution.{index_of, is_one_of, first_of_each, receiver, entry_texts, locals, local_meaning}
 use Rattle.pc_scope.specs.Resolution.{or_meaning, resolve_in_module}
 use Rattle.pc_types.specs.Tree.{Tree}
 use Rattle.pc_types.specs.Below.{Bases}
-use Rattle.pc_ann.specs.Annotations.{read_ann, read_option}
+use Rattle.pc_annotations.specs.Annotations.{read_ann, read_option}
 use Rattle.pc_class.specs.Bases.{bases_of}
 use Rattle.pc_class.specs.Facts.{TypedParameter, ClassFacts, parameters_of, return_type, binds_field}
 use Rattle.pc_class.specs.Findings.{base_class}
@@ -175,7 +175,7 @@ module _ (m : Module) (ctx : Context) (ds ds' : List Tree) where
     | inr k ↦ h w x k r
   ]
 
-  entry_same : (b : Test) (r : Res) (t : Tree) (x : ℕ) → (b ≡ false → declared_type ds x ≡ declared_type ds' x)
+  entry_same : (b : Test) (r : NameMeaning) (t : Tree) (x : ℕ) → (b ≡ false → declared_type ds x ≡ declared_type ds' x)
       → r ≡ res.Local x → DeclaredEntry ds b r t → DeclaredEntry ds' b r t → declared_type ds x ≡ declared_type ds' x
   entry_same false r t x s i h h' = s refl
   entry_same true (res.Local y) t x s i h h' = let is : y ≡ x = local_inj i in
@@ -186,7 +186,7 @@ module _ (m : Module) (ctx : Context) (ds ds' : List Tree) where
   entry_same true (res.Builtin c) t x s i h h' = absurd (grind (arith, i))
   entry_same true res.None t x s i h h' = absurd (grind (arith, i))
 
-  entered_kept : (b : Test) (r : Res) (t : Tree) (env : Env) → ((x : ℕ) → r ≡ res.Local x
+  entered_kept : (b : Test) (r : NameMeaning) (t : Tree) (env : Env) → ((x : ℕ) → r ≡ res.Local x
       → declared_type ds x ≡ declared_type ds' x) → SameWhere ds ds' env
       → SameWhere ds ds' (assigned_at_entry b r t env)
   entered_kept true (res.Local x) t env s k = assign_kept ds ds' env x t k (s x refl)

@@ -1,4 +1,4 @@
--- Statements have at most one lawful labelling: declared types are settled in text order, each at its first binding.
+-- Statements have at most one lawful labelling: declared types become known in text order, each at its first binding.
 use Rattle.std.proofs.Common.{◌≡◌, ℕ, zero, suc, List, [], ◌∷◌, ◌++◌, map, refl, sym, ap, ◌∙◌, subst, inl, inr, arith}
 use Rattle.std.specs.Prelude.{Bool as Test, true, false, not, Option, Some, None, bytes_eq, option_to_list}
 use Rattle.std.proofs.lemmas.Slice.Eq.{bytes_eq-Decides}
@@ -9,14 +9,14 @@ use Rattle.pc_tree.specs.Tree.{evaluates, while_loop, for_loop, conditional, no_
 use Rattle.pc_tree.specs.Tree.{more_branches, Module}
 use Rattle.pc_tree.specs.Stopping.{bound_by, bound_by_stmt, bound_by_branches}
 use Rattle.pc_source.specs.declared.place.Place.{Place}
-use Rattle.pc_scope.specs.declared.resolution.Res.{Res}
-use Rattle.pc_scope.specs.declared.resolution.Res.TheVariants as res
+use Rattle.pc_scope.specs.declared.resolution.NameMeaning.{NameMeaning}
+use Rattle.pc_scope.specs.declared.resolution.NameMeaning.TheVariants as res
 use Rattle.pc_scope.specs.Bindings.{texts}
 use Rattle.pc_scope.specs.Resolution.{is_one_of}
 use Rattle.pc_scope.specs.Reach.{completes}
 use Rattle.pc_types.specs.Tree.{Tree, Any, NoneType}
 use Rattle.pc_types.specs.Shape.{members}
-use Rattle.pc_ann.specs.Annotations.{read_ann}
+use Rattle.pc_annotations.specs.Annotations.{read_ann}
 use Rattle.pc_flow.specs.Environment.{Env, declared_type, assign, assigned_type, join_envs_onto, join_ways}
 use Rattle.pc_flow.specs.Narrowing.{narrow}
 use Rattle.pc_rules.specs.Operations.{Label, clean, offers_label, iterate_member, store_codes, store_index_types}
@@ -152,7 +152,7 @@ module _ (m : Module) (ctx : Context) (ds ds' : List Tree) where
       → is_first seen n ≡ false → declared_type ds x ≡ declared_type ds' x
   first_seen seen n x h r e = h n.text x (not_false (is_one_of n.text seen) e) r
 
-  -- what is no local binds nothing
+  -- a name that means no local binds nothing
   plain_one : (env : Env) → SameWhere ds ds' env → (n : Name) → ((x : ℕ) → ctx.resolve n.text ≡ res.Local x → ⊥)
       → (e : Expr) (mk mk' : Labels e) (fl fl' : FlowLabels) (after after' : Env) → Lawful ctx ds env None e mk
       → fl ≡ [] → after ≡ env → Lawful ctx ds' env None e mk' → fl' ≡ [] → after' ≡ env
@@ -167,7 +167,7 @@ module _ (m : Module) (ctx : Context) (ds ds' : List Tree) where
         same = λ x i. absurd (r x i);
       }
 
-  binding_one : (seen : NamesBound) (env : Env) → SameSeen seen → SameWhere ds ds' env → (n : Name) (r : Res)
+  binding_one : (seen : NamesBound) (env : Env) → SameSeen seen → SameWhere ds ds' env → (n : Name) (r : NameMeaning)
       → ctx.resolve n.text ≡ r → (a : Option Tree) (e : Expr) (mk mk' : Labels e) (fl fl' : FlowLabels)
       (after after' : Env) → LawfulBinding m ctx ds env seen n r a e mk fl after
       → LawfulBinding m ctx ds' env seen n r a e mk' fl' after' → BindingOne mk mk' fl fl' after after' n
@@ -210,7 +210,7 @@ module _ (m : Module) (ctx : Context) (ds ds' : List Tree) where
   declared_one false x t s d d' = s refl
   declared_one true x t s d d' = d ∙ sym d'
 
-  declaration_one : (seen : NamesBound) → SameSeen seen → (n : Name) (r : Res) → ctx.resolve n.text ≡ r → (t : Tree)
+  declaration_one : (seen : NamesBound) → SameSeen seen → (n : Name) (r : NameMeaning) → ctx.resolve n.text ≡ r → (t : Tree)
       → LawfulDeclaration m ctx ds seen n r t → LawfulDeclaration m ctx ds' seen n r t → SameName n
   declaration_one seen s n (res.Local x) i t h h' y j =
       let is : x ≡ y = local_inj (sym i ∙ j) in
@@ -260,7 +260,7 @@ module _ (m : Module) (ctx : Context) (ds ds' : List Tree) where
     same = λ x i. absurd (r x i);
   }
 
-  target_one : (seen : NamesBound) (head : Env) → SameSeen seen → SameWhere ds ds' head → (n : Name) (r : Res)
+  target_one : (seen : NamesBound) (head : Env) → SameSeen seen → SameWhere ds ds' head → (n : Name) (r : NameMeaning)
       → ctx.resolve n.text ≡ r → (item : Label) (fl fl' : FlowLabels) (inside inside' : Env)
       → LawfulTarget m ctx ds seen n r head item fl inside → LawfulTarget m ctx ds' seen n r head item fl' inside'
       → TargetOne fl fl' inside inside' n
@@ -289,7 +289,7 @@ module _ (m : Module) (ctx : Context) (ds ds' : List Tree) where
       no_target_one head k n (λ x j. absurd (grind (arith, i, j))) fl fl' inside inside' h h'
 
   -- names first bound where no run comes
-  undeclared_name : (b : Test) (r : Res) (x : ℕ) → (b ≡ false → declared_type ds x ≡ declared_type ds' x)
+  undeclared_name : (b : Test) (r : NameMeaning) (x : ℕ) → (b ≡ false → declared_type ds x ≡ declared_type ds' x)
       → r ≡ res.Local x → UndeclaredName m ctx ds b r → UndeclaredName m ctx ds' b r
       → declared_type ds x ≡ declared_type ds' x
   undeclared_name false r x s i h h' = s refl
@@ -442,8 +442,8 @@ module _ (m : Module) (ctx : Context) (ds ds' : List Tree) where
   option_kept None h = tt
   option_kept (Some e) h = (h, tt)
 
-  -- what two lawful labellings of a statement have in common: the labels, the environment after it, and what is kept
-  -- after it
+  -- two lawful labellings of a statement have the same labels and the same environment after it, and agree on the
+  -- declared types that it leaves behind
   pub record SameStmt {A : Type 0} (mk mk' : A) (out out' : Option Env) (broken : List Env) (after : NamesBound) : Type
       0 where
     pub labels : mk ≡ mk'
@@ -474,7 +474,7 @@ module _ (m : Module) (ctx : Context) (ds ds' : List Tree) where
     abbrev StmtRule' : NamesBound → Env → (s : Stmt) → StmtLabels s → Option Env → Type 0
     StmtRule' seen env s mk out = LawfulStmt m ctx ds' returned seen env s mk out
 
-    -- what stands after a statement
+    -- two lawful labellings agree on the statements after a statement
     behind_one : (seen : NamesBound) (env : Env) (s : Stmt) (rest : Stmts) (b : Test) (s0 s0' : StmtLabels s)
         (r r' : Behind b (Following (SuiteLabels rest))) (out out' : Option Env)
         → ((o o' : Option Env) → StmtRule seen env s s0 o → StmtRule' seen env s s0' o'

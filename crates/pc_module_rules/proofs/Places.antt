@@ -1,4 +1,4 @@
--- Two places are the same where the test says so.
+-- Two places are the same if the test says so.
 use Rattle.std.proofs.Common.{◌≡◌, refl, true}
 use Rattle.std.specs.Prelude.{nat_eq}
 use Rattle.std.proofs.lemmas.Bool.{and_parts, and_from, eqb-true, eq-eqb}

@@ -1,4 +1,4 @@
--- No label has the code of a dynamic flow, which is found of flows alone; nor has what is found at a store.
+-- No label has the code of a dynamic flow, which only flows have; nor has a store.
 use Rattle.std.proofs.Common.{◌≡◌, ℕ, Bool as Test, true, false, List, [], ◌∷◌, ◌++◌, Option, Some, None, refl, map}
 use Rattle.std.specs.Prelude.{◌||◌, if◌then◌else◌, nat_le, nat_lt, flat_map, slice_get, codes, bytes_eq}
 use Rattle.std.specs.List.{AllByRecursion, list_any, list_all}
@@ -12,8 +12,8 @@ use Rattle.pc_tree.specs.Tree.{binary, compare, is_none, is_not_none, conjunctio
 use Rattle.pc_tree.specs.Stopping.{has_none}
 use Rattle.pc_scope.specs.declared.resolution.Builtin.{Builtin}
 use Rattle.pc_scope.specs.declared.resolution.Builtin.TheVariants as builtin
-use Rattle.pc_scope.specs.declared.resolution.Res.{Res}
-use Rattle.pc_scope.specs.declared.resolution.Res.TheVariants as res
+use Rattle.pc_scope.specs.declared.resolution.NameMeaning.{NameMeaning}
+use Rattle.pc_scope.specs.declared.resolution.NameMeaning.TheVariants as res
 use Rattle.pc_types.specs.Tree.{Tree, Any, Never, Int, Bool, Str, NoneType, Class, ListOf, DictOf, TupleOf}
 use Rattle.pc_types.specs.Below.{Bases}
 use Rattle.pc_types.specs.Shape.{members, nodes, node_limit}
@@ -63,7 +63,7 @@ all_flat_any : {A B : Type 0} (P : B → Type 0) (f : A → List B) → ((x : A)
 all_flat_any P f h [] = tt
 all_flat_any P f h (x ∷ xs) = all_append P (f x) (flat_map f xs) (h x) (all_flat_any P f h xs)
 
--- what holds on both sides of a test
+-- a fact of both branches of a test is a fact of its result
 pub in_both : {A : Type 0} (P : A → Type 0) (b : Test) (x y : A) → P x → P y → P (if b then x else y)
 in_both P true x y h k = h
 in_both P false x y h k = k
@@ -83,13 +83,13 @@ IsPlain c = tells_flow c ≡ false
 abbrev pub ArePlain : List Code → Type 0
 ArePlain cs = AllByRecursion IsPlain cs
 
--- so at a label
+-- likewise at a label
 abbrev pub LabelPlain : Label → Type 0
 LabelPlain m = ArePlain m.codes
 
 -- ---- what operations come to on members
 
--- so of an offer
+-- likewise of an offer
 abbrev OfferPlain : Offer → Type 0
 OfferPlain o = ArePlain o.found
 
@@ -152,7 +152,7 @@ negative_plain _ = (refl, tt)
 
 -- ---- stores
 
--- so of what a store comes to
+-- likewise of what a store comes to
 abbrev StorePlain : StoreOffer → Type 0
 StorePlain o = ArePlain o.found
 
@@ -253,7 +253,7 @@ constant_plain : (o : Option Tree) → LabelPlain (constant_label o)
 constant_plain None = (refl, tt)
 constant_plain (Some t) = tt
 
-pub name_plain : (ctx : Context) (env : Env) (r : Res) → LabelPlain (name_label ctx env r)
+pub name_plain : (ctx : Context) (env : Env) (r : NameMeaning) → LabelPlain (name_label ctx env r)
 name_plain ctx env (res.Local x) = local_plain (current env x)
 name_plain ctx env (res.Const i) = constant_plain (slice_get ctx.constants i)
 name_plain ctx env (res.Func i) = in_both LabelPlain ctx.in_body (in_error E20) (in_error E03) (refl, tt) (refl, tt)
@@ -264,7 +264,7 @@ name_plain ctx env res.None = (refl, tt)
 
 -- ---- calls
 
--- so of what a call comes to on a member
+-- likewise of what a call comes to on a member
 record CallPlain (o : CallOffer) : Type 0 where
   at_callee : ArePlain o.at_callee
   at_call : ArePlain o.at_call
@@ -325,7 +325,7 @@ function_plain : (g : GivenArguments) (s : Option Signature) → CallPlain (func
 function_plain g None = good tt (refl, tt)
 function_plain g (Some s) = called_plain g s
 
--- so of a callee: at its label, and of what its call comes to
+-- likewise of a callee: at its label, and of what its call comes to
 record CalleePlain (c : CalleeLabel) : Type 0 where
   label : LabelPlain c.label
   offers : CallsPlain c.offers
@@ -352,7 +352,7 @@ builtin_plain g builtin.Range = one_offer _ (in_both CallPlain (is_one g) (fails
     (good tt (refl, tt)) (good tt (refl, tt)))
 builtin_plain g _ = called_value (in_error E20) (refl, tt)
 
-name_callee_plain : (ctx : Context) (env : Env) (g : GivenArguments) (r : Res) → CalleePlain (name_callee ctx env g r)
+name_callee_plain : (ctx : Context) (env : Env) (g : GivenArguments) (r : NameMeaning) → CalleePlain (name_callee ctx env g r)
 name_callee_plain ctx env g (res.Func i) =
     in_both CalleePlain ctx.in_body (good_callee (function_offer g (slice_get ctx.functions i) ∷ []))
     (value_callee (in_error E03)) (one_offer (function_offer g (slice_get ctx.functions i))
@@ -446,7 +446,7 @@ pub whole_call_plain : (ctx : Context) (env : Env) (g : GivenArguments) (e : Exp
 whole_call_plain ctx env g e m h arguments types = whole_plain ctx env (callee_of ctx env g e m).rule
     (callee_of ctx env g e m).offers arguments types (callee_plain ctx env g e m h).offers
 
--- so of a code that there may be
+-- likewise of a code that there may be
 abbrev pub IsPlainIfAny : Option Code → Type 0
 IsPlainIfAny None = Unit {0}
 IsPlainIfAny (Some c) = IsPlain c

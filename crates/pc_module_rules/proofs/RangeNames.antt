@@ -1,4 +1,4 @@
--- In a function a name means `range` exactly where it is this name: it is reserved, so nothing else is bound by it.
+-- In a function a name means `range` exactly if it is this name: it is reserved, so it binds nothing else.
 use Rattle.std.proofs.Common.{◌≡◌, ℕ, suc, List, [], ◌∷◌, ◌++◌, refl, sym, ap, ◌∙◌, subst}
 use Rattle.std.specs.Prelude.{Bool as Test, true, false, if◌then◌else◌, Option, Some, None, is_some, codes}
 use Rattle.std.specs.Prelude.{bytes_eq}
@@ -10,8 +10,8 @@ use Rattle.pc_tree.specs.Stopping.{bound_by}
 use Rattle.pc_scope.specs.Bindings.{texts}
 use Rattle.pc_scope.specs.declared.resolution.Builtin.{Builtin}
 use Rattle.pc_scope.specs.declared.resolution.Owner.{Owner}
-use Rattle.pc_scope.specs.declared.resolution.Res.{Res}
-use Rattle.pc_scope.specs.declared.resolution.Res.TheVariants as res
+use Rattle.pc_scope.specs.declared.resolution.NameMeaning.{NameMeaning}
+use Rattle.pc_scope.specs.declared.resolution.NameMeaning.TheVariants as res
 use Rattle.pc_scope.specs.Reserved.{reserved_builtins, beside, builtin_of}
 use Rattle.pc_scope.specs.Resolution.{index_of, entry_texts, locals, bound_first, or_meaning, local_meaning}
 use Rattle.pc_scope.specs.Resolution.{builtin_meaning, resolve_in_module, resolve_among}
@@ -22,7 +22,7 @@ use Rattle.pc_rules.specs.Calls.{is_range}
 abbrev only_range : List ℕ × Builtin → Test
 only_range e = if is_range (res.Builtin e.1) then bytes_eq e.0 (codes "range") else true
 
-besides : (entries : List (List ℕ × Builtin)) (t : List ℕ) (r : Res) → list_all only_range entries ≡ true
+besides : (entries : List (List ℕ × Builtin)) (t : List ℕ) (r : NameMeaning) → list_all only_range entries ≡ true
     → bytes_eq (codes "range") t ≡ false → is_range r ≡ false
     → is_range (or_meaning (builtin_meaning (beside entries t)) r) ≡ false
 besides [] t r h other none = none

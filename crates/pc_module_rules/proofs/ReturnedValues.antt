@@ -1,4 +1,4 @@
--- Where nothing is found at a `return`, the type of its value is static to the return type.
+-- If nothing is found at a `return`, the type of its value is a static subtype of the return type.
 use Rattle.std.proofs.Common.{◌≡◌, List, [], ◌∷◌, refl, inl, inr, arith, Contains}
 use Rattle.std.specs.Prelude.{Bool as Test, true, false, Option, Some}
 use Rattle.pc_source.specs.declared.place.Place.{Place}

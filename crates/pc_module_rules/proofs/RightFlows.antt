@@ -20,7 +20,7 @@ use Rattle.pc_types.specs.Below.{Bases, Static}
 use Rattle.pc_types.specs.Computed.{static_test, assignable_test}
 use Rattle.pc_types.specs.WellFormed.{IsWellFormed}
 use Rattle.pc_types.proofs.DecidedSubtyping.{static_decided, assignable_decided}
-use Rattle.pc_ann.proofs.Earlier.{smaller}
+use Rattle.pc_annotations.proofs.Earlier.{smaller}
 use Rattle.pc_class.specs.Bases.{bases_of}
 use Rattle.pc_class.specs.Facts.{Method}
 use Rattle.pc_class.specs.Findings.{ClassFinds, base, member, order, override}

@@ -1,4 +1,4 @@
--- The notes of a module are right, where those before them are.
+-- The notes of a module are right, if those before them are.
 use Rattle.std.proofs.Common.{ℕ, suc, List, [], ◌∷◌, ◌++◌, false}
 use Rattle.pc_tree.specs.Tree.{Member, field_member, method_member, Item, constant_item, class_item, def_item, Module}
 use Rattle.pc_scope.specs.declared.resolution.Owner.TheVariants as owners

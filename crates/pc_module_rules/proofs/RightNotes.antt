@@ -1,6 +1,5 @@
--- The notes in an expression are right: each that has two types is a dynamic flow of the one into the other, both
--- well-formed, and each
--- other one is no dynamic flow.
+-- The notes in an expression are right: each with two types is a dynamic flow of the one into the other, both
+-- well-formed, and no other note is a dynamic flow.
 use Rattle.std.proofs.Common.{◌≡◌, ℕ, suc, Bool as Test, true, false, List, [], ◌∷◌, ◌++◌, Option, Some, None, refl}
 use Rattle.std.proofs.Common.{sym, subst}
 use Rattle.std.specs.Prelude.{flat_map, map}
@@ -545,7 +544,7 @@ module _ (k : Standing) (w : StandsWell k) where
       (formed_whole ctx.bases k.keeps e m (found_in_parts k.keeps e m) (formed_parts ctx.bases k.keeps e m
       (labels_are_lawful ctx k.declared k.env want e w.context w.declared w.env h).2))
 
-  -- so are those in a call of `range` as what a `for` goes over
+  -- likewise those in a call of `range` as what a `for` goes over
   pub right_range : (p : Place) (callee : Expr) (args : Exprs) (kws : Keywords)
       → AreRight ctx.bases (range_finds k p callee args kws)
   unfolding arguments_find keywords_find

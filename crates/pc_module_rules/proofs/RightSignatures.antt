@@ -22,11 +22,11 @@ use Rattle.pc_types.specs.Tree.{Tree}
 use Rattle.pc_types.specs.Below.{Bases}
 use Rattle.pc_types.specs.Shape.{nodes, node_limit}
 use Rattle.pc_types.specs.WellFormed.{IsWellFormed}
-use Rattle.pc_ann.specs.Annotations.{named_type, applied_type, empty_type, union_type, reading, readings, read_ann}
-use Rattle.pc_ann.specs.Annotations.{read_option}
-use Rattle.pc_ann.proofs.Earlier.{smaller}
-use Rattle.pc_ann.proofs.Readings.{read_ann_well_formed, read_option_well_formed}
-use Rattle.pc_ann.specs.Listed.{without_type, inside_type, part_findings, parts_findings, ann_findings, option_findings}
+use Rattle.pc_annotations.specs.Annotations.{named_type, applied_type, empty_type, union_type, reading, readings, read_ann}
+use Rattle.pc_annotations.specs.Annotations.{read_option}
+use Rattle.pc_annotations.proofs.Earlier.{smaller}
+use Rattle.pc_annotations.proofs.Readings.{read_ann_well_formed, read_option_well_formed}
+use Rattle.pc_annotations.specs.Listed.{without_type, inside_type, part_findings, parts_findings, ann_findings, option_findings}
 use Rattle.pc_class.specs.Annotated.{params_annotated, def_annotated, fields_annotated, method_annotated}
 use Rattle.pc_class.specs.Annotated.{methods_annotated, class_annotated, classes_annotated, member_annotations}
 use Rattle.pc_class.specs.Bases.{bases_of, base_named}
@@ -106,7 +106,7 @@ module _ (m : Module) (bases : Bases) where
   right_option : (a : Option Ann) → AreRight bases (map plain_note (option_findings m bases a))
   right_option a = right_plain bases (option_findings m bases a) (option_plain a)
 
--- what is found in the annotations of the members of classes has codes other than that of a dynamic flow
+-- no finding in the annotations of the members of classes has the code of a dynamic flow
 module _ (m : Module) where
   params_plain : (ps : List Param) → PlainFindings (params_annotated m ps)
   params_plain [] = tt

@@ -1,4 +1,4 @@
--- The notes of a walk over statements are right, where those before it are; and its types stay well-formed.
+-- The notes of a walk over statements are right, if those before it are; and its types stay well-formed.
 use Rattle.std.proofs.Common.{ℕ, Bool as Test, true, false, List, [], ◌∷◌, ◌++◌, Option, Some, None, refl, length}
 use Rattle.std.specs.Prelude.{unwrap_or}
 use Rattle.pc_source.specs.declared.place.Place.{Place}
@@ -11,16 +11,16 @@ use Rattle.pc_tree.specs.Tree.{Stmt, Stmts, Branches, pass, breaks, continues, r
 use Rattle.pc_tree.specs.Tree.{evaluates, while_loop, for_loop, conditional, no_stmts, more_stmts, no_branches}
 use Rattle.pc_tree.specs.Tree.{more_branches, FuncDef, Module}
 use Rattle.pc_scope.specs.declared.resolution.Owner.{Owner}
-use Rattle.pc_scope.specs.declared.resolution.Res.{Res}
-use Rattle.pc_scope.specs.declared.resolution.Res.TheVariants as res
+use Rattle.pc_scope.specs.declared.resolution.NameMeaning.{NameMeaning}
+use Rattle.pc_scope.specs.declared.resolution.NameMeaning.TheVariants as res
 use Rattle.pc_scope.specs.Resolution.{locals}
 use Rattle.pc_types.specs.Tree.{Tree, Any, Int, NoneType}
 use Rattle.pc_types.specs.Below.{Bases}
 use Rattle.pc_types.specs.Shape.{members}
 use Rattle.pc_types.specs.WellFormed.{IsWellFormed}
-use Rattle.pc_ann.specs.Annotations.{read_ann}
+use Rattle.pc_annotations.specs.Annotations.{read_ann}
 use Rattle.pc_types.specs.Computed.{static_test}
-use Rattle.pc_ann.proofs.Readings.{read_ann_well_formed}
+use Rattle.pc_annotations.proofs.Readings.{read_ann_well_formed}
 use Rattle.pc_class.specs.Bases.{bases_of}
 use Rattle.pc_class.specs.Facts.{TypedParameter, return_type}
 use Rattle.pc_class.specs.WellFormed.{ParametersWellFormed}
@@ -69,14 +69,14 @@ abbrev OutWellFormed : Bases → Option Env → Type 0
 OutWellFormed bases None = Unit {0}
 OutWellFormed bases (Some env) = IsWellFormedEnv bases env
 
--- what a walk has come to: its types are well-formed, and its notes right
+-- the state of a walk: its types are well-formed, and its notes right
 record WalkRight (bases : Bases) (w : Walk) : Type 0 where
   table : IsWellFormedEnv bases w.table
   env : OutWellFormed bases w.env
   broken : OutWellFormed bases w.broken
   found : AreRight bases w.found
 
--- so of a name bound
+-- likewise of a name bound
 record BoundRight (bases : Bases) (b : BindingResult) : Type 0 where
   table : IsWellFormedEnv bases b.table
   env : IsWellFormedEnv bases b.env
@@ -146,7 +146,7 @@ module _ (context : BodyContext) (ck : ContextWellFormed context.context)
 
   -- ---- names that no run binds
 
-  unreached_one : (table : Table) (r : Res) → Formed table → Formed (unreached_name context table r)
+  unreached_one : (table : Table) (r : NameMeaning) → Formed table → Formed (unreached_name context table r)
   unreached_one table (res.Local x) kt = settled_well_formed ctx.bases (bound_type table x) table x Any
       (any_well_formed ctx.bases) kt
   unreached_one table (res.Const i) kt = kt
@@ -193,7 +193,7 @@ module _ (context : BodyContext) (ck : ContextWellFormed context.context)
         (right_in (at context table env) (stands table env kt ke) None tt e);
   }
 
-  value_right : (table : Table) (env : Env) (r : Res) (annotation : Option Tree) (e : Expr) (found : List Note)
+  value_right : (table : Table) (env : Env) (r : NameMeaning) (annotation : Option Tree) (e : Expr) (found : List Note)
       → Formed table → Formed env → IsWellFormedIfAny ctx.bases annotation → Right found
       → BoundRight ctx.bases (bind_value context table env r annotation e found)
   value_right table env (res.Local x) annotation e found kt ke ka kf =
@@ -210,7 +210,7 @@ module _ (context : BodyContext) (ck : ContextWellFormed context.context)
   value_right table env (res.Builtin b) annotation e found kt ke ka kf = value_alone table env e found kt ke kf
   value_right table env res.None annotation e found kt ke ka kf = value_alone table env e found kt ke kf
 
-  alone_well_formed : (table : Table) (r : Res) (t : Tree) → Formed table → IsWellFormed ctx.bases t
+  alone_well_formed : (table : Table) (r : NameMeaning) (t : Tree) → Formed table → IsWellFormed ctx.bases t
       → Formed (declared_alone context table r t)
   alone_well_formed table (res.Local x) t kt h = settled_well_formed ctx.bases (bound_type table x) table x t h kt
   alone_well_formed table (res.Const i) t kt h = kt
@@ -363,7 +363,7 @@ module _ (context : BodyContext) (ck : ContextWellFormed context.context)
       → BoundRight ctx.bases (record { table = table; env = head; found = found })
   item_alone table head found kt kh kf = record { table = kt; env = kh; found = kf }
 
-  target_right : (table : Table) (head : Env) (r : Res) (p : Place) (t : Tree) (found : List Note) → Formed table
+  target_right : (table : Table) (head : Env) (r : NameMeaning) (p : Place) (t : Tree) (found : List Note) → Formed table
       → Formed head → IsWellFormed ctx.bases t → Right found → BoundRight ctx.bases
       (bind_item context table head r p t found)
   target_right table head (res.Local x) p t found kt kh k kf = label_right table head x (bound_type table x) p (clean t)
@@ -537,7 +537,7 @@ module _ (context : BodyContext) (ck : ContextWellFormed context.context)
 
 -- ---- functions
 
--- what a function is entered with is of well-formed types
+-- the table and the environment at the entry of a function have well-formed types
 abbrev EntryFormed : Bases → (Table × Env) → Type 0
 EntryFormed bases r = IsWellFormedEnv bases r.0 × IsWellFormedEnv bases r.1
 
@@ -551,7 +551,7 @@ local_entered bases None table env x t h kt ke = (
       x t h ke,
 )
 
-name_entered : (bases : Bases) (table : Table) (env : Env) (r : Res) (t : Tree) → IsWellFormed bases t
+name_entered : (bases : Bases) (table : Table) (env : Env) (r : NameMeaning) (t : Tree) → IsWellFormed bases t
     → IsWellFormedEnv bases table → IsWellFormedEnv bases env → EntryFormed bases (enter_name table env r t)
 name_entered bases table env (res.Local x) t h kt ke = local_entered bases (bound_type table x) table env x t h kt ke
 name_entered bases table env (res.Const i) t h kt ke = (kt, ke)
@@ -560,7 +560,7 @@ name_entered bases table env (res.Class i) t h kt ke = (kt, ke)
 name_entered bases table env (res.Builtin b) t h kt ke = (kt, ke)
 name_entered bases table env res.None t h kt ke = (kt, ke)
 
-all_entered : (bases : Bases) (resolve : List ℕ → Res) (table : Table) (env : Env) (ps : List TypedParameter)
+all_entered : (bases : Bases) (resolve : List ℕ → NameMeaning) (table : Table) (env : Env) (ps : List TypedParameter)
     → ParametersWellFormed bases ps → IsWellFormedEnv bases table → IsWellFormedEnv bases env
     → EntryFormed bases (enter_parameters resolve table env ps)
 all_entered bases resolve table env [] h kt ke = (kt, ke)

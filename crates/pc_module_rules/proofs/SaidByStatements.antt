@@ -1,4 +1,4 @@
--- What the labels of statements say of scopes, a part of one of their expressions says.
+-- Each E02 and E03 under the labels of statements comes from a part of one of their expressions.
 use Rattle.std.proofs.Common.{◌≡◌, List, [], ◌∷◌, ◌++◌, refl, sym, subst, inl, inr, arith, Contains}
 use Rattle.std.specs.Prelude.{◌⊎◌, Bool as Test, true, false, if◌then◌else◌, MatchOption, Option, Some, None}
 use Rattle.pc_source.specs.declared.place.Place.{Place}
@@ -14,8 +14,8 @@ use Rattle.pc_tree.specs.Tree.{Branches, pass, breaks, continues, returns, asser
 use Rattle.pc_tree.specs.Tree.{while_loop, for_loop, conditional, no_stmts, more_stmts, no_branches, more_branches}
 use Rattle.pc_tree.specs.Tree.{Module}
 use Rattle.pc_tree.specs.Tree as tree
-use Rattle.pc_scope.specs.declared.resolution.Res.{Res}
-use Rattle.pc_scope.specs.declared.resolution.Res.TheVariants as res
+use Rattle.pc_scope.specs.declared.resolution.NameMeaning.{NameMeaning}
+use Rattle.pc_scope.specs.declared.resolution.NameMeaning.TheVariants as res
 use Rattle.pc_scope.specs.Bindings.{texts}
 use Rattle.pc_scope.specs.Reach.{completes}
 use Rattle.pc_scope.specs.Resolution.{resolve_in_module}
@@ -25,8 +25,8 @@ use Rattle.pc_scope.specs.Expressions.{exprs_in_branches}
 use Rattle.pc_types.specs.Tree.{Tree, Any, Int, NoneType}
 use Rattle.pc_types.specs.Below.{Bases}
 use Rattle.pc_types.specs.Shape.{members}
-use Rattle.pc_ann.specs.Annotations.{named_type, applied_type, empty_type, union_type, readings, PartFinds, PartsFind}
-use Rattle.pc_ann.specs.Annotations.{AnnFinds}
+use Rattle.pc_annotations.specs.Annotations.{named_type, applied_type, empty_type, union_type, readings, PartFinds, PartsFind}
+use Rattle.pc_annotations.specs.Annotations.{AnnFinds}
 use Rattle.pc_flow.specs.Environment.{Env, declared_type}
 use Rattle.pc_flow.specs.Narrowing.{narrow}
 use Rattle.pc_rules.specs.Operations.{Label, clean}
@@ -131,12 +131,12 @@ module _ (m : Module) (ctx : Context) (declared : List Tree) (f : Finding) (s : 
       → IsFlowAt p flows f → ⊥
   no_flow label ts flows p law h = no_flow_of_scopes ctx.bases label ts flows p f law s h
 
-  -- what a local is bound to
+  -- the value that a local is bound to has lawful labels, for some expected type
   record IsLabelled (env : Env) (e : Expr) (labels : Labels e) : Type 0 where
     want : Option Tree
     law : Lawful ctx declared env want e labels
 
-  bound_value : (env : Env) (seen : NamesBound) (n : Name) (r : Res) (a : Option Tree) (e : Expr) (labels : Labels e)
+  bound_value : (env : Env) (seen : NamesBound) (n : Name) (r : NameMeaning) (a : Option Tree) (e : Expr) (labels : Labels e)
       (flows : FlowLabels) (after : Env) → LawfulBinding m ctx declared env seen n r a e labels flows after
       → IsLabelled env e labels
   bound_value env seen n (res.Local x) a e labels flows after law = record { want = _; law = law.value }
@@ -146,7 +146,7 @@ module _ (m : Module) (ctx : Context) (declared : List Tree) (f : Finding) (s : 
   bound_value env seen n (res.Builtin x) a e labels flows after law = record { want = _; law = law.value }
   bound_value env seen n res.None a e labels flows after law = record { want = _; law = law.value }
 
-  bound_flow : (env : Env) (seen : NamesBound) (n : Name) (r : Res) (a : Option Tree) (e : Expr) (labels : Labels e)
+  bound_flow : (env : Env) (seen : NamesBound) (n : Name) (r : NameMeaning) (a : Option Tree) (e : Expr) (labels : Labels e)
       (flows : FlowLabels) (after : Env) (p : Place) → LawfulBinding m ctx declared env seen n r a e labels flows after
       → IsFlowAt p flows f → ⊥
   bound_flow env seen n (res.Local x) a e labels flows after p law h = no_flow (whole_label e labels)
@@ -222,7 +222,7 @@ module _ (m : Module) (ctx : Context) (declared : List Tree) (f : Finding) (s : 
   ]
 
   -- an annotated name
-  annotation_said : (r : Res) (first : Test) (n : Name) (a : Ann) → AnnotationFinds m ctx r first n a f → ⊥
+  annotation_said : (r : NameMeaning) (first : Test) (n : Name) (a : Ann) → AnnotationFinds m ctx r first n a f → ⊥
   annotation_said (res.Local x) false n a h = other_code n.place _ f refl s h
   annotation_said (res.Local x) true n a h = no_annotation m ctx.bases f s a h
   annotation_said (res.Const x) first n a h = no_annotation m ctx.bases f s a h
@@ -242,7 +242,7 @@ module _ (m : Module) (ctx : Context) (declared : List Tree) (f : Finding) (s : 
         of_expr env k.want e labels [] k.law y
   ]
 
-  -- what a `for` goes over
+  -- a finding of scopes in the iterable of a `for` is one that a part of it says
   range_said : (env : Env) (p : Place) (n : Name) (args : Exprs) (kws : Keywords)
       (labels : Labels (call p (name n) args kws)) → LawfulRange m ctx declared env (name n) args kws p labels
       → Finds (call p (name n) args kws) labels f → SaidIn (call p (name n) args kws ∷ [])
@@ -313,7 +313,7 @@ module _ (m : Module) (ctx : Context) (declared : List Tree) (f : Finding) (s : 
       go false law = values_items env (call p (name n) args kws) labels item law
   iterable_items env e labels item law = values_items env e labels item law
 
-  for_flow : (seen : NamesBound) (n : Name) (r : Res) (head : Env) (item : Label) (flows : FlowLabels) (inside : Env)
+  for_flow : (seen : NamesBound) (n : Name) (r : NameMeaning) (head : Env) (item : Label) (flows : FlowLabels) (inside : Env)
       (p : Place) → LawfulTarget m ctx declared seen n r head item flows inside → IsFlowAt p flows f → ⊥
   for_flow seen n (res.Local x) head item flows inside p law h =
       no_flow (clean item.type) (declared_type declared x ∷ []) flows p law.flow h

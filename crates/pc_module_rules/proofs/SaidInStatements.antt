@@ -1,4 +1,4 @@
--- What a judged part of an expression of statements says, the statements' labels say.
+-- Each E02 and E03 of a judged part of an expression of statements is under the statements' labels.
 use Rattle.std.proofs.Common.{◌≡◌, List, [], ◌∷◌, ◌++◌, refl, sym, ap, subst, inl, inr, arith}
 use Rattle.std.specs.Prelude.{◌⊎◌, Bool as Test, true, false, if◌then◌else◌, Option, Some, None}
 use Rattle.pc_source.specs.declared.place.Place.{Place}
@@ -8,8 +8,8 @@ use Rattle.pc_tree.specs.Tree.{Name, Expr, name, call, Exprs, Keywords, Ann, Tar
 use Rattle.pc_tree.specs.Tree.{Stmt, Stmts, Branches, pass, breaks, continues, returns, asserts, annotated, assigns}
 use Rattle.pc_tree.specs.Tree.{evaluates, while_loop, for_loop, conditional, no_stmts, more_stmts, no_branches}
 use Rattle.pc_tree.specs.Tree.{more_branches, Module}
-use Rattle.pc_scope.specs.declared.resolution.Res.{Res}
-use Rattle.pc_scope.specs.declared.resolution.Res.TheVariants as res
+use Rattle.pc_scope.specs.declared.resolution.NameMeaning.{NameMeaning}
+use Rattle.pc_scope.specs.declared.resolution.NameMeaning.TheVariants as res
 use Rattle.pc_scope.specs.Bindings.{texts}
 use Rattle.pc_scope.specs.Reach.{completes}
 use Rattle.pc_scope.specs.Expressions.{is_instance_test, first_or_all, parts_in, parts_in_all, parts_in_first}
@@ -42,7 +42,7 @@ module _ (m : Module) (ctx : Context) (declared : List Tree) (part : Expr) (f : 
 
   -- ---- values and targets
 
-  bound_found : (env : Env) (seen : NamesBound) (n : Name) (r : Res) (a : Option Tree) (e : Expr) (labels : Labels e)
+  bound_found : (env : Env) (seen : NamesBound) (n : Name) (r : NameMeaning) (a : Option Tree) (e : Expr) (labels : Labels e)
       (flows : FlowLabels) (after : Env) → LawfulBinding m ctx declared env seen n r a e labels flows after → e ≡ expr
       → Finds e labels f
   bound_found env seen n (res.Local x) a e labels flows after law is = is_found env _ e labels law.value is
@@ -98,7 +98,7 @@ module _ (m : Module) (ctx : Context) (declared : List Tree) (part : Expr) (f : 
     | inr b ↦ go (ctx.resolve n.text) is b.0
   ]
     where
-      go : (r : Res) → is_range r ≡ true → IsEarlyHere ctx r → ⊥
+      go : (r : NameMeaning) → is_range r ≡ true → IsEarlyHere ctx r → ⊥
       go (res.Builtin b) e h = h
       go (res.Local x) e h = h
       go (res.Const x) e h = grind (arith, e)

@@ -1,4 +1,4 @@
--- What is found of scopes, and what stands under lawful labels, is found of the module.
+-- The findings of scope analysis, and those under lawful labels, are findings of the module.
 use Rattle.std.proofs.Common.{◌≡◌, true, false, refl, inl, inr}
 use Rattle.std.specs.Prelude.{Bool as Test}
 use Rattle.pc_tree.specs.declared.code.Finding.{Finding}
@@ -13,7 +13,7 @@ pub of_scopes : (m : Module) (f : Finding) → ScopeFinds m f → IsFinding m f
 of_scopes m f found = let h = every_module_has_a_labelling m in
     record { labels = h.labels; lawful = h.lawful; found = inl found }
 
--- what labels say of scopes is found of these, and the rest is found under labels
+-- each finding under lawful labels is a finding of the module, by scope analysis or by the labels
 pub said_is_found : (m : Module) (labels : Labelling m) → IsLawful m labels → (f : Finding) → LabelsSay m labels f
     → IsFinding m f
 said_is_found m labels lawful f said = go (is_of_scopes f.code) refl

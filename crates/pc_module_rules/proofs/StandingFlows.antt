@@ -1,5 +1,4 @@
--- The laws on dynamic flows, of those that are computed: what is computed at a place is the first flow there under the
--- lawful labelling.
+-- The laws on computed dynamic flows: the computed flow at a place is the first one there under the lawful labelling.
 use Rattle.std.proofs.Common.{◌≡◌, Option, Some, None, refl, sym, ap, ◌∙◌, subst}
 use Rattle.std.specs.Prelude.{IsSome, unwrap_or}
 use Rattle.pc_source.specs.declared.place.Place.{Place}
@@ -18,7 +17,7 @@ use Rattle.pc_module_rules.proofs.FirstFlows.{Pair, first_at, first_is, is_first
 use Rattle.pc_module_rules.proofs.RightFlows.{flow_found, flow_dynamic, flow_well_formed}
 use Rattle.pc_module_rules.proofs.ToldModules.{module_tells}
 
--- what is computed at a place is the first flow there under a lawful labelling
+-- the dynamic flow computed at a place is the first flow there under a lawful labelling
 computed_is : (m : Module) (labels : Labelling m) → IsLawful m labels → (p : Place)
     → dynamic_flow m p ≡ first_at p (dynamic_flows m labels)
 computed_is m labels l p = (module_tells m labels l).is p
@@ -53,7 +52,7 @@ flows_unique m p s t u v h k =
     ∙ (flows_computed m p u v).1 k) in
     (ap (λ (f : Tree × Tree). f.0) types, ap (λ (f : Tree × Tree). f.1) types)
 
--- what explains the flow that is computed at a place explains the place
+-- an explanation of the flow that is computed at a place explains the place
 pub explains : {Store Ty : Type 0} (has : Store → Ty → Type 0) (tree : Ty → Tree) (m : Module) (p : Place)
     (store : Store) (found : Option (Ty × Ty)) → ExplainsFlow has tree store found (dynamic_flow m p)
     → ExplainsPlace has tree m p store found

@@ -1,4 +1,5 @@
--- What a stored value and its index flow into, and what a `for` goes over, is well-formed where the object's type is.
+-- The types that a stored value and its index flow into, and the item type of a `for`, are well-formed if the object's
+-- type is.
 use Rattle.std.proofs.Common.{ℕ, List, [], ◌∷◌, map, arith}
 use Rattle.std.specs.Prelude.{flat_map, Option, Some, None}
 use Rattle.pc_types.specs.Tree.{Tree, Class, ListOf, DictOf, TupleOf}
@@ -19,12 +20,12 @@ use Rattle.pc_rules.proofs.WellFormed.{all_well_formed}
 use Rattle.pc_rules.proofs.OfferedTypes.{OfferWellFormed, ParameterWellFormed, plain, field_well_formed}
 use Rattle.pc_rules.proofs.OfferedTypes.{each_well_formed, offers_well_formed}
 
--- what the index and the stored value flow into is well-formed
+-- the types that the index and the stored value flow into are well-formed
 record StoreWellFormed (bases : Bases) (o : StoreOffer) : Type 0 where
   takes : AreWellFormed bases o.takes
   stores : AreWellFormed bases o.stores
 
--- so of several stores
+-- likewise of several stores
 abbrev StoresWellFormed : Bases → List StoreOffer → Type 0
 StoresWellFormed bases [] = Unit {0}
 StoresWellFormed bases (o ∷ os) = StoreWellFormed bases o × StoresWellFormed bases os
@@ -106,7 +107,7 @@ module _ (bases : Bases) where
   keys_stored t k = index_types_well_formed _ (each_store store_index_member store_index_well_formed (members t)
       (members_well_formed bases t k))
 
-  -- what is expected of a stored value is well-formed
+  -- the type expected of a stored value is well-formed
   pub only_well_formed : (os : List StoreOffer) (ts : List Tree) → AreWellFormed bases ts
       → IsWellFormedIfAny bases (only_type os ts)
   only_well_formed (o ∷ []) (t ∷ []) k = k.0

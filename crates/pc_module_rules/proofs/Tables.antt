@@ -1,8 +1,8 @@
--- Tables of declared types that grow in text order, and environments that go by the names bound so far alone.
+-- Tables of declared types that grow in text order, and environments that depend only on the names bound so far.
 use Rattle.std.proofs.Common.{List, [], ap, arith, refl, subst, suc, sym, zero, ℕ, ◌++◌, ◌<◌, ◌∙◌, ◌∷◌, ◌≡◌}
 use Rattle.std.specs.Prelude.{Bool as Test, None, Option, Some, false, option_to_list, slice_set, true}
 use Rattle.pc_tree.specs.Tree.{Expr}
-use Rattle.pc_scope.specs.declared.resolution.Res.TheVariants as res
+use Rattle.pc_scope.specs.declared.resolution.NameMeaning.TheVariants as res
 use Rattle.pc_scope.specs.Resolution.{is_one_of}
 use Rattle.pc_types.specs.Tree.{Any, Tree}
 use Rattle.pc_types.specs.Below.{Bases}

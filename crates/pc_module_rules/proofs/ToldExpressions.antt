@@ -1,5 +1,5 @@
--- What a walk finds in an expression, of its flows and in what a `for` goes over tells of just the dynamic flows under
--- lawful labels.
+-- The notes of a walk in an expression, of its flows and in the iterable of a `for` hold exactly the dynamic flows
+-- under lawful labels.
 use Rattle.std.proofs.Common.{◌≡◌, List, [], ◌∷◌, ◌++◌, Option, Some, None, refl, sym, ap, ◌∙◌, subst, append-nil}
 use Rattle.std.proofs.Common.{append_assoc}
 use Rattle.std.specs.Prelude.{Bool as Test, true, false, if◌then◌else◌}
@@ -69,7 +69,7 @@ module _ (setting : Surroundings) (returned : Tree) (kr : IsWellFormed setting.c
       → Lawful ctx declared env want e labels → Reads want e labels
   read want kw e labels l = told setting declared table kt env h want kw e labels l
 
-  -- what is found in an expression is what stands under its lawful labels
+  -- the findings computed in an expression are those under its lawful labels
   found_is : (want : Option Tree) → IsWellFormedIfAny ctx.bases want → (e : Expr) (labels : Labels e)
       → Lawful ctx declared env want e labels → finds_in at_env want e ≡ notes_under false e labels
   unfolding finds_in

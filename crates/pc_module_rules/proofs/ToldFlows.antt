@@ -1,4 +1,4 @@
--- The notes of an expression tell of just the dynamic flows under its labels.
+-- The notes of an expression hold exactly the dynamic flows under its labels.
 use Rattle.std.proofs.Common.{◌≡◌, List, [], ◌∷◌, ◌++◌, Option, Some, None, refl, sym, ap, ◌∙◌, subst}
 use Rattle.std.specs.Prelude.{Bool as Test, true, false, ◌||◌, if◌then◌else◌, flat_map, bytes_eq}
 use Rattle.std.proofs.lemmas.Bool.{false≢true}
@@ -55,7 +55,7 @@ plain_among before c e none = test (tells_flow c) refl
 
 -- ---- what is found of flows
 
--- what is found of a flow with another code tells of none
+-- the note of a flow with a code other than that of a dynamic flow has no types
 plain_flow : (p : Place) (s t : Tree) (c : Code) → IsPlain c → flow_note p s t c ≡ plain_note (finding p c)
 plain_flow p s t A1 h = absurd (cc h)
 plain_flow p s t _ h = refl

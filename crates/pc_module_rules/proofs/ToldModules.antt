@@ -1,5 +1,5 @@
--- What is found of a module tells of just the dynamic flows under its lawful labelling: of its signatures, its
--- constants and its bodies.
+-- The notes of a module hold exactly the dynamic flows under its lawful labelling: of its signatures, its constants and
+-- its bodies.
 use Rattle.std.proofs.Common.{◌≡◌, ℕ, suc, List, [], ◌∷◌, ◌++◌, length, refl, sym, ap, ◌∙◌, subst, arith, append-nil}
 use Rattle.std.specs.Prelude.{Bool as Test, true, false, Option, Some, None, map, slice_get, codes}
 use Rattle.pc_source.specs.declared.place.Place.{Place}
@@ -16,11 +16,11 @@ use Rattle.pc_scope.specs.declared.resolution.Owner.TheVariants as owners
 use Rattle.pc_types.specs.Tree.{Tree, NoneType}
 use Rattle.pc_types.specs.Below.{Bases}
 use Rattle.pc_types.specs.WellFormed.{IsWellFormed}
-use Rattle.pc_ann.specs.Annotations.{read_ann, read_option}
+use Rattle.pc_annotations.specs.Annotations.{read_ann, read_option}
 use Rattle.pc_types.specs.Computed.{static_test}
-use Rattle.pc_ann.proofs.Earlier.{smaller}
-use Rattle.pc_ann.proofs.Readings.{read_ann_well_formed, read_option_well_formed}
-use Rattle.pc_ann.specs.Listed.{option_findings}
+use Rattle.pc_annotations.proofs.Earlier.{smaller}
+use Rattle.pc_annotations.proofs.Readings.{read_ann_well_formed, read_option_well_formed}
+use Rattle.pc_annotations.specs.Listed.{option_findings}
 use Rattle.pc_class.specs.Bases.{bases_of}
 use Rattle.pc_class.specs.Facts.{ClassFacts, return_type, base_facts, classes_of, binds_field, binds_method}
 use Rattle.pc_class.specs.Findings.{base_class}
@@ -356,7 +356,7 @@ module _ (m : Module) where
         (function_tells (owners.Func b.functions) f labels.first l.0 found)
         (bodies_tell (before_next m b (def_item p f) labels.first) rest labels.rest l.1 one)
 
--- what is found of a module tells of just the dynamic flows under its lawful labelling
+-- the notes of a module tell of exactly the dynamic flows under its lawful labelling
 pub module_tells : (m : Module) (labels : Labelling m) → IsLawful m labels
     → Tells (module_finds m []) (dynamic_flows m labels)
 unfolding module_notes signatures_find

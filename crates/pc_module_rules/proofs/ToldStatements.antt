@@ -1,5 +1,4 @@
--- What a walk over statements finds tells of just the dynamic flows under lawful labels, besides those of what was
--- found before.
+-- The notes of a walk over statements hold exactly the dynamic flows under lawful labels, besides those noted before.
 use Rattle.std.proofs.Common.{◌≡◌, ℕ, List, [], ◌∷◌, ◌++◌, refl, sym, ap, ◌∙◌, subst, append-nil}
 use Rattle.std.specs.Prelude.{Bool as Test, true, false, unwrap_or, Option, Some, None}
 use Rattle.pc_source.specs.declared.place.Place.{Place}
@@ -10,16 +9,16 @@ use Rattle.pc_tree.specs.Tree.{Name, Expr, Ann, Target, to_name, to_attribute, t
 use Rattle.pc_tree.specs.Tree.{breaks, continues, returns, asserts, annotated, assigns, evaluates, while_loop, for_loop}
 use Rattle.pc_tree.specs.Tree.{conditional, no_stmts, more_stmts, no_branches, more_branches}
 use Rattle.pc_tree.specs.Stopping.{bound_by, bound_by_stmt, bound_by_branches}
-use Rattle.pc_scope.specs.declared.resolution.Res.{Res}
-use Rattle.pc_scope.specs.declared.resolution.Res.TheVariants as res
+use Rattle.pc_scope.specs.declared.resolution.NameMeaning.{NameMeaning}
+use Rattle.pc_scope.specs.declared.resolution.NameMeaning.TheVariants as res
 use Rattle.pc_scope.specs.Bindings.{texts}
 use Rattle.pc_scope.specs.Reach.{completes}
 use Rattle.pc_scope.specs.Resolution.{is_one_of}
 use Rattle.pc_types.specs.Tree.{Tree}
 use Rattle.pc_types.specs.WellFormed.{IsWellFormed}
-use Rattle.pc_ann.specs.Annotations.{read_ann}
-use Rattle.pc_ann.proofs.Readings.{read_ann_well_formed}
-use Rattle.pc_ann.specs.Listed.{ann_findings}
+use Rattle.pc_annotations.specs.Annotations.{read_ann}
+use Rattle.pc_annotations.proofs.Readings.{read_ann_well_formed}
+use Rattle.pc_annotations.specs.Listed.{ann_findings}
 use Rattle.pc_flow.specs.Environment.{Env, declared_type}
 use Rattle.pc_flow.specs.Narrowing.{narrow}
 use Rattle.pc_flow.specs.WellFormed.{IsWellFormedIfAny}
@@ -117,7 +116,7 @@ module _ (setting : Surroundings) (returned : Tree) (kr : IsWellFormed setting.c
         (grow found finds ds (tell_in setting returned kr declared table h.well_formed env f want kw e labels lw))
         (label_tells env x want (place_of e) (whole_label e labels) flows (found ++ finds) is kw v.well_formed l.flow))
 
-    -- what is no local binds nothing, and nothing flows into it
+    -- a name that means no local binds nothing, and nothing flows into it
     plain_tells : (env : Env) → EnvFits setting declared table env → (e : Expr) (labels : Labels e) (flows : FlowLabels)
         (found : List Note) → Lawful ctx declared env None e labels → flows ≡ []
         → Grows found (found ++ finds_in (at context table env) None e)
@@ -130,7 +129,7 @@ module _ (setting : Surroundings) (returned : Tree) (kr : IsWellFormed setting.c
         (grow found (finds_in (at context table env) None e) (dynamic_in e labels)
         (tell_in setting returned kr declared table h.well_formed env f None tt e labels l)))
 
-    binding_tells : (r : Res) → ctx.resolve n.text ≡ r → (env : Env) → EnvFits setting declared table env
+    binding_tells : (r : NameMeaning) → ctx.resolve n.text ≡ r → (env : Env) → EnvFits setting declared table env
         → (a a' : Option Tree) → (is_first seen n ≡ true → a ≡ a') → IsWellFormedIfAny ctx.bases a'
         → (e : Expr) (labels : Labels e) (flows : FlowLabels) (after : Env) (found : List Note)
         → LawfulBinding m ctx declared env seen n r a e labels flows after
@@ -154,7 +153,7 @@ module _ (setting : Surroundings) (returned : Tree) (kr : IsWellFormed setting.c
     no_flow p flows found none = subst (λ (fs : FlowLabels). Grows found found (dynamic_at p fs)) (sym none)
         (grow_none found)
 
-    target_tells : (r : Res) → ctx.resolve n.text ≡ r → (head : Env) (item : Label) → IsWellFormed ctx.bases item.type
+    target_tells : (r : NameMeaning) → ctx.resolve n.text ≡ r → (head : Env) (item : Label) → IsWellFormed ctx.bases item.type
         → (p : Place) (flows : FlowLabels) (inside : Env) (found : List Note)
         → LawfulTarget m ctx declared seen n r head item flows inside
         → Grows found (bind_item context table head r p item.type found).found (dynamic_at p flows)
@@ -218,7 +217,7 @@ module _ (setting : Surroundings) (returned : Tree) (kr : IsWellFormed setting.c
   abbrev LawfulThere : NamesBound → Env → (b : Stmts) → SuiteLabels b → Option Env → Type 0
   LawfulThere seen env b labels out = LawfulSuite m ctx declared returned seen env b labels out
 
-  -- what a walk over a suite tells, from where it fits
+  -- the notes of a walk over a suite, from a state that fits, tell of the dynamic flows in the suite
   abbrev SuiteTells : NamesBound → (b : Stmts) → Type 0
   SuiteTells seen b =
       (w : Walk) (env : Env) → w.env ≡ Some env → TableHere seen w.table → EnvFits setting declared w.table env
@@ -226,7 +225,7 @@ module _ (setting : Surroundings) (returned : Tree) (kr : IsWellFormed setting.c
       (labels : SuiteLabels b) (out : Option Env) → LawfulThere seen env b labels out
       → Grows w.found (walk_suite context w b).found (dynamic_in_suite b labels)
 
-  -- what stands after a statement, with what stands in it
+  -- the notes of a statement and of those after it tell of the dynamic flows in them
   behind_tells : (b : Test) (seen : NamesBound) (env : Env) (found : List Note) (s : Stmt) (rest : Stmts)
       (s0 : StmtLabels s) (r : Behind b (Following (SuiteLabels rest))) (out : Option Env) (v : Walk)
       → ((o : Option Env) → LawfulStmt m ctx declared returned seen env s s0 o

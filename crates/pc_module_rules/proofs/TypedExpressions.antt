@@ -1,5 +1,5 @@
--- What a walk that keeps types notes of them in an expression, in what a `for` goes over and in a target is the types
--- under lawful labels.
+-- The types that a walk notes in an expression, in the iterable of a `for` and in a target, if types are kept, are
+-- those under lawful labels.
 use Rattle.std.proofs.Common.{◌≡◌, List, [], ◌∷◌, ◌++◌, Option, Some, None, sym, ap, subst}
 use Rattle.std.specs.Prelude.{Bool as Test, true, false, if◌then◌else◌, codes}
 use Rattle.pc_source.specs.declared.place.Place.{Place}

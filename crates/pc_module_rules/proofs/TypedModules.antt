@@ -1,4 +1,4 @@
--- The types that a walk over a module notes, where types are kept, are those under its lawful labelling.
+-- The types that a walk over a module notes, if types are kept, are those under its lawful labelling.
 use Rattle.std.proofs.Common.{◌≡◌, ℕ, suc, List, [], ◌∷◌, ◌++◌, length, refl, sym, ap, subst, append-nil}
 use Rattle.std.specs.Prelude.{Bool as Test, true, false, Option, Some, None, map, codes}
 use Rattle.pc_tree.specs.declared.code.Code.TheVariants.{E21}
@@ -15,8 +15,8 @@ use Rattle.pc_types.specs.Tree.{Tree, NoneType}
 use Rattle.pc_types.specs.Below.{Bases}
 use Rattle.pc_types.specs.WellFormed.{IsWellFormed}
 use Rattle.pc_types.specs.Computed.{static_test}
-use Rattle.pc_ann.specs.Annotations.{read_ann, read_option}
-use Rattle.pc_ann.specs.Listed.{option_findings}
+use Rattle.pc_annotations.specs.Annotations.{read_ann, read_option}
+use Rattle.pc_annotations.specs.Listed.{option_findings}
 use Rattle.pc_class.specs.Bases.{bases_of}
 use Rattle.pc_class.specs.Facts.{ClassFacts, return_type}
 use Rattle.pc_class.specs.Findings.{base_class}

@@ -1,4 +1,4 @@
--- What a walk over statements that keeps types notes of them is the types under lawful labels, besides what was noted
+-- The types that a walk over statements notes, if types are kept, are those under lawful labels, besides those noted
 -- before.
 use Rattle.std.proofs.Common.{◌≡◌, ℕ, List, [], ◌∷◌, ◌++◌, refl, sym, ap, ◌∙◌, subst, append-nil}
 use Rattle.std.specs.Prelude.{Bool as Test, true, false, unwrap_or, Option, Some, None}
@@ -11,16 +11,16 @@ use Rattle.pc_tree.specs.Tree.{Name, Expr, Ann, Target, to_name, to_attribute, t
 use Rattle.pc_tree.specs.Tree.{breaks, continues, returns, asserts, annotated, assigns, evaluates, while_loop, for_loop}
 use Rattle.pc_tree.specs.Tree.{conditional, no_stmts, more_stmts, no_branches, more_branches}
 use Rattle.pc_tree.specs.Stopping.{bound_by, bound_by_stmt, bound_by_branches}
-use Rattle.pc_scope.specs.declared.resolution.Res.{Res}
-use Rattle.pc_scope.specs.declared.resolution.Res.TheVariants as res
+use Rattle.pc_scope.specs.declared.resolution.NameMeaning.{NameMeaning}
+use Rattle.pc_scope.specs.declared.resolution.NameMeaning.TheVariants as res
 use Rattle.pc_scope.specs.Bindings.{texts}
 use Rattle.pc_scope.specs.Reach.{completes}
 use Rattle.pc_scope.specs.Resolution.{is_one_of}
 use Rattle.pc_types.specs.Tree.{Tree}
 use Rattle.pc_types.specs.WellFormed.{IsWellFormed}
-use Rattle.pc_ann.specs.Annotations.{read_ann}
-use Rattle.pc_ann.proofs.Readings.{read_ann_well_formed}
-use Rattle.pc_ann.specs.Listed.{ann_findings}
+use Rattle.pc_annotations.specs.Annotations.{read_ann}
+use Rattle.pc_annotations.proofs.Readings.{read_ann_well_formed}
+use Rattle.pc_annotations.specs.Listed.{ann_findings}
 use Rattle.pc_flow.specs.Environment.{Env}
 use Rattle.pc_flow.specs.Narrowing.{narrow}
 use Rattle.pc_flow.specs.WellFormed.{IsWellFormedIfAny}
@@ -64,7 +64,7 @@ module _ (setting : Surroundings) (knows : KnowsRange setting) (returned : Tree)
     (kr : IsWellFormed setting.context.bases returned) (declared : List Tree) where
   open setting use {whole as m, context as ctx, context_well_formed as ck}
 
-  -- what the statements stand in, where types are kept, and where not
+  -- the context of the statements, where types are kept, and where they are not
   abbrev context : BodyContext
   context = standing m ctx returned true
 
@@ -124,7 +124,7 @@ module _ (setting : Surroundings) (knows : KnowsRange setting) (returned : Tree)
   -- ---- a name bound
 
   module _ (seen : NamesBound) (n : Name) (table : Table) (h : TableFits setting declared seen table) where
-    -- what is bound to a name that has a label shows none besides
+    -- binding a labelled value to a name shows no types besides those of the value
     label_shows : (env : Env) (x : ℕ) (want : Option Tree) (p : Place) (label : Label) (found : List Note)
         → ShowsMore found (bind_label context table env x want p label found).found []
     label_shows env x want p label found =
@@ -155,14 +155,14 @@ module _ (setting : Surroundings) (knows : KnowsRange setting) (returned : Tree)
         (show_read setting knows returned kr declared table h.well_formed env f want kw e labels lw))
         (label_shows env x want (place_of e) label (found ++ finds)))
 
-    -- what is no local binds nothing
+    -- a name that means no local binds nothing
     plain_shows : (env : Env) → EnvFits setting declared table env → (e : Expr) (labels : Labels e) (found : List Note)
         → Lawful ctx declared env None e labels
         → ShowsMore found (found ++ finds_in (at context table env) None e) (types_in e labels)
     plain_shows env f e labels found l = more found (finds_in (at context table env) None e) (types_in e labels)
         (show_read setting knows returned kr declared table h.well_formed env f None tt e labels l)
 
-    binding_shows : (r : Res) → ctx.resolve n.text ≡ r → (env : Env) → EnvFits setting declared table env
+    binding_shows : (r : NameMeaning) → ctx.resolve n.text ≡ r → (env : Env) → EnvFits setting declared table env
         → (a a' : Option Tree) → (is_first seen n ≡ true → a ≡ a') → IsWellFormedIfAny ctx.bases a'
         → (e : Expr) (labels : Labels e) (flows : FlowLabels) (after : Env) (found : List Note)
         → LawfulBinding m ctx declared env seen n r a e labels flows after
@@ -179,7 +179,7 @@ module _ (setting : Surroundings) (knows : KnowsRange setting) (returned : Tree)
     binding_shows res.None i env f a a' s ka e labels flows after found l = plain_shows env f e labels found l.value
 
     -- the target of a `for`
-    target_shows : (r : Res) (head : Env) (p : Place) (t : Tree) (found : List Note)
+    target_shows : (r : NameMeaning) (head : Env) (p : Place) (t : Tree) (found : List Note)
         → ShowsMore found (bind_item context table head r p t found).found []
     target_shows (res.Local x) head p t found = label_shows head x (bound_type table x) p (clean t) found
     target_shows _ head p t found = more_none found
@@ -228,7 +228,7 @@ module _ (setting : Surroundings) (knows : KnowsRange setting) (returned : Tree)
 
   -- ---- statements, suites and branches
 
-  -- what a walk over a suite shows, from where it fits
+  -- the notes of a walk over a suite, from a state that fits, show the types in the suite
   abbrev SuiteShows : NamesBound → (b : Stmts) → Type 0
   SuiteShows seen b =
       (w : Walk) (env : Env) → w.env ≡ Some env → TableHere seen w.table → EnvFits setting declared w.table env
@@ -243,7 +243,7 @@ module _ (setting : Surroundings) (knows : KnowsRange setting) (returned : Tree)
       (ap (λ (o : Option Env). (step context v.table o v.broken v.found s).env) e) rest
       ∙ ap (λ (o : Option Env). (step context v.table o v.broken v.found s).found) e
 
-  -- what stands after a statement, with what stands in it
+  -- the notes of a statement and of those after it show the types in them
   behind_shows : (b : Test) (seen : NamesBound) (env : Env) (table : Table) (found : List Note) (s : Stmt)
       (rest : Stmts) (s0 : StmtLabels s) (r : Behind b (Following (SuiteLabels rest))) (out : Option Env) (v : Walk)
       → ((o : Option Env) → LawfulHere seen env s s0 o

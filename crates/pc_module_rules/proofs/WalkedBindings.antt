@@ -1,4 +1,4 @@
--- What a walk makes of a name that is bound is what lawful labels say.
+-- The result of binding a name in a walk agrees with lawful labels.
 use Rattle.std.proofs.Common.{◌≡◌, ◌⊎◌, ℕ, List, [], ◌∷◌, ◌++◌, refl, sym, ap, ◌∙◌, subst, inl, inr, arith}
 use Rattle.std.specs.Prelude.{Bool as Test, true, false, not, Option, Some, None, unwrap_or}
 use Rattle.pc_source.specs.declared.place.Place.{Place}
@@ -7,13 +7,13 @@ use Rattle.pc_tree.specs.declared.code.Finding.{Finding}
 use Rattle.pc_tree.specs.Code.{finding}
 use Rattle.pc_tree.specs.Depth.{place_of}
 use Rattle.pc_tree.specs.Tree.{Name, Expr, Ann}
-use Rattle.pc_scope.specs.declared.resolution.Res.{Res}
-use Rattle.pc_scope.specs.declared.resolution.Res.TheVariants as res
+use Rattle.pc_scope.specs.declared.resolution.NameMeaning.{NameMeaning}
+use Rattle.pc_scope.specs.declared.resolution.NameMeaning.TheVariants as res
 use Rattle.pc_scope.specs.Resolution.{is_one_of}
 use Rattle.pc_types.specs.Tree.{Tree, Any}
 use Rattle.pc_types.specs.WellFormed.{IsWellFormed}
-use Rattle.pc_ann.specs.Annotations.{read_ann}
-use Rattle.pc_ann.proofs.Readings.{read_ann_well_formed}
+use Rattle.pc_annotations.specs.Annotations.{read_ann}
+use Rattle.pc_annotations.proofs.Readings.{read_ann_well_formed}
 use Rattle.pc_flow.specs.Environment.{Env, declared_type, assign, assigned_type}
 use Rattle.pc_flow.specs.WellFormed.{IsWellFormedIfAny}
 use Rattle.pc_flow.proofs.Conditions.{assign_well_formed, assigned_well_formed, current_well_formed}
@@ -160,7 +160,7 @@ module _ (setting : Surroundings) (returned : Tree) (declared : List Tree) where
           (label_says env f want (place_of e) (whole_label e labels) flows after (found ++ finds) is kw v.well_formed
           l.flow l.after_is))
 
-    -- what is no local binds nothing
+    -- a name that means no local binds nothing
     plain_says : ((x : ℕ) → ctx.resolve n.text ≡ res.Local x → ⊥) → (env : Env) → EnvFits setting declared table env
         → (e : Expr) (labels : Labels e) (flows : FlowLabels) (after : Env) (found : List Note)
         → Lawful ctx declared env None e labels → flows ≡ [] → after ≡ env
@@ -184,7 +184,7 @@ module _ (setting : Surroundings) (returned : Tree) (declared : List Tree) where
               (adds_list found (finds_in (at context table env) None e) v.found);
         }
 
-    pub binding_says : (r : Res) → ctx.resolve n.text ≡ r → (env : Env) → EnvFits setting declared table env
+    pub binding_says : (r : NameMeaning) → ctx.resolve n.text ≡ r → (env : Env) → EnvFits setting declared table env
         → (a a' : Option Tree) → (is_first seen n ≡ true → a ≡ a') → IsWellFormedIfAny ctx.bases a'
         → (e : Expr) (labels : Labels e) (flows : FlowLabels) (after : Env) (found : List Note)
         → LawfulBinding m ctx declared env seen n r a e labels flows after
@@ -218,7 +218,7 @@ module _ (setting : Surroundings) (returned : Tree) (declared : List Tree) where
           found_is = adds_same found found (λ g y. absurd y) (λ g y. no_flows flows p g none y) (adds_nothing found);
         }
 
-    pub target_says : (r : Res) → ctx.resolve n.text ≡ r → (head : Env) → EnvFits setting declared table head
+    pub target_says : (r : NameMeaning) → ctx.resolve n.text ≡ r → (head : Env) → EnvFits setting declared table head
         → (item : Label) → IsWellFormed ctx.bases item.type → (p : Place) (flows : FlowLabels) (inside : Env)
         (found : List Note)
         → LawfulTarget m ctx declared seen n r head item flows inside
@@ -241,7 +241,7 @@ module _ (setting : Surroundings) (returned : Tree) (declared : List Tree) where
 
     -- ---- annotations
 
-    annotation_says : (r : Res) → ctx.resolve n.text ≡ r → (a : Ann)
+    annotation_says : (r : NameMeaning) → ctx.resolve n.text ≡ r → (a : Ann)
         → Lists (annotation_finds context (bound_name context table r) n a)
         (AnnotationFinds m ctx r (is_first seen n) n a)
     annotation_says (res.Local x) i a = go (is_one_of n.text seen) refl
@@ -258,7 +258,7 @@ module _ (setting : Surroundings) (returned : Tree) (declared : List Tree) where
     annotation_says (res.Builtin c) i a = lists_annotation m ctx.bases a
     annotation_says res.None i a = lists_annotation m ctx.bases a
 
-    declaration_fits : (r : Res) → ctx.resolve n.text ≡ r → (t : Tree) → IsWellFormed ctx.bases t
+    declaration_fits : (r : NameMeaning) → ctx.resolve n.text ≡ r → (t : Tree) → IsWellFormed ctx.bases t
         → LawfulDeclaration m ctx declared seen n r t → NameFits setting declared seen n.text table
         (declared_alone context table r t)
     declaration_fits (res.Local x) i t k l = name_fits setting declared seen n.text x i table h t

@@ -1,5 +1,5 @@
--- Environments that fit a walk's table: conditions, heads of loops and joins give the same with it as with the declared
--- types.
+-- Environments that fit a walk's table: conditions, heads of loops and joins have the same result with it as with the
+-- declared types.
 use Rattle.std.proofs.Common.{◌≡◌, ℕ, List, [], ◌∷◌, ◌++◌, refl, sym, ap, ◌∙◌, subst, append-nil}
 use Rattle.std.specs.Prelude.{Bool as Test, Option, Some, None, option_to_list}
 use Rattle.pc_tree.specs.Tree.{Expr}

@@ -1,4 +1,4 @@
--- What a walk reads off an expression is what its lawful labels say.
+-- The computed labels of an expression in a walk are its lawful labels.
 use Rattle.std.proofs.Common.{◌≡◌, List, [], ◌∷◌, ◌++◌, map, sym, ap, ◌∙◌, subst, append-nil, append_assoc}
 use Rattle.std.specs.Prelude.{Bool as Test, true, false, if◌then◌else◌, Option, None}
 use Rattle.pc_source.specs.declared.place.Place.{Place}
@@ -54,7 +54,7 @@ module _ (setting : Surroundings) where
 
   module _ (declared : List Tree) (table : Table) (kt : IsWellFormedEnv ctx.bases table) (env : Env)
       (h : EnvFits setting declared table env) where
-    -- what the walk's expressions stand in
+    -- the standing of the expressions that the walk types
     abbrev pub here : Standing
     here = record { context = ctx; declared = type_table table; env = env; keeps = false }
 

@@ -1,4 +1,4 @@
--- Lists of what is found, and what they have: just what stands somewhere, but for what is found of scopes.
+-- Lists of notes that hold exactly some findings, except those of scope analysis.
 use Rattle.std.proofs.Common.{◌≡◌, ◌⊎◌, ◌↔◌, List, [], ◌∷◌, ◌++◌, refl, sym, subst, inl, inr, Contains, append-nil}
 use Rattle.std.specs.Prelude.{Bool as Test, true, false, map}
 use Rattle.std.proofs.lemmas.Grind.{flat_map-append}
@@ -10,9 +10,9 @@ use Rattle.pc_tree.specs.Tree.{Expr, Ann, number, index, Module}
 use Rattle.pc_tree.proofs.Among.{none_among, first_among, among_first, either}
 use Rattle.pc_types.specs.Tree.{Any}
 use Rattle.pc_types.specs.Below.{Bases}
-use Rattle.pc_ann.specs.Annotations.{AnnFinds}
-use Rattle.pc_ann.specs.Listed.{ann_findings}
-use Rattle.pc_ann.proofs.Listing.{all_listed}
+use Rattle.pc_annotations.specs.Annotations.{AnnFinds}
+use Rattle.pc_annotations.specs.Listed.{ann_findings}
+use Rattle.pc_annotations.proofs.Listing.{all_listed}
 use Rattle.pc_notes.specs.Notes.{Note, plain_note, finding_in, findings_of}
 use Rattle.pc_rules.specs.Operations.{clean}
 use Rattle.pc_rules.specs.Labels.{FlowLabels, Labels, is_of_scopes, IsFoundAt, IsFlowAt, Finds}
@@ -88,7 +88,7 @@ module _ (p : Place) (flows : FlowLabels) where
   lists_flows = lists_same (flows_at p flows) indexed_says (λ f h. inr (inl h))
       (subst (λ xs. Lists xs (Finds indexed labels)) (append-nil (flows_at p flows)) (lists_expression indexed labels))
 
--- what is found in an annotation
+-- the findings in an annotation
 pub lists_annotation : (m : Module) (bases : Bases) (a : Ann) → Lists (map plain_note (ann_findings m bases a))
     (AnnFinds m bases a)
 lists_annotation m bases a f =

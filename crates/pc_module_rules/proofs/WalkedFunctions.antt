@@ -1,11 +1,12 @@
--- A walk over the body of a function, from its entry, finds what lawful labels say in the body and at the name.
+-- A walk over the body of a function, from its entry, finds exactly what is under lawful labels in the body and at the
+-- name.
 use Rattle.std.proofs.Common.{◌≡◌, [], ◌∷◌, ◌++◌, length, refl, sym, ap, subst, inl, inr}
 use Rattle.std.specs.Prelude.{Bool as Test, true, false, if◌then◌else◌, Option, Some, None}
 use Rattle.pc_source.specs.declared.place.Place.{Place}
 use Rattle.pc_tree.specs.declared.code.Code.{Code}
 use Rattle.pc_tree.specs.declared.code.Code.TheVariants.{E21}
 use Rattle.pc_tree.specs.Code.{finding}
-use Rattle.pc_scope.specs.declared.resolution.Res.TheVariants as res
+use Rattle.pc_scope.specs.declared.resolution.NameMeaning.TheVariants as res
 use Rattle.pc_scope.specs.Resolution.{locals}
 use Rattle.pc_types.specs.Tree.{Tree, NoneType}
 use Rattle.pc_types.specs.Below.{Bases, AreSmaller}
@@ -20,7 +21,7 @@ use Rattle.pc_rules.specs.Labels.{IsCodeAt}
 use Rattle.pc_rules.specs.Signatures.{body_context}
 use Rattle.pc_rules.proofs.ComputedFlows.{are_tests}
 use Rattle.pc_rules.proofs.Contexts.{bodies_well_formed}
-use Rattle.pc_ann.proofs.Earlier.{smaller}
+use Rattle.pc_annotations.proofs.Earlier.{smaller}
 use Rattle.pc_module_rules.specs.Modules.{entry_env, entry_parameters}
 use Rattle.pc_module_rules.specs.Modules.{names_entered, ReturnsWell, leaves, may_complete, may_not}
 use Rattle.pc_module_rules.specs.Laws.Labellings.{Surroundings}

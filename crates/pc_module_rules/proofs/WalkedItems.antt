@@ -1,4 +1,4 @@
--- What is found of the items of a module, and in their bodies, is what lawful labels say of them; and the types of its
+-- The findings of the items of a module, and in their bodies, are those under lawful labels; and the types of its
 -- constants are theirs.
 use Rattle.std.proofs.Common.{◌≡◌, ◌⊎◌, ◌+◌, ℕ, suc, List, [], ◌∷◌, ◌++◌, refl, sym, ap, ◌∙◌, subst, arith}
 use Rattle.std.proofs.Common.{append_assoc, append-nil}
@@ -11,8 +11,8 @@ use Rattle.pc_scope.specs.Resolution.{is_one_of}
 use Rattle.pc_scope.specs.declared.resolution.Owner.TheVariants as owners
 use Rattle.pc_types.specs.Tree.{Tree}
 use Rattle.pc_types.specs.WellFormed.{IsWellFormed}
-use Rattle.pc_ann.specs.Annotations.{OptionAnnFinds}
-use Rattle.pc_ann.specs.Listed.{option_findings}
+use Rattle.pc_annotations.specs.Annotations.{OptionAnnFinds}
+use Rattle.pc_annotations.specs.Listed.{option_findings}
 use Rattle.pc_class.specs.Annotated.{class_annotated, classes_annotated}
 use Rattle.pc_class.specs.Bases.{bases_of}
 use Rattle.pc_class.specs.Facts.{ClassFacts, base_facts, classes_of}
@@ -43,7 +43,7 @@ use Rattle.pc_module_rules.proofs.WalkedFunctions.{bodies_say}
 use Rattle.pc_module_rules.proofs.WalkedMembers.{signature_listed, MethodsSay, members_listed, methods_say, lists_each}
 use Rattle.pc_module_rules.proofs.WalkedMembers.{without_annotations}
 
--- what a walk has reached at an item
+-- the state that a walk has reached at an item
 abbrev pub reached_at : BeforeItem → ItemsReached
 reached_at b = record { constants = b.constants; classes = b.classes; bound = λ t. is_one_of t b.names }
 
@@ -78,7 +78,7 @@ module _ (m : Module) where
         constant_well_formed m c.annotation (type_of c.value labels.value)
         (subst (λ (x : Labels c.value). IsWellFormed (bases_of m) (type_of c.value x)) same v.well_formed)
 
-    -- what is said of a constant: in its annotation, in its initializer, and of its flow
+    -- the findings of a constant: in its annotation, in its initializer, and of its flow
     abbrev ConstantSays : Finding → Type 0
     ConstantSays f = OptionAnnFinds m (bases_of m) c.annotation f
         ⊎ (Finds c.value labels.value f ⊎ IsFlowAt (place_of c.value) labels.flows f)
@@ -191,7 +191,7 @@ module _ (m : Module) where
   -- ---- bodies
 
   module _ (all : List Tree) where
-    -- what is said in bodies
+    -- the findings in bodies
     abbrev pub BodiesSay : BeforeItem → (items : List Item) → ItemsLabels items → Finding → Type 0
     BodiesSay b [] labels f = ⊥
     BodiesSay b (constant_item p c ∷ rest) labels f = BodiesSay (before_next m b (constant_item p c) labels.first) rest

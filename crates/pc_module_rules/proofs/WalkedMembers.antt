@@ -1,5 +1,5 @@
--- What is found of the signatures of functions and of the members of classes, and in the bodies of methods, is what
--- lawful labels say of them.
+-- The findings of the signatures of functions and of the members of classes, and in the bodies of methods, are those
+-- under lawful labels.
 use Rattle.std.proofs.Common.{◌≡◌, ◌⊎◌, ◌↔◌, ℕ, suc, List, [], ◌∷◌, ◌++◌, inl, inr, sym, subst, Contains, append_assoc}
 use Rattle.std.proofs.Common.{append-nil}
 use Rattle.std.specs.Prelude.{map, Bool as Test, true, false, if◌then◌else◌, codes}
@@ -9,7 +9,7 @@ use Rattle.pc_scope.specs.Resolution.{is_one_of}
 use Rattle.pc_scope.specs.declared.resolution.Owner.{Owner}
 use Rattle.pc_scope.specs.declared.resolution.Owner.TheVariants as owners
 use Rattle.pc_types.specs.Tree.{Tree}
-use Rattle.pc_ann.specs.Listed.{ann_findings}
+use Rattle.pc_annotations.specs.Listed.{ann_findings}
 use Rattle.pc_class.specs.Annotated.{def_annotated, fields_annotated, methods_annotated}
 use Rattle.pc_class.specs.Bases.{bases_of}
 use Rattle.pc_class.specs.Entries.{inherited_by, entries_of}
@@ -73,7 +73,7 @@ module _ (m : Module) where
   signature_listed before f params l = lists_each (def_findings m (λ t. is_one_of t before) f)
       (λ g. def_listed m g before f params l)
 
-  -- what is found of a method beside the class table, and with the table
+  -- the findings of a method beside the class table, and with the table
   method_part : (binds : Test) (d : FuncDef) (params : ParamsLabels d.params)
       → LawfulParams m (codes "self" ∷ []) d.params params
       → Lists (method_findings m binds d ++ map plain_note (if binds then def_annotated m d else []))
@@ -84,7 +84,7 @@ module _ (m : Module) where
       (signature_listed (codes "self" ∷ []) d params l)
 
   module _ (constants : List Tree) where
-    -- what is said in the bodies of methods
+    -- the findings under labels in the bodies of methods
     abbrev pub MethodsSay : (c number : ℕ) → (ms : List Member) → MembersLabels ms → Finding → Type 0
     MethodsSay c number [] labels g = ⊥
     MethodsSay c number (field_member d ∷ rest) labels g = MethodsSay c number rest labels.rest g
@@ -93,7 +93,7 @@ module _ (m : Module) where
 
     -- ---- lists
 
-    -- what is found of members after these names and so many methods, beside the class table and with the table
+    -- the findings of members after these names and so many methods, beside the class table and with the table
     pub members_listed : (base : ClassFacts) (c number : ℕ) (before : List (List ℕ)) (ms : List Member)
         (labels : MembersLabels ms) → LawfulMembers m constants base c number before ms labels
         → Lists (members_findings m base (λ t. is_one_of t before) ms
@@ -121,7 +121,7 @@ module _ (m : Module) where
         (method_part binds d labels.method.params l.method.params)
         (members_listed base c (suc number) (d.name.text ∷ before) rest labels.rest l.others)
 
-    -- what the walks over the bodies of methods find
+    -- the walks over the bodies of methods find just what is under their labels
     pub methods_say : AreWellFormed (bases_of m) constants → (base : ClassFacts) (c number : ℕ) (before : List (List ℕ))
         (ms : List Member) (labels : MembersLabels ms) → LawfulMembers m constants base c number before ms labels
         → (found : List Note) → Adds found (methods_find false m constants c number ms found)

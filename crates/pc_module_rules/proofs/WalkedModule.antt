@@ -1,4 +1,4 @@
--- What is computed of a module is what its lawful labelling says: the types of its constants, and what is found.
+-- Everything computed of a module agrees with its lawful labelling: the types of its constants, and its findings.
 use Rattle.std.proofs.Common.{◌≡◌, ◌⊎◌, ◌↔◌, List, [], ◌∷◌, ◌++◌, sym, ap, subst, inl, inr, Contains, arith}
 use Rattle.std.specs.Prelude.{map, slice_get, false}
 use Rattle.pc_tree.specs.declared.code.Finding.{Finding}
@@ -55,7 +55,7 @@ either_part s = elim s [
 ]
 
 module _ (m : Module) (all : List Tree) (f : Finding) where
-  -- what is said of items: of functions' signatures, of constants and classes, and in bodies
+  -- the findings under labels of items: in signatures of functions, in constants and classes, and in bodies
   abbrev InParts : BeforeItem → (items : List Item) → ItemsLabels items → Type 0
   InParts b items labels = (FunctionsSay m items labels f ⊎ ItemsSay m items labels f)
       ⊎ BodiesSay m all b items labels f

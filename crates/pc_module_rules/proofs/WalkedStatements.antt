@@ -1,4 +1,4 @@
--- A walk over statements, suites and branches comes to what their lawful labels say: the induction on statements.
+-- A walk over statements, suites and branches agrees with their lawful labels: the induction on statements.
 use Rattle.std.proofs.Common.{◌≡◌, ◌⊎◌, List, [], ◌∷◌, ◌++◌, refl, sym, ap, ◌∙◌, subst, inl, inr, append-nil}
 use Rattle.std.proofs.Common.{append_assoc}
 use Rattle.std.specs.Prelude.{Bool as Test, true, false, Option, Some, None, option_to_list}

@@ -1,4 +1,5 @@
--- What a walk finds in stores, in a `return` and in an expression that may be missing is what lawful labels say.
+-- The findings of a walk in stores, in a `return` and in an expression that may be missing are those under lawful
+-- labels.
 use Rattle.std.proofs.Common.{◌≡◌, ◌⊎◌, List, [], ◌∷◌, ◌++◌, sym, ap, subst, inl, inr, arith}
 use Rattle.std.specs.Prelude.{Option, Some, None}
 use Rattle.pc_source.specs.declared.place.Place.{Place}
@@ -71,7 +72,7 @@ module _ (setting : Surroundings) (returned : Tree) (kr : IsWellFormed setting.c
       lists_both (codes_at p (store_codes os)) (xs ++ ys) (lists_codes p (store_codes os))
       (lists_both xs ys v.found (flowing want e labels (stored_types os) flows v k fl))
 
-  -- what an assignment to a target that is no name says
+  -- the findings under labels of an assignment to a target other than a name
   abbrev StoreSays : (t : Target) → TargetLabels t → (e : Expr) → Labels e → FlowLabels → Finding → Type 0
   StoreSays t target e labels flows f = IsFlowAt (place_of e) flows f
       ⊎ (Finds e labels f ⊎ TargetFinds m ctx t target f)

@@ -1,4 +1,4 @@
--- A walk's table goes with declared types after each name that is bound, and what fits the table fits it when it has
+-- A walk's table fits declared types after each bound name, and everything that fits the table fits it when it has
 -- grown.
 use Rattle.std.proofs.Common.{◌≡◌, ◌<◌, ℕ, zero, suc, List, [], ◌∷◌, ◌++◌, refl, sym, ap, ◌∙◌, subst, inl, inr, arith}
 use Rattle.std.specs.Prelude.{Bool as Test, true, false, ◌||◌, not, Option, Some, None, bytes_eq, slice_set}
@@ -7,8 +7,8 @@ use Rattle.std.proofs.lemmas.List.{get_or-set_same, get_or-set_other, length-set
 use Rattle.std.proofs.lemmas.Slice.Eq.{bytes_eq-Decides}
 use Rattle.pc_tree.specs.Tree.{Name, Stmts, no_stmts, more_stmts}
 use Rattle.pc_tree.specs.Stopping.{bound_by, bound_by_stmt}
-use Rattle.pc_scope.specs.declared.resolution.Res.{Res}
-use Rattle.pc_scope.specs.declared.resolution.Res.TheVariants as res
+use Rattle.pc_scope.specs.declared.resolution.NameMeaning.{NameMeaning}
+use Rattle.pc_scope.specs.declared.resolution.NameMeaning.TheVariants as res
 use Rattle.pc_scope.specs.Bindings.{texts}
 use Rattle.pc_scope.specs.Resolution.{is_one_of}
 use Rattle.pc_types.specs.Tree.{Tree, Any}
@@ -62,7 +62,7 @@ module _ (setting : Surroundings) (declared : List Tree) where
   abbrev TableHere : NamesBound → Table → Type 0
   TableHere seen table = TableFits setting declared seen table
 
-  -- what fitted a table fits another one
+  -- each environment that fits one table fits the other
   abbrev pub KeepsFits : Table → Table → Type 0
   KeepsFits table after = (env : Env) → EnvFits setting declared table env → EnvFits setting declared after env
 
@@ -178,7 +178,7 @@ module _ (setting : Surroundings) (declared : List Tree) where
     abbrev context : BodyContext
     context = body_context_in setting returned
 
-    unreached_fits : (seen : NamesBound) (table : Table) → TableHere seen table → (n : Name) (r : Res)
+    unreached_fits : (seen : NamesBound) (table : Table) → TableHere seen table → (n : Name) (r : NameMeaning)
         → ctx.resolve n.text ≡ r → UndeclaredName setting.whole ctx declared (is_first seen n) r
         → NameFits seen n.text table (unreached_name context table r)
     unreached_fits seen table h n (res.Local x) i u = name_fits seen n.text x i table h Any

@@ -1,5 +1,5 @@
--- The dynamic flows under the labels of an expression, one after another: those of its parts, and of each value that
--- flows in it after those in that value. Own rule of the profile.
+-- The dynamic flows under the labels of an expression, one after another: those in its parts, each part followed by its
+-- own flows. Own rule of the profile.
 use Rattle.std.specs.Prelude.{List, [], ◌∷◌, ◌++◌, flat_map, Bool as Test, true, false, Option, Some}
 use Rattle.pc_source.specs.declared.place.Place.{Place}
 use Rattle.pc_tree.specs.declared.code.Code.{Code}
@@ -13,24 +13,24 @@ use Rattle.pc_scope.specs.Expressions.{is_instance_test}
 use Rattle.pc_types.specs.Tree.{Tree}
 use Rattle.pc_rules.specs.Labels.{FlowLabels, Labels, ItemsLabels, EntriesLabels, KeywordsLabels}
 
--- a type that flows dynamically at a place, and the one that it flows into
+-- a type that flows dynamically at a place, and the type that it flows into
 pub record DynamicFlow : Type 0 where
   pub place : Place
   pub from : Tree
   pub into : Tree
 
--- a flow of a type into another at this place is dynamic where its code is A1
+-- the dynamic flow of a type into another at this place, if its code is A1
 abbrev pub dynamic_one : Place → (from into : Tree) → Option Code → List DynamicFlow
 dynamic_one p s t (Some A1) = record { place = p; from = s; into = t } ∷ []
 dynamic_one p s t _ = []
 
--- the dynamic ones among the flows of a value at this place, in the order of the members into which it flows
+-- the dynamic flows among the flows of a value at this place, in their order
 abbrev pub dynamic_at : Place → FlowLabels → List DynamicFlow
 dynamic_at p flows = flat_map (λ f. dynamic_one p f.from f.into f.code) flows
 
 -- the dynamic flows under the labels of an expression, of items, of arguments, and of the entries of a dict
 abbrev mutual
-  -- in an expression: in its parts, and then those of what a comparison or an index takes
+  -- the dynamic flows in an expression: in its parts, and then those of an operand of `in` or of an index
   pub dynamic_in : (e : Expr) → Labels e → List DynamicFlow
   dynamic_in (name n) m = []
   dynamic_in (number p digits) m = []
@@ -55,20 +55,21 @@ abbrev mutual
       ++ (dynamic_in_arguments (is_instance_test callee arguments keywords) arguments m.arguments
       ++ dynamic_in_keywords keywords m.keywords)
 
-  -- in items: in each item, and then those of the item
+  -- the dynamic flows in items: in each item, and then its own
   pub dynamic_in_exprs : (es : Exprs) → ItemsLabels es → List DynamicFlow
   dynamic_in_exprs no_exprs m = []
   dynamic_in_exprs (more_exprs e rest) m = dynamic_in e m.first
       ++ (dynamic_at (place_of e) m.flows ++ dynamic_in_exprs rest m.rest)
 
-  -- in arguments: each argument itself, and what is in it; of a test of an instance the second is not looked at
+  -- the dynamic flows in arguments by position: in each argument, and then its own; of an instance test only those in
+  -- the first
   pub dynamic_in_arguments : (is_test : Test) → (es : Exprs) → ItemsLabels es → List DynamicFlow
   dynamic_in_arguments is_test no_exprs m = []
   dynamic_in_arguments true (more_exprs e rest) m = dynamic_in e m.first
   dynamic_in_arguments false (more_exprs e rest) m = dynamic_in e m.first
       ++ (dynamic_at (place_of e) m.flows ++ dynamic_in_arguments false rest m.rest)
 
-  -- so in the entries of a dict, of each its key and then its value
+  -- the dynamic flows in the entries of a dict: for each its key and then its value
   pub dynamic_in_entries : (es : Entries) → EntriesLabels es → List DynamicFlow
   dynamic_in_entries no_entries m = []
   dynamic_in_entries (more_entries key value rest) m =
@@ -77,7 +78,7 @@ abbrev mutual
       ++ (dynamic_in value m.value
       ++ (dynamic_at (place_of value) m.value_flows ++ dynamic_in_entries rest m.rest)))
 
-  -- in arguments by name: each value itself, and what is in it
+  -- the dynamic flows in arguments by name: in each value, and then its own
   pub dynamic_in_keywords : (es : Keywords) → KeywordsLabels es → List DynamicFlow
   dynamic_in_keywords no_keywords m = []
   dynamic_in_keywords (more_keywords parameter value rest) m = dynamic_in value m.first

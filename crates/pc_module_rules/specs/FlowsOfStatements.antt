@@ -12,17 +12,17 @@ use Rattle.pc_module_rules.specs.StatementLabels.{OptionLabels, TargetLabels, St
 use Rattle.pc_module_rules.specs.StatementLabels.{behind_list}
 use Rattle.pc_module_rules.specs.FlowsOfExpressions.{DynamicFlow, dynamic_at, dynamic_in}
 
--- in an expression that may be missing
+-- the dynamic flows in an expression that may be missing
 abbrev pub dynamic_in_option : (e : Option Expr) → OptionLabels e → List DynamicFlow
 dynamic_in_option None labels = []
 dynamic_in_option (Some e) labels = dynamic_in e labels
 
--- in a value, and then those of the value; where it is missing, of what flows at this place
+-- the dynamic flows in a value, and then its own; without a value those of None at this place
 abbrev pub dynamic_in_value : Place → (e : Option Expr) → OptionLabels e → FlowLabels → List DynamicFlow
 dynamic_in_value p None labels flows = dynamic_at p flows
 dynamic_in_value p (Some e) labels flows = dynamic_in e labels ++ dynamic_at (place_of e) flows
 
--- in a target: in its object, and in and of its index
+-- the dynamic flows in a target: in its object, in its index, and of its index
 abbrev pub dynamic_in_target : (t : Target) → TargetLabels t → List DynamicFlow
 dynamic_in_target (to_name n) labels = []
 dynamic_in_target (to_attribute p o field) labels = dynamic_in o labels.object
@@ -31,8 +31,8 @@ dynamic_in_target (to_index p o i) labels = dynamic_in o labels.object
 
 -- the dynamic flows under the labels of statements, suites and branches
 abbrev mutual
-  -- in a statement: in its expressions, and of the value that it returns, binds or stores, or of an item of what a
-  -- `for` goes over
+  -- the dynamic flows in a statement: in its expressions, and of the value that it returns, binds or stores, or of the
+  -- item of a `for`
   pub dynamic_in_stmt : (s : Stmt) → StmtLabels s → List DynamicFlow
   dynamic_in_stmt (pass p) labels = []
   dynamic_in_stmt (breaks p) labels = []
@@ -49,13 +49,13 @@ abbrev mutual
   dynamic_in_stmt (conditional p bs o) labels = dynamic_in_branches bs labels.branches
       ++ dynamic_in_suite o labels.otherwise
 
-  -- in a suite; after a statement that cannot complete there are no labels
+  -- the dynamic flows in a suite; none after a statement that cannot complete
   pub dynamic_in_suite : (b : Stmts) → SuiteLabels b → List DynamicFlow
   dynamic_in_suite no_stmts labels = []
   dynamic_in_suite (more_stmts s rest) labels = dynamic_in_stmt s labels.first
       ++ behind_list (completes s) labels.behind (λ r. dynamic_in_suite rest r.rest)
 
-  -- in the conditions and the suites of branches
+  -- the dynamic flows in the conditions and the suites of branches
   pub dynamic_in_branches : (bs : Branches) → BranchesLabels bs → List DynamicFlow
   dynamic_in_branches no_branches labels = []
   dynamic_in_branches (more_branches c b rest) labels = dynamic_in c labels.condition

@@ -1,5 +1,5 @@
--- Laws on the labelling of a module: it has exactly one, a walk comes to what it says, A1 stands where a flow is
--- dynamic under it, and the types that are noted are those that it has.
+-- Laws on the labelling of a module: it has exactly one, a walk agrees with it, A1 is found exactly at the dynamic
+-- flows under it, and the types that are noted are those under it.
 pub mod Agreement
 pub mod Flows
 pub mod Labellings

@@ -11,13 +11,13 @@ use Rattle.pc_tree.specs.Depth.{place_of}
 use Rattle.pc_scope.specs.declared.resolution.Owner.{Owner}
 use Rattle.pc_scope.specs.declared.resolution.Owner.TheVariants as owners
 use Rattle.pc_scope.specs.Resolution.{is_one_of, receiver, locals, resolve_among}
-use Rattle.pc_scope.specs.declared.resolution.Res.{Res}
-use Rattle.pc_scope.specs.declared.resolution.Res.TheVariants as res
+use Rattle.pc_scope.specs.declared.resolution.NameMeaning.{NameMeaning}
+use Rattle.pc_scope.specs.declared.resolution.NameMeaning.TheVariants as res
 use Rattle.pc_scope_findings.specs.Findings.{ScopeFinds}
 use Rattle.pc_types.specs.Tree.{Tree, NoneType}
 use Rattle.pc_types.specs.Tree as tree
 use Rattle.pc_types.specs.Below.{Bases, Static}
-use Rattle.pc_ann.specs.Annotations.{read_ann, AnnFinds, OptionAnnFinds}
+use Rattle.pc_annotations.specs.Annotations.{read_ann, AnnFinds, OptionAnnFinds}
 use Rattle.pc_class.specs.Bases.{bases_of}
 use Rattle.pc_class.specs.Facts.{TypedParameter, ClassFacts, binds_field, parameters_of, return_type}
 use Rattle.pc_class.specs.Findings.{ClassFinds, base_class}
@@ -33,51 +33,52 @@ use Rattle.pc_module_rules.specs.Statements.{NamesBound, LawfulSuite, SuiteFinds
 
 -- ---- functions
 
--- what a method is entered with before its parameters: `self`, of its class
+-- the parameter of a method before its own: `self`, of its class
 abbrev pub receiver_parameter : Owner → List TypedParameter
 receiver_parameter owners.Module = []
 receiver_parameter (owners.Func i) = []
 receiver_parameter (owners.Method c i) = record { name = codes "self"; type = tree.Class c; has_default = false } ∷ []
 
--- what a function is entered with: `self` in a method, then its parameters
+-- the parameters of a function at its entry: `self` in a method, then its own
 abbrev pub entry_parameters : Module → Owner → FuncDef → List TypedParameter
 entry_parameters m owner f = receiver_parameter owner ++ parameters_of m f.params
 
--- the names that a function has at its entry
+-- the names bound at the entry of a function
 abbrev pub names_entered : NamesBound → List TypedParameter → NamesBound
 names_entered seen [] = seen
 names_entered seen (p ∷ ps) = names_entered (p.name ∷ seen) ps
 
--- the declared type of a parameter is its type; a name that is bound already, or reserved, binds nothing
-abbrev pub DeclaredEntry : (declared : List Tree) → (first : Test) → Res → Tree → Type 0
+-- the declared type of a parameter is its type; a name that is already bound, or reserved, binds nothing
+abbrev pub DeclaredEntry : (declared : List Tree) → (first : Test) → NameMeaning → Tree → Type 0
 DeclaredEntry declared true (res.Local x) t = declared_type declared x ≡ t
 DeclaredEntry declared first r t = Unit {0}
 
 -- each parameter that binds a local has its type as declared type, after the names bound so far
-abbrev pub LawfulEntry : (List ℕ → Res) → (declared : List Tree) → NamesBound → List TypedParameter → Type 0
+abbrev pub LawfulEntry : (List ℕ → NameMeaning) → (declared : List Tree) → NamesBound → List TypedParameter → Type 0
 LawfulEntry resolve declared seen [] = Unit {0}
 LawfulEntry resolve declared seen (p ∷ ps) =
     DeclaredEntry declared (not (is_one_of p.name seen)) (resolve p.name) p.type
     × LawfulEntry resolve declared (p.name ∷ seen) ps
 
 -- at the entry the parameters are assigned, and no other local
-abbrev pub assigned_at_entry : (first : Test) → Res → Tree → Env → Env
+abbrev pub assigned_at_entry : (first : Test) → NameMeaning → Tree → Env → Env
 assigned_at_entry true (res.Local x) t env = assign env x t
 assigned_at_entry first r t env = env
 
--- the environment after these parameters are assigned, after the names bound so far
-abbrev pub entry_env : (List ℕ → Res) → NamesBound → List TypedParameter → Env → Env
+-- the environment with these parameters assigned, after the names bound so far
+abbrev pub entry_env : (List ℕ → NameMeaning) → NamesBound → List TypedParameter → Env → Env
 entry_env resolve seen [] env = env
 entry_env resolve seen (p ∷ ps) env =
     entry_env resolve (p.name ∷ seen) ps (assigned_at_entry (not (is_one_of p.name seen)) (resolve p.name) p.type env)
 
--- E21: the body can complete, and None is not static to the return type
+-- the code at a function's name: E21 if the body can complete, and None is not a static subtype of the return type
 pub data ReturnsWell (bases : Bases) (return_type : Tree) : Option Env → Option Code → Type 0 where
   leaves : ReturnsWell bases return_type None None
   may_complete : {env : Env} → Static bases NoneType return_type → ReturnsWell bases return_type (Some env) None
   may_not : {env : Env} → ¬ (Static bases NoneType return_type) → ReturnsWell bases return_type (Some env) (Some E21)
 
--- each local's declared type, the flows of defaults, the labels of the body, where it ends, the code at the name
+-- the labels of a function: the flows of its defaults, the declared types of its locals, the labels of its body, the
+-- environment at its end, and the code at its name
 abbrev pub FunctionLabels : FuncDef → Type 0
 FunctionLabels f = record {
   params : ParamsLabels f.params;
@@ -100,7 +101,7 @@ LawfulFunction m constants owner f labels = record {
   completing : ReturnsWell (bases_of m) (return_type m f) labels.out labels.completing;
 }
 
--- in annotations, at defaults, in the body, and at the name
+-- the findings of a function: in annotations, at defaults, in the body, and at the name
 abbrev pub FunctionFinds : Module → (constants : List Tree) → Owner → (f : FuncDef) → FunctionLabels f → Finding
     → Type 0
 FunctionFinds m constants owner f labels g =
@@ -112,13 +113,13 @@ FunctionFinds m constants owner f labels g =
 
 -- ---- classes
 
--- the flow of the default of a field, none where nothing flows; the labels of a method
+-- the labels of members: the flow of the default of each field, and the labels of each method
 abbrev pub MembersLabels : List Member → Type 0
 MembersLabels [] = Unit {0}
 MembersLabels (field_member d ∷ rest) = record { default : FlowLabels; rest : MembersLabels rest }
 MembersLabels (method_member d ∷ rest) = record { method : FunctionLabels d; rest : MembersLabels rest }
 
--- after members of these names and so many methods
+-- the labels of members are lawful, after members of these names and this number of methods
 abbrev pub LawfulMembers : Module → (constants : List Tree) → ClassFacts → (c number : ℕ) → (before : List (List ℕ))
     → (ms : List Member) → MembersLabels ms → Type 0
 LawfulMembers m constants base c number before [] labels = Unit {0}
@@ -132,7 +133,7 @@ LawfulMembers m constants base c number before (method_member d ∷ ms) labels =
   others : LawfulMembers m constants base c (suc number) (d.name.text ∷ before) ms labels.rest;
 }
 
--- what is found in members: in annotations, at defaults, and in methods
+-- the findings in members: in annotations, at defaults, and in methods
 abbrev pub MembersFind : Module → (constants : List Tree) → (c number : ℕ) → (ms : List Member) → MembersLabels ms
     → Finding → Type 0
 MembersFind m constants c number [] labels f = ⊥
@@ -144,7 +145,7 @@ MembersFind m constants c number (method_member d ∷ rest) labels f =
 
 -- ---- constants and items
 
--- the labels of an initializer, and its flow
+-- the labels of an item: of an initializer and its flow, of a class's members, or of a function
 abbrev pub ItemLabels : Item → Type 0
 ItemLabels (constant_item p c) = record { value : Labels c.value; flows : FlowLabels }
 ItemLabels (class_item p c) = MembersLabels c.members
@@ -155,7 +156,7 @@ abbrev pub ItemsLabels : List Item → Type 0
 ItemsLabels [] = Unit {0}
 ItemsLabels (i ∷ rest) = record { first : ItemLabels i; rest : ItemsLabels rest }
 
--- the type of an item that is a constant, none for a class or a def
+-- the type of an item that is a constant, none for a class or a function
 abbrev pub item_constants : Module → (i : Item) → ItemLabels i → List Tree
 item_constants m (constant_item p c) labels = constant_type m c.annotation (type_of c.value labels.value) ∷ []
 item_constants m (class_item p c) labels = []
@@ -166,18 +167,18 @@ abbrev pub constant_types : Module → (items : List Item) → ItemsLabels items
 constant_types m [] labels = []
 constant_types m (i ∷ rest) labels = item_constants m i labels.first ++ constant_types m rest labels.rest
 
--- what stands before an item: constants' types, the numbers of classes and functions, names
+-- the state before an item: the types of the constants, the numbers of classes and functions, and the names
 pub record BeforeItem : Type 0 where
   pub constants : List Tree
   pub classes : ℕ
   pub functions : ℕ
   pub names : List (List ℕ)
 
--- what stands before the first item: nothing
+-- the state before the first item
 abbrev pub nothing_before : BeforeItem
 nothing_before = record { constants = []; classes = 0; functions = 0; names = [] }
 
--- what stands before the next item, this one included
+-- the state before the next item, with this one included
 abbrev pub before_next : Module → BeforeItem → (i : Item) → ItemLabels i → BeforeItem
 before_next m b (constant_item p c) labels =
     record {
@@ -199,7 +200,7 @@ before_next m b (def_item p f) labels = record {
   names = f.name.text ∷ b.names;
 }
 
--- the labels of an item are lawful: of an initializer with its flow, of a class's members, of a function
+-- the labels of an item are lawful: an initializer with its flow, a class's members, or a function
 abbrev pub LawfulItem : Module → (constants : List Tree) → BeforeItem → (i : Item) → ItemLabels i → Type 0
 LawfulItem m constants b (constant_item p c) labels = record {
   value : Lawful (initializer_context m b.constants b.classes) [] []
@@ -211,21 +212,21 @@ LawfulItem m constants b (class_item p c) labels =
     LawfulMembers m constants (base_class m b.classes c) b.classes 0 [] c.members labels
 LawfulItem m constants b (def_item p f) labels = LawfulFunction m constants (owners.Func b.functions) f labels
 
--- the labels of items are lawful, each after what stands before it
+-- the labels of items are lawful, each in the state before it
 abbrev pub LawfulModuleItems : Module → (constants : List Tree) → BeforeItem → (items : List Item) → ItemsLabels items
     → Type 0
 LawfulModuleItems m constants b [] labels = Unit {0}
 LawfulModuleItems m constants b (i ∷ rest) labels = LawfulItem m constants b i labels.first
     × LawfulModuleItems m constants (before_next m b i labels.first) rest labels.rest
 
--- what is found in an item: a constant, a class or a def
+-- the findings in an item: a constant, a class or a function
 abbrev pub ItemFinds : Module → (constants : List Tree) → BeforeItem → (i : Item) → ItemLabels i → Finding → Type 0
 ItemFinds m constants b (constant_item p c) labels f = OptionAnnFinds m (bases_of m) c.annotation f
     ⊎ (IsFlowAt (place_of c.value) labels.flows f ⊎ Finds c.value labels.value f)
 ItemFinds m constants b (class_item p c) labels f = MembersFind m constants b.classes 0 c.members labels f
 ItemFinds m constants b (def_item p d) labels f = FunctionFinds m constants (owners.Func b.functions) d labels f
 
--- what is found in items, each after what stands before it
+-- the findings in items, each in the state before it
 abbrev pub ItemsFind : Module → (constants : List Tree) → BeforeItem → (items : List Item) → ItemsLabels items → Finding
     → Type 0
 ItemsFind m constants b [] labels f = ⊥
@@ -238,7 +239,7 @@ ItemsFind m constants b (i ∷ rest) labels f = ItemFinds m constants b i labels
 abbrev pub Labelling : Module → Type 0
 Labelling m = ItemsLabels m.items
 
--- it is lawful where each node obeys its own rule
+-- a labelling is lawful if each node follows its own rule
 abbrev pub IsLawful : (m : Module) → Labelling m → Type 0
 IsLawful m labels = LawfulModuleItems m (constant_types m m.items labels) nothing_before m.items labels
 
@@ -247,16 +248,16 @@ pub record HasLabelling (m : Module) : Type 0 where
   pub labels : Labelling m
   pub lawful : IsLawful m labels
 
--- what stands under the labels of a module
+-- the findings under the labels of a module, with those of scope analysis
 abbrev pub LabelsSay : (m : Module) → Labelling m → Finding → Type 0
 LabelsSay m labels f = ItemsFind m (constant_types m m.items labels) nothing_before m.items labels f
 
--- what is found under the labels of a module: what stands there, but for what is found of scopes
+-- the findings under the labels of a module that scope analysis does not report
 pub record LabelsFind (m : Module) (labels : Labelling m) (f : Finding) : Type 0 where
   pub own : is_of_scopes f.code ≡ false
   pub said : LabelsSay m labels f
 
--- a finding of a module: one of scopes, one of classes, or one under its lawful labelling
+-- a finding of a module: one of scope analysis, one of classes, or one under its lawful labelling
 pub record IsFinding (m : Module) (f : Finding) : Type 0 where
   pub labels : Labelling m
   pub lawful : IsLawful m labels

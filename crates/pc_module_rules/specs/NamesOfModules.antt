@@ -1,13 +1,13 @@
--- The names that are bound under the labelling of a module, each at its place, one after another: first those that
--- annotations alone say, of functions, parameters and fields; then constants; and then the locals of bodies, in text
--- order. Own rule of the profile.
+-- The names bound under the labelling of a module, each at its place, one after another: first those with types by
+-- annotations alone, of functions, parameters and fields; then constants; and then the locals of bodies, in text order.
+-- Own rule of the profile.
 use Rattle.std.specs.Prelude.{ℕ, suc, List, [], ◌∷◌, ◌++◌, map, flat_map, Some, None}
 use Rattle.pc_tree.specs.Tree.{Param, FuncDef, Field, Member, field_member, method_member, Item, constant_item}
 use Rattle.pc_tree.specs.Tree.{class_item, def_item, Module}
 use Rattle.pc_scope.specs.declared.resolution.Owner.{Owner}
 use Rattle.pc_scope.specs.declared.resolution.Owner.TheVariants as owners
 use Rattle.pc_scope.specs.Resolution.{locals, resolve_among}
-use Rattle.pc_ann.specs.Annotations.{read_ann}
+use Rattle.pc_annotations.specs.Annotations.{read_ann}
 use Rattle.pc_class.specs.Bases.{bases_of}
 use Rattle.pc_class.specs.Facts.{typed_parameter, return_type}
 use Rattle.pc_rules.specs.Labels.{type_of}
@@ -16,15 +16,15 @@ use Rattle.pc_module_rules.specs.Modules.{FunctionLabels, MembersLabels, ItemLab
 use Rattle.pc_module_rules.specs.NamesOfStatements.{NameAt, names_in_suite}
 
 module _ (m : Module) where
-  -- ---- what annotations alone say
+  -- ---- names with types by annotations alone
 
-  -- a parameter, which has a value of its declared type
+  -- the name of a parameter, whose current type is its declared type
   abbrev pub parameter_name : Param → NameAt
   parameter_name p =
       let t = (typed_parameter m p).type in
       record { place = p.name.place; declared = t; current = Some t }
 
-  -- a field, with the type of its annotation
+  -- the name of a field, with the type of its annotation
   abbrev pub field_name : Field → NameAt
   field_name d = record {
     place = d.name.place;
@@ -36,22 +36,22 @@ module _ (m : Module) where
   abbrev pub function_name : FuncDef → NameAt
   function_name f = record { place = f.name.place; declared = return_type m f; current = None }
 
-  -- of a function its name and its parameters
+  -- the names in the head of a function: its own and its parameters'
   abbrev pub names_in_head : FuncDef → List NameAt
   names_in_head f = function_name f ∷ map parameter_name f.params
 
-  -- of a member: a field, or a method's name and parameters
+  -- the names of a member: a field's, or a method's with its parameters'
   abbrev pub names_in_member : Member → List NameAt
   names_in_member (field_member d) = field_name d ∷ []
   names_in_member (method_member f) = names_in_head f
 
-  -- of an item: of a function its name and parameters, of a class its fields and methods; none of a constant
+  -- the names of an item: a function's with its parameters', those of a class's fields and methods; none of a constant
   abbrev pub names_declared : Item → List NameAt
   names_declared (constant_item p c) = []
   names_declared (class_item p c) = flat_map names_in_member c.members
   names_declared (def_item p f) = names_in_head f
 
-  -- ---- what labels say
+  -- ---- names with types by labels
 
   -- the name of an item that is a constant, with the type of its annotation, or else of its value
   abbrev pub names_in_item : (i : Item) → ItemLabels i → List NameAt
@@ -63,17 +63,17 @@ module _ (m : Module) where
   names_in_item (class_item p c) labels = []
   names_in_item (def_item p f) labels = []
 
-  -- the constants among items
+  -- the names of the constants among items
   abbrev pub names_of_constants : (items : List Item) → ItemsLabels items → List NameAt
   names_of_constants [] labels = []
   names_of_constants (i ∷ rest) labels = names_in_item i labels.first ++ names_of_constants rest labels.rest
 
-  -- the locals that the body of a function binds
+  -- the names of the locals that the body of a function binds
   abbrev pub names_in_body : Owner → (f : FuncDef) → FunctionLabels f → List NameAt
   names_in_body owner f labels =
       names_in_suite (resolve_among m (locals owner f)) labels.declared f.body labels.body
 
-  -- those in the methods of the class of this number, after so many of them
+  -- the names bound in the methods of the class of this number, after this number of methods
   abbrev pub names_in_methods : (class number : ℕ) → (ms : List Member) → MembersLabels ms → List NameAt
   names_in_methods class number [] labels = []
   names_in_methods class number (field_member d ∷ rest) labels = names_in_methods class number rest labels.rest
@@ -81,7 +81,7 @@ module _ (m : Module) where
       names_in_body (owners.Method class number) f labels.method
       ++ names_in_methods class (suc number) rest labels.rest
 
-  -- those in the bodies of items, after so many classes and functions
+  -- the names bound in the bodies of items, after these numbers of classes and functions
   abbrev pub names_in_bodies : (classes functions : ℕ) → (items : List Item) → ItemsLabels items → List NameAt
   names_in_bodies classes functions [] labels = []
   names_in_bodies classes functions (constant_item p c ∷ rest) labels =
@@ -92,7 +92,7 @@ module _ (m : Module) where
       names_in_body (owners.Func functions) f labels.first
       ++ names_in_bodies classes (suc functions) rest labels.rest
 
--- the names of a module that are bound under a labelling
+-- the names bound under a labelling of a module
 abbrev pub names_under : (m : Module) → Labelling m → List NameAt
 names_under m labels =
     flat_map (names_declared m) m.items

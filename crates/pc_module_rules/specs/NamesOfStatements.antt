@@ -6,30 +6,30 @@ use Rattle.pc_tree.specs.Tree.{Name, Expr, Target, to_name, to_attribute, to_ind
 use Rattle.pc_tree.specs.Tree.{continues, returns, asserts, annotated, assigns, evaluates, while_loop, for_loop}
 use Rattle.pc_tree.specs.Tree.{conditional, no_stmts, more_stmts, no_branches, more_branches}
 use Rattle.pc_scope.specs.Reach.{completes}
-use Rattle.pc_scope.specs.declared.resolution.Res.{Res}
-use Rattle.pc_scope.specs.declared.resolution.Res.TheVariants as res
+use Rattle.pc_scope.specs.declared.resolution.NameMeaning.{NameMeaning}
+use Rattle.pc_scope.specs.declared.resolution.NameMeaning.TheVariants as res
 use Rattle.pc_types.specs.Tree.{Tree}
 use Rattle.pc_flow.specs.Environment.{declared_type, assigned_type}
 use Rattle.pc_rules.specs.Labels.{FlowLabels, type_of}
 use Rattle.pc_module_rules.specs.StatementLabels.{OptionLabels, StmtLabels, SuiteLabels, BranchesLabels, behind_list}
 use Rattle.pc_module_rules.specs.Statements.{only_code}
 
--- a name that is bound: its place, its declared type, and its current type after the binding, if it has a value then
+-- a bound name: its place, its declared type, and its current type after the binding, if it has a value then
 pub record NameAt : Type 0 where
   pub place : Place
   pub declared : Tree
   pub current : Option Tree
 
-module _ (resolve : List ℕ → Res) (declared : List Tree) where
-  -- a name bound to a value of this type, which flows into the declared one; what is no local binds nothing
-  abbrev pub name_bound : Name → Res → (from : Tree) → FlowLabels → List NameAt
+module _ (resolve : List ℕ → NameMeaning) (declared : List Tree) where
+  -- a name bound to a value of this type, which flows into the declared type; only a local is bound
+  abbrev pub name_bound : Name → NameMeaning → (from : Tree) → FlowLabels → List NameAt
   name_bound n (res.Local x) from flows =
       let d = declared_type declared x in
       record { place = n.place; declared = d; current = Some (assigned_type d from (only_code flows)) } ∷ []
   name_bound n _ from flows = []
 
-  -- a name annotated alone: it has a declared type, and no value
-  abbrev pub name_declared : Name → Res → List NameAt
+  -- a name annotated without a value: it has a declared type, and no current one
+  abbrev pub name_declared : Name → NameMeaning → List NameAt
   name_declared n (res.Local x) = record {
     place = n.place;
     declared = declared_type declared x;
@@ -37,12 +37,12 @@ module _ (resolve : List ℕ → Res) (declared : List Tree) where
   } ∷ []
   name_declared n _ = []
 
-  -- a name annotated, with a value or alone
+  -- a name annotated with or without a value
   abbrev pub name_annotated : Name → (e : Option Expr) → OptionLabels e → FlowLabels → List NameAt
   name_annotated n None labels flows = name_declared n (resolve n.text)
   name_annotated n (Some e) labels flows = name_bound n (resolve n.text) (type_of e labels) flows
 
-  -- a target that a value of this type is assigned to, where it is a name
+  -- a target, if it is a name, that a value of this type is assigned to
   abbrev pub name_in_target : Target → (from : Tree) → FlowLabels → List NameAt
   name_in_target (to_name n) from flows = name_bound n (resolve n.text) from flows
   name_in_target (to_attribute p o field) from flows = []
@@ -50,7 +50,8 @@ module _ (resolve : List ℕ → Res) (declared : List Tree) where
 
   -- the names that are bound under the labels of statements, suites and branches
   abbrev mutual
-    -- in a statement: the name that it annotates or assigns, or the target of a `for`, and those in its suites
+    -- the names bound in a statement: the name that it annotates or assigns, or the target of a `for`, and those in its
+    -- suites
     pub names_in_stmt : (s : Stmt) → StmtLabels s → List NameAt
     names_in_stmt (pass p) labels = []
     names_in_stmt (breaks p) labels = []
@@ -66,13 +67,13 @@ module _ (resolve : List ℕ → Res) (declared : List Tree) where
     names_in_stmt (conditional p bs o) labels = names_in_branches bs labels.branches
         ++ names_in_suite o labels.otherwise
 
-    -- in a suite; after a statement that cannot complete nothing is bound
+    -- the names bound in a suite; none after a statement that cannot complete
     pub names_in_suite : (b : Stmts) → SuiteLabels b → List NameAt
     names_in_suite no_stmts labels = []
     names_in_suite (more_stmts s rest) labels = names_in_stmt s labels.first
         ++ behind_list (completes s) labels.behind (λ r. names_in_suite rest r.rest)
 
-    -- in the suites of branches
+    -- the names bound in the suites of branches
     pub names_in_branches : (bs : Branches) → BranchesLabels bs → List NameAt
     names_in_branches no_branches labels = []
     names_in_branches (more_branches c b rest) labels = names_in_suite b labels.body

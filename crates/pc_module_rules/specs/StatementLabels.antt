@@ -15,24 +15,25 @@ abbrev pub OptionLabels : Option Expr → Type 0
 OptionLabels None = Unit {0}
 OptionLabels (Some e) = Labels e
 
--- a target's object, and what is found at the target
+-- the labels of a target: the codes found at it, its object, and its index with its flows
 abbrev pub TargetLabels : Target → Type 0
 TargetLabels (to_name n) = Unit {0}
 TargetLabels (to_attribute p e field) = record { codes : List Code; object : Labels e }
 TargetLabels (to_index p e i) = record { codes : List Code; object : Labels e; key : Labels i; key_flows : FlowLabels }
 
--- what stands after a statement that can complete; after another one there are no labels
+-- the labels after a statement that can complete; there are none after one that cannot
 abbrev pub Behind : (completes : Test) → Type 0 → Type 0
 Behind true A = A
 Behind false A = Unit {0}
 
--- after a statement that can complete: the environment there, and the labels of the other statements
+-- after a statement that can complete: the environment there, and the labels of the remaining statements
 abbrev pub Following : (others : Type 0) → Type 0
 Following Others = record { env : Env; rest : Others }
 
 -- the labels of statements, suites and branches
 abbrev mutual
-  -- of a statement: its expressions' labels, its flows, and environments at `break`, loop heads, `else` and suite ends
+  -- the labels of a statement: its expressions, its flows, and the environments at `break`, loop heads, `else` and
+  -- suite ends
   pub StmtLabels : Stmt → Type 0
   StmtLabels (pass p) = Unit {0}
   StmtLabels (breaks p) = Env
@@ -62,7 +63,7 @@ abbrev mutual
     out : Option Env;
   }
 
-  -- of a suite: the labels of its first statement, and what stands after that
+  -- the labels of a suite: those of its first statement, and those after it
   pub SuiteLabels : Stmts → Type 0
   SuiteLabels no_stmts = Unit {0}
   SuiteLabels (more_stmts s rest) = record {
@@ -70,7 +71,7 @@ abbrev mutual
     behind : Behind (completes s) (Following (SuiteLabels rest));
   }
 
-  -- of each branch its condition's labels, its body's, and the environment where the body ends, if it can complete
+  -- the labels of branches: each condition, each body, and the environment at the end of the body, if it can complete
   pub BranchesLabels : Branches → Type 0
   BranchesLabels no_branches = Unit {0}
   BranchesLabels (more_branches c b rest) = record {
@@ -80,12 +81,12 @@ abbrev mutual
     rest : BranchesLabels rest;
   }
 
--- of what stands after a statement: a rule where it can complete, else another one
+-- a rule on the labels after a statement that can complete, or another rule if it cannot
 abbrev pub BehindRule : {A : Type 0} (completes : Test) → Behind completes A → (A → Type 0) → Type 0 → Type 0
 BehindRule true m P N = P m
 BehindRule false m P N = N
 
--- a list made of what stands after a statement, empty where the statement cannot complete
+-- a list made of the labels after a statement, empty if the statement cannot complete
 abbrev pub behind_list : {A B : Type 0} (completes : Test) → Behind completes A → (A → List B) → List B
 behind_list true m f = f m
 behind_list false m f = []
@@ -106,7 +107,7 @@ abbrev mutual
   breaks_in_branches no_branches m = []
   breaks_in_branches (more_branches c b rest) m = breaks_in_suite b m.body ++ breaks_in_branches rest m.rest
 
--- the ways out of branches that can complete, in text order
+-- the environments at the ends of the branches that can complete, in text order
 abbrev pub ways_in : (bs : Branches) → BranchesLabels bs → List Env
 ways_in no_branches m = []
 ways_in (more_branches c b rest) m = option_to_list m.out ++ ways_in rest m.rest

@@ -1,5 +1,5 @@
--- The lawful labelling of statements, and what is found in them.
--- Language Reference 3.12, 7 "Simple statements", 8 "Compound statements"; own rules of the profile.
+-- The lawful labelling of statements, and the findings in them. Language Reference 3.12, 7 "Simple statements", 8
+-- "Compound statements"; own rules of the profile.
 use Rattle.std.specs.Prelude.{◌≡◌, ◌⊎◌, ℕ, List, [], ◌∷◌, ◌++◌, map, Bool as Test, true, false, not, nat_eq, Option}
 use Rattle.std.specs.Prelude.{Some, None, option_to_list}
 use Rattle.std.specs.List.{list_any}
@@ -12,8 +12,8 @@ use Rattle.pc_tree.specs.Tree.{Name, Expr, name, call, Exprs, Keywords, Ann, Tar
 use Rattle.pc_tree.specs.Tree.{Stmt, Stmts, Branches, pass, breaks, continues, returns, asserts, annotated, assigns}
 use Rattle.pc_tree.specs.Tree.{evaluates, while_loop, for_loop, conditional, no_stmts, more_stmts, no_branches}
 use Rattle.pc_tree.specs.Tree.{more_branches, Module}
-use Rattle.pc_scope.specs.declared.resolution.Res.{Res}
-use Rattle.pc_scope.specs.declared.resolution.Res.TheVariants as res
+use Rattle.pc_scope.specs.declared.resolution.NameMeaning.{NameMeaning}
+use Rattle.pc_scope.specs.declared.resolution.NameMeaning.TheVariants as res
 use Rattle.pc_tree.specs.Stopping.{bound_by_stmt, bound_by, bound_by_branches}
 use Rattle.pc_tree.specs.Depth.{place_of}
 use Rattle.pc_scope.specs.Bindings.{texts}
@@ -21,7 +21,7 @@ use Rattle.pc_scope.specs.Resolution.{is_one_of}
 use Rattle.pc_scope.specs.Reach.{completes}
 use Rattle.pc_types.specs.Tree.{Tree, Any, NoneType}
 use Rattle.pc_types.specs.Shape.{members}
-use Rattle.pc_ann.specs.Annotations.{read_ann, AnnFinds}
+use Rattle.pc_annotations.specs.Annotations.{read_ann, AnnFinds}
 use Rattle.pc_flow.specs.Environment.{Env, declared_type, assign, assigned_type, join_envs_onto, join_ways, loop_head}
 use Rattle.pc_flow.specs.Narrowing.{narrow}
 use Rattle.pc_rules.specs.Operations.{Label, clean, offers_label, StoreOffer, store_codes, store_index_types}
@@ -41,24 +41,24 @@ abbrev pub only_code : FlowLabels → Option Code
 only_code [] = None
 only_code (f ∷ fs) = f.code
 
--- the names bound so far, in text order: a name is bound first where it is not among them
+-- the names bound so far, in text order; a name is first bound where it is not among them
 abbrev pub NamesBound : Type 0
 NamesBound = List (List ℕ)
 
--- the name is none of those bound so far
+-- whether the name is none of those bound so far
 abbrev pub is_first : NamesBound → Name → Test
 is_first seen n = not (is_one_of n.text seen)
 
--- a meaning is the local of this number
-abbrev pub is_local_number : ℕ → Res → Test
+-- whether a meaning is the local of this number
+abbrev pub is_local_number : ℕ → NameMeaning → Test
 is_local_number x (res.Local y) = nat_eq x y
 is_local_number x _ = false
 
--- one of the names means the local of this number
-abbrev pub binds_number : (List ℕ → Res) → List Name → ℕ → Test
+-- whether one of the names means the local of this number
+abbrev pub binds_number : (List ℕ → NameMeaning) → List Name → ℕ → Test
 binds_number resolve names x = list_any (λ n. is_local_number x (resolve n.text)) names
 
--- ---- what a `for` goes over
+-- ---- the iterable of a `for`
 
 module _ (m : Module) (ctx : Context) (declared : List Tree) where
   -- an environment joined with others, from the left
@@ -108,23 +108,23 @@ module _ (m : Module) (ctx : Context) (declared : List Tree) where
 
   -- ---- binding a local
 
-  -- the declared type of a local is that of its first binding: its annotation, else the type bound
+  -- the declared type of a local comes from its first binding: its annotation, else the type bound
   abbrev pub DeclaredAt : (first : Test) → ℕ → Option Tree → Tree → Type 0
   DeclaredAt false x annotation from = Unit {0}
   DeclaredAt true x (Some t) from = declared_type declared x ≡ t
   DeclaredAt true x None from = declared_type declared x ≡ from
 
-  -- what is expected of a value: the declared type when it is known
+  -- the expected type of a value: the declared type, if it is known
   abbrev pub known_type : (first : Test) → ℕ → Option Tree → Option Tree
   known_type true x None = None
   known_type first x annotation = Some (declared_type declared x)
 
-  -- a local after a type was assigned to it, with the code of that flow
+  -- the environment after a type was assigned to a local, with the code of that flow
   abbrev pub bound_env : Env → ℕ → Tree → FlowLabels → Env
   bound_env env x from flows = assign env x (assigned_type (declared_type declared x) from (only_code flows))
 
-  -- a value is assigned to a name; what is reserved binds nothing, and nothing flows into it
-  abbrev pub LawfulBinding : Env → NamesBound → Name → Res → Option Tree → (e : Expr) → Labels e → FlowLabels → Env
+  -- the binding of a value to a name is lawful; a name that means no local binds nothing, and nothing flows into it
+  abbrev pub LawfulBinding : Env → NamesBound → Name → NameMeaning → Option Tree → (e : Expr) → Labels e → FlowLabels → Env
       → Type 0
   LawfulBinding env seen n (res.Local x) annotation e labels flows after = record {
     value : Lawful ctx declared env (known_type (is_first seen n) x annotation) e labels;
@@ -138,13 +138,13 @@ module _ (m : Module) (ctx : Context) (declared : List Tree) where
     after_is : after ≡ env;
   }
 
-  -- a name that is annotated alone
-  abbrev pub LawfulDeclaration : NamesBound → Name → Res → Tree → Type 0
+  -- the annotation of a name without a value is lawful
+  abbrev pub LawfulDeclaration : NamesBound → Name → NameMeaning → Tree → Type 0
   LawfulDeclaration seen n (res.Local x) t = DeclaredAt (is_first seen n) x (Some t) t
   LawfulDeclaration seen n _ t = Unit {0}
 
-  -- the target of a `for`, with its item type
-  abbrev pub LawfulTarget : NamesBound → Name → Res → Env → Label → FlowLabels → Env → Type 0
+  -- the target of a `for` is lawful, with its item type
+  abbrev pub LawfulTarget : NamesBound → Name → NameMeaning → Env → Label → FlowLabels → Env → Type 0
   LawfulTarget seen n (res.Local x) head item flows inside = record {
     at_first : DeclaredAt (is_first seen n) x None item.type;
     flow : FlowsInto ctx.bases (clean item.type) (declared_type declared x ∷ []) flows;
@@ -152,23 +152,23 @@ module _ (m : Module) (ctx : Context) (declared : List Tree) where
   }
   LawfulTarget seen n _ head item flows inside = (flows ≡ []) × (inside ≡ head)
 
-  -- the declared type of locals that are first bound where no run comes is Any
-  abbrev pub UndeclaredName : (first : Test) → Res → Type 0
+  -- a local first bound in unreachable code has declared type Any
+  abbrev pub UndeclaredName : (first : Test) → NameMeaning → Type 0
   UndeclaredName true (res.Local x) = declared_type declared x ≡ Any
   UndeclaredName first r = Unit {0}
 
-  -- each of the names that is first bound where no run comes has Any as declared type
+  -- each of the names first bound in unreachable code has declared type Any
   abbrev pub AreUndeclared : NamesBound → List Name → Type 0
   AreUndeclared seen [] = Unit {0}
   AreUndeclared seen (n ∷ ns) = UndeclaredName (is_first seen n) (ctx.resolve n.text) × AreUndeclared (n.text ∷ seen) ns
 
-  -- ---- targets that are no names
+  -- ---- targets other than names
 
-  -- what storing to an attribute comes to on each member of the object's type
+  -- the results of a store to an attribute on each member of the object's type
   abbrev pub attribute_offers : List ℕ → Tree → List StoreOffer
   attribute_offers field t = map (store_attribute_member ctx.classes field) (members t)
 
-  -- what storing to an item comes to on each member of the object's type
+  -- the results of a store to an item on each member of the object's type
   abbrev pub index_offers : Tree → List StoreOffer
   index_offers t = map store_index_member (members t)
 
@@ -204,7 +204,7 @@ module _ (m : Module) (ctx : Context) (declared : List Tree) where
       LawfulBinding env seen n (ctx.resolve n.text) None e labels flows after
   LawfulAssignment env seen t target e labels flows after = LawfulStore env t target e labels flows × (after ≡ env)
 
-  -- an annotated name: a parameter or a name bound earlier keeps its declared type, and the annotation is ignored
+  -- the annotation of a name, ignored for a parameter or a name bound earlier, which keeps its declared type
   abbrev pub annotation_at : (first : Test) → Tree → Option Tree
   annotation_at true t = Some t
   annotation_at false t = None
@@ -219,27 +219,27 @@ module _ (m : Module) (ctx : Context) (declared : List Tree) where
       (annotation_at (is_first seen n) (read_ann m ctx.bases a)) e labels flows after
 
   module _ (returned : Tree) where
-    -- the value of a `return` is lawful and flows into the return type; without a value None does
+    -- the value of a `return` is lawful and flows into the return type; without a value, None flows
     abbrev pub LawfulReturn : Env → (e : Option Expr) → OptionLabels e → FlowLabels → Type 0
     LawfulReturn env None labels flows = FlowsInto ctx.bases (clean NoneType) (returned ∷ []) flows
     LawfulReturn env (Some e) labels flows = Lawful ctx declared env (Some returned) e labels
         × FlowsInto ctx.bases (whole_label e labels) (returned ∷ []) flows
 
-    -- an expression that may be missing is lawful, with nothing expected of it
+    -- an expression that may be missing is lawful, without an expected type
     abbrev pub LawfulOption : Env → (e : Option Expr) → OptionLabels e → Type 0
     LawfulOption env None labels = Unit {0}
     LawfulOption env (Some e) labels = Lawful ctx declared env None e labels
 
     -- the labels of statements, suites and branches are lawful
     abbrev mutual
-      -- a statement, after the names bound so far, from the environment before it to the one after it, if it can
-      -- complete
+      -- a statement is lawful, after the names bound so far, from the environment before it to the one after it, if it
+      -- can complete
       pub LawfulStmt : NamesBound → Env → (s : Stmt) → StmtLabels s → Option Env → Type 0
       LawfulStmt seen env (pass p) labels out = out ≡ Some env
       LawfulStmt seen env (breaks p) labels out = (labels ≡ env) × (out ≡ None)
       LawfulStmt seen env (continues p) labels out = out ≡ None
       LawfulStmt seen env (returns p e) labels out = LawfulReturn env e labels.value labels.flows × (out ≡ None)
-      -- the message is checked after the condition is false
+      -- the message is checked where the condition is false
       LawfulStmt seen env (asserts p c e) labels out = record {
         condition : Lawful ctx declared env None c labels.condition;
         message : LawfulOption (after_false c env) e labels.message;
@@ -256,16 +256,16 @@ module _ (m : Module) (ctx : Context) (declared : List Tree) where
         is : out ≡ Some after;
       }
       LawfulStmt seen env (evaluates p e) labels out = Lawful ctx declared env None e labels × (out ≡ Some env)
-      -- the condition is checked at the head, the body starts after it is true; after the loop: the head after it is
-      -- false, and each `break`
+      -- the condition is checked at the head, the body where it is true; after the loop: the join of the head where it
+      -- is false and of each `break`
       LawfulStmt seen env (while_loop p c b) labels out = record {
         head : labels.head ≡ loop_head (binds_number ctx.resolve (bound_by b)) declared env;
         condition : Lawful ctx declared labels.head None c labels.condition;
         body : LawfulSuite seen (after_true c labels.head) b labels.body labels.out;
         after : out ≡ Some (joined (after_false c labels.head) (breaks_in_suite b labels.body));
       }
-      -- the iterable is checked before the loop, the body starts with the target assigned; after the loop: the head,
-      -- and each `break`
+      -- the iterable is checked before the loop, the body with the target assigned; after the loop: the join of the
+      -- head and of each `break`
       LawfulStmt seen env (for_loop p n e b) labels out = record {
         iterable : LawfulIterable env e labels.iterable labels.item;
         head : labels.head ≡ loop_head (binds_number ctx.resolve (n ∷ bound_by b)) declared env;
@@ -274,15 +274,14 @@ module _ (m : Module) (ctx : Context) (declared : List Tree) where
         body : LawfulSuite (n.text ∷ seen) inside b labels.body labels.out;
         after : out ≡ Some (joined labels.head (breaks_in_suite b labels.body));
       }
-      -- the branches after the conditions' narrowing; then the join of those that can complete, a missing `else`
-      -- counting as one
+      -- the branches, and then the join of those that can complete, a missing `else` counting as one
       LawfulStmt seen env (conditional p bs o) labels out = record {
         branches : LawfulBranches seen env bs labels.branches labels.last;
         otherwise : LawfulSuite (texts (bound_by_branches bs) ++ seen) labels.last o labels.otherwise labels.out;
         after : out ≡ join_ways ctx.bases declared (ways_in bs labels.branches ++ option_to_list labels.out);
       }
 
-      -- a suite, from the environment before it to the one after it, if it can complete
+      -- a suite is lawful, from the environment before it to the one after it, if it can complete
       pub LawfulSuite : NamesBound → Env → (b : Stmts) → SuiteLabels b → Option Env → Type 0
       LawfulSuite seen env no_stmts labels out = out ≡ Some env
       LawfulSuite seen env (more_stmts s rest) labels out =
@@ -292,7 +291,7 @@ module _ (m : Module) (ctx : Context) (declared : List Tree) where
           (LawfulStmt seen env s labels.first None × AreUndeclared (texts (bound_by_stmt s) ++ seen) (bound_by rest)
           × (out ≡ None))
 
-      -- each condition is checked after the ones before it are false
+      -- branches are lawful: each condition is checked where the ones before it are false
       pub LawfulBranches : NamesBound → Env → (bs : Branches) → BranchesLabels bs → Env → Type 0
       LawfulBranches seen env no_branches labels last = last ≡ env
       LawfulBranches seen env (more_branches c b rest) labels last = record {
@@ -301,32 +300,33 @@ module _ (m : Module) (ctx : Context) (declared : List Tree) where
         others : LawfulBranches (texts (bound_by b) ++ seen) (after_false c env) rest labels.rest last;
       }
 
--- ---- what is found in statements
+-- ---- the findings in statements
 
 module _ (m : Module) (ctx : Context) where
-  -- what is found in an expression that may be missing
+  -- the findings in an expression that may be missing
   abbrev pub OptionFinds : (e : Option Expr) → OptionLabels e → Finding → Type 0
   OptionFinds None labels f = ⊥
   OptionFinds (Some e) labels f = Finds e labels f
 
-  -- the place of an expression, or this one where it is missing
+  -- the place of an expression, or this one if it is missing
   abbrev pub option_place : Place → Option Expr → Place
   option_place p None = p
   option_place p (Some e) = place_of e
 
-  -- what is found at a target and in its parts, nothing where it is a name
+  -- the findings at a target and in its parts, none for a name
   abbrev pub TargetFinds : (t : Target) → TargetLabels t → Finding → Type 0
   TargetFinds (to_name n) labels f = ⊥
   TargetFinds (to_attribute p o field) labels f = IsFoundAt p labels.codes f ⊎ Finds o labels.object f
   TargetFinds (to_index p o i) labels f = IsFoundAt p labels.codes f
       ⊎ (IsFlowAt (place_of i) labels.key_flows f ⊎ (Finds o labels.object f ⊎ Finds i labels.key f))
 
-  -- E24: a parameter, or a name bound earlier in text, is annotated; else what is found in the annotation
-  abbrev pub AnnotationFinds : Res → (first : Test) → Name → Ann → Finding → Type 0
+  -- the findings at an annotation: E24 if the name is a parameter or bound earlier in text; else those in the
+  -- annotation
+  abbrev pub AnnotationFinds : NameMeaning → (first : Test) → Name → Ann → Finding → Type 0
   AnnotationFinds (res.Local x) false n a f = f ≡ finding n.place E24
   AnnotationFinds r first n a f = AnnFinds m ctx.bases a f
 
-  -- what is found in statements, suites and branches, after the names bound so far
+  -- the findings in statements, suites and branches, after the names bound so far
   abbrev mutual
     pub StmtFinds : NamesBound → (s : Stmt) → StmtLabels s → Finding → Type 0
     StmtFinds seen (pass p) labels f = ⊥

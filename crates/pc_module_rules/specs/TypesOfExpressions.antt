@@ -1,5 +1,6 @@
--- The types under the labels of an expression, each at the place of what has it, one after another: those of its parts,
--- and then its own. A callee that is a name or an attribute has none: it names what is called. Own rule of the profile.
+-- The types under the labels of an expression, each at the place of its expression, one after another: those of its
+-- parts, and then its own. A callee that is a name or an attribute has none: it names the function or method called.
+-- Own rule of the profile.
 use Rattle.std.specs.Prelude.{List, [], ◌∷◌, ◌++◌, Bool as Test, true, false}
 use Rattle.pc_source.specs.declared.place.Place.{Place}
 use Rattle.pc_tree.specs.Depth.{place_of}
@@ -11,7 +12,7 @@ use Rattle.pc_scope.specs.Expressions.{is_instance_test}
 use Rattle.pc_types.specs.Tree.{Tree}
 use Rattle.pc_rules.specs.Labels.{Labels, ItemsLabels, EntriesLabels, KeywordsLabels, type_of}
 
--- a type that an expression has, and the place of the expression
+-- the type of an expression, and its place
 pub record TypeAt : Type 0 where
   pub place : Place
   pub type : Tree
@@ -20,7 +21,7 @@ pub record TypeAt : Type 0 where
 abbrev pub type_here : (e : Expr) → Labels e → List TypeAt
 type_here e m = record { place = place_of e; type = type_of e m } ∷ []
 
--- the type of a callee at its place, none of a name or of an attribute
+-- the type of a callee at its place, none for a name or an attribute
 abbrev pub callee_here : (e : Expr) → Labels e → List TypeAt
 callee_here (name n) m = []
 callee_here (attribute p e field) m = []
@@ -28,7 +29,7 @@ callee_here e m = type_here e m
 
 -- the types in the parts of an expression, under the labels of items, of arguments, and of the entries of a dict
 abbrev mutual
-  -- in the parts of an expression: of each part what is in it, and then its own
+  -- the types in the parts of an expression: for each part those in it, and then its own
   pub types_inside : (e : Expr) → Labels e → List TypeAt
   types_inside (name n) m = []
   types_inside (number p digits) m = []
@@ -58,27 +59,27 @@ abbrev mutual
       ++ (types_in_arguments (is_instance_test callee arguments keywords) arguments m.arguments
       ++ types_in_keywords keywords m.keywords)
 
-  -- in items: each item, after what is in it
+  -- the types in items: for each item those in it, and then its own
   pub types_in_exprs : (es : Exprs) → ItemsLabels es → List TypeAt
   types_in_exprs no_exprs m = []
   types_in_exprs (more_exprs e rest) m = (types_inside e m.first ++ type_here e m.first)
       ++ types_in_exprs rest m.rest
 
-  -- in arguments by position, so too; of a test of an instance the second is not looked at
+  -- the types in arguments by position, likewise; of an instance test only those in the first
   pub types_in_arguments : (is_test : Test) → (es : Exprs) → ItemsLabels es → List TypeAt
   types_in_arguments is_test no_exprs m = []
   types_in_arguments true (more_exprs e rest) m = types_inside e m.first ++ type_here e m.first
   types_in_arguments false (more_exprs e rest) m = (types_inside e m.first ++ type_here e m.first)
       ++ types_in_arguments false rest m.rest
 
-  -- in the entries of a dict, of each its key and then its value
+  -- the types in the entries of a dict: for each its key and then its value
   pub types_in_entries : (es : Entries) → EntriesLabels es → List TypeAt
   types_in_entries no_entries m = []
   types_in_entries (more_entries key value rest) m =
       (types_inside key m.key ++ type_here key m.key)
       ++ ((types_inside value m.value ++ type_here value m.value) ++ types_in_entries rest m.rest)
 
-  -- in arguments by name: each value, after what is in it
+  -- the types in arguments by name: for each value those in it, and then its own
   pub types_in_keywords : (es : Keywords) → KeywordsLabels es → List TypeAt
   types_in_keywords no_keywords m = []
   types_in_keywords (more_keywords parameter value rest) m = (types_inside value m.first ++ type_here value m.first)

@@ -9,20 +9,20 @@ use Rattle.pc_module_rules.specs.Modules.{MembersLabels, ItemLabels, ItemsLabels
 use Rattle.pc_module_rules.specs.TypesOfExpressions.{TypeAt, types_in}
 use Rattle.pc_module_rules.specs.TypesOfStatements.{types_in_suite}
 
--- in the initializer of a constant, none where an item is a class or a function
+-- the types in the initializer of a constant, none if the item is a class or a function
 abbrev pub types_in_item : (i : Item) → ItemLabels i → List TypeAt
 types_in_item (constant_item p c) labels = types_in c.value labels.value
 types_in_item (class_item p c) labels = []
 types_in_item (def_item p f) labels = []
 
--- in the bodies of methods
+-- the types in the bodies of methods
 abbrev pub types_in_methods : (ms : List Member) → MembersLabels ms → List TypeAt
 types_in_methods [] labels = []
 types_in_methods (field_member x ∷ rest) labels = types_in_methods rest labels.rest
 types_in_methods (method_member f ∷ rest) labels = types_in_suite f.body labels.method.body
     ++ types_in_methods rest labels.rest
 
--- in the body of a function, or in those of a class's methods
+-- the types in the body of a function, or in the bodies of a class's methods
 abbrev pub types_in_body : (i : Item) → ItemLabels i → List TypeAt
 types_in_body (constant_item p c) labels = []
 types_in_body (class_item p c) labels = types_in_methods c.members labels
@@ -38,6 +38,6 @@ types_in_each types (i ∷ rest) labels = types i labels.first ++ types_in_each 
 abbrev pub types_under : (m : Module) → Labelling m → List TypeAt
 types_under m labels = types_in_each types_in_item m.items labels ++ types_in_each types_in_body m.items labels
 
--- a row of types as what notes show of it: its place and its type
+-- a type at a place, as the pair that notes have for it
 abbrev pub as_pair : TypeAt → Place × Tree
 as_pair t = (t.place, t.type)

@@ -28,16 +28,16 @@ pub fn one_labelling()
     ensures { (m : Module) → HasOneLabelling m }
 {}
 
-/// The law that each statement and each suite has lawful labels, from a table of declared types and an environment that
-/// go by the names bound so far, of types in normal form, without absorbed members and of at most 256 nodes; and after
-/// it the table and the environment are so again.
+/// The law that each statement and each suite has lawful labels, given a table of declared types and an environment
+/// that depend only on the names bound so far, with types in normal form, without absorbed members and of at most 256
+/// nodes; and that the same holds of the table and the environment after it.
 pub fn suites_have_labels()
     ensures statement { StatementsAreLabelled }
     ensures suite { SuitesAreLabelled }
 {}
 
-/// The law that each function, and the members of each class, have lawful labels, where the types of the constants are
-/// in normal form, without absorbed members and of at most 256 nodes.
+/// The law that each function, and the members of each class, have lawful labels, if the types of the constants are in
+/// normal form, without absorbed members and of at most 256 nodes.
 pub fn functions_have_labels()
     ensures function { FunctionsAreLabelled }
     ensures members { ClassesAreLabelled }
@@ -53,19 +53,19 @@ pub fn every_module_has_exactly_one_labelling()
     ensures { (m : Module) → HasExactlyOneLabelling m }
 {}
 
-/// The law that the findings of scopes are findings of a module.
+/// The law that the findings of scope analysis are findings of a module.
 pub fn findings_of_scopes()
     ensures { (m : Module) (f : Finding) → ScopeFinds m f → IsFinding m f }
 {}
 
-/// The law that a lawful labelling says E02 and E03 where scopes find them, and nowhere else. So each is found of
-/// scopes alone, and labels have them for their types.
+/// The law that a lawful labelling has E02 and E03 exactly where scope analysis finds them. Both are reported by scope
+/// analysis alone; labels have them for their types.
 pub fn labels_agree_with_scopes()
     ensures { (m : Module) (labels : Labelling m) → IsLawful m labels → AgreesWithScopes m labels }
 {}
 
-/// The law that a local that is not assigned before a `for` is not assigned after it, its target among them: the loop
-/// may take no turn.
+/// The law that a local that is not assigned before a `for` is not assigned after it, its target included: the loop may
+/// run no iteration.
 pub fn loops_may_take_no_turn()
     ensures { (m : Module) (ctx : Context) (declared : List Tree) (returned : Tree) (seen : NamesBound)
         (env after : Env) (p : Place) (n : Name) (e : Expr) (b : Stmts) (labels : StmtLabels (for_loop p n e b)) (x : ℕ)
@@ -73,7 +73,7 @@ pub fn loops_may_take_no_turn()
         → current after x ≡ None }
 {}
 
-/// The law that where nothing is found at a `return`, the type of its value is static to the return type.
+/// The law that if nothing is found at a `return`, the type of its value is a static subtype of the return type.
 pub fn returned_values_flow()
     ensures { (m : Module) (ctx : Context) (declared : List Tree) (returned : Tree) (seen : NamesBound) (env : Env)
         (out : Option Env) (p : Place) (e : Expr) (labels : StmtLabels (returns p (Some e)))
@@ -82,20 +82,19 @@ pub fn returned_values_flow()
         → Static ctx.bases (type_of e labels.value) returned }
 {}
 
-/// The law that a walk over a statement, and over a suite, comes to what any lawful labels of it say: from a table of
-/// declared types and an environment that fit them, to the environments of the labels; and that it finds just what
-/// stands under them, but for what is found of scopes. So does the walk over the body of a function, with E21 at its
-/// name.
+/// The law that a walk over a statement or a suite, from a table of declared types and an environment that fit its
+/// lawful labels, reaches the environments of the labels and finds exactly what is under them, except E02 and E03,
+/// which scope analysis reports. The same holds of the walk over the body of a function, with E21 at its name.
 pub fn walks_say_what_labels_say()
     ensures statement { WalksOfStatementsSayWhatLabelsSay }
     ensures suite { WalksOfSuitesSayWhatLabelsSay }
     ensures body { BodiesFindWhatLabelsSay }
 {}
 
-/// The law that what is computed of a module is what its lawful labelling says: the types of its constants are those of
-/// the labels; what is found of its signatures and its constants is just what the labels say of these; and the walks
-/// over its signatures, its constants and its bodies find just what stands under the labels, but for what is found of
-/// scopes. The findings of a module are then those of scopes, those of classes, and what these walks find.
+/// The law that everything computed of a module agrees with its lawful labelling: the types of its constants are those
+/// of the labels, and the walks over its signatures, its constants and its bodies find exactly what is under the
+/// labels, except E02 and E03. The findings of a module are then those of scope analysis, those of classes, and those
+/// of these walks.
 pub fn modules_find_what_labels_say()
     ensures constants { ConstantsHaveTheTypesOfLabels }
     ensures signatures { SignaturesFindWhatLabelsSay }

@@ -1,9 +1,9 @@
-//! The law on the types of a module, a function whose contract it is.
+//! The law on the types of a module, as the contract of a function.
 
 ghost use Rattle.pc_module_rules.specs.Laws.Types.{TypesAreNoted};
 
-/// The law that a walk over a module that keeps types notes just the types under the module's lawful labelling: each
-/// with the place of the expression that has it, in the order in which the walk comes to it.
+/// The law that a walk over a module that keeps types notes exactly the types under the module's lawful labelling: each
+/// at the place of its expression, in the order of the walk.
 pub fn types_are_noted()
     ensures { TypesAreNoted }
 {}

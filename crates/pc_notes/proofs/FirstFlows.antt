@@ -17,16 +17,15 @@ use Rattle.std.proofs.lemmas.List.Elements.{All-head, All-tail}
 use Rattle.pc_source.specs.declared.place.Place.{Place}
 use Rattle.pc_tree.specs.Tree.{Module}
 use Rattle.pc_types.specs.Tree.{Tree}
-use Rattle.pc_types.specs.Boxed.{tree_of}
-use Rattle.pc_ann.specs.Text.{type_text}
-use Rattle.pc_notes.specs.declared.notes.Flow.{Flow}
-use Rattle.pc_notes.specs.declared.notes.Entry.{Entry}
-use Rattle.pc_notes.specs.declared.notes.Entry.TheVariants.{Told, Typed}
+use Rattle.pc_annotations.specs.Text.{type_text}
+use Rattle.pc_notes.specs.declared.notes.NotedFlow.{NotedFlow}
+use Rattle.pc_notes.specs.declared.notes.NoteEntry.{NoteEntry}
+use Rattle.pc_notes.specs.declared.notes.NoteEntry.TheVariants.{Told, Typed}
 use Rattle.pc_notes.specs.Notes.{Note, told, typed, is_same_place, kept_flow, or_else, flow_or, flow_types, flow_noted}
 use Rattle.pc_notes.specs.Notes.{note_of}
 use Rattle.pc_notes.specs.Notes.{entry_place}
 use Rattle.pc_notes.specs.Notes.{notes_of}
-use Rattle.pc_notes.specs.Notes.{IsGivenFlow}
+use Rattle.pc_notes.specs.Notes.{IsGivenFlow, shared_tree}
 use Rattle.pc_notes.specs.Texts.{FlowText, IsFlowText, place_cmp, places_of, HasGivenFlows, HasFirstFlows}
 
 -- ---- one note more
@@ -112,27 +111,27 @@ other_place : (p k : Place) (o : Option (Tree × Tree)) → is_eq (place_cmp k p
     → is_same_place p k ≡ b → (if b then or_else o None else None) ≡ None
 other_place p k o h b e = rw (not_same p k h b e) refl
 
-other_at : (p : Place) (e : Entry) → is_eq (place_cmp (entry_place e) p) ≡ false → flow_or p (note_of e) None ≡ None
+other_at : (p : Place) (e : NoteEntry) → is_eq (place_cmp (entry_place e) p) ≡ false → flow_or p (note_of e) None ≡ None
 other_at p (Told f flow) h =
     other_place p f.place (option_map flow_types (option_map box_value flow)) h (is_same_place p f.place) refl
 other_at p (Typed shown q t) h = refl
 
-nothing : (b : Bool) (o : Option Flow) → o ≡ None → (if b then or_else (option_map flow_types o) None else None)
+nothing : (b : Bool) (o : Option NotedFlow) → o ≡ None → (if b then or_else (option_map flow_types o) None else None)
     ≡ None
 nothing true None h = refl
 nothing true (Some f) h = absurd (cc h)
 nothing false o h = refl
 
-none_kept : (p : Place) (e : Entry) → kept_flow e ≡ None → flow_or p (note_of e) None ≡ None
+none_kept : (p : Place) (e : NoteEntry) → kept_flow e ≡ None → flow_or p (note_of e) None ≡ None
 none_kept p (Told f flow) h = nothing (is_same_place p f.place) (option_map box_value flow) h
 none_kept p (Typed shown q t) h = refl
 
 -- an entry without a flow is left out
-pub left_out : (es : List Entry) (e : Entry) (flows : BTreeMap Place (Bor Flow)) → kept_flow e ≡ None
+pub left_out : (es : List NoteEntry) (e : NoteEntry) (flows : BTreeMap Place (Bor NotedFlow)) → kept_flow e ≡ None
     → HasFirstFlows (notes_of es) flows → HasFirstFlows (notes_of es ++ note_of e ∷ []) flows
 left_out es e flows n has = record { first = first; given = has.given }
   where
-    first : (p : Place) → option_map (λ (f : Bor Flow). flow_types f.now) (get place_cmp flows p) ≡ flow_noted p
+    first : (p : Place) → option_map (λ (f : Bor NotedFlow). flow_types f.now) (get place_cmp flows p) ≡ flow_noted p
         (notes_of es ++ note_of e ∷ [])
     first p = has.first p ∙ sym (noted_more p (notes_of es) (note_of e) ∙ ap (or_else (flow_noted p (notes_of es)))
         (none_kept p e n) ∙ or_else_none (flow_noted p (notes_of es)))
@@ -146,7 +145,7 @@ some_mapped f None = refl
 some_mapped f (Some a) = refl
 
 -- at a place that has a flow a later one is left out
-pub known_place : (es : List Entry) (e : Entry) (flows : BTreeMap Place (Bor Flow))
+pub known_place : (es : List NoteEntry) (e : NoteEntry) (flows : BTreeMap Place (Bor NotedFlow))
     → is_some (get place_cmp flows (entry_place e)) ≡ true → HasFirstFlows (notes_of es) flows
     → HasFirstFlows (notes_of es ++ note_of e ∷ []) flows
 known_place es e flows known has = record {
@@ -161,7 +160,7 @@ known_place es e flows known has = record {
     by p true h =
         let same : (entry_place e) ≡ p = place_same (entry_place e) p h in
         let some : is_some (flow_noted p (notes_of es)) ≡ true = ap is_some (sym (has.first p))
-        ∙ some_mapped (λ (f : Bor Flow). flow_types f.now) (get place_cmp flows p)
+        ∙ some_mapped (λ (f : Bor NotedFlow). flow_types f.now) (get place_cmp flows p)
         ∙ subst (λ q. is_some (get place_cmp flows q) ≡ true) same known in
         kept_first (flow_noted p (notes_of es)) (flow_or p (note_of e) None) some
     by p false h = ap (or_else (flow_noted p (notes_of es))) (other_at p e h)
@@ -172,17 +171,17 @@ none_first None x h = refl
 none_first (Some a) x h = cc
 
 -- at a place without a flow one is put in
-pub new_place : (es : List Entry) (e : Entry) (f : Bor Flow) (old new : BTreeMap Place (Bor Flow))
+pub new_place : (es : List NoteEntry) (e : NoteEntry) (f : Bor NotedFlow) (old new : BTreeMap Place (Bor NotedFlow))
     → kept_flow e ≡ Some f.now
     → IsGivenFlow f.now → is_some (get place_cmp old (entry_place e)) ≡ false
     → ((q : Place) → get place_cmp new q ≡ cond (is_eq (place_cmp (entry_place e) q)) (Some f) (get place_cmp old q))
     → HasFirstFlows (notes_of es) old → HasFirstFlows (notes_of es ++ note_of e ∷ []) new
 new_place es e f old new is is_given fresh step has =
     record {
-      first = λ p. ap (option_map (λ (g : Bor Flow). flow_types g.now)) (step p)
+      first = λ p. ap (option_map (λ (g : Bor NotedFlow). flow_types g.now)) (step p)
           ∙ by p (is_eq (place_cmp (entry_place e) p)) refl ∙ sym (noted_more p (notes_of es) (note_of e));
       given =
-          λ p. subst (λ (o : Option (Bor Flow)). IfSome o (λ g. IsGivenFlow g.now)) (sym (step p))
+          λ p. subst (λ (o : Option (Bor NotedFlow)). IfSome o (λ g. IsGivenFlow g.now)) (sym (step p))
           (each p (is_eq (place_cmp (entry_place e) p)));
     }
   where
@@ -190,13 +189,13 @@ new_place es e f old new is is_given fresh step has =
     each p true = is_given
     each p false = has.given p
 
-    own_if : (b : Bool) (o : Option Flow) → b ≡ true → o ≡ Some f.now
+    own_if : (b : Bool) (o : Option NotedFlow) → b ≡ true → o ≡ Some f.now
         → (if b then or_else (option_map flow_types o) None else None) ≡ Some (flow_types f.now)
     own_if true None h e = cc
     own_if true (Some g) h e = let q : g ≡ f.now = cc in ap (λ x. Some (flow_types x)) q
     own_if false o h e = cc
 
-    own_of : (x : Entry) → kept_flow x ≡ Some f.now
+    own_of : (x : NoteEntry) → kept_flow x ≡ Some f.now
         → flow_or (entry_place x) (note_of x) None ≡ Some (flow_types f.now)
     own_of (Told g flow) h = own_if (is_same_place g.place g.place) (option_map box_value flow) (self_tested g.place) h
     own_of (Typed shown q t) h = absurd (cc h)
@@ -205,12 +204,12 @@ new_place es e f old new is is_given fresh step has =
     own = own_of e is
 
     by : (p : Place) (b : Bool) → is_eq (place_cmp (entry_place e) p) ≡ b
-        → option_map (λ (g : Bor Flow). flow_types g.now) (cond b (Some f) (get place_cmp old p))
+        → option_map (λ (g : Bor NotedFlow). flow_types g.now) (cond b (Some f) (get place_cmp old p))
         ≡ or_else (flow_noted p (notes_of es)) (flow_or p (note_of e) None)
     by p true h =
         let same : (entry_place e) ≡ p = place_same (entry_place e) p h in
         let none : is_some (flow_noted p (notes_of es)) ≡ false = ap is_some (sym (has.first p))
-        ∙ some_mapped (λ (g : Bor Flow). flow_types g.now) (get place_cmp old p)
+        ∙ some_mapped (λ (g : Bor NotedFlow). flow_types g.now) (get place_cmp old p)
         ∙ subst (λ q. is_some (get place_cmp old q) ≡ false) same fresh in
         sym (none_first (flow_noted p (notes_of es)) (flow_or p (note_of e) None) none
         ∙ subst (λ q. flow_or q (note_of e) None ≡ Some (flow_types f.now)) same own)
@@ -219,13 +218,13 @@ new_place es e f old new is is_given fresh step has =
         ∙ or_else_none (flow_noted p (notes_of es)))
 
 -- the same with the place as the program has it
-pub known_at : (es : List Entry) (e : Entry) (flows : BTreeMap Place (Bor Flow)) (q : Place) → q ≡ entry_place e
+pub known_at : (es : List NoteEntry) (e : NoteEntry) (flows : BTreeMap Place (Bor NotedFlow)) (q : Place) → q ≡ entry_place e
     → is_some (get place_cmp flows q) ≡ true → HasFirstFlows (notes_of es) flows
     → HasFirstFlows (notes_of es ++ note_of e ∷ []) flows
 known_at es e flows q same known =
     known_place es e flows (subst (λ x. is_some (get place_cmp flows x) ≡ true) same known)
 
-pub new_at : (es : List Entry) (e : Entry) (f : Bor Flow) (old new : BTreeMap Place (Bor Flow)) (q : Place)
+pub new_at : (es : List NoteEntry) (e : NoteEntry) (f : Bor NotedFlow) (old new : BTreeMap Place (Bor NotedFlow)) (q : Place)
     → q ≡ entry_place e → kept_flow e ≡ Some f.now
     → IsGivenFlow f.now → is_some (get place_cmp old q) ≡ false
     → ((r : Place) → get place_cmp new r ≡ cond (is_eq (place_cmp q r)) (Some f) (get place_cmp old r))
@@ -236,36 +235,36 @@ new_at es e f old new q same is is_given fresh step =
     same step)
 
 -- the map has this entry
-abbrev pub IsPairOf : BTreeMap Place (Bor Flow) → Place × Bor Flow → Type 0
+abbrev pub IsPairOf : BTreeMap Place (Bor NotedFlow) → Place × Bor NotedFlow → Type 0
 IsPairOf flows e = get place_cmp flows e.0 ≡ Some e.1
 
 -- with one entry more
-pub first_of_more : (es : List Entry) (e : Entry) (flows : BTreeMap Place (Bor Flow)) (all : List Entry)
+pub first_of_more : (es : List NoteEntry) (e : NoteEntry) (flows : BTreeMap Place (Bor NotedFlow)) (all : List NoteEntry)
     → all ≡ es ++ e ∷ [] → HasFirstFlows (notes_of es ++ note_of e ∷ []) flows → HasFirstFlows (notes_of all) flows
 first_of_more es e flows all is has = subst (λ (l : List Note). HasFirstFlows l flows)
     (sym (ap notes_of is ∙ map-append note_of es (e ∷ []))) has
 
 -- ---- the texts of a map
 
-some_of : (o : Option (Bor Flow)) (f : Bor Flow) → o ≡ Some f → IfSome o (λ g. IsGivenFlow g.now) → IsGivenFlow f.now
+some_of : (o : Option (Bor NotedFlow)) (f : Bor NotedFlow) → o ≡ Some f → IfSome o (λ g. IsGivenFlow g.now) → IsGivenFlow f.now
 some_of None f e h = absurd (cc e)
-some_of (Some g) f e h = let q : g ≡ f = cc in subst (λ (x : Bor Flow). IsGivenFlow x.now) q h
+some_of (Some g) f e h = let q : g ≡ f = cc in subst (λ (x : Bor NotedFlow). IsGivenFlow x.now) q h
 
 -- the flow of an entry of a map is of types that a store of boxes may give
-pub given_pair : (flows : BTreeMap Place (Bor Flow)) → HasGivenFlows flows → (e : Place × Bor Flow) → IsPairOf flows e
+pub given_pair : (flows : BTreeMap Place (Bor NotedFlow)) → HasGivenFlows flows → (e : Place × Bor NotedFlow) → IsPairOf flows e
     → IsGivenFlow e.1.now
 given_pair flows given e is = some_of (get place_cmp flows e.0) e.1 is (given e.0)
 
 -- the types of the flow of an entry are those noted at its place
-pub noted_pair : (flows : BTreeMap Place (Bor Flow)) (notes : List Note) → HasFirstFlows notes flows
-    → (e : Place × Bor Flow) → IsPairOf flows e → flow_noted e.0 notes ≡ Some (flow_types e.1.now)
-noted_pair flows notes has e is = sym (has.first e.0) ∙ ap (option_map (λ (f : Bor Flow). flow_types f.now)) is
+pub noted_pair : (flows : BTreeMap Place (Bor NotedFlow)) (notes : List Note) → HasFirstFlows notes flows
+    → (e : Place × Bor NotedFlow) → IsPairOf flows e → flow_noted e.0 notes ≡ Some (flow_types e.1.now)
+noted_pair flows notes has e is = sym (has.first e.0) ∙ ap (option_map (λ (f : Bor NotedFlow). flow_types f.now)) is
 
 -- one text more is that of the flow of its entry
-pub text_of_pair : (m : Module) (flows : BTreeMap Place (Bor Flow)) (notes : List Note) → HasFirstFlows notes flows
-    → (e : Place × Bor Flow) → IsPairOf flows e
-    → (text : FlowText) → text.0 ≡ e.0 → rc_str_bytes text.1 ≡ type_text m (tree_of e.1.now.from)
-    → rc_str_bytes text.2 ≡ type_text m (tree_of e.1.now.into) → IsFlowText m notes text
+pub text_of_pair : (m : Module) (flows : BTreeMap Place (Bor NotedFlow)) (notes : List Note) → HasFirstFlows notes flows
+    → (e : Place × Bor NotedFlow) → IsPairOf flows e
+    → (text : FlowText) → text.0 ≡ e.0 → rc_str_bytes text.1 ≡ type_text m (shared_tree e.1.now.from)
+    → rc_str_bytes text.2 ≡ type_text m (shared_tree e.1.now.into) → IsFlowText m notes text
 text_of_pair m flows notes has e is text at from into =
     subst (λ (o : Option (Tree × Tree)). MatchOption o ⊥ (λ f. (rc_str_bytes text.1 ≡ type_text m f.0)
     × (rc_str_bytes text.2 ≡ type_text m f.1)))
@@ -284,7 +283,7 @@ places_more [] text rest = refl
 places_more (t ∷ ts) text rest = ap (λ (l : List Place). t.0 ∷ l) (places_more ts text rest)
 
 -- each entry of a map is found in it
-pub pairs_found : (flows : BTreeMap Place (Bor Flow)) (es : List (Place × Bor Flow)) → All (IsPairOf flows) es
+pub pairs_found : (flows : BTreeMap Place (Bor NotedFlow)) (es : List (Place × Bor NotedFlow)) → All (IsPairOf flows) es
     → AllByRecursion (IsPairOf flows) es
 pairs_found flows [] all = tt
 pairs_found flows (e ∷ es) all = (
@@ -292,12 +291,12 @@ pairs_found flows (e ∷ es) all = (
   pairs_found flows es (All-tail (IsPairOf flows) e es all),
 )
 
-here_or_behind : (p k : Place) (v : Bor Flow) (rest : List Place) (b : Bool) → is_eq (place_cmp p k) ≡ b
-    → (o : Option (Bor Flow)) → (IsSome o → Contains rest p) → IsSome (cond b (Some v) o) → Contains (k ∷ rest) p
+here_or_behind : (p k : Place) (v : Bor NotedFlow) (rest : List Place) (b : Bool) → is_eq (place_cmp p k) ≡ b
+    → (o : Option (Bor NotedFlow)) → (IsSome o → Contains rest p) → IsSome (cond b (Some v) o) → Contains (k ∷ rest) p
 here_or_behind p k v rest true same o later h = (0, omega arith, sym (place_same p k same))
 here_or_behind p k v rest false other o later h = let (i, within, is) = later h in (suc i, omega arith, is)
 
-test_places : (p : Place) (es : List (Place × Bor Flow)) → IsSome (lookup (λ k. is_eq (place_cmp p k)) es)
+test_places : (p : Place) (es : List (Place × Bor NotedFlow)) → IsSome (lookup (λ k. is_eq (place_cmp p k)) es)
     → Contains (map (λ e. e.0) es) p
 test_places p [] h = absurd (cc h)
 test_places p (e ∷ es) h = here_or_behind p e.0 e.1 (map (λ x. x.0) es) (is_eq (place_cmp p e.0)) refl
@@ -308,7 +307,7 @@ some_left f None h = h
 some_left f (Some a) h = refl
 
 -- each place with a flow is one of a map's
-pub place_found : (flows : BTreeMap Place (Bor Flow)) (notes : List Note) → HasFirstFlows notes flows → (p : Place)
+pub place_found : (flows : BTreeMap Place (Bor NotedFlow)) (notes : List Note) → HasFirstFlows notes flows → (p : Place)
     → IsSome (flow_noted p notes) → Contains (map (λ e. e.0) flows.entries) p
 place_found flows notes has p some = test_places p flows.entries
-    (some_left (λ (f : Bor Flow). flow_types f.now) (get place_cmp flows p) (subst IsSome (sym (has.first p)) some))
+    (some_left (λ (f : Bor NotedFlow). flow_types f.now) (get place_cmp flows p) (subst IsSome (sym (has.first p)) some))

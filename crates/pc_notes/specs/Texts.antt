@@ -1,8 +1,8 @@
--- The dynamic flows that are noted, each place once, with the texts of their types.
+-- The dynamic flows that are noted, with the texts of their types, one for each place.
 -- Own rule of the profile.
 use denote.Bor.{Bor}
-use Rattle.std.specs.Prelude.{◌≡◌, List, Contains, IsSome, IfSome, MatchOption, map, option_map}
-use Rattle.std.specs.Rc.{rc_str_bytes}
+use Rattle.std.specs.Prelude.{◌≡◌, ℕ, List, Contains, IsSome, IfSome, MatchOption, map, option_map}
+use Rattle.std.specs.Rc.{rc_str_bytes, rc_value}
 use Rattle.std.specs.declared.rc.RcStr.{RcStr}
 use Rattle.std.specs.declared.alloc.Global.{Global}
 use Rattle.std.specs.declared.cmp.Ordering.{Ordering}
@@ -12,15 +12,17 @@ use Rattle.std.specs.List.{AllByRecursion}
 use Rattle.std.specs.List.Sorted.{IsStrictlySortedBy}
 use Rattle.pc_source.specs.declared.place.Place.{Place}
 use Rattle.pc_tree.specs.Tree.{Module}
-use Rattle.pc_ann.specs.Text.{type_text}
-use Rattle.pc_notes.specs.declared.notes.Flow.{Flow}
+use Rattle.pc_types.specs.Boxed.{tree_of}
+use Rattle.pc_annotations.specs.Text.{type_text}
+use Rattle.pc_notes.specs.declared.notes.NotedFlow.{NotedFlow}
+use Rattle.pc_notes.specs.declared.sharing.NamedType.{NamedType}
 use Rattle.pc_notes.specs.Notes.{Note, flow_types, flow_noted, IsGivenFlow}
 
 -- a place, with the texts of the type that flows there and of the type that it flows into
 abbrev pub FlowText : Type 0
 FlowText = Place × RcStr Global × RcStr Global
 
--- the texts are those of the types of the first flow that is noted at the place
+-- the texts are those of the types of the first flow noted at the place
 abbrev pub IsFlowText : Module → List Note → FlowText → Type 0
 IsFlowText m notes text =
     MatchOption (flow_noted text.0 notes) ⊥
@@ -34,18 +36,26 @@ place_cmp p q = ordering_then (nat_cmp p.start q.start) (nat_cmp p.end q.end)
 abbrev pub places_of : List FlowText → List Place
 places_of texts = map (λ t. t.0) texts
 
--- each text is that of the flow noted at its place; each place where a flow is noted has one; the places ascend, so
--- none has two
+-- each text is that of the flow noted at its place; each place with a noted flow has one; the places ascend, so none
+-- has two
 pub record AreFlowTexts (m : Module) (notes : List Note) (texts : List FlowText) : Type 0 where
   pub each : AllByRecursion (IsFlowText m notes) texts
   pub all : (p : Place) → IsSome (flow_noted p notes) → Contains (places_of texts) p
   pub ordered : IsStrictlySortedBy place_cmp (places_of texts)
 
 -- the flows of a map are of types that a store of boxes may give
-abbrev pub HasGivenFlows : BTreeMap Place (Bor Flow) → Type 0
+abbrev pub HasGivenFlows : BTreeMap Place (Bor NotedFlow) → Type 0
 HasGivenFlows flows = (p : Place) → IfSome (get place_cmp flows p) (λ f. IsGivenFlow f.now)
 
--- a map has at each place the first flow that is noted there
-pub record HasFirstFlows (notes : List Note) (flows : BTreeMap Place (Bor Flow)) : Type 0 where
+-- a map has at each place the first flow noted there
+pub record HasFirstFlows (notes : List Note) (flows : BTreeMap Place (Bor NotedFlow)) : Type 0 where
   pub first : (p : Place) → option_map (λ f. flow_types f.now) (get place_cmp flows p) ≡ flow_noted p notes
   pub given : HasGivenFlows flows
+
+-- the text of a type is its text
+abbrev pub IsNamed : Module → NamedType → Type 0
+IsNamed m named = rc_str_bytes named.text ≡ type_text m (tree_of (rc_value named.ty))
+
+-- each type of a map, which is looked up by its mark, has its text
+abbrev pub AreNamed : Module → BTreeMap ℕ NamedType → Type 0
+AreNamed m known = (mark : ℕ) → IfSome (get nat_cmp known mark) (IsNamed m)

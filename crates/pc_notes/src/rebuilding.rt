@@ -1,4 +1,4 @@
-//! Types taken from one store into another.
+//! Types copied from one store into another.
 
 ghost use Rattle.std.specs.Prelude.{◌≡◌, IfOk, All, map, length};
 ghost use Rattle.pc_types.specs.Shape.{parts};
@@ -11,7 +11,7 @@ use pc_source::OutOfMemory;
 use pc_types::{Head, TypeStore};
 use std::alloc::Global;
 
-/// The type of a store with this head and these parts, or none where it has over 256 nodes.
+/// Returns the type of a store with this head and these parts, or `None` if it has over 256 nodes.
 fn rebuild<T: TypeStore>(
     store: &mut T,
     alloc: Global,
@@ -41,7 +41,7 @@ fn rebuild<T: TypeStore>(
     Ok(Some(made))
 }
 
-/// The type of a second store that means the same as one of a first.
+/// Returns the type of a second store with the same meaning as a type of a first.
 pub fn transfer<S: TypeStore, T: TypeStore>(
     from: &S,
     into: &mut T,

@@ -1,4 +1,4 @@
--- What operations come to on a member, by its head and its parts.
+-- The results of operations on a member, by its head and its parts.
 use Rattle.std.proofs.Common.{◌≡◌, ◌∙◌, sym, ap, ℕ, List, [], ◌∷◌, refl, Option, Some, None}
 use Rattle.std.specs.Prelude.{unwrap_or, slice_get}
 use Rattle.std.proofs.lemmas.List.Elements.{All-contains}

@@ -1,4 +1,4 @@
--- Displays within the limit of nodes and over it, and the first member of a kind that is expected.
+-- Displays within the limit of nodes and over it, and the first expected member of a kind.
 use Rattle.std.proofs.Common.{◌≡◌, ◌∙◌, ◌≤◌, ◌<◌, ◌+◌, ℕ, List, [], ◌∷◌, refl, sym, ap, subst, arith, length, get_or}
 use Rattle.std.proofs.Common.{drop}
 use Rattle.std.specs.Prelude.{nat_le, Bool as Test, All, true, false, Some, None, map, slice_get, nat_eq, Result, IfOk}

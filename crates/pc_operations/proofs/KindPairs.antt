@@ -1,4 +1,4 @@
--- An operator on each pair of members comes to what the kind that all have in common says.
+-- The result of an operator on each pair of members follows from the kind that all of them share.
 use Rattle.std.proofs.Common.{◌≡◌, ◌∙◌, ◌++◌, List, [], ◌∷◌, refl, sym, ap, subst, append_assoc}
 use Rattle.std.specs.Prelude.{Bool as Test, true, false, not, ◌||◌, if◌then◌else◌, Option, Some, None, map}
 use Rattle.std.specs.List.{list_any}
@@ -74,7 +74,7 @@ module _ (takes : Kind → Test) where
 -- ---- the label of an operator on all pairs of members
 
 module _ (takes : Kind → Test) (gives : Kind → Tree) where
-  -- what the row of two kinds gives, by the kind that they have in common
+  -- the result of the row of two kinds, by the kind that they have in common
   abbrev row_at : Option Kind → Option Tree
   row_at None = None
   row_at (Some k) = if takes k then Some (gives k) else None
@@ -88,7 +88,7 @@ module _ (takes : Kind → Test) (gives : Kind → Tree) where
   row_is (Some whole_kind) (Some text_kind) = refl
   row_is (Some text_kind) (Some whole_kind) = refl
 
-  -- what is found on a pair
+  -- the codes found on a pair
   abbrev codes_of_row : Option Kind → List Code
   codes_of_row c = (pair_found (row_at c)).found
 
@@ -126,7 +126,7 @@ module _ (takes : Kind → Test) (gives : Kind → Tree) where
       go true = tt
       go false = (refl, tt)
 
-  -- what is found on the pairs of a member and others, and on all pairs
+  -- the offers on the pairs of a member and others, and on all pairs
   abbrev row_offers : Tree → List Tree → List Offer
   row_offers m ns = map (λ n. pair_found (row_of_kinds takes gives (kind_of m) (kind_of n))) ns
 

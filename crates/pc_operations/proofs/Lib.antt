@@ -1,3 +1,4 @@
+pub mod AttributesRead
 pub mod ByHead
 pub mod Displayed
 pub mod Indexing

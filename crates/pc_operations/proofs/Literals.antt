@@ -1,4 +1,4 @@
--- Int literals as indices of tuples: a number of 256 or more is none of a tuple's that a type may have.
+-- Int literals as indices of tuples: 256 or more is no index of a tuple within the limit of nodes.
 use Rattle.std.proofs.Common.{◌≡◌, ◌≤◌, ◌<◌, ◌+◌, ◌*◌, ◌-◌, ℕ, List, [], ◌∷◌, refl, sym, ap, arith, length, drop}
 use Rattle.std.proofs.Common.{get_or, drop-cons, add-one}
 use Rattle.std.specs.Prelude.{Option, Some, None, MatchOption, unwrap_or, slice_get}

@@ -1,4 +1,4 @@
--- Loops over the members of a type and over what an operation comes to on them.
+-- Loops over the members of a type and over the results of an operation on them.
 use Rattle.std.proofs.Common.{◌≡◌, ◌+◌, ◌<◌, ◌≤◌, ◌∙◌, ℕ, List, [], ◌∷◌, ◌++◌, Option, Some, None, refl, sym, ap}
 use Rattle.std.proofs.Common.{append_assoc, length, get_or, drop}
 use Rattle.std.specs.Prelude.{Bool as Test, true, false, ◌||◌, if◌then◌else◌, All, map, flat_map, option_to_list}
@@ -152,7 +152,7 @@ module _ {Ty : Type 0} (tree : Ty → Tree) (offers : List (RustOffer Ty)) where
   abbrev takes_of : List Offer → List Tree
   takes_of os = flat_map (λ o. o.takes) os
 
-  -- so many offers' operands are among the types; these are to come
+  -- the operand types of so many offers are collected; these are to come
   abbrev pub IsTaken : ℕ → List Ty → Type 0
   IsTaken i types = map tree types ++ takes_of (drop i (map (offer_with tree) offers))
       ≡ takes_of (map (offer_with tree) offers)

@@ -1,4 +1,4 @@
--- Operators on two operands: what their types are by their heads, loops over members, and labels by the kind in common.
+-- Operators on two operands: their types by heads, loops over members, and labels by the shared kind.
 use Rattle.std.proofs.Common.{◌≡◌, ◌∙◌, ◌+◌, ◌<◌, ◌≤◌, ℕ, List, [], ◌∷◌, refl, sym, arith, length, get_or, drop}
 use Rattle.std.specs.Prelude.{Bool as Test, true, false, ◌||◌, if◌then◌else◌, Option, Some, None, map, Result, IfOk}
 use Rattle.std.specs.Option.{option_map}
@@ -20,8 +20,8 @@ use Rattle.pc_operations.specs.Internal.OperandPairs.{meet, common_onto, common,
 use Rattle.pc_operations.specs.Internal.OperandPairs.{gives_of, operator_label}
 use Rattle.pc_rules.specs.Computed.Standing.{MeansLabel}
 use Rattle.pc_rules.specs.declared.label.Label.{Label as RustLabel}
-use Rattle.pc_operations.specs.declared.kinds.Operator.{Operator}
-use Rattle.pc_operations.specs.declared.kinds.Operator.TheVariants as operators
+use Rattle.pc_operations.specs.declared.kinds.KindOperator.{KindOperator}
+use Rattle.pc_operations.specs.declared.kinds.KindOperator.TheVariants as operators
 use Rattle.pc_operations.specs.declared.kinds.Kind.{Kind as RustKind}
 use Rattle.pc_operations.proofs.KindPairs.{pairs_common}
 
@@ -103,25 +103,25 @@ kind_brief takes gives (Some k) = go (takes k)
     go false = refl
 
 -- the label of a kind that the operator takes
-pub taken_label : (operator : Operator) (c : Option RustKind) (k : RustKind) → c ≡ Some k
+pub taken_label : (operator : KindOperator) (c : Option RustKind) (k : RustKind) → c ≡ Some k
     → takes_of operator (kind_with k) ≡ true → clean (gives_of operator (kind_with k)) ≡ kind_label (takes_of operator)
     (gives_of operator) (option_map kind_with c)
 taken_label operator c k e t = rw (e, t) refl
 
-given_first : (bases : Bases) (operator : Operator) (k : Kind) → join_or_object bases Never (gives_of operator k)
+given_first : (bases : Bases) (operator : KindOperator) (k : Kind) → join_or_object bases Never (gives_of operator k)
     ≡ gives_of operator k
 given_first bases (operators.Arithmetic operator) whole_kind = refl
 given_first bases (operators.Arithmetic operator) text_kind = refl
 given_first bases operators.Order k = refl
 
-given_again : (bases : Bases) (operator : Operator) (k : Kind) → join_or_object bases (gives_of operator k)
+given_again : (bases : Bases) (operator : KindOperator) (k : Kind) → join_or_object bases (gives_of operator k)
     (gives_of operator k) ≡ gives_of operator k
 given_again bases (operators.Arithmetic operator) whole_kind = refl
 given_again bases (operators.Arithmetic operator) text_kind = refl
 given_again bases operators.Order k = refl
 
 -- the label of all pairs of members of two types is that of the kind in common
-pub pairs_are : (bases : Bases) (operator : Operator) (s t : Tree) → (is_never s || is_never t) ≡ false
+pub pairs_are : (bases : Bases) (operator : KindOperator) (s t : Tree) → (is_never s || is_never t) ≡ false
     → brief (kind_label (takes_of operator) (gives_of operator) (meet (common (members s)) (common (members t))))
     ≡ brief (offers_label bases (pair_offers (takes_of operator) (gives_of operator) (members s) (members t)))
 pairs_are bases operator s t e = kind_brief (takes_of operator) (gives_of operator)
@@ -145,6 +145,6 @@ pairs_are bases operator s t e = kind_brief (takes_of operator) (gives_of operat
     left (Union a b) h = right a (members b) t h
     left x h = right x [] t h
 
-module _ (bases : Bases) (operator : Operator) (s t : Tree) where
+module _ (bases : Bases) (operator : KindOperator) (s t : Tree) where
   pub on_never : (is_never s || is_never t) ≡ true → clean Never ≡ operator_label bases operator s t
   on_never e = rw e refl

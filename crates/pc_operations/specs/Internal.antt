@@ -1,2 +1,2 @@
--- What only the contracts of private functions say: the public contracts speak of the files beside this folder.
+-- Definitions used only by the contracts of private functions; public contracts cite the files beside this folder.
 pub mod OperandPairs

@@ -1,10 +1,10 @@
-//! The label of a comparison over the labels of its operands.
+//! The label of a comparison, given the labels of its operands.
 #![tactic(auto, using(pc_rules::proofs::Checkers::goes_further))]
 
 ghost use Rattle.std.specs.Prelude.{◌≡◌, IfOk, OnOk};
 ghost use Rattle.pc_tree.specs.Tree.{expr_of};
 ghost use Rattle.pc_tree.specs.Depth.{place_of};
-ghost use Rattle.pc_rules.specs.Computed.Checkers.{Finds, GoesOn, IsLabel};
+ghost use Rattle.pc_rules.specs.Computed.Checkers.{Finds, CheckerKept, IsLabel};
 ghost use Rattle.pc_rules.specs.Operations.{Label as LabelOf};
 ghost use Rattle.pc_rules.specs.Lawful.{compare_label, compare_types};
 ghost use Rattle.pc_rules.specs.Computed.Expressions.{flows_of};
@@ -12,14 +12,15 @@ ghost use Rattle.pc_rules.specs.Computed.Findings.{brief, flows_at};
 ghost use Rattle.pc_rules.specs.Computed.Standing.{label_with};
 
 use crate::pairs::{compare_label, compare_types};
-use pc_rules::{Checker, Label, find_flows};
+use pc_rules::{Label, TypingState, find_flows};
 use pc_source::OutOfMemory;
 use pc_tree::{ComparisonOperator, Expr};
 use pc_types::{Parents, TypeStore};
 
-/// The label of a comparison, and what is found where its left operand flows. Language Reference 6.10 "Comparisons".
+/// Returns the label of a comparison, given the label of its left operand and the type of its right one. With `in` and
+/// `not in`, appends the findings of the flow of the left operand. Language Reference 6.10 "Comparisons".
 pub fn label_comparison<S: TypeStore>(
-    checker: &mut Checker<'_, S>,
+    checker: &mut TypingState<'_, S>,
     parents: &Parents,
     operator: ComparisonOperator,
     left: &Expr,
@@ -34,7 +35,7 @@ pub fn label_comparison<S: TypeStore>(
     ensures found { (m : LabelOf) → label_with S.tree label.now ≡ brief m
         → OnOk result (Finds checker.old checker.new (flows_at (place_of (expr_of left.now))
         (flows_of parents.now m (compare_types operator (S.tree right.now))))) }
-    ensures goes_on { GoesOn S.TypeStore checker.old checker.new }
+    ensures goes_on { CheckerKept S.TypeStore checker.old checker.new }
 {
     let types = compare_types(checker.store, checker.alloc, operator, right)?;
     find_flows(checker, parents, left.place(), label, &types)?;

@@ -1,4 +1,4 @@
-//! Displays of lists, dicts and tuples: their labels, and what is expected of their parts.
+//! Displays of lists, dicts and tuples: their labels, and the expected types of their parts.
 
 ghost use Rattle.std.specs.Prelude.{◌≡◌, List, All, IfOk, map};
 ghost use Rattle.std.specs.Option.{option_map};
@@ -25,14 +25,14 @@ use pc_tree::Code;
 use pc_types::{Head, Parents, TypeStore};
 use std::alloc::Global;
 
-/// The types of a dict's keys and of its values.
+/// The key type and the value type of a dict.
 #[derive(Drop)]
 pub struct KeyValue<Ty: Drop> {
     pub key: Ty,
     pub value: Ty,
 }
 
-/// The members of an expected type, none where nothing is expected.
+/// Returns the members of an expected type, none if there is no such type.
 fn expected_members<S: TypeStore>(
     store: &S,
     alloc: Global,
@@ -48,7 +48,7 @@ fn expected_members<S: TypeStore>(
     }
 }
 
-/// The label of a tuple display.
+/// Returns the label of a tuple display with items of these types; E26 if the type has too many nodes.
 pub fn tuple_label<S: TypeStore>(
     store: &mut S,
     alloc: Global,
@@ -66,7 +66,7 @@ pub fn tuple_label<S: TypeStore>(
     }
 }
 
-/// The label of a list display whose items have this type.
+/// Returns the label of a list display with items of this type; E26 if the type has too many nodes.
 fn list_of<S: TypeStore>(
     store: &mut S,
     alloc: Global,
@@ -83,7 +83,8 @@ fn list_of<S: TypeStore>(
     }
 }
 
-/// The label of a list display: of the expected items, else of the join of its items, of `Any` where it is empty.
+/// Returns the label of a list display: a list of the expected items, else of the join of its items, of `Any` if it is
+/// empty.
 pub fn list_label<S: TypeStore>(
     store: &mut S,
     alloc: Global,
@@ -110,7 +111,7 @@ pub fn list_label<S: TypeStore>(
     list_of(store, alloc, &item)
 }
 
-/// The label of a dict display with keys and values of these types.
+/// Returns the label of a dict display with keys and values of these types; E26 if the type has too many nodes.
 fn dict_of<S: TypeStore>(
     store: &mut S,
     alloc: Global,
@@ -131,7 +132,7 @@ fn dict_of<S: TypeStore>(
     }
 }
 
-/// The label of a dict display with keys of this type, and values of the join of these.
+/// Returns the label of a dict display with keys of this type and values of the join of these types.
 fn dict_of_join<S: TypeStore>(
     store: &mut S,
     alloc: Global,
@@ -151,7 +152,7 @@ fn dict_of_join<S: TypeStore>(
     dict_of(store, alloc, key, &value)
 }
 
-/// Whether each of several types is static to one.
+/// Returns whether each of several types is a static subtype of `into`.
 fn are_static<S: TypeStore>(store: &mut S, parents: &Parents, types: &[S::Ty], into: &S::Ty) -> bool
     requires types { All (S.has store.old) types.now }
     requires into { S.has store.old into.now }
@@ -166,7 +167,7 @@ fn are_static<S: TypeStore>(store: &mut S, parents: &Parents, types: &[S::Ty], i
     true
 }
 
-/// The label of a dict display of which no dict is expected: its keys are all `int`, or all `str`.
+/// Returns the label of a dict display without an expected dict: its keys are all `int` or all `str`, else it is E22.
 fn own_dict_label<S: TypeStore>(
     store: &mut S,
     alloc: Global,
@@ -195,7 +196,7 @@ fn own_dict_label<S: TypeStore>(
     in_error(store, alloc, Code::E22)
 }
 
-/// The label of a dict display: of the expected dict, else of what its own keys and values make.
+/// Returns the label of a dict display: the expected dict, else the dict of its own keys and values.
 pub fn dict_label<S: TypeStore>(
     store: &mut S,
     alloc: Global,
@@ -220,8 +221,8 @@ pub fn dict_label<S: TypeStore>(
     }
 }
 
-/// What is expected of the items of a list display: the item type of the first list among the members of the expected
-/// type.
+/// Returns the expected type of the items of a list display: the item type of the first list among the members of the
+/// display's expected type.
 pub fn list_item<S: TypeStore>(
     store: &S,
     alloc: Global,
@@ -241,8 +242,8 @@ pub fn list_item<S: TypeStore>(
     Ok(None)
 }
 
-/// What is expected of the entries of a dict display: the types of keys and values of the first dict among the members
-/// of the expected type.
+/// Returns the expected types of the entries of a dict display: the key and value types of the first dict among the
+/// members of the display's expected type.
 pub fn dict_parts<S: TypeStore>(
     store: &S,
     alloc: Global,
@@ -264,7 +265,7 @@ pub fn dict_parts<S: TypeStore>(
     Ok(None)
 }
 
-/// Whether a type is a tuple of this length.
+/// Returns whether a type is a tuple of this length.
 #[tactic(auto, using(crate::proofs::Displayed::tuple_is))]
 fn is_tuple<S: TypeStore>(store: &S, ty: &S::Ty, length: usize) -> bool
     requires { S.has store.now ty.now }
@@ -276,8 +277,8 @@ fn is_tuple<S: TypeStore>(store: &S, ty: &S::Ty, length: usize) -> bool
     }
 }
 
-/// What is expected of the items of a tuple display of this length: the parts of the first such tuple among the members
-/// of the expected type, none where there is no such tuple.
+/// Returns the expected types of the items of a tuple display of this length: those of the first such tuple among the
+/// members of the display's expected type, none if there is no such tuple.
 pub fn tuple_parts<S: TypeStore>(
     store: &S,
     alloc: Global,

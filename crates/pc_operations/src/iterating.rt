@@ -14,7 +14,7 @@ use pc_source::OutOfMemory;
 use pc_types::{Parents, TypeStore};
 use std::alloc::Global;
 
-/// The label of an item of an iterable of a type. Language Reference 8.3 "The for statement".
+/// Returns the label of an item of an iterable with this type. Language Reference 8.3 "The for statement".
 pub fn item_label<S: TypeStore>(
     store: &mut S,
     alloc: Global,

@@ -1,4 +1,4 @@
-//! The kinds of operands: what operators take, and what they give.
+//! The kinds of operands, and the types that operators give for them.
 #![tactic(auto, using(crate::proofs::Operators::by_operator))]
 
 ghost use Rattle.std.specs.Prelude.{◌≡◌, ◌||◌, ◌∷◌, [], false, All, IfOk, IsTrue, map};
@@ -15,21 +15,21 @@ use pc_tree::BinaryOperator;
 use pc_types::{Head, TypeStore};
 use std::alloc::Global;
 
-/// What operators take of an operand: a whole number, a text.
+/// The kind of an operand that operators take: `int` (and `bool`), or `str`.
 #[derive(Clone, Copy)]
 pub(crate) enum Kind {
     Whole,
     Text,
 }
 
-/// An operator that goes by the kinds of its operands: one of `+ - * // %`, or an order.
+/// An operator that depends on the kinds of its operands: one of `+ - * // %`, or one of `< <= > >=`.
 #[derive(Clone, Copy)]
-pub(crate) enum Operator {
+pub(crate) enum KindOperator {
     Arithmetic(BinaryOperator),
     Order,
 }
 
-/// The kind of a type, if operators take it.
+/// Returns the kind of a type, `None` if operators do not take it.
 fn kind_of<S: TypeStore>(store: &S, ty: &S::Ty) -> Option<Kind>
     requires { S.has store.now ty.now }
     ensures { option_map kind_with result ≡ kind_of (S.tree ty.now) }
@@ -41,7 +41,7 @@ fn kind_of<S: TypeStore>(store: &S, ty: &S::Ty) -> Option<Kind>
     }
 }
 
-/// The kind that two have in common, if they have one.
+/// Returns the kind that two have in common, if they have one.
 pub(crate) fn meet(first: Option<Kind>, second: Option<Kind>) -> Option<Kind>
     ensures { option_map kind_with result ≡ meet (option_map kind_with first) (option_map kind_with second) }
 {
@@ -52,7 +52,7 @@ pub(crate) fn meet(first: Option<Kind>, second: Option<Kind>) -> Option<Kind>
     }
 }
 
-/// The kind that all of several types have in common, if there are any.
+/// Returns the kind that all of several types share; `None` if they share none or there are no types.
 fn common_kind<S: TypeStore>(store: &S, types: &[S::Ty]) -> Option<Kind>
     requires { All (S.has store.now) types.now }
     ensures { option_map kind_with result ≡ common (map S.tree types.now) }
@@ -67,7 +67,7 @@ fn common_kind<S: TypeStore>(store: &S, types: &[S::Ty]) -> Option<Kind>
     common
 }
 
-/// Whether a type is its only member: it is no union and not `Never`.
+/// Returns whether a type is its own only member: neither a union nor `Never`.
 pub(crate) fn is_single<S: TypeStore>(store: &S, ty: &S::Ty) -> bool
     requires { S.has store.now ty.now }
     ensures { IsTrue result → members (S.tree ty.now) ≡ S.tree ty.now ∷ [] }
@@ -75,7 +75,8 @@ pub(crate) fn is_single<S: TypeStore>(store: &S, ty: &S::Ty) -> bool
     !matches!(store.head(ty), Head::Never | Head::Union(_))
 }
 
-/// The kind that all members of a type have in common, if there are any; a type that is its only member is not copied.
+/// Returns the kind that all members of a type share; `None` if they share none or there are no members. A type that is
+/// its own only member is not copied.
 pub(crate) fn kind_of_members<S: TypeStore>(
     store: &S,
     alloc: Global,
@@ -91,49 +92,49 @@ pub(crate) fn kind_of_members<S: TypeStore>(
     Ok(common_kind(store, &members))
 }
 
-/// Whether an operator takes a kind.
-pub(crate) fn takes(operator: Operator, kind: Kind) -> bool
+/// Returns whether an operator takes a kind.
+pub(crate) fn takes(operator: KindOperator, kind: Kind) -> bool
     ensures { result ≡ takes_of operator (kind_with kind) }
 {
     match (operator, kind) {
-        (Operator::Order, _) | (_, Kind::Whole) => true,
-        (Operator::Arithmetic(operator), Kind::Text) => operator == BinaryOperator::Add,
+        (KindOperator::Order, _) | (_, Kind::Whole) => true,
+        (KindOperator::Arithmetic(operator), Kind::Text) => operator == BinaryOperator::Add,
     }
 }
 
-/// What an operator gives for a kind that it takes.
+/// Returns the type that an operator gives for a kind that it takes.
 pub(crate) fn given_type<S: TypeStore>(
     store: &mut S,
     alloc: Global,
-    operator: Operator,
+    operator: KindOperator,
     kind: Kind,
 ) -> Result<S::Ty, OutOfMemory>
     ensures value { IfOk result (λ t. Means S.has S.tree store.new t (gives_of operator (kind_with kind))) }
     ensures kept { KeepsTypes S.has store.old store.new }
 {
     match (operator, kind) {
-        (Operator::Order, _) => store.bool(alloc),
-        (Operator::Arithmetic(_), Kind::Whole) => store.int(alloc),
-        (Operator::Arithmetic(_), Kind::Text) => store.str(alloc),
+        (KindOperator::Order, _) => store.bool(alloc),
+        (KindOperator::Arithmetic(_), Kind::Whole) => store.int(alloc),
+        (KindOperator::Arithmetic(_), Kind::Text) => store.str(alloc),
     }
 }
 
-/// What an operator gives at a dynamic place.
+/// Returns the type that an operator gives at a dynamic place.
 pub(crate) fn dynamic_type<S: TypeStore>(
     store: &mut S,
     alloc: Global,
-    operator: Operator,
+    operator: KindOperator,
 ) -> Result<S::Ty, OutOfMemory>
     ensures value { IfOk result (λ t. Means S.has S.tree store.new t (dynamic_of operator)) }
     ensures kept { KeepsTypes S.has store.old store.new }
 {
     match operator {
-        Operator::Order => store.bool(alloc),
-        Operator::Arithmetic(_) => store.any(alloc),
+        KindOperator::Order => store.bool(alloc),
+        KindOperator::Arithmetic(_) => store.any(alloc),
     }
 }
 
-/// Whether a type is `Any`.
+/// Returns whether a type is `Any`.
 pub(crate) fn is_any<S: TypeStore>(store: &S, ty: &S::Ty) -> bool
     requires { S.has store.now ty.now }
     ensures { result ≡ is_any (S.tree ty.now) }
@@ -141,7 +142,7 @@ pub(crate) fn is_any<S: TypeStore>(store: &S, ty: &S::Ty) -> bool
     store.head(ty) == Head::Any
 }
 
-/// Whether a type is `Never`.
+/// Returns whether a type is `Never`.
 pub(crate) fn is_never<S: TypeStore>(store: &S, ty: &S::Ty) -> bool
     requires { S.has store.now ty.now }
     ensures { result ≡ is_never (S.tree ty.now) }
@@ -149,8 +150,8 @@ pub(crate) fn is_never<S: TypeStore>(store: &S, ty: &S::Ty) -> bool
     store.head(ty) == Head::Never
 }
 
-/// Whether a type is `Any` or of a kind that an operator takes.
-fn may_suit<S: TypeStore>(store: &S, operator: Operator, ty: &S::Ty) -> bool
+/// Returns whether a type is `Any` or of a kind that an operator takes.
+fn may_suit<S: TypeStore>(store: &S, operator: KindOperator, ty: &S::Ty) -> bool
     requires { S.has store.now ty.now }
     ensures { result ≡ (is_any (S.tree ty.now) || has_side (takes_of operator) (S.tree ty.now)) }
 {
@@ -163,8 +164,8 @@ fn may_suit<S: TypeStore>(store: &S, operator: Operator, ty: &S::Ty) -> bool
     }
 }
 
-/// Whether each of several types is `Any` or of a kind that an operator takes.
-pub(crate) fn may_suit_all<S: TypeStore>(store: &S, operator: Operator, types: &[S::Ty]) -> bool
+/// Returns whether each of several types is `Any` or of a kind that an operator takes.
+pub(crate) fn may_suit_all<S: TypeStore>(store: &S, operator: KindOperator, types: &[S::Ty]) -> bool
     requires { All (S.has store.now) types.now }
     ensures { result ≡ list_all (λ t. is_any t || has_side (takes_of operator) t) (map S.tree types.now) }
 {

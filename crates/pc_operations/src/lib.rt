@@ -1,8 +1,9 @@
-//! What operations on values come to: on each member of a type, and on all of them.
+//! Operations on values: their results on each member of a type, and their labels.
 #![tactic(auto)]
 
 mod comparing;
 mod display;
+mod fields;
 mod iterating;
 mod kinds;
 mod members;

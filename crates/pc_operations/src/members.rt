@@ -1,4 +1,4 @@
-//! What each operation comes to on one member of a type, by the member's head.
+//! The result of each operation on one member of a type, by the member's head.
 #![tactic(auto, using(crate::proofs::ByHead::by_head))]
 
 ghost use Rattle.std.specs.Prelude.{◌≡◌, All, IfOk, map};
@@ -17,7 +17,7 @@ use pc_tree::Code;
 use pc_types::{Head, Parents, TypeStore};
 use std::alloc::Global;
 
-/// What an operation comes to that finds this code on a member, and gives `Any`.
+/// Returns the result of an operation with this code, which gives `Any`.
 fn with_code<S: TypeStore>(
     store: &mut S,
     alloc: Global,
@@ -34,7 +34,7 @@ fn with_code<S: TypeStore>(
     })
 }
 
-/// What `-` comes to on a member.
+/// Returns the result of unary `-` on a member.
 pub(crate) fn negative_offer<S: TypeStore>(
     store: &mut S,
     alloc: Global,
@@ -58,7 +58,7 @@ pub(crate) fn negative_offer<S: TypeStore>(
     }
 }
 
-/// What a length comes to on a member.
+/// Returns the result of `len` on a member.
 pub(crate) fn length_offer<S: TypeStore>(
     store: &mut S,
     alloc: Global,
@@ -81,7 +81,7 @@ pub(crate) fn length_offer<S: TypeStore>(
     })
 }
 
-/// The join of several types from the left, `Never` of none.
+/// Returns the join of several types, from the left; `Never` for none.
 pub(crate) fn join_types<S: TypeStore>(
     store: &mut S,
     alloc: Global,
@@ -95,7 +95,8 @@ pub(crate) fn join_types<S: TypeStore>(
     store.join_all(alloc, parents, types)
 }
 
-/// What a loop comes to over a member: a list's items, a dict's keys, texts of a text, the join of a tuple's items.
+/// Returns the result of iterating over a member: a list's items, a dict's keys, `str` for a `str`, the join of a
+/// tuple's items.
 pub(crate) fn iterate_offer<S: TypeStore>(
     store: &mut S,
     alloc: Global,
@@ -124,7 +125,7 @@ pub(crate) fn iterate_offer<S: TypeStore>(
     })
 }
 
-/// The union of what is looked for in a dict: `int`, `str` or `None`.
+/// Returns the union of the types that `in` takes for a dict: `int`, `str` or `None`.
 fn looked_for<S: TypeStore>(store: &mut S, alloc: Global) -> Result<S::Ty, OutOfMemory>
     ensures value { IfOk result (λ t. Means S.has S.tree store.new t (Union Int (Union Str NoneType))) }
     ensures kept { KeepsTypes S.has store.old store.new }
@@ -139,7 +140,7 @@ fn looked_for<S: TypeStore>(store: &mut S, alloc: Global) -> Result<S::Ty, OutOf
     }
 }
 
-/// What `in` comes to on a member of its right operand's type.
+/// Returns the result of `in` on a member of its right operand's type.
 pub(crate) fn contain_offer<S: TypeStore>(
     store: &mut S,
     alloc: Global,
@@ -168,7 +169,7 @@ pub(crate) fn contain_offer<S: TypeStore>(
     })
 }
 
-/// The type of a tuple's item: at a number below its length that one, else the join of all.
+/// Returns the type of a tuple's item: the one at `literal` if that is below its length, else the join of all.
 fn tuple_item<S: TypeStore>(
     store: &mut S,
     alloc: Global,
@@ -189,7 +190,7 @@ fn tuple_item<S: TypeStore>(
     join_types(store, alloc, parents, items)
 }
 
-/// What an index comes to on a member, with its number where it is an int literal.
+/// Returns the result of an index on a member. `literal` is the index if it is an int literal.
 pub(crate) fn index_offer<S: TypeStore>(
     store: &mut S,
     alloc: Global,
@@ -229,7 +230,7 @@ pub(crate) fn index_offer<S: TypeStore>(
     })
 }
 
-/// What reading a name of an instance comes to on a member: a field gives its type, a method's name is no value.
+/// Returns the result of reading an attribute on a member: a field gives its type; a method is no value (E20).
 pub(crate) fn attribute_offer<S: TypeStore>(
     store: &mut S,
     alloc: Global,

@@ -26,14 +26,14 @@ use pc_tree::{Code, Expr};
 use pc_types::{Parents, TypeStore};
 use std::alloc::Global;
 
-/// An operation on a value, whose type may be a union: it must suit each member.
+/// An operation on a value, whose type may be a union: every member must support it.
 #[derive(Clone, Copy)]
 pub enum Operation<'n> {
     /// `-e`
     Negative,
     /// `e.name`
     Attribute(&'n str),
-    /// `e[i]`, with the number where the index is an int literal.
+    /// `e[i]`, with the value of the index if it is a small int literal.
     Index(Option<usize>),
     /// `for x in e`
     Iterate,
@@ -43,7 +43,7 @@ pub enum Operation<'n> {
     Length,
 }
 
-/// What an operation comes to on a member.
+/// Returns the result of an operation on one member.
 fn offer_on<S: TypeStore>(
     store: &mut S,
     alloc: Global,
@@ -69,7 +69,7 @@ fn offer_on<S: TypeStore>(
     }
 }
 
-/// What an operation comes to on a type that is its only member.
+/// Returns the result of an operation on a type that is its own only member, as a list of one.
 fn only_offer<S: TypeStore>(
     store: &mut S,
     alloc: Global,
@@ -92,7 +92,7 @@ fn only_offer<S: TypeStore>(
     Ok(offers)
 }
 
-/// What an operation comes to on each member of a type, in order.
+/// Returns the results of an operation on each member of a type, in order.
 pub fn member_offers<S: TypeStore>(
     store: &mut S,
     alloc: Global,
@@ -121,15 +121,15 @@ pub fn member_offers<S: TypeStore>(
     Ok(offers)
 }
 
-/// Whether one of the codes is an error.
+/// Returns whether one of the codes is an error.
 pub fn has_error(codes: &[Code]) -> bool
     ensures { result ≡ has_error codes.now }
 {
     codes.iter().any(|code| code.is_error())
 }
 
-/// The label of an operation, by what it comes to on each member: the join of the results, `Any` where one is in error;
-/// each code once.
+/// Returns the label of an operation, given its results on each member: the join of their types, `Any` if one is in
+/// error, and each code once.
 pub fn offers_label<S: TypeStore>(
     store: &mut S,
     alloc: Global,
@@ -155,7 +155,7 @@ pub fn offers_label<S: TypeStore>(
     Ok(Label { ty, codes })
 }
 
-/// Whether a code is an error, if there is one.
+/// Returns whether there is a code and it is an error.
 fn is_error(found: Option<Code>) -> bool
     ensures { result ≡ has_error (option_to_list found) }
 {
@@ -165,7 +165,7 @@ fn is_error(found: Option<Code>) -> bool
     }
 }
 
-/// Whether an operation is in error on one of the members.
+/// Returns whether an operation is in error on one of the members.
 fn is_wrong<Ty: Drop>(offers: &[Offer<Ty>]) -> bool
     ensures { (tree : Ty → Tree) → result ≡ has_error (found_of (map (offer_with tree) offers.now)) }
 {
@@ -177,7 +177,7 @@ fn is_wrong<Ty: Drop>(offers: &[Offer<Ty>]) -> bool
     false
 }
 
-/// Adds a type again, if there is one.
+/// Appends a copy of a type, if there is one.
 pub fn add_copy<S: TypeStore>(
     store: &S,
     alloc: Global,
@@ -196,7 +196,7 @@ pub fn add_copy<S: TypeStore>(
     Ok(())
 }
 
-/// The types that an operand flows into, member by member; none where the operation is in error.
+/// Returns the types that an operand flows into, member by member; none if the operation is in error.
 pub fn operand_types<S: TypeStore>(
     store: &S,
     alloc: Global,
@@ -216,7 +216,8 @@ pub fn operand_types<S: TypeStore>(
     Ok(types)
 }
 
-/// The number that digits stand for, where it is below 256; digits may be many, and are read no further than that.
+/// Returns the value of decimal digits if it is below 256. Reads no digit beyond that limit, since literals may be
+/// long.
 fn small_number(digits: &str) -> Option<usize>
     ensures { MatchOption result (node_limit ≤ number_behind 0 digits.now) (λ n. n ≡ number_behind 0 digits.now) }
 {
@@ -231,7 +232,8 @@ fn small_number(digits: &str) -> Option<usize>
     Some(number)
 }
 
-/// The number of an int literal as an index, where it may be one of a tuple's: a type has at most 256 nodes.
+/// Returns the value of an int literal below 256, as an index into a tuple. No larger one can matter: a type has at
+/// most 256 nodes.
 pub(crate) fn literal_index(e: &Expr) -> Option<usize>
     ensures { (bases : Bases) (t : Tree) → nodes t ≤ node_limit
         → index_member bases result t ≡ index_member bases (int_literal (expr_of e.now)) t }

@@ -1,4 +1,4 @@
-//! Labels of the forms of expressions over the labels of their operands.
+//! The labels of the forms of expressions, given the types of their operands.
 #![tactic(auto, using(pc_rules::proofs::Checkers::goes_further))]
 
 ghost use Rattle.std.specs.Prelude.{◌≡◌, map, IfOk, OnOk};
@@ -9,7 +9,7 @@ ghost use Rattle.pc_types.specs.Shape.{members};
 ghost use Rattle.pc_types.specs.Store.{KeepsTypes};
 ghost use Rattle.pc_class.specs.Tables.{classes_with, HasEntries};
 ghost use Rattle.pc_flow.specs.Environment.{join_or_object};
-ghost use Rattle.pc_rules.specs.Computed.Checkers.{Finds, GoesOn, IsLabel};
+ghost use Rattle.pc_rules.specs.Computed.Checkers.{Finds, CheckerKept, IsLabel};
 ghost use Rattle.pc_rules.specs.Operations.{Label as LabelOf, clean, offers_label, operand_types, negative_member};
 ghost use Rattle.pc_rules.specs.Operations.{attribute_member};
 ghost use Rattle.pc_rules.specs.Operations.{index_member};
@@ -18,15 +18,16 @@ ghost use Rattle.pc_rules.specs.Computed.Expressions.{flows_of};
 ghost use Rattle.pc_rules.specs.Computed.Findings.{brief, flows_at};
 ghost use Rattle.pc_rules.specs.Computed.Standing.{label_with, MeansLabel};
 
+use crate::fields::{field_types, label_of_fields};
 use crate::offers::{Operation, literal_index, member_offers, offers_label, operand_types};
 use pc_flow::join_or_object;
-use pc_rules::{Checker, Label, Setting, find_flows};
+use pc_rules::{ExprContext, Label, TypingState, find_flows};
 use pc_source::OutOfMemory;
 use pc_tree::{Expr, Name};
 use pc_types::{Parents, TypeStore};
 use std::alloc::Global;
 
-/// The label of a whole number.
+/// Returns the label `int`, without codes.
 pub fn label_int<S: TypeStore>(store: &mut S, alloc: Global) -> Result<Label<S::Ty>, OutOfMemory>
     ensures value { IfOk result (λ l. MeansLabel S.has S.tree store.new l (clean Int)) }
     ensures kept { KeepsTypes S.has store.old store.new }
@@ -36,7 +37,7 @@ pub fn label_int<S: TypeStore>(store: &mut S, alloc: Global) -> Result<Label<S::
     Ok(Label { ty, codes })
 }
 
-/// The label of a text.
+/// Returns the label `str`, without codes.
 pub fn label_str<S: TypeStore>(store: &mut S, alloc: Global) -> Result<Label<S::Ty>, OutOfMemory>
     ensures value { IfOk result (λ l. MeansLabel S.has S.tree store.new l (clean Str)) }
     ensures kept { KeepsTypes S.has store.old store.new }
@@ -46,7 +47,7 @@ pub fn label_str<S: TypeStore>(store: &mut S, alloc: Global) -> Result<Label<S::
     Ok(Label { ty, codes })
 }
 
-/// The label of a truth value.
+/// Returns the label `bool`, without codes.
 pub fn label_bool<S: TypeStore>(store: &mut S, alloc: Global) -> Result<Label<S::Ty>, OutOfMemory>
     ensures value { IfOk result (λ l. MeansLabel S.has S.tree store.new l (clean Bool)) }
     ensures kept { KeepsTypes S.has store.old store.new }
@@ -56,7 +57,7 @@ pub fn label_bool<S: TypeStore>(store: &mut S, alloc: Global) -> Result<Label<S:
     Ok(Label { ty, codes })
 }
 
-/// The label of `None`.
+/// Returns the label `None`, without codes.
 pub fn label_none<S: TypeStore>(store: &mut S, alloc: Global) -> Result<Label<S::Ty>, OutOfMemory>
     ensures value { IfOk result (λ l. MeansLabel S.has S.tree store.new l (clean NoneType)) }
     ensures kept { KeepsTypes S.has store.old store.new }
@@ -66,11 +67,12 @@ pub fn label_none<S: TypeStore>(store: &mut S, alloc: Global) -> Result<Label<S:
     Ok(Label { ty, codes })
 }
 
-/// The label of `-` before an operand of a type. Language Reference 6.6 "Unary arithmetic and bitwise operations".
+/// Returns the label of unary `-` on an operand of this type. Language Reference 6.6 "Unary arithmetic and bitwise
+/// operations".
 pub fn label_negative<S: TypeStore>(
     store: &mut S,
     alloc: Global,
-    setting: &Setting<'_, S::Ty>,
+    setting: &ExprContext<'_, S::Ty>,
     operand: &S::Ty,
 ) -> Result<Label<S::Ty>, OutOfMemory>
     requires operand { S.has store.old operand.now }
@@ -93,11 +95,11 @@ pub fn label_negative<S: TypeStore>(
     offers_label(store, alloc, parents, &offers)
 }
 
-/// The label of an attribute of an object of a type. Language Reference 6.3.1 "Attribute references".
+/// Returns the label of an attribute of an object of this type. Language Reference 6.3.1 "Attribute references".
 pub fn label_attribute<S: TypeStore>(
     store: &mut S,
     alloc: Global,
-    setting: &Setting<'_, S::Ty>,
+    setting: &ExprContext<'_, S::Ty>,
     field: &Name,
     object: &S::Ty,
 ) -> Result<Label<S::Ty>, OutOfMemory>
@@ -111,23 +113,21 @@ pub fn label_attribute<S: TypeStore>(
     ensures kept { KeepsTypes S.has store.old store.new }
 {
     let parents = setting.globals.outline.parents;
-    let attribute = Operation::Attribute(field.text.as_str());
-    let offers = member_offers(
-        store,
-        alloc,
-        parents,
-        setting.globals.classes,
-        attribute,
-        object,
-    )?;
+    let classes = setting.globals.classes;
+    let name = field.text.as_str();
+    if let Some(types) = field_types(store, alloc, classes, name, object)? {
+        return label_of_fields(store, alloc, parents, &types);
+    }
+    let attribute = Operation::Attribute(name);
+    let offers = member_offers(store, alloc, parents, classes, attribute, object)?;
     offers_label(store, alloc, parents, &offers)
 }
 
-/// The label of an object of a type at an index, and what is found where the index flows. Language Reference 6.3.2
-/// "Subscriptions".
+/// Returns the label of an object of this type at an index. Appends the findings of the index's flow. Language
+/// Reference 6.3.2 "Subscriptions".
 pub fn label_index<S: TypeStore>(
-    checker: &mut Checker<'_, S>,
-    setting: &Setting<'_, S::Ty>,
+    checker: &mut TypingState<'_, S>,
+    setting: &ExprContext<'_, S::Ty>,
     object: &S::Ty,
     key: &Expr,
     label: &Label<S::Ty>,
@@ -146,7 +146,7 @@ pub fn label_index<S: TypeStore>(
         (operand_types (map (index_member setting.now.globals.now.outline.now.parents.now
         (int_literal (expr_of key.now)))
         (members (S.tree object.now))))))) }
-    ensures goes_on { GoesOn S.TypeStore checker.old checker.new }
+    ensures goes_on { CheckerKept S.TypeStore checker.old checker.new }
 {
     let parents = setting.globals.outline.parents;
     let index = Operation::Index(literal_index(key));
@@ -163,7 +163,8 @@ pub fn label_index<S: TypeStore>(
     offers_label(checker.store, checker.alloc, parents, &offers)
 }
 
-/// The label of `and` and `or` over operands of two types. Language Reference 6.11 "Boolean operations".
+/// Returns the label of `and` or `or` on operands of two types: their join. Language Reference 6.11 "Boolean
+/// operations".
 pub fn label_junction<S: TypeStore>(
     store: &mut S,
     alloc: Global,

@@ -1,4 +1,4 @@
-//! Operators and comparisons on two operands, by what all members of their types have in common.
+//! Operators and comparisons on two operands, by the kind that all members of their types share.
 #![tactic(auto, using(crate::proofs::Operators::by_operator))]
 
 ghost use Rattle.std.specs.Prelude.{◌≡◌, ◌&&◌, ◌||◌, false, All, IfOk, map};
@@ -16,7 +16,7 @@ ghost use Rattle.pc_operations.specs.Internal.OperandPairs.{operator_label, dyna
 ghost use Rattle.pc_rules.specs.Computed.Standing.{HasOffer, offer_with, MeansLabel};
 
 use crate::kinds::{
-    Kind, Operator, dynamic_type, given_type, is_any, is_never, kind_of_members, may_suit_all,
+    Kind, KindOperator, dynamic_type, given_type, is_any, is_never, kind_of_members, may_suit_all,
     meet, takes,
 };
 use crate::members::contain_offer;
@@ -27,11 +27,12 @@ use pc_tree::{BinaryOperator, Code, ComparisonOperator};
 use pc_types::{Parents, TypeStore};
 use std::alloc::Global;
 
-/// The label of an operator by the kind that both operands have in common.
+/// Returns the label of an operator, given the kind that both operands share: E13 if there is none or the operator does
+/// not take it.
 fn kind_label<S: TypeStore>(
     store: &mut S,
     alloc: Global,
-    operator: Operator,
+    operator: KindOperator,
     common: Option<Kind>,
 ) -> Result<Label<S::Ty>, OutOfMemory>
     ensures value { IfOk result
@@ -49,11 +50,11 @@ fn kind_label<S: TypeStore>(
     in_error(store, alloc, Code::E13)
 }
 
-/// The label of an operator at a dynamic place.
+/// Returns the label of an operator at a dynamic place: A2, with the type that the operator gives there.
 fn dynamic_label<S: TypeStore>(
     store: &mut S,
     alloc: Global,
-    operator: Operator,
+    operator: KindOperator,
 ) -> Result<Label<S::Ty>, OutOfMemory>
     ensures value { IfOk result (λ l. MeansLabel S.has S.tree store.new l (dynamic_label operator)) }
     ensures kept { KeepsTypes S.has store.old store.new }
@@ -64,11 +65,12 @@ fn dynamic_label<S: TypeStore>(
     Ok(Label { ty, codes })
 }
 
-/// Whether the first type is `Any`, and each member of the second one is `Any` or of a kind that an operator takes.
+/// Returns whether the first type is `Any`, and each member of the second is `Any` or of a kind that the operator
+/// takes.
 fn is_open<S: TypeStore>(
     store: &S,
     alloc: Global,
-    operator: Operator,
+    operator: KindOperator,
     s: &S::Ty,
     t: &S::Ty,
 ) -> Result<bool, OutOfMemory>
@@ -85,11 +87,11 @@ fn is_open<S: TypeStore>(
     Ok(may_suit_all(store, operator, &members))
 }
 
-/// Whether an operand is `Any`, and each member of the other is `Any` too or of a kind that an operator takes.
+/// Returns whether one operand is `Any`, and each member of the other is `Any` or of a kind that the operator takes.
 fn is_dynamic<S: TypeStore>(
     store: &S,
     alloc: Global,
-    operator: Operator,
+    operator: KindOperator,
     s: &S::Ty,
     t: &S::Ty,
 ) -> Result<bool, OutOfMemory>
@@ -103,11 +105,12 @@ fn is_dynamic<S: TypeStore>(
     is_open(store, alloc, operator, t, s)
 }
 
-/// The label of an operator by the members of two types: all must be of one kind that it takes.
+/// Returns the label of an operator on the members of two types, neither `Never`: all members must be of one kind that
+/// it takes.
 fn pairs_label<S: TypeStore>(
     store: &mut S,
     alloc: Global,
-    operator: Operator,
+    operator: KindOperator,
     s: &S::Ty,
     t: &S::Ty,
 ) -> Result<Label<S::Ty>, OutOfMemory>
@@ -125,11 +128,12 @@ fn pairs_label<S: TypeStore>(
     kind_label(store, alloc, operator, meet(left, right))
 }
 
-/// The label of an operator on two operands: on `Never` it is `Never`, on `Any` a dynamic place.
+/// Returns the label of an operator on two operands: `Never` if one of them is `Never`, a dynamic place if `Any` makes
+/// it one, else by their members.
 fn operator_label<S: TypeStore>(
     store: &mut S,
     alloc: Global,
-    operator: Operator,
+    operator: KindOperator,
     s: &S::Ty,
     t: &S::Ty,
 ) -> Result<Label<S::Ty>, OutOfMemory>
@@ -153,8 +157,8 @@ fn operator_label<S: TypeStore>(
     pairs_label(store, alloc, operator, s, t)
 }
 
-/// The label of `+`, `-`, `*`, `//` and `%` on two operands. Language Reference 6.7 "Binary arithmetic operations"; own
-/// rule of the profile.
+/// Returns the label of `+`, `-`, `*`, `//` or `%` on operands of two types. Language Reference 6.7 "Binary arithmetic
+/// operations"; own rule of the profile.
 pub fn binary_label<S: TypeStore>(
     store: &mut S,
     alloc: Global,
@@ -169,10 +173,10 @@ pub fn binary_label<S: TypeStore>(
         (λ l. MeansLabel S.has S.tree store.new l (binary_label parents.now operator (S.tree s.now) (S.tree t.now))) }
     ensures kept { KeepsTypes S.has store.old store.new }
 {
-    operator_label(store, alloc, Operator::Arithmetic(operator), s, t)
+    operator_label(store, alloc, KindOperator::Arithmetic(operator), s, t)
 }
 
-/// What `in` comes to on each member of its right operand's type.
+/// Returns the results of `in` on each member of its right operand's type.
 fn contain_offers<S: TypeStore>(
     store: &mut S,
     alloc: Global,
@@ -192,7 +196,7 @@ fn contain_offers<S: TypeStore>(
     Ok(offers)
 }
 
-/// The label of `<`, `<=`, `>` and `>=` on two operands.
+/// Returns the label of `<`, `<=`, `>` or `>=` on operands of two types.
 fn order_label<S: TypeStore>(
     store: &mut S,
     alloc: Global,
@@ -206,10 +210,10 @@ fn order_label<S: TypeStore>(
         (λ l. MeansLabel S.has S.tree store.new l (order_label parents.now (S.tree s.now) (S.tree t.now))) }
     ensures kept { KeepsTypes S.has store.old store.new }
 {
-    operator_label(store, alloc, Operator::Order, s, t)
+    operator_label(store, alloc, KindOperator::Order, s, t)
 }
 
-/// The label of a truth value at which nothing is found.
+/// Returns the label `bool`, without codes.
 fn truth_label<S: TypeStore>(store: &mut S, alloc: Global) -> Result<Label<S::Ty>, OutOfMemory>
     ensures value { IfOk result (λ l. MeansLabel S.has S.tree store.new l (clean Bool)) }
     ensures kept { KeepsTypes S.has store.old store.new }
@@ -218,8 +222,8 @@ fn truth_label<S: TypeStore>(store: &mut S, alloc: Global) -> Result<Label<S::Ty
     Ok(clean(alloc, ty))
 }
 
-/// The label of a comparison of two operands: `==` and `!=` take anything, `in` and `not in` go by the right one.
-/// Language Reference 6.10 "Comparisons"; own rule of the profile.
+/// Returns the label of a comparison of operands of two types: `==` and `!=` take anything, `in` and `not in` follow
+/// the right one. Language Reference 6.10 "Comparisons"; own rule of the profile.
 pub(crate) fn compare_label<S: TypeStore>(
     store: &mut S,
     alloc: Global,
@@ -247,7 +251,8 @@ pub(crate) fn compare_label<S: TypeStore>(
     }
 }
 
-/// What the left operand of a comparison flows into: with `in` and `not in` what the right one takes, else nothing.
+/// Returns the types that the left operand of a comparison flows into: with `in` and `not in` those that the right one
+/// takes, else none.
 pub(crate) fn compare_types<S: TypeStore>(
     store: &mut S,
     alloc: Global,

@@ -1,5 +1,5 @@
--- What overriding finds, class by class and method by method: the methods that the table has of a class are those that
--- the class binds.
+-- The findings about overriding, class by class and method by method: the own methods of a class in the table are those
+-- that the class binds.
 use Rattle.std.proofs.Common.{◌≡◌, ◌<◌, ◌+◌, ℕ, zero, suc, List, [], ◌∷◌, ◌++◌, map, drop, length, get_or, refl, sym}
 use Rattle.std.proofs.Common.{ap, ◌∙◌, arith, length-append, append_assoc}
 use Rattle.std.specs.Prelude.{Option, Some, None, slice_get, slice_index_or}
@@ -12,7 +12,7 @@ use Rattle.pc_tree.specs.Tree.{ClassDef, Module}
 use Rattle.pc_scope.specs.Bindings.{classes_in}
 use Rattle.pc_types.specs.Tree.{Tree}
 use Rattle.pc_types.specs.Below.{Bases}
-use Rattle.pc_ann.specs.Bases.{base_named}
+use Rattle.pc_annotations.specs.Bases.{base_named}
 use Rattle.pc_class.specs.declared.table.Method.{Method as RustMethod}
 use Rattle.pc_class.specs.Facts.{Method, ClassFacts, class_facts_at, base_facts, own_methods, class_facts_behind}
 use Rattle.pc_class.specs.Facts.{classes_behind, classes_of}
@@ -66,7 +66,7 @@ module _ {Ty : Type 0} where
           ∙ ap (map (method_with tree)) (sym over)
           ∙ ap (λ (k : ClassFacts). k.methods) whole
 
-  -- what is found of one more method
+  -- the findings of one more method
   pub methods_next : (tree : Ty → Tree) (bases : Bases) (above : List Method) (own : List (RustMethod Ty)) (i : ℕ)
       (x : RustMethod Ty) → i < length own → x ≡ get_or own i x → (old mid total : List Finding)
       → old ++ found_at_methods bases above (map (method_with tree) (drop i own)) ≡ total
@@ -100,7 +100,7 @@ pub as_many : {Ty : Type 0} (tree : Ty → Tree) (es : List (ClassEntry Ty)) (m 
     → classes_with tree es ≡ classes_of m → length es ≡ length (classes_in m.items)
 as_many tree es m same = sym (length-map es (class_with tree)) ∙ ap length same ∙ many_classes m
 
--- what is found of one more class
+-- the findings of one more class
 pub record OneMore (m : Module) (cs : List ClassDef) (c : ℕ) : Type 0 where
   pub class : ClassDef
   pub is : slice_get cs c ≡ Some class

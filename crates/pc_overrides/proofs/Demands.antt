@@ -1,4 +1,4 @@
--- Lists of demands: one is added, or put in place of one for which it stands.
+-- Lists of demands: one is added, or put in place of one that it implies.
 use Rattle.std.proofs.Common.{◌≡◌, ◌<◌, ◌+◌, ℕ, zero, suc, List, [], ◌∷◌, ◌++◌, take, drop, length, get_or}
 use Rattle.std.proofs.Common.{refl, sym, ap, ◌∙◌, subst, arith}
 use Rattle.std.specs.Prelude.{Bool, true, false, ◌&&◌, IsTrue, Some, slice_get, slice_set}

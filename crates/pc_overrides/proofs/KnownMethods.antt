@@ -1,4 +1,4 @@
--- What stands in for the methods that were judged, class by class.
+-- The demands that represent judged methods, class by class.
 use Rattle.std.proofs.Common.{◌≡◌, ◌⊎◌, ◌<◌, ℕ, zero, suc, List, [], ◌∷◌, ◌++◌, length, get_or, refl, sym, ap}
 use Rattle.std.proofs.Common.{subst, inl, inr, arith}
 use Rattle.std.specs.Prelude.{Option, Some, None, IfSome, All, slice_get, string_bytes, Vec}
@@ -8,7 +8,7 @@ use Rattle.std.proofs.lemmas.List.Elements.{All-append, All-cons, All-nil, All-g
 use Rattle.std.proofs.lemmas.Option.{same_Some}
 use Rattle.pc_types.specs.Tree.{Tree}
 use Rattle.pc_types.specs.Below.{base_of}
-use Rattle.pc_ann.specs.Bases.{bases_of}
+use Rattle.pc_annotations.specs.Bases.{bases_of}
 use Rattle.pc_class.specs.declared.table.Method.{Method as RustMethod}
 use Rattle.pc_class.specs.Facts.{Method}
 use Rattle.pc_class.specs.Overrides.{overridden}
@@ -35,7 +35,7 @@ module _ {Ty : Type 0} (tree : Ty → Tree) (s : Judging Ty) where
   known_at judged c own i k known there less is =
       subst (IsKnown tree s c) (sym is) (All-get_or (IsKnown tree s c) own.items i k less (known c own there))
 
-  -- what stands in for one that is looked up
+  -- the method known for one that is looked up
   pub known_of : (o : Option (Bor (Judged Ty))) (x : RustMethod Ty)
       → IfSome o (λ k. IsKnown tree s x.owner k.now × (string_bytes k.now.method.now.name ≡ string_bytes x.name))
       → IfSome o (λ k. StandIn tree s (string_bytes x.name) (overridden (methods_above s (Some x.owner))

@@ -8,7 +8,7 @@ use Rattle.pc_tree.specs.Tree.{Module}
 use Rattle.pc_tree.proofs.Among.{none_among, first_among, among_first}
 use Rattle.pc_types.specs.Tree.{Tree}
 use Rattle.pc_types.specs.Below.{Bases}
-use Rattle.pc_ann.specs.Bases.{bases_of}
+use Rattle.pc_annotations.specs.Bases.{bases_of}
 use Rattle.pc_class.specs.declared.table.Method.{Method as RustMethod}
 use Rattle.pc_class.specs.Facts.{Method, classes_of}
 use Rattle.pc_class.specs.Tables.{ClassEntry, empty_entry, class_with, classes_with, method_with, IsMethod}

@@ -14,7 +14,7 @@ use Rattle.pc_tree.specs.Tree.{Member, field_member, method_member, ClassDef, Mo
 use Rattle.pc_scope.specs.Bindings.{classes_in}
 use Rattle.pc_scope.specs.Resolution.{is_one_of}
 use Rattle.pc_types.specs.Below.{base_of}
-use Rattle.pc_ann.specs.Bases.{base_named, bases_of}
+use Rattle.pc_annotations.specs.Bases.{base_named, bases_of}
 use Rattle.pc_class.specs.Facts.{Method, ClassFacts, class_in, class_facts_at, base_facts, method_by_name, binds_method}
 use Rattle.pc_class.specs.Facts.{method_made, own_methods, classes_of}
 use Rattle.pc_class.specs.Entries.{inherited_by}
@@ -174,7 +174,7 @@ module _ (m : Module) (name : List ℕ) where
       → IsNearest c x
   nearest c x e = nearest_in (suc c) c (omega arith) x e
 
--- what passes a test is kept
+-- an element that passes a test is kept
 kept_among : {X : Type 0} (p : X → Bool) (xs : List X) (x : X) → p x ≡ true → Contains xs x → Contains (filter p xs) x
 kept_among p [] x h among = absurd (none_among x among)
 kept_among {X} p (y ∷ ys) x h among = elim (among_first y ys x among) [

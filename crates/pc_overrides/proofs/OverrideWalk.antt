@@ -1,5 +1,5 @@
--- The walk over the methods that a method overrides: what is left to be tested from each of them on, and that the store
--- gave its types.
+-- The walk over the methods that a method overrides: the methods still to be tested from each of them on, and that the
+-- store gave its types.
 use Rattle.std.proofs.Common.{◌≡◌, ◌<◌, ℕ, List, sym, ap, ◌∙◌, subst, arith}
 use Rattle.std.specs.Prelude.{Bool, ◌&&◌, Option, Some, None, bytes_eq}
 use Rattle.std.specs.Option.{option_map}
@@ -11,7 +11,7 @@ use Rattle.pc_source.proofs.ListSearch.{found_passes}
 use Rattle.pc_tree.specs.Tree.{Module}
 use Rattle.pc_types.specs.Tree.{Tree}
 use Rattle.pc_types.specs.Below.{base_of}
-use Rattle.pc_ann.specs.Bases.{bases_of}
+use Rattle.pc_annotations.specs.Bases.{bases_of}
 use Rattle.pc_class.specs.declared.table.Method.{Method as RustMethod}
 use Rattle.pc_class.specs.Facts.{Method, ClassFacts, class_facts_at, base_facts, method_by_name, classes_of}
 use Rattle.pc_class.specs.Overrides.{overridden}
@@ -80,7 +80,7 @@ module _ (m : Module) (name : List ℕ) where
       let o = (nearest m name c x e).owner in
       subst (λ o. steps_left base < steps_left o) (sym here) (omega arith)
 
--- what the table gave at the name is what the class has there
+-- the method that the table gave at the name is the one that the class has there
 pub found_there : {Ty : Type 0} (tree : Ty → Tree) (es : List (ClassEntry Ty)) (m : Module) (class : ℕ)
     (text name : List ℕ) (given known : Option (Bor (RustMethod Ty))) → classes_with tree es ≡ classes_of m
     → text ≡ name

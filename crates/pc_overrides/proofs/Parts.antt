@@ -1,4 +1,4 @@
--- What a method meets of another at each of its parts; and meeting what it asks at all of them is overriding it.
+-- The demands of a method that another satisfies at each part; to satisfy all of them is to override the method.
 use Rattle.std.proofs.Common.{◌≡◌, ◌==◌, ◌<◌, ◌≤◌, ◌⊎◌, ◌+◌, ℕ, zero, suc, List, [], ◌∷◌, length, get_or, refl, sym, ap}
 use Rattle.std.proofs.Common.{◌∙◌, subst, inl, inr, arith}
 use Rattle.std.specs.Prelude.{Bool, true, false, ◌&&◌, ◌||◌, not, IsTrue, Some, slice_get, bytes_eq}
@@ -204,7 +204,7 @@ module _ {Ty : Type 0} (tree : Ty → Tree) where
         (sym (eq-eqb (length (parameters_with tree old.params)) (length (parameters_with tree new.params))
         (length-map old.params (parameter_with tree) ∙ e ∙ sym (length-map new.params (parameter_with tree)))))
 
-    -- what is met at a parameter that both have
+    -- a parameter that both methods have meets the demand there as the rules say
     pub meets_there : (number : ℕ) (x y : RustParameter Ty) → length old.params ≡ length new.params
         → number < length old.params → x ≡ get_or old.params number x → y ≡ get_or new.params number y
         → (parameter_suits (parameter_with tree x) (parameter_with tree y)

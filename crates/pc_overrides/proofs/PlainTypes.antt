@@ -1,4 +1,4 @@
--- A type is without Any where its head is not Any and its parts are without it.
+-- A type is without Any if its head is not Any and its parts are without Any.
 use Rattle.std.proofs.Common.{◌≡◌, ◌<◌, ◌≤◌, ◌+◌, ℕ, List, [], ◌∷◌, ◌++◌, map, take, length, get_or, refl, sym, ap, ◌∙◌}
 use Rattle.std.proofs.Common.{subst}
 use Rattle.std.specs.Prelude.{All}

@@ -1,4 +1,4 @@
--- Types that settle others: where one is static to another that it settles, what is in a relation to the one is in it
+-- Types that settle others: if one is static to another that it settles, whatever is in a relation to the one is in it
 -- to the other.
 use Rattle.std.proofs.Common.{◌≡◌, ◌↔◌, refl, sym, ap, ◌∙◌, subst}
 use Rattle.std.specs.Prelude.{IsTrue}
@@ -39,7 +39,7 @@ mutual
 -- ---- types that settle others
 
 module _ (bases : Bases) where
-  -- what is good against a type that settles another to which it is static
+  -- a type good for one that settles another, and is static to it, is good for the other
   settled_from : (z new old : Tree) → Settles new old → Static bases new old → Assignable bases z new
       → Assignable bases z old
   settled_from z new old (plain p) s h =
@@ -61,7 +61,7 @@ module _ (bases : Bases) where
       })
   settled_from z new old (alike e) s h = subst (Assignable bases z) e h
 
-  -- what a type is good against that settles another which is static to it
+  -- a type for which one is good that settles another static to it is one for which the other is good
   settled_into : (z new old : Tree) → Settles new old → Static bases old new → Assignable bases new z
       → Assignable bases old z
   settled_into z new old (plain p) s h =
@@ -85,7 +85,7 @@ module _ (bases : Bases) where
 
   -- ---- flows
 
-  -- what is static to a type that settles another to which that one is static
+  -- a type static to one that settles another, and is static to it, is static to the other
   module _ (o : AreSmaller bases) (z new old : Tree) (n : IsNormal z) (m : IsNormal new) (l : IsNormal old) where
     static_is : (s t : Tree) → IsNormal s → IsNormal t
         → IsTrue (flow_fits relations.Static bases (record { from = s; into = t })) ↔ Static bases s t
@@ -95,7 +95,7 @@ module _ (bases : Bases) where
         → IsTrue (flow_fits relations.Assignable bases (record { from = s; into = t })) ↔ Assignable bases s t
     good_is s t a b = assignable_decided bases s t o a b
 
-    -- what flows into a type flows into one that it settles, to which it is static
+    -- a type that flows into one flows into each that the one settles and is static to
     pub flows_from : (relation : Relation) → Settles new old
         → IsTrue (flow_fits relations.Static bases (record { from = new; into = old }))
         → IsTrue (flow_fits relation bases (record { from = z; into = new }))
@@ -105,7 +105,7 @@ module _ (bases : Bases) where
     flows_from relations.Assignable s e h = (good_is z old n l).1
         (settled_from z new old s ((static_is new old m l).0 e) ((good_is z new n m).0 h))
 
-    -- what a type flows into one flows into that it settles, which is static to it
+    -- a type into which one flows is one into which each flows that the one settles and that is static to it
     pub flows_into : (relation : Relation) → Settles new old
         → IsTrue (flow_fits relations.Static bases (record { from = old; into = new }))
         → IsTrue (flow_fits relation bases (record { from = new; into = z }))

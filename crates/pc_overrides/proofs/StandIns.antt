@@ -1,4 +1,4 @@
--- What a method asks at a part stands for what another asks there, where it meets that statically and settles its type.
+-- The demand of a method at a part implies that of another if it satisfies that one statically and settles its type.
 use Rattle.std.proofs.Common.{◌==◌, ℕ, zero, suc, List, [], ◌∷◌, length, refl, ◌∙◌}
 use Rattle.std.specs.Prelude.{Bool, true, false, ◌||◌, not, IsTrue, Option, Some, None, slice_get, bytes_eq}
 use Rattle.std.proofs.lemmas.Bool.{and_parts, and_from, false≢true, eqb-true, eq-eqb}
@@ -73,7 +73,7 @@ module _ (bases : Bases) (o : AreSmaller bases) where
         (normal_there bases z.parameters w.parameters n) (normal_there bases new.parameters k.parameters n)
         (normal_there bases old.parameters h.parameters n) e s f
 
-    -- what a method asks that meets another statically and settles its type stands for it
+    -- a part of a method that meets another's statically, and settles its type, stands for it
     pub stands : (part : ℕ) → IsTrue (meets relations.Static bases new old part) → PartSettles new old part
         → StandsFor bases new old part
     stands part e s relation z w f =

@@ -1,3 +1,3 @@
--- What only the contracts of private functions say: the public contracts speak of the definitions of `pc_class`.
+-- Definitions that only the contracts of private functions use: the public contracts use the definitions of `pc_class`.
 pub mod OverrideTests
 pub mod Standing

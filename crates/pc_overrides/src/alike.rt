@@ -1,4 +1,4 @@
-//! Types that are the same, and methods that ask the same.
+//! Equal types, and methods with equal demands.
 
 ghost use Rattle.std.specs.Prelude.{◌≡◌, IfOk, IsTrue, true};
 ghost use Rattle.pc_class.specs.Parts.{parameter_name};
@@ -10,7 +10,7 @@ use pc_source::OutOfMemory;
 use pc_types::TypeStore;
 use std::alloc::Global;
 
-/// Whether two types are seen to be the same, by their heads and parts.
+/// Returns true only if two types are equal, by comparing their heads and parts.
 pub(crate) fn is_same<S: TypeStore>(
     store: &S,
     alloc: Global,
@@ -38,14 +38,14 @@ pub(crate) fn is_same<S: TypeStore>(
     Ok(true)
 }
 
-/// Whether two parameters have the same name, and both a default or neither.
+/// Returns whether two parameters have the same name, and both a default or neither.
 fn agrees<Ty: Drop>(p: &Parameter<Ty>, q: &Parameter<Ty>) -> bool
     ensures { IsTrue result → (parameter_name p.now ≡ parameter_name q.now) × (p.now.has_default ≡ q.now.has_default) }
 {
     p.name.as_str() == q.name.as_str() && p.has_default == q.has_default
 }
 
-/// Whether two methods are seen to have the same parameters and to return the same type.
+/// Returns true only if two methods have the same parameters and return the same type.
 pub(crate) fn is_alike<S: TypeStore>(
     store: &S,
     alloc: Global,

@@ -1,10 +1,10 @@
-//! What overriding finds: at each method that a class binds, one class after another.
+//! Findings about overriding: at each method that a class binds, class by class.
 
 ghost use Rattle.std.specs.Prelude.{◌≡◌, ◌∷◌, ◌++◌, ◌<◌, length, slice_get, All, Some, OnOk, IfOk};
 ghost use Rattle.pc_tree.specs.Tree.{ClassDef as ClassTree, module_of};
 ghost use Rattle.pc_scope.specs.Bindings.{classes_in};
 ghost use Rattle.pc_types.specs.Store.{KeepsTypes};
-ghost use Rattle.pc_ann.specs.Bases.{bases_of};
+ghost use Rattle.pc_annotations.specs.Bases.{bases_of};
 ghost use Rattle.pc_class.specs.Facts.{classes_of};
 ghost use Rattle.pc_class.specs.Overrides.{overridden};
 ghost use Rattle.pc_class.specs.OverrideFindings.{override_code, override_finding, found_at_method, class_overrides};
@@ -22,7 +22,7 @@ use pc_source::{OutOfMemory, Place};
 use pc_tree::{Code, Finding, Findings, Module};
 use pc_types::TypeStore;
 
-/// Adds a code at a place, if there is one.
+/// Adds a code at a place, if there is a code.
 fn add_finding(found: &mut Findings, place: Place, code: Option<Code>) -> Result<(), OutOfMemory>
     ensures { OnOk result (found.new.items ≡ found.old.items ++ override_finding code place) }
 {
@@ -35,7 +35,8 @@ fn add_finding(found: &mut Findings, place: Place, code: Option<Code>) -> Result
     }
 }
 
-/// Finds how a method of a class of this base overrides, E11, A8 or nothing, and says what stands in for it.
+/// Adds E11 or A8 for a method of a class with this base if it has one of these codes. Returns the facts kept of it, by
+/// which methods that override it are judged.
 fn find_override<'t, S: TypeStore>(
     judging: &Judging<'t, S::Ty>,
     store: &mut S,
@@ -67,7 +68,7 @@ fn find_override<'t, S: TypeStore>(
     Ok(known)
 }
 
-/// Finds how each method that a class binds overrides, one after another, and keeps what stands in for each.
+/// Adds E11 or A8 for each method that a class binds and that has one of these codes. Returns the facts kept of each.
 fn find_class_overrides<'t, S: TypeStore>(
     judging: &Judging<'t, S::Ty>,
     store: &mut S,
@@ -96,8 +97,8 @@ fn find_class_overrides<'t, S: TypeStore>(
     Ok(own)
 }
 
-/// Appends what overriding finds in a module to `found`: `E11` at a method that is not good against each of its name
-/// that its class inherits, `A8` at one that is, but is not static to each.
+/// Appends the findings about overriding in a module to `found`: `E11` at a method that is not good against each method
+/// of its name that its class inherits, `A8` at one that is good against each but not static to each.
 ///
 /// Typing specification, "Type system concepts", assignability of callables; the codes are own rules of the profile.
 pub fn override_findings<S: TypeStore>(

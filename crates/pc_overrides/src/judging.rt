@@ -1,10 +1,10 @@
-//! The code of a method against several of its name that it overrides.
+//! The code of a method against the methods of its name that it overrides.
 
 ghost use Rattle.std.specs.Prelude.{◌≡◌, ◌&&◌, Bool, IfOk, IfSome, string_bytes};
 ghost use Rattle.std.specs.List.{list_all};
 ghost use Rattle.pc_types.specs.Below.{base_of};
 ghost use Rattle.pc_types.specs.Store.{KeepsTypes};
-ghost use Rattle.pc_ann.specs.Bases.{bases_of};
+ghost use Rattle.pc_annotations.specs.Bases.{bases_of};
 ghost use Rattle.pc_class.specs.Overrides.{overridden};
 ghost use Rattle.pc_class.specs.OverrideFindings.{is_good_to, is_static_to, code_where, override_code};
 ghost use Rattle.pc_class.specs.Parts.{bases_in};
@@ -21,7 +21,7 @@ use pc_source::OutOfMemory;
 use pc_tree::Code;
 use pc_types::TypeStore;
 
-/// Whether a method is static to each of these demands, or none where it is not good against one.
+/// Returns whether a method is static to each of these demands, or `None` if it is not good against one.
 fn static_among<S: TypeStore>(
     judging: &Judging<S::Ty>,
     store: &mut S,
@@ -57,7 +57,8 @@ fn static_among<S: TypeStore>(
     Some(is_static)
 }
 
-/// The code of a method that is good to others, and static to them or not, and that gets this code against some more.
+/// Returns the code of a method against more methods, given its code against some and whether it is static to the
+/// `others`, to all of which it is good.
 fn with_others(code: Option<Code>, others: bool) -> Option<Code>
     ensures { (good static : Bool) → code ≡ code_where good static → result ≡ code_where good (others && static) }
 {
@@ -67,7 +68,8 @@ fn with_others(code: Option<Code>, others: bool) -> Option<Code>
     }
 }
 
-/// What is known of a method, if it was judged and is like another one: against all above it both get the same code.
+/// Returns the facts kept of `old` if it was judged and is like `method`: both get the same code against all methods
+/// above `old`.
 fn judged_alike<'j, 't, S: TypeStore>(
     judging: &Judging<S::Ty>,
     store: &S,
@@ -94,8 +96,8 @@ fn judged_alike<'j, 't, S: TypeStore>(
     }
 }
 
-/// The code of a method of a class of this base, against every ancestor's of its name: `E11` where it is not good
-/// against one, else `A8` where it is not static to one, or was not to others. Own rule of the profile.
+/// Returns the code of a method of a class with this base, against the methods of its name above: `E11` if it is not
+/// good against one, else `A8` if it is not static to one or `others` is false. Own rule of the profile.
 fn code_of<S: TypeStore>(
     judging: &Judging<S::Ty>,
     store: &mut S,
@@ -129,7 +131,7 @@ fn code_of<S: TypeStore>(
                 }
                 let here = overrides(store, parents, Relation::Static, method, old);
                 is_static = is_static && here;
-                // A method is static to one that is like it, which is tested sooner than whether it is like it.
+                // A method is static to one that is like it, and that is tested sooner than likeness.
                 if here && let Some(known) = judged_alike(judging, store, judged, old, method)? {
                     return Ok(with_others(known.code, is_static));
                 }
@@ -140,7 +142,7 @@ fn code_of<S: TypeStore>(
     Ok(with_others(None, is_static))
 }
 
-/// The code of a method against what it overrides.
+/// Returns the code of a method against all methods that it overrides.
 pub(crate) fn code_among<S: TypeStore>(
     judging: &Judging<S::Ty>,
     store: &mut S,

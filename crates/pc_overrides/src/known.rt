@@ -1,4 +1,4 @@
-//! What is known of the methods that were judged.
+//! Facts kept of the methods that were judged.
 
 ghost use Rattle.std.specs.Prelude.{◌≡◌, ◌≤◌, length, IfSome, string_bytes};
 ghost use Rattle.pc_types.specs.Tree.{Tree};
@@ -12,7 +12,7 @@ use pc_class::{ClassTable, Method};
 use pc_tree::{Code, Module};
 use std::alloc::Global;
 
-/// What overrides are judged in: a module and the table of its classes; and where memory comes from.
+/// The context in which overrides are judged: a module, the table of its classes, and the allocator.
 #[derive(Drop)]
 pub struct Judging<'a, Ty: Drop> {
     pub tree: &'a Module,
@@ -20,8 +20,8 @@ pub struct Judging<'a, Ty: Drop> {
     pub alloc: Global,
 }
 
-/// A method that was judged, and the code that it got. In place of it and of all of its name above it stand these
-/// demands, and all methods of the name from a class on.
+/// A judged method and its code. `demands` represent it and every method of its name above it, except those that the
+/// class `rest` has.
 #[derive(Drop)]
 pub struct Judged<'t, Ty: Drop> {
     pub method: &'t Method<Ty>,
@@ -30,8 +30,8 @@ pub struct Judged<'t, Ty: Drop> {
     pub rest: Option<usize>,
 }
 
-/// What a method of a class of this base overrides. In place of all of its name that the base has stand these demands,
-/// and all methods of the name from a class on.
+/// The methods that a method of a class with this base overrides. `demands` represent them, except those that the class
+/// `rest` has.
 #[derive(Drop)]
 pub struct Above<'j, 't, Ty: Drop> {
     pub base: Option<usize>,
@@ -39,7 +39,7 @@ pub struct Above<'j, 't, Ty: Drop> {
     pub rest: Option<usize>,
 }
 
-/// How many of these methods, which stand in the order of their numbers, have a smaller number.
+/// Returns how many of these methods, which are in the order of their numbers, have a smaller number.
 fn count_before<Ty: Drop>(own: &[Judged<Ty>], number: usize) -> usize
     ensures { result ≤ length own.now }
 {
@@ -56,7 +56,7 @@ fn count_before<Ty: Drop>(own: &[Judged<Ty>], number: usize) -> usize
     start
 }
 
-/// What is known of a method, if it was judged.
+/// Returns the facts kept of a method, if it was judged.
 pub(crate) fn judged_at<'j, 't, Ty: Drop>(
     judged: &'j [Vec<Judged<'t, Ty>>],
     method: &Method<Ty>,
@@ -76,7 +76,7 @@ pub(crate) fn judged_at<'j, 't, Ty: Drop>(
     }
 }
 
-/// What stands in for the methods of a name that a class of this base inherits, if the nearest one was judged.
+/// Returns the facts kept of the nearest method of a name that a class with this base inherits, if it was judged.
 fn nearest_judged<'j, 't, Ty: Drop>(
     judging: &Judging<'t, Ty>,
     judged: &'j [Vec<Judged<'t, Ty>>],
@@ -97,7 +97,7 @@ fn nearest_judged<'j, 't, Ty: Drop>(
     }
 }
 
-/// What a method of a name overrides in a class of this base.
+/// Returns the methods that a method of this name in a class with this base overrides.
 pub(crate) fn all_above<'j, 't, Ty: Drop>(
     judging: &Judging<'t, Ty>,
     judged: &'j [Vec<Judged<'t, Ty>>],

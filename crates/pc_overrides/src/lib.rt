@@ -1,4 +1,4 @@
-//! How methods override: each method that a class binds, judged against those of its name that the class inherits.
+//! Overriding: each method that a class binds is judged against those of its name that the class inherits.
 #![tactic(auto)]
 
 mod alike;
@@ -6,7 +6,7 @@ mod finding;
 mod judging;
 mod known;
 mod overriding;
-mod settling;
 mod standing;
+mod subsuming;
 
 pub use finding::override_findings;

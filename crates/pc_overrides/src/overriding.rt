@@ -1,4 +1,4 @@
-//! One method against another of its name that it overrides.
+//! One method against another that it overrides.
 
 ghost use Rattle.std.specs.Prelude.{◌≡◌, ◌&&◌, ◌||◌, not, bytes_eq};
 ghost use Rattle.pc_types.specs.Store.{KeepsTypes};
@@ -10,24 +10,24 @@ ghost use Rattle.pc_overrides.specs.Internal.OverrideTests.{flow_fits, overrides
 use pc_class::{Method, Parameter};
 use pc_types::{Parents, TypeStore};
 
-/// How a type is to flow into another. Typing specification, "Type system concepts".
+/// The relation in which one type must flow into another. Typing specification, "Type system concepts".
 #[derive(Clone, Copy)]
 pub enum Relation {
     /// Each `Any` counts as `object`.
     Static,
-    /// Some reading of each `Any` serves.
+    /// Some reading of each `Any` is enough.
     Assignable,
 }
 
-/// What a method asks, at one of its parts, of each that overrides it. Part 0 is what it returns, and each further part
-/// is a parameter.
+/// The demand of a method, at one of its parts, on each method that overrides it. Part 0 is the return type, and each
+/// further part is a parameter.
 #[derive(Drop)]
 pub struct Demand<'t, Ty: Drop> {
     pub method: &'t Method<Ty>,
     pub part: usize,
 }
 
-/// Whether a parameter has the name of the ancestor's and, where that one has a default, a default too.
+/// Returns whether a parameter has the name of the ancestor's and a default if that one has a default.
 fn suits<Ty: Drop>(old: &Parameter<Ty>, new: &Parameter<Ty>) -> bool
     ensures { result ≡ (bytes_eq (parameter_name old.now) (parameter_name new.now)
         && (not old.now.has_default || new.now.has_default)) }
@@ -35,7 +35,7 @@ fn suits<Ty: Drop>(old: &Parameter<Ty>, new: &Parameter<Ty>) -> bool
     old.name.as_str() == new.name.as_str() && (!old.has_default || new.has_default)
 }
 
-/// Whether the first type flows into the second.
+/// Returns whether the first type flows into the second in the relation.
 fn fits<S: TypeStore>(
     store: &mut S,
     parents: &Parents,
@@ -55,8 +55,9 @@ fn fits<S: TypeStore>(
     }
 }
 
-/// Whether a method meets, in the relation, what another asks at a part. It has as many parameters. Of part 0: what it
-/// returns flows into what the other one returns. Of a parameter: the other's flows into its own, which suits it.
+/// Returns whether a method satisfies, in the relation, the demand of another at a part. It must have as many
+/// parameters. At part 0, its return type must flow into the other's; at a parameter, the other's type must flow into
+/// its own, which must suit it.
 pub(crate) fn meets<S: TypeStore>(
     store: &mut S,
     parents: &Parents,
@@ -90,7 +91,7 @@ pub(crate) fn meets<S: TypeStore>(
     fits(store, parents, relation, &from.ty, &into.ty)
 }
 
-/// Whether a method is in the relation to the one that it overrides: it meets what that one asks at each of its parts.
+/// Returns whether a method overrides another in the relation: it satisfies the demand of that one at each part.
 /// Typing specification, "Type system concepts", assignability of callables.
 pub(crate) fn overrides<S: TypeStore>(
     store: &mut S,

@@ -1,11 +1,11 @@
-//! Demands that stand in for all methods of a name that a class has.
+//! Demands that represent all methods of a name that a class has.
 
 ghost use Rattle.std.specs.Prelude.{◌≡◌, ◌∷◌, slice_get, IfOk, OnOk, true, Some, IfSome};
 ghost use Rattle.std.specs.List.{list_all};
 ghost use Rattle.pc_types.specs.Below.{Bases};
 ghost use Rattle.pc_types.specs.Store.{KeepsTypes};
 ghost use Rattle.pc_types.specs.Tree.{Tree};
-ghost use Rattle.pc_ann.specs.Bases.{bases_of};
+ghost use Rattle.pc_annotations.specs.Bases.{bases_of};
 ghost use Rattle.pc_class.specs.Facts.{Method as Means};
 ghost use Rattle.pc_class.specs.Overrides.{overridden};
 ghost use Rattle.pc_class.specs.Tables.{HasMethod, HasEntries, IsMethod, method_with};
@@ -18,18 +18,18 @@ ghost use Rattle.pc_overrides.specs.Internal.Standing.{StandsFor, IsOneMore, Are
 
 use crate::known::{Above, Judged, Judging};
 use crate::overriding::{Demand, Relation, meets};
-use crate::settling::settles_at;
+use crate::subsuming::subsumes_at;
 use pc_class::Method;
 use pc_source::OutOfMemory;
 use pc_tree::Code;
 use pc_types::TypeStore;
 use std::alloc::Global;
 
-/// At most so many demands stand in for all methods of a name, beside two for each part of a method.
+/// Most demands that represent all methods of a name, beside two for each part of a method.
 const MANY: usize = 64;
 
-/// Whether what a method asks at a part stands for what another asks there: it meets that statically, and its type
-/// settles the other's. Whatever meets the one meets the other then.
+/// Returns true only if the demand of a method at a part implies that of another: it satisfies that demand statically,
+/// and its type settles the other's. Whatever satisfies the one then satisfies the other.
 fn stands_for<S: TypeStore>(
     judging: &Judging<S::Ty>,
     store: &mut S,
@@ -50,11 +50,11 @@ fn stands_for<S: TypeStore>(
     if !meets(store, parents, Relation::Static, new, old, part) {
         return Ok(false);
     }
-    let settled = settles_at(store, judging.alloc, new, old, part)?;
+    let settled = subsumes_at(store, judging.alloc, new, old, part)?;
     Ok(settled)
 }
 
-/// The method whose demand at this part comes first among demands: at the place of the part's number.
+/// Returns the method of the first demand at a part, if that demand is at the index of the part's number.
 fn first_at<'t, Ty: Drop>(demands: &[Demand<'t, Ty>], part: usize) -> Option<&'t Method<Ty>>
     ensures { IfSome result (λ first. slice_get demands.now part ≡ Some (record { method = first; part = part })) }
 {
@@ -67,7 +67,7 @@ fn first_at<'t, Ty: Drop>(demands: &[Demand<'t, Ty>], part: usize) -> Option<&'t
     None
 }
 
-/// Adds a demand to others. Where it stands for the first one at its part, or that one for it, one of them is enough.
+/// Adds a demand to others. If it implies the first one at its part, or that one implies it, only one of them is kept.
 fn add_demand<'t, S: TypeStore>(
     judging: &Judging<'t, S::Ty>,
     store: &mut S,
@@ -98,7 +98,7 @@ fn add_demand<'t, S: TypeStore>(
     Ok(())
 }
 
-/// What a method asks at each of its parts.
+/// Returns the demands of a method, one for each part.
 fn own_demands<'t, Ty: Drop>(
     alloc: Global,
     method: &'t Method<Ty>,
@@ -117,7 +117,7 @@ fn own_demands<'t, Ty: Drop>(
     Ok(own)
 }
 
-/// What a method asks, with demands of others.
+/// Returns the demands of a method together with those of others.
 fn demands_with<'t, S: TypeStore>(
     judging: &Judging<'t, S::Ty>,
     store: &mut S,
@@ -141,8 +141,8 @@ fn demands_with<'t, S: TypeStore>(
     Ok(demands)
 }
 
-/// What stands in for a method, which got this code, and for all of its name above it. Where that would be too many
-/// demands, it is what the method itself asks, and all methods of the name from the class's base on.
+/// Returns the facts kept of a method with this code: demands that represent it and all methods of its name above it.
+/// If these were too many, the demands of the method alone are kept, and `rest` is the base of its class.
 pub(crate) fn judged_with<'j, 't, S: TypeStore>(
     judging: &Judging<'t, S::Ty>,
     store: &mut S,

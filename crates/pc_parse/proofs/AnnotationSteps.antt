@@ -1,4 +1,4 @@
--- Where single tokens lead inside an annotation.
+-- Turns at single tokens inside an annotation.
 use Rattle.std.proofs.Common.{◌≡◌, ℕ, Bool, false, List, [], ◌∷◌, ◌++◌, Option, Result, refl, ap, sym, ◌∙◌}
 use Rattle.std.specs.Iterator.{Count}
 use Rattle.pc_source.specs.declared.fault.Fault.{Fault}

@@ -1,4 +1,4 @@
--- From what the machine makes of a stream to what the grammar says of its tokens.
+-- From the machine's answers over a stream to the grammar of its tokens.
 use Rattle.std.proofs.Common.{◌≡◌, ℕ, ◌⊎◌, inl, inr, List, [], ◌∷◌, ◌++◌, map, Option, Some, None, Result, Ok, Err}
 use Rattle.std.proofs.Common.{refl, ap, sym, ◌∙◌, subst}
 use Rattle.pc_source.specs.declared.fault.Fault.{Fault}
@@ -173,7 +173,7 @@ module _ {X I : Type 0} (text : X → List ℕ) (steps : I → Option (Result (T
             refusal_of (map (lexeme text) u.tokens) r u.unread;
       })
 
-  -- what a call answers that ends in a fault
+  -- the result of a call that ends in a fault
   pub blamed : (it : I) (e : Fault) → Blames e (λ o. ComesToAnswer text steps it 0 (at start) o)
       → OnRefusal (λ r. IsRefusedByTokens text steps it r ⊎ IsFaulty text steps it (fault.Refused r)) e
   blamed it (fault.Refused r) h = answers_fault it r (h.said r refl)

@@ -1,4 +1,4 @@
--- The tokens of a list, as they come from the iterator over it.
+-- The tokens of a list, as the iterator over it gives them.
 use Rattle.std.proofs.Common.{◌≡◌, ℕ, ◌⊎◌, inl, inr, List, [], ◌∷◌, ◌++◌, map, Some, None, Result, Ok, Err, MatchResult}
 use Rattle.std.proofs.Common.{IfOk, IfErr, refl, ap, sym, ◌∙◌, subst, append_assoc}
 use Rattle.std.specs.Borrow.{Bor}
@@ -72,7 +72,7 @@ module _ (text : Bor (List ℕ) → List ℕ) (as_now : (b : Bor (List ℕ)) →
   lexemes_are [] = refl
   lexemes_are (t ∷ ts) = ap (λ z. z ∷ map (lexeme text) ts) (lexeme_is t) ∙ ap (λ z. lexeme_of t ∷ z) (lexemes_are ts)
 
-  -- what is answered for the tokens of a list
+  -- the result for the tokens of a list
   pub listed_read : (s : Listed) (r : Result RustModule Fault) → IfOk r (λ m. IsRead text gives_token s (module_of m))
       → IfOk r (λ m. IsModule (tokens_left s) (module_of m))
   listed_read s (Ok v) x = subst (λ z. IsModule z (module_of v)) (lexemes_are x.tokens ∙ all_came x.tokens s x.came)

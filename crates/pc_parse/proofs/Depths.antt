@@ -1,4 +1,4 @@
--- Where the first whole expression or annotation begins that is too deep.
+-- The byte of the first whole expression or annotation that is too deep.
 use Rattle.std.proofs.Common.{◌≡◌, ℕ, suc, ◌≤◌, ◌<◌, ◌⊎◌, inl, inr, Bool, true, false, if◌then◌else◌, List, [], ◌∷◌}
 use Rattle.std.proofs.Common.{◌++◌, Option, Some, None, min, refl, arith, ap, sym, ◌∙◌, append_assoc}
 use Rattle.std.specs.Prelude.{nat_lt}
@@ -36,7 +36,7 @@ sooner_assoc : (a b c : Option ℕ) → sooner (sooner a b) c ≡ sooner a (soon
 sooner_assoc None b c = refl
 sooner_assoc (Some x) b c = refl
 
--- what is noted in two steps is noted in one
+-- noting two lists one after the other notes them joined
 pub noted_more : (d : Option ℕ) (ws us : List Whole) → deep_after (deep_after d ws) us ≡ deep_after d (ws ++ us)
 noted_more d ws us = sooner_assoc d (first_too_deep ws) (first_too_deep us) ∙ ap (sooner d) (sym (first_split ws us))
 
@@ -79,7 +79,7 @@ capped n = by_tells (lt_tells 64 (min 65 n)) (lt_tells 64 n)
     by_tells (inr x) (inl y) = absurd (let p = x.1 in let q = y.1 in omega arith)
     by_tells (inr x) (inr y) = x.0 ∙ sym y.0
 
--- what is noted of an operand is what is noted of its expression
+-- noting an operand notes its expression
 pub note_of : (d : Option ℕ) (first depth deep : ℕ) (w : Whole) → first ≡ w.start → depth ≡ min 65 deep → w.depth ≡ deep
     → deep_after d (record { start = first; depth = depth } ∷ []) ≡ deep_after d (w ∷ [])
 note_of d first depth deep w f e g = ap (sooner d) (ap (λ z. if nat_lt 64 z then Some first else None)

@@ -42,7 +42,7 @@ use Rattle.pc_parse.specs.Internal.Suites.{GivesSuite}
 use Rattle.pc_parse.proofs.Depths.{noted_more, none_before}
 use Rattle.pc_parse.proofs.Parameters.{kept_none}
 
--- what comes before the first parameter, after the opening parenthesis
+-- the state after the opening parenthesis, before the first parameter
 abbrev begun : Bool → DefStart → State
 begun true d = fixed (a_form (codes "self")) [] (self_read d)
 begun false d = param_due d []

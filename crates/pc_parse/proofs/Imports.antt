@@ -106,7 +106,7 @@ module _ {X I : Type 0} {text : X → List ℕ} {steps : I → Option (Result (T
   from_read {t = t} stage top h k s = step_to (items stage top) (importing stage top) h
       (ap (turn (items stage top) (lexeme text t)) k ∙ ap (λ z. on z (importing stage top) stuck) s)
 
-  -- what an import is made of
+  -- an import is read from its tokens
   pub import_read : (source imported : List ℕ) {a p q r b : Reader X I} {t u v w : Token X}
       → TakesForm text steps can left source a p t → Takes text steps can left p q u → u.kind ≡ kind.Keyword word.Import
       → TakesForm text steps can left imported q r v → Takes text steps can left r b w → w.kind ≡ kind.Newline

@@ -1,4 +1,4 @@
--- What statements keep of the machine's, unless something in them is too deep.
+-- Values of statements, which keep the machine's trees unless something in them is too deep.
 use Rattle.std.proofs.Common.{◌≡◌, ℕ, List, [], ◌∷◌, ◌++◌, Option, Some, None, ap, sym, ◌∙◌}
 use Rattle.std.specs.Prelude.{Vec, Box}
 use Rattle.std.specs.declared.alloc.Global.{Global}

@@ -116,7 +116,7 @@ module _ {X I : Type 0} (text : X → List ℕ) (steps : I → Option (Result (T
   }
   refit start fits fits' a b (Err e) f h = blame (λ o w. λ done block k. w done block (f done k)) h
 
--- what is known of the token ahead where it was seen
+-- the token ahead has the kind that was tested
 pub seen_kind : {X : Type 0} {a : Option (Token X)} {t : Token X} (kind : TokenKind) → IsAhead kind a ≡ true
     → a ≡ Some t → same_kind t.kind kind ≡ true
 seen_kind kind e h = sym (ap (IsAhead kind) h) ∙ e

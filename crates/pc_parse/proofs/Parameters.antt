@@ -72,7 +72,7 @@ params_split [] p = append-nil (optional_anns p.annotation)
 params_split (q ∷ ps) p = ap (λ z. optional_anns q.annotation ++ z) (params_split ps p)
     ∙ sym (append_assoc (optional_anns q.annotation) (wholes_of_params ps) (optional_anns p.annotation))
 
--- ---- what stands after a name
+-- ---- tokens after a name
 
 ann_more : (d : DefStart) (ps : List Param) (n : Name) (a : Option Ann) (k : TokenKind)
     → or_ann (of_param d ps n) (param_more d ps n None) a k ≡ param_more d ps n a k
@@ -243,7 +243,7 @@ module _ {X I : Type 0} {text : X → List ℕ} {steps : I → Option (Result (T
     parameter_fails p w = blame (λ o u. λ d. s.leads d o (u d s.params p)) w
 
     module _ {q : Parser X I} {r : RustParam} (x : GivesParam text steps can left m q r) where
-      -- what stands after a parameter
+      -- the tokens after a parameter
       pub comma_fails : {e : Fault} → Blames e (λ o. (z : Reading) → (q.reader.ahead ≡ None → stop z ≡ short)
           → Came text steps q.reader z o) → Blames e (λ o. (d : DefStart)
           → Came text steps a.reader (at (param_due d [])) o)

@@ -42,7 +42,7 @@ use Rattle.pc_reader.proofs.Steps.{step_to, alike, not_seen, kind_seen}
 use Rattle.pc_reader.proofs.Streams.{blame}
 use Rattle.pc_reader.proofs.Stands.{awaits, passes, takes, reached_so, reaches_to}
 use Rattle.pc_parse.specs.declared.parser.Parser.{Parser}
-use Rattle.pc_parse.specs.declared.headers.Headers.{Headers}
+use Rattle.pc_parse.specs.declared.optional_imports.OptionalImports.{OptionalImports}
 use Rattle.pc_parse.specs.Internal.WholeTrees.{deep_after, GivesWhole, ending_of}
 use Rattle.pc_parse.specs.Internal.Signatures.{opens_ann, or_ann, GivesOpened, GivesFunction}
 use Rattle.pc_parse.specs.Internal.Classes.{GivesClass}
@@ -328,7 +328,7 @@ module _ {X I : Type 0} {text : X → List ℕ} {steps : I → Option (Result (T
 
   -- ---- lists of items
 
-  pub more_items : {a m b : Parser X I} {h : Headers} {v v' : Vec RustItem Global} {i : RustItem}
+  pub more_items : {a m b : Parser X I} {h : OptionalImports} {v v' : Vec RustItem Global} {i : RustItem}
       → ItemsSoFar text steps can left a m h v → GivesItem text steps can left m b i → v'.items ≡ v.items ++ (i ∷ [])
       → ItemsSoFar text steps can left a b h v'
   more_items {h = h} s x push = record {

@@ -1,4 +1,4 @@
--- Where tokens lead the machine at the beginnings and the ends of statements and suites.
+-- Turns at the beginnings and the ends of statements and suites.
 use Rattle.std.proofs.Common.{◌≡◌, ℕ, inl, inr, Bool, true, false, None, refl, arith, ap, sym, ◌∙◌}
 use Rattle.pc_token.specs.declared.token.TokenKind.{TokenKind}
 use Rattle.pc_token.specs.declared.token.TokenKind.TheVariants as kind
@@ -34,7 +34,7 @@ finish_none (in_statement (iterating n) site) p = refl
 finish_none (in_statement (branching bs) site) p = refl
 finish_none (in_constant n a top) p = refl
 
--- what does not go on with a whole expression finishes it
+-- a token that does not continue a whole expression finishes it
 pub whole_turn : (level : ℕ) (p : Part) (c : ExpressionPosition) (t : Lexeme) (f : Follow) → Over 0 level f
     → Undotted level f → have_turn level p (whole c) t f ≡ finish c p (ending_in f)
 whole_turn level p c t (link l) (inl h) u = absurd (omega arith)
@@ -44,7 +44,7 @@ whole_turn level p c t calls v u = loose 7 level _ u ∙ sym (finish_none c p)
 whole_turn level p c t indexes v u = loose 7 level _ u ∙ sym (finish_none c p)
 whole_turn level p c t (ends e) v u = refl
 
--- ---- what ends a whole expression, by the token
+-- ---- the end of a whole expression, by its token
 
 pub line_end_turn : (next : State) (k : TokenKind) → at_line_end next (ending_of k) ≡ on (same_kind k kind.Newline) next
     stuck

@@ -22,7 +22,7 @@ use Rattle.pc_grammar.specs.Machine.States.{State, fixed, ended, stuck}
 use Rattle.pc_reader.specs.declared.reader.Reader.{Reader}
 use Rattle.pc_reader.specs.Reading.{Blames, kind_ahead, lexeme, Came, Rejects}
 use Rattle.pc_reader.proofs.Streams.{blame, at_end, same_step}
-use Rattle.pc_parse.specs.declared.headers.Headers.{Headers}
+use Rattle.pc_parse.specs.declared.optional_imports.OptionalImports.{OptionalImports}
 use Rattle.pc_parse.specs.declared.parser.Parser.{Parser}
 use Rattle.pc_parse.specs.Internal.Modules.{top_of, GivesLast, GivesModule, ItemsSoFar}
 
@@ -68,7 +68,7 @@ module _ {X I : Type 0} (text : X → List ℕ) (steps : I → Option (Result (T
           }))) w
 
 module _ {X I : Type 0} {text : X → List ℕ} {steps : I → Option (Result (Token X) Fault) → I → Type 0}
-    {can : I → Type 0} {left : I → Count} {a m : Parser X I} {h : Headers} {v : Vec RustItem Global}
+    {can : I → Type 0} {left : I → Count} {a m : Parser X I} {h : OptionalImports} {v : Vec RustItem Global}
     (s : ItemsSoFar text steps can left a m h v) where
   -- where an item does not go on
   pub item_fails : {e : Fault} → Blames e (λ o. (top : Rattle.pc_grammar.specs.Machine.States.Top)

@@ -1,5 +1,4 @@
--- Where tokens stand within a text of some length, the whole expressions and annotations that they spell begin there,
--- and so does their refusal.
+-- The whole expressions and annotations of tokens within a text begin within it, and so does their refusal.
 use Rattle.std.proofs.Common.{◌≡◌, ℕ, zero, suc, ◌<◌, ◌≤◌, Bool, true, false, if◌then◌else◌, List, [], ◌∷◌, ◌++◌, map}
 use Rattle.std.proofs.Common.{Option, Some, None, Result, Ok, Err, refl, sym, ap, ◌∙◌, subst, inl, inr, arith}
 use Rattle.std.specs.Prelude.{nat_lt, ◌⊎◌, IfErr}
@@ -135,7 +134,7 @@ node_within len (attribute p e f) = of_at p
 node_within len (index p e i) = of_at p
 node_within len (call p e xs ks) = of_at p
 
--- what its node tells a whole expression tells
+-- a fact about a node holds of its whole expression
 pub of_expression : {len : ℕ} {Q : Type 0} → (e : Expr) → Tells len (Spells e) Q → Tells len (Expression e) Q
 of_expression e f = record { over = λ ts h s. (of_wrapped s.0 f).over ts h s.2 }
 
@@ -192,7 +191,7 @@ optional_ann (Some a) f = begin_one (whole_ann a) (f a)
 pub of_suite : {len : ℕ} {A : Spelling} {Q : Type 0} → Tells len A Q → Tells len (Suite A) Q
 of_suite f = of_right (of_right (of_right (of_left f)))
 
--- what follows, or nothing where this was the last
+-- the next token, or nothing after the last
 of_rest : {len : ℕ} {A : Spelling} → (ss : Stmts) → Tells len A (BeginWithin len (wholes_of_stmts ss))
     → Tells len (Rest (ss ≡ no_stmts) A) (BeginWithin len (wholes_of_stmts ss))
 of_rest {len = len} ss f = record {
@@ -263,7 +262,7 @@ mutual
 
 -- ---- functions, classes and the module
 
--- what stands after a comma, or nothing
+-- the tokens after a comma, or nothing
 after_comma : {len : ℕ} {last : Type 0} {A : Spelling} → (ws : List Whole) → (last → ws ≡ [])
     → Tells len A (BeginWithin len ws) → Tells len (AfterComma last A) (BeginWithin len ws)
 after_comma {len = len} ws none f = record {
@@ -351,7 +350,7 @@ refusal_within len ts r h (inl (c, inr f)) = omega (arith, f.end, last_within le
 refusal_within len ts r h (inr (c, f)) = deep_within len (wholes_of_items f.tree.items) r.byte
     ((of_items f.tree (items_begin len f.tree.items)).over ts h f.spelled) f.first
 
--- ---- what is answered for tokens
+-- ---- the result for tokens
 
 module _ {X I : Type 0} (text : X → List ℕ) (steps : I → Option (Result (Token X) Fault) → I → Type 0) (it : I) where
   pub fault_within : (e : Fault) → OnRefusal (λ q. IsRefusedByTokens text steps it q

@@ -1,4 +1,4 @@
--- What only the contracts of private functions say: the public contracts speak of the files beside this folder.
+-- Definitions that only contracts of private functions use; the public contracts use the files beside this folder.
 pub mod Annotations
 pub mod Classes
 pub mod ListedTokens

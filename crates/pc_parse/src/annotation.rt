@@ -1,4 +1,5 @@
-//! Annotations, by descent: recursion at brackets alone.
+//! Annotations, by descent, with recursion only at brackets. Each function takes the tokens that it reads, and fails as
+//! `Reader::misfit` does at the first that does not fit, or if an allocation fails.
 ghost use Rattle.std.specs.Prelude.{◌≡◌, ◌≤◌, MatchResult, IfOk, false};
 ghost use Rattle.pc_source.specs.declared.fault.Fault.TheVariants as fault;
 ghost use Rattle.pc_token.specs.declared.token.TokenKind.TheVariants as kind;
@@ -22,16 +23,16 @@ use pc_tree::{Ann, Name, put_last};
 use std::alloc::Global;
 use std::convert::AsStr;
 
-/// An annotation that was read, at its place. `None` stands for one that is deeper than 64.
+/// An annotation that has been read, at its place. One deeper than 64 is replaced by the annotation `None`.
 #[derive(Drop)]
 pub(crate) struct Annotation {
     pub ann: Ann,
     pub place: Place,
-    /// How deep it is, and 65 where it is deeper than 64.
+    /// Its depth, 65 if deeper than 64.
     pub depth: u8,
 }
 
-/// Annotations, and the depth of a node over them, 65 where it is deeper than 64.
+/// Annotations, and the depth of a node over them, 65 if deeper than 64.
 #[derive(Drop)]
 struct Annotations {
     anns: Vec<Ann>,
@@ -39,6 +40,7 @@ struct Annotations {
 }
 
 impl Annotations {
+    /// Creates an empty list.
     fn new(alloc: Global) -> Annotations
         ensures { KeepsAnns result no_anns }
     {
@@ -48,7 +50,7 @@ impl Annotations {
         }
     }
 
-    /// Adds an annotation at the end.
+    /// Appends an annotation.
     fn push(&mut self, annotation: Annotation) -> Result<(), Fault>
         requires { annotation.depth ≤ 65 }
         ensures { MatchResult result
@@ -61,7 +63,7 @@ impl Annotations {
     }
 }
 
-/// A name with these arguments.
+/// Returns a name with these arguments.
 fn applied(head: Name, arguments: Annotations, place: Place) -> Annotation
     ensures { (anns : Anns) → KeepsAnns arguments anns
         → MakesAnn result (λ q. applied_tree q (name_of head) anns) place.start place.end }
@@ -81,7 +83,7 @@ fn applied(head: Name, arguments: Annotations, place: Place) -> Annotation
     }
 }
 
-/// The union of these parts.
+/// Returns the union of these parts.
 fn united(parts: Annotations, place: Place) -> Annotation
     ensures { (anns : Anns) → KeepsAnns parts anns → MakesAnn result (λ q. union_tree q anns) place.start place.end }
 {
@@ -100,7 +102,7 @@ fn united(parts: Annotations, place: Place) -> Annotation
     }
 }
 
-/// An annotation that has no parts.
+/// Returns an annotation without parts, of depth 0.
 fn single(ann: Ann, place: Place) -> Annotation
     ensures { result ≡ record { ann = ann; place = place; depth = 0 } }
 {
@@ -111,7 +113,7 @@ fn single(ann: Ann, place: Place) -> Annotation
     }
 }
 
-/// An annotation: a part, or parts with `|` between them.
+/// Reads an annotation: a part, or parts with `|` between them.
 #[cycle(annotations)]
 fn union<X: AsStr + Drop, I: Iterator<Item = Result<Token<X>, Fault>> + Drop>(
     reader: &mut Reader<X, I>,
@@ -140,7 +142,7 @@ fn union<X: AsStr + Drop, I: Iterator<Item = Result<Token<X>, Fault>> + Drop>(
     }
 }
 
-/// A name, `None`, or a name with brackets after it.
+/// Reads a name, `None`, or a name with brackets after it.
 #[cycle(annotations)]
 fn part<X: AsStr + Drop, I: Iterator<Item = Result<Token<X>, Fault>> + Drop>(
     reader: &mut Reader<X, I>,
@@ -162,7 +164,7 @@ fn part<X: AsStr + Drop, I: Iterator<Item = Result<Token<X>, Fault>> + Drop>(
     arguments(reader, alloc, name)
 }
 
-/// What stands after a name and `[`: arguments or `()`, and the closing bracket.
+/// Reads the arguments or the `()` after a name and `[`, and the closing bracket.
 #[cycle(annotations)]
 fn arguments<X: AsStr + Drop, I: Iterator<Item = Result<Token<X>, Fault>> + Drop>(
     reader: &mut Reader<X, I>,
@@ -194,7 +196,7 @@ fn arguments<X: AsStr + Drop, I: Iterator<Item = Result<Token<X>, Fault>> + Drop
     }
 }
 
-/// `)]` after a name and `[(`.
+/// Reads the `)]` after a name and `[(`.
 fn no_arguments<X: AsStr + Drop, I: Iterator<Item = Result<Token<X>, Fault>> + Drop>(
     reader: &mut Reader<X, I>,
     head: Name,
@@ -213,7 +215,7 @@ fn no_arguments<X: AsStr + Drop, I: Iterator<Item = Result<Token<X>, Fault>> + D
 }
 
 impl<X: AsStr + Drop, I: Iterator<Item = Result<Token<X>, Fault>> + Drop> Parser<X, I> {
-    /// A whole annotation.
+    /// Reads a whole annotation and notes its depth.
     pub(crate) fn annotation(&mut self, alloc: Global) -> Result<Ann, Fault>
         requires { IsReady I.can_next I.remaining self.old.reader }
         ensures { ReadsAnn X.text I.next_gives I.can_next I.remaining self.old self.new result }

@@ -11,7 +11,7 @@ use pc_tree::{ClassDef, Field, Member, Name, put_last};
 use std::alloc::Global;
 use std::convert::AsStr;
 
-/// The base of a class, if it names one, and all that stands before the first member.
+/// Reads from after the name of a class to its first member, and returns its base, if it names one.
 fn base<X: AsStr + Drop, I: Iterator<Item = Result<Token<X>, Fault>> + Drop>(
     reader: &mut Reader<X, I>,
     alloc: Global,
@@ -39,7 +39,7 @@ fn base<X: AsStr + Drop, I: Iterator<Item = Result<Token<X>, Fault>> + Drop>(
 }
 
 impl<X: AsStr + Drop, I: Iterator<Item = Result<Token<X>, Fault>> + Drop> Parser<X, I> {
-    /// A field and the end of its line.
+    /// Reads a field and the end of its line.
     fn field(&mut self, alloc: Global) -> Result<Field, Fault>
         requires { IsReady I.can_next I.remaining self.old.reader }
         ensures { ReadsField X.text I.next_gives I.can_next I.remaining self.old self.new result }
@@ -56,7 +56,7 @@ impl<X: AsStr + Drop, I: Iterator<Item = Result<Token<X>, Fault>> + Drop> Parser
         })
     }
 
-    /// A field or a method.
+    /// Reads a field or a method.
     fn member(&mut self, alloc: Global) -> Result<Member, Fault>
         requires { IsReady I.can_next I.remaining self.old.reader }
         ensures { ReadsMember X.text I.next_gives I.can_next I.remaining self.old self.new result }
@@ -70,7 +70,7 @@ impl<X: AsStr + Drop, I: Iterator<Item = Result<Token<X>, Fault>> + Drop> Parser
         Ok(Member::Field(field))
     }
 
-    /// The members of a class, or `pass`, and the end of the suite.
+    /// Reads the members of a class, or `pass`, and the end of the suite.
     fn members(&mut self, alloc: Global) -> Result<Vec<Member>, Fault>
         requires { IsReady I.can_next I.remaining self.old.reader }
         ensures { ReadsMembers X.text I.next_gives I.can_next I.remaining self.old self.new result }
@@ -94,7 +94,7 @@ impl<X: AsStr + Drop, I: Iterator<Item = Result<Token<X>, Fault>> + Drop> Parser
         }
     }
 
-    /// A class from after its `@`.
+    /// Reads a class, from after its `@`.
     pub(crate) fn class(&mut self, alloc: Global) -> Result<ClassDef, Fault>
         requires { IsReady I.can_next I.remaining self.old.reader }
         ensures { ReadsClass X.text I.next_gives I.can_next I.remaining self.old self.new result }

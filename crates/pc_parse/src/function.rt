@@ -11,7 +11,7 @@ use std::alloc::Global;
 use std::convert::AsStr;
 
 impl<X: AsStr + Drop, I: Iterator<Item = Result<Token<X>, Fault>> + Drop> Parser<X, I> {
-    /// `self`, the parameters after it, and the closing parenthesis.
+    /// Reads `self`, the parameters after it, and the closing parenthesis.
     fn parameters_of_method(&mut self, alloc: Global) -> Result<Vec<Param>, Fault>
         requires { IsReady I.can_next I.remaining self.old.reader }
         ensures { ReadsMethodParams X.text I.next_gives I.can_next I.remaining self.old self.new result }
@@ -26,7 +26,7 @@ impl<X: AsStr + Drop, I: Iterator<Item = Result<Token<X>, Fault>> + Drop> Parser
         Ok(Vec::new(alloc))
     }
 
-    /// The parentheses of a function, or of a method, and the parameters in them.
+    /// Reads the parameters of a function or a method, with the parentheses around them.
     fn signature(&mut self, alloc: Global, method: bool) -> Result<Vec<Param>, Fault>
         requires { IsReady I.can_next I.remaining self.old.reader }
         ensures { ReadsSignature X.text I.next_gives I.can_next I.remaining method self.old self.new result }
@@ -39,7 +39,7 @@ impl<X: AsStr + Drop, I: Iterator<Item = Result<Token<X>, Fault>> + Drop> Parser
         self.parameters(alloc)
     }
 
-    /// A function, or a method, from after its `def`.
+    /// Reads a function or a method, from after its `def`.
     pub(crate) fn function(&mut self, alloc: Global, method: bool) -> Result<FuncDef, Fault>
         requires { IsReady I.can_next I.remaining self.old.reader }
         ensures { ReadsFunction X.text I.next_gives I.can_next I.remaining method self.old self.new result }

@@ -1,12 +1,12 @@
-//! The parser: the module that tokens spell, read one token at a time.
+//! The parser: reads the module that tokens spell, one token at a time.
 #![tactic(auto)]
 
 mod annotation;
 mod class;
 mod function;
-mod headers;
 pub mod laws;
 mod listed;
+mod optional_imports;
 mod parameter;
 mod parser;
 mod piece;

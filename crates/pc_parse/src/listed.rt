@@ -1,4 +1,4 @@
-//! The module that the tokens of a list spell.
+//! Parsing a list of tokens.
 ghost use Rattle.std.specs.Prelude.{◌≡◌, ℕ, map, MatchResult, IfOk, IfErr};
 ghost use Rattle.std.specs.Iterator.{at_most};
 ghost use Rattle.pc_source.specs.declared.fault.Fault.TheVariants as fault;
@@ -11,19 +11,19 @@ ghost use Rattle.pc_grammar.specs.Faults.{IsModule, IsRefusal};
 
 use crate::stream::parse_from;
 use pc_source::Fault;
-use pc_token::Tok;
+use pc_token::TextToken;
 use pc_tree::Module;
 use std::alloc::Global;
 
-/// The tokens of a list that are left, copied one at a time.
+/// The remaining tokens of a list, copied one at a time.
 #[derive(Drop)]
 struct Listed<'t, 'a> {
-    tokens: &'t [Tok<'a>],
+    tokens: &'t [TextToken<'a>],
     at: usize,
 }
 
-/// A copy of a token.
-fn copied<'a>(token: &Tok<'a>) -> Result<Tok<'a>, Fault>
+/// Copies a token.
+fn copied<'a>(token: &TextToken<'a>) -> Result<TextToken<'a>, Fault>
     ensures { MatchResult result (λ t. lexeme_of t ≡ lexeme_of token.now) (λ e. e ≡ fault.OutOfMemory) }
 {
     let token = token.clone()?;
@@ -31,7 +31,7 @@ fn copied<'a>(token: &Tok<'a>) -> Result<Tok<'a>, Fault>
 }
 
 impl<'t, 'a> Iterator for Listed<'t, 'a> {
-    type Item = Result<Tok<'a>, Fault>;
+    type Item = Result<TextToken<'a>, Fault>;
 
     ghost use Rattle.std.specs.Prelude.{◌-◌, length};
     ghost use Rattle.pc_parse.specs.Internal.ListedTokens.{gives_token};
@@ -44,7 +44,7 @@ impl<'t, 'a> Iterator for Listed<'t, 'a> {
         (0, None)
     }
 
-    fn next(&mut self) -> Option<Result<Tok<'a>, Fault>> {
+    fn next(&mut self) -> Option<Result<TextToken<'a>, Fault>> {
         if self.at >= self.tokens.len() {
             return None;
         }
@@ -54,15 +54,15 @@ impl<'t, 'a> Iterator for Listed<'t, 'a> {
     }
 }
 
-/// The module that tokens spell. Python Language Reference 3.12, 10 "Full Grammar specification", in
-/// the part of the profile.
+/// Parses a list of tokens into a module. Python Language Reference 3.12, 10 "Full Grammar specification", the part in
+/// the profile.
 ///
 /// # Errors
 ///
-/// `G1` at the first token after which no module can follow, or at the end of the last token where
-/// they end too early; else `G2` at the first byte of the first whole expression or annotation that
-/// is deeper than 64. `OutOfMemory` where the tree has no room.
-pub fn parse(alloc: Global, tokens: &[Tok<'_>]) -> Result<Module, Fault>
+/// `G1` at the first token after which no module can follow, or at the end of the last token if they end too early;
+/// otherwise `G2` at the first byte of the first whole expression or annotation that is deeper than 64. `OutOfMemory`
+/// if the tree cannot be allocated.
+pub fn parse(alloc: Global, tokens: &[TextToken<'_>]) -> Result<Module, Fault>
     ensures found { IfOk result (λ m. IsModule (map lexeme_of tokens.now) (module_of m)) }
     ensures only { (m : ModuleTree) → IsModule (map lexeme_of tokens.now) m
         → MatchResult result (λ v. module_of v ≡ m) (λ e. e ≡ fault.OutOfMemory) }

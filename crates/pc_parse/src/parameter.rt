@@ -11,7 +11,7 @@ use std::alloc::Global;
 use std::convert::AsStr;
 
 impl<X: AsStr + Drop, I: Iterator<Item = Result<Token<X>, Fault>> + Drop> Parser<X, I> {
-    /// An annotation after this sign, if the sign is ahead.
+    /// Reads `opener` and an annotation, if that sign is ahead.
     pub(crate) fn annotation_behind(
         &mut self,
         alloc: Global,
@@ -28,7 +28,7 @@ impl<X: AsStr + Drop, I: Iterator<Item = Result<Token<X>, Fault>> + Drop> Parser
         Ok(Some(annotation))
     }
 
-    /// A parameter: a name, and its annotation and its default if it has them.
+    /// Reads a parameter: a name, and its annotation and its default if it has them.
     fn parameter(&mut self, alloc: Global) -> Result<Param, Fault>
         requires { IsReady I.can_next I.remaining self.old.reader }
         ensures { ReadsParam X.text I.next_gives I.can_next I.remaining self.old self.new result }
@@ -43,7 +43,7 @@ impl<X: AsStr + Drop, I: Iterator<Item = Result<Token<X>, Fault>> + Drop> Parser
         })
     }
 
-    /// Parameters, and the closing parenthesis.
+    /// Reads parameters and the closing parenthesis.
     pub(crate) fn parameters(&mut self, alloc: Global) -> Result<Vec<Param>, Fault>
         requires { IsReady I.can_next I.remaining self.old.reader }
         ensures { ReadsParams X.text I.next_gives I.can_next I.remaining self.old self.new result }

@@ -1,4 +1,4 @@
-//! Whole expressions, and where the first one begins that is too deep.
+//! The parser's state: its tokens, and the first whole expression or annotation that is too deep.
 ghost use Rattle.std.specs.Prelude.{◌≡◌, ◌∷◌, [], None};
 ghost use Rattle.pc_reader.specs.Reading.{IsReady};
 ghost use Rattle.pc_parse.specs.Internal.WholeTrees.{deep_after, ReadsWhole};
@@ -9,8 +9,8 @@ use pc_token::Token;
 use std::alloc::Global;
 use std::convert::AsStr;
 
-/// A reader, and the byte where the first whole expression or annotation begins that is deeper than
-/// 64, if one was read. Own rule of the profile.
+/// A reader, and the byte where the first whole expression or annotation deeper than 64 begins, if one has been read.
+/// Own rule of the profile.
 #[derive(Drop)]
 pub(crate) struct Parser<X: Drop, I: Drop> {
     pub reader: Reader<X, I>,
@@ -18,15 +18,14 @@ pub(crate) struct Parser<X: Drop, I: Drop> {
 }
 
 impl<X: AsStr + Drop, I: Iterator<Item = Result<Token<X>, Fault>> + Drop> Parser<X, I> {
-    /// A parser that has read nothing.
+    /// Creates a parser that has read nothing.
     pub(crate) fn new(reader: Reader<X, I>) -> Self
         ensures { result ≡ record { reader = reader; deep = None } }
     {
         Parser { reader, deep: None }
     }
 
-    /// Notes a whole expression or annotation of this depth, 65 where it is deeper than 64, that
-    /// begins at the byte `first`.
+    /// Notes a whole expression or annotation that begins at byte `first`, with its depth, 65 if deeper than 64.
     pub(crate) fn note(&mut self, first: usize, depth: u8)
         ensures reader { self.new.reader ≡ self.old.reader }
         ensures deep { self.new.deep ≡ deep_after self.old.deep (record { start = first; depth = depth } ∷ []) }
@@ -36,7 +35,7 @@ impl<X: AsStr + Drop, I: Iterator<Item = Result<Token<X>, Fault>> + Drop> Parser
         }
     }
 
-    /// A whole expression.
+    /// Reads a whole expression and notes its depth.
     pub(crate) fn expression(&mut self, alloc: Global) -> Result<Operand, Fault>
         requires { IsReady I.can_next I.remaining self.old.reader }
         ensures { ReadsWhole X.text I.next_gives I.can_next I.remaining self.old self.new result }

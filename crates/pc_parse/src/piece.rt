@@ -1,4 +1,4 @@
-//! The items of a module, its last line, and the whole.
+//! The items of a module, its last line, and whole modules.
 ghost use Rattle.std.specs.Prelude.{◌≡◌, ◌&&◌, codes, bytes_eq};
 ghost use Rattle.pc_token.specs.declared.token.TokenKind.TheVariants as kind;
 ghost use Rattle.pc_token.specs.declared.token.Operator.TheVariants as sign;
@@ -6,7 +6,7 @@ ghost use Rattle.pc_tree.specs.Tree.{name_of};
 ghost use Rattle.pc_reader.specs.Reading.{IsReady, IsAhead};
 ghost use Rattle.pc_parse.specs.Internal.Modules.{ReadsConstant, ReadsPiece, ReadsModule};
 
-use crate::headers::read_headers;
+use crate::optional_imports::read_headers;
 use crate::parser::Parser;
 use pc_reader::Reader;
 use pc_source::{Fault, Place};
@@ -22,7 +22,7 @@ enum Piece {
     Last(Place),
 }
 
-/// Whether the last line of the module goes on after this name.
+/// Whether `name` begins the last line of the module.
 fn begins_last_line<X: AsStr + Drop, I: Iterator<Item = Result<Token<X>, Fault>> + Drop>(
     reader: &Reader<X, I>,
     name: &Name,
@@ -34,7 +34,7 @@ fn begins_last_line<X: AsStr + Drop, I: Iterator<Item = Result<Token<X>, Fault>>
 }
 
 impl<X: AsStr + Drop, I: Iterator<Item = Result<Token<X>, Fault>> + Drop> Parser<X, I> {
-    /// A constant from after its name, and the end of its line.
+    /// Reads a constant, from after its name, and the end of its line.
     fn constant(&mut self, alloc: Global, name: Name) -> Result<Constant, Fault>
         requires { IsReady I.can_next I.remaining self.old.reader }
         ensures { ReadsConstant X.text I.next_gives I.can_next I.remaining self.old self.new (name_of name) result }
@@ -50,7 +50,7 @@ impl<X: AsStr + Drop, I: Iterator<Item = Result<Token<X>, Fault>> + Drop> Parser
         })
     }
 
-    /// An item of the module, or its last line.
+    /// Reads an item of the module, or its last line.
     fn piece(&mut self, alloc: Global) -> Result<Piece, Fault>
         requires { IsReady I.can_next I.remaining self.old.reader }
         ensures { ReadsPiece X.text I.next_gives I.can_next I.remaining self.old self.new result }
@@ -89,7 +89,7 @@ impl<X: AsStr + Drop, I: Iterator<Item = Result<Token<X>, Fault>> + Drop> Parser
         }))
     }
 
-    /// A whole module.
+    /// Reads a whole module. It has the hash keys of an empty text.
     pub(crate) fn module(&mut self, alloc: Global) -> Result<Module, Fault>
         requires { IsReady I.can_next I.remaining self.old.reader }
         ensures { ReadsModule X.text I.next_gives I.can_next I.remaining self.old self.new result }

@@ -1,4 +1,5 @@
-//! Statements of one line.
+//! Statements of one line. Each function takes the tokens that it reads, and fails as `Reader::misfit` does at the
+//! first that does not fit, or if an allocation fails.
 ghost use Rattle.std.specs.Prelude.{◌≡◌, MatchOption, Some, None};
 ghost use Rattle.pc_tree.specs.Tree.{expr_of, target_of};
 ghost use Rattle.pc_grammar.specs.Machine.Finishing.{if_plain, target_of_tree};
@@ -15,8 +16,8 @@ use pc_tree::{Expr, Name, Stmt, StmtKind, Target};
 use std::alloc::Global;
 use std::convert::AsStr;
 
-/// What may begin a statement, or end a suite. Language Reference 7 "Simple statements" and
-/// 8 "Compound statements".
+/// The beginning of a statement, or the end of a suite. Language Reference 7 "Simple statements" and 8 "Compound
+/// statements".
 #[derive(Clone, Copy)]
 pub(crate) enum Lead {
     Pass,
@@ -28,7 +29,7 @@ pub(crate) enum Lead {
     For,
     If,
     Dedent,
-    /// An expression, or what begins no statement.
+    /// An expression, or a token that begins no statement.
     Other,
 }
 
@@ -40,7 +41,7 @@ pub(crate) enum Word {
     Continue,
 }
 
-/// The statement that is this word.
+/// Returns the statement that is this word.
 fn kind_of_word(word: Word) -> StmtKind
     ensures { result ≡ kind_of_word word }
 {
@@ -51,7 +52,7 @@ fn kind_of_word(word: Word) -> StmtKind
     }
 }
 
-/// What a token of this kind begins.
+/// Returns the beginning of a statement, or the end of a suite, that a token of this kind is.
 fn lead_of(kind: TokenKind) -> Lead
     ensures { lead_view result ≡ lead_of_kind kind }
 {
@@ -69,7 +70,7 @@ fn lead_of(kind: TokenKind) -> Lead
     }
 }
 
-/// What is assigned to, if an expression is that and stands in no parentheses.
+/// Returns the target that an expression is, if it is one without parentheses.
 fn target(operand: Operand) -> Option<Target>
     ensures { MatchOption result (if_plain operand.plain (target_of_tree (expr_of operand.expr)) ≡ None)
         (λ t. if_plain operand.plain (target_of_tree (expr_of operand.expr)) ≡ Some (target_of t)) }
@@ -86,7 +87,7 @@ fn target(operand: Operand) -> Option<Target>
 }
 
 impl<X: AsStr + Drop, I: Iterator<Item = Result<Token<X>, Fault>> + Drop> Parser<X, I> {
-    /// What the token ahead begins.
+    /// Returns the beginning of a statement, or the end of a suite, that the token ahead is.
     pub(crate) fn lead(&self) -> Lead
         ensures { HasLead (lead_view result) self.now }
     {
@@ -96,7 +97,7 @@ impl<X: AsStr + Drop, I: Iterator<Item = Result<Token<X>, Fault>> + Drop> Parser
         }
     }
 
-    /// The end of the line, after what was read of it.
+    /// Reads the end of the line and returns `read`, the statement before it.
     fn line_end<T: Drop>(&mut self, read: T) -> Result<T, Fault>
         requires { IsReady I.can_next I.remaining self.old.reader }
         ensures { ReadsLineEnd X.text I.next_gives I.can_next I.remaining self.old self.new read result }
@@ -105,7 +106,7 @@ impl<X: AsStr + Drop, I: Iterator<Item = Result<Token<X>, Fault>> + Drop> Parser
         Ok(read)
     }
 
-    /// `pass`, `break` or `continue`.
+    /// Reads `pass`, `break` or `continue`, and the end of the line.
     pub(crate) fn word(&mut self, word: Word) -> Result<Stmt, Fault>
         requires { IsReady I.can_next I.remaining self.old.reader }
         ensures { ReadsStmt X.text I.next_gives I.can_next I.remaining
@@ -118,7 +119,7 @@ impl<X: AsStr + Drop, I: Iterator<Item = Result<Token<X>, Fault>> + Drop> Parser
         })
     }
 
-    /// `return`, with or without a value.
+    /// Reads `return`, with or without a value, and the end of the line.
     pub(crate) fn returned(&mut self, alloc: Global) -> Result<Stmt, Fault>
         requires { IsReady I.can_next I.remaining self.old.reader }
         ensures { ReadsStmt X.text I.next_gives I.can_next I.remaining
@@ -139,7 +140,7 @@ impl<X: AsStr + Drop, I: Iterator<Item = Result<Token<X>, Fault>> + Drop> Parser
         })
     }
 
-    /// `assert`, a condition, and a message after a comma if there is one.
+    /// Reads `assert`, a condition, a comma and a message if there is one, and the end of the line.
     pub(crate) fn asserted(&mut self, alloc: Global) -> Result<Stmt, Fault>
         requires { IsReady I.can_next I.remaining self.old.reader }
         ensures { ReadsStmt X.text I.next_gives I.can_next I.remaining
@@ -163,8 +164,7 @@ impl<X: AsStr + Drop, I: Iterator<Item = Result<Token<X>, Fault>> + Drop> Parser
         })
     }
 
-    /// A statement that begins with an expression: an assignment, a local with its annotation, or
-    /// the expression alone.
+    /// Reads a statement that begins with an expression: an assignment, an annotated local, or the expression alone.
     pub(crate) fn line(&mut self, alloc: Global) -> Result<Stmt, Fault>
         requires { IsReady I.can_next I.remaining self.old.reader }
         ensures { ReadsStmt X.text I.next_gives I.can_next I.remaining
@@ -199,7 +199,7 @@ impl<X: AsStr + Drop, I: Iterator<Item = Result<Token<X>, Fault>> + Drop> Parser
         })
     }
 
-    /// The annotation of a local after its `:`, and what is assigned to it if anything is.
+    /// Reads the annotation of a local, from after its `:`, its value if there is one, and the end of the line.
     fn annotated(&mut self, alloc: Global, first: Place, name: Name) -> Result<Stmt, Fault>
         requires { IsReady I.can_next I.remaining self.old.reader }
         ensures { ReadsLocal X.text I.next_gives I.can_next I.remaining first name self.old self.new result }

@@ -1,4 +1,4 @@
-//! The module that tokens spell.
+//! Parsing a stream of tokens.
 ghost use Rattle.std.specs.Prelude.{◌⊎◌, ℕ, map, IfOk, IfErr};
 ghost use Rattle.std.specs.Iterator.{IsFinite};
 ghost use Rattle.pc_source.specs.declared.fault.Fault.TheVariants as fault;
@@ -18,15 +18,14 @@ use pc_tree::Module;
 use std::alloc::Global;
 use std::convert::AsStr;
 
-/// The module that tokens spell which come one at a time, over any iterator of tokens that ends.
-/// Python Language Reference 3.12, 10 "Full Grammar specification", in the part of the profile.
+/// Parses tokens that come one at a time, from any finite iterator, into a module. Python Language Reference 3.12, 10
+/// "Full Grammar specification", the part in the profile.
 ///
 /// # Errors
 ///
-/// A fault that came among the tokens. Else `G1` at the first token after which no module can
-/// follow, or at the end of the last token where they end too early; else `G2` at the first byte of
-/// the first whole expression or annotation that is deeper than 64. `OutOfMemory` where the tree has
-/// no room.
+/// A fault among the tokens. Otherwise `G1` at the first token after which no module can follow, or at the end of the
+/// last token if they end too early; otherwise `G2` at the first byte of the first whole expression or annotation that
+/// is deeper than 64. `OutOfMemory` if the tree cannot be allocated.
 pub fn parse_from<X: AsStr + Drop, I: Iterator<Item = Result<Token<X>, Fault>> + Drop>(
     alloc: Global,
     tokens: I,

@@ -13,8 +13,7 @@ use std::alloc::Global;
 use std::convert::AsStr;
 
 impl<X: AsStr + Drop, I: Iterator<Item = Result<Token<X>, Fault>> + Drop> Parser<X, I> {
-    /// The statements of a suite, from after its `:` up to and with its end.
-    /// Language Reference 8 "Compound statements".
+    /// Reads the statements of a suite, from after its `:` to its end. Language Reference 8 "Compound statements".
     #[cycle(statements)]
     pub(crate) fn suite(&mut self, alloc: Global) -> Result<Vec<Stmt>, Fault>
         requires { IsReady I.can_next I.remaining self.old.reader }
@@ -33,7 +32,7 @@ impl<X: AsStr + Drop, I: Iterator<Item = Result<Token<X>, Fault>> + Drop> Parser
         }
     }
 
-    /// A statement.
+    /// Reads a statement of any form.
     #[cycle(statements)]
     fn statement(&mut self, alloc: Global) -> Result<Stmt, Fault>
         requires { IsReady I.can_next I.remaining self.old.reader }
@@ -54,7 +53,7 @@ impl<X: AsStr + Drop, I: Iterator<Item = Result<Token<X>, Fault>> + Drop> Parser
         }
     }
 
-    /// `while`, a condition and its suite.
+    /// Reads `while`, a condition and its suite.
     #[cycle(statements)]
     fn while_loop(&mut self, alloc: Global) -> Result<Stmt, Fault>
         requires { IsReady I.can_next I.remaining self.old.reader }
@@ -70,7 +69,7 @@ impl<X: AsStr + Drop, I: Iterator<Item = Result<Token<X>, Fault>> + Drop> Parser
         })
     }
 
-    /// `for`, a name, what it goes over, and its suite.
+    /// Reads `for`, a name, `in`, an iterable, and its suite.
     #[cycle(statements)]
     fn for_loop(&mut self, alloc: Global) -> Result<Stmt, Fault>
         requires { IsReady I.can_next I.remaining self.old.reader }
@@ -88,7 +87,7 @@ impl<X: AsStr + Drop, I: Iterator<Item = Result<Token<X>, Fault>> + Drop> Parser
         })
     }
 
-    /// `if`, each `elif`, and `else`, with their suites.
+    /// Reads `if`, each `elif`, and `else`, with their suites.
     #[cycle(statements)]
     fn conditional(&mut self, alloc: Global) -> Result<Stmt, Fault>
         requires { IsReady I.can_next I.remaining self.old.reader }
@@ -111,7 +110,7 @@ impl<X: AsStr + Drop, I: Iterator<Item = Result<Token<X>, Fault>> + Drop> Parser
         }
     }
 
-    /// An expression, and the suite after it.
+    /// Reads an expression, `:`, and the suite after it.
     #[cycle(statements)]
     fn headed(&mut self, alloc: Global) -> Result<(Expr, Vec<Stmt>), Fault>
         requires { IsReady I.can_next I.remaining self.old.reader }
@@ -123,7 +122,7 @@ impl<X: AsStr + Drop, I: Iterator<Item = Result<Token<X>, Fault>> + Drop> Parser
         Ok((head.expr, body))
     }
 
-    /// The suite of `else`, or no statements where there is none.
+    /// Reads `else` and its suite, or nothing if there is none.
     #[cycle(statements)]
     fn otherwise(&mut self, alloc: Global) -> Result<Vec<Stmt>, Fault>
         requires { IsReady I.can_next I.remaining self.old.reader }

@@ -1,4 +1,4 @@
--- Two plain runs, of which one has more fuel: each step that the text is made of.
+-- Two plain runs, one with more fuel: each step that the text of the model is built from.
 use Rattle.std.proofs.Common.{◌≡◌, ◌⊎◌, ℕ, zero, suc, ◌+◌, ◌<◌, Bool, true, false, List, [], ◌∷◌, ◌++◌, refl, ap}
 use Rattle.std.proofs.Common.{◌∙◌, subst, sym, inl, inr, append_assoc, append-nil, zero-add, arith}
 use Rattle.std.specs.Prelude.{nat_eq}

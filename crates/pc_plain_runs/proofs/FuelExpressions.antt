@@ -1,4 +1,4 @@
--- Two plain runs, of which one has more fuel: expressions, by cases on the node.
+-- Two plain runs, one with more fuel: expressions, by cases on the node.
 use Rattle.std.proofs.Common.{ℕ, Bool, true, false, List, [], ◌∷◌}
 use Rattle.std.specs.Prelude.{Option, Some, None, is_some, not, chars}
 use Rattle.pc_source.specs.declared.place.Place.{Place}

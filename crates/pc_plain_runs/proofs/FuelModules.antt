@@ -1,4 +1,4 @@
--- Two plain runs, of which one has more fuel: the items of a module and `main`.
+-- Two plain runs, one with more fuel: the items of a module and `main`.
 use Rattle.std.proofs.Common.{ℕ, ◌+◌, ◌≤◌, Bool, List, [], ◌∷◌}
 use Rattle.std.specs.Prelude.{Option, Some, None, codes, length}
 use Rattle.pc_tree.specs.Tree.{Literal, number_literal, negative_literal, text_literal, truth_literal, none_literal}

@@ -1,4 +1,4 @@
--- Two plain runs, of which one has more fuel: statements, loops, and nested steps by induction on their number.
+-- Two plain runs, one with more fuel: statements, loops, and nested steps by induction on their number.
 use Rattle.std.proofs.Common.{ℕ, zero, suc, ◌+◌, ◌≤◌, List, arith}
 use Rattle.std.specs.Prelude.{Option, Some, None}
 use Rattle.pc_tree.specs.Tree.{Expr, Target, to_name, to_attribute, to_index, Stmt, pass, breaks, continues, returns}

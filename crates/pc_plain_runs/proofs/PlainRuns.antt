@@ -1,4 +1,4 @@
--- What holds of the plain runs of a module.
+-- Laws of the plain runs of a module.
 use Rattle.std.proofs.Common.{◌≡◌, ◌+◌, ◌-◌, ◌<◌, ℕ, suc, Bool, true, false, List, [], refl, ap, sym, ◌∙◌, subst}
 use Rattle.std.proofs.Common.{true≢false, add-zero, add-sub_of_le, arith, inl, inr}
 use Rattle.pc_source.specs.declared.place.Place.{Place}

@@ -1,4 +1,4 @@
--- What holds of the plain runs of a module.
+-- Laws of the plain runs of a module.
 -- Own rule of the profile.
 use Rattle.std.specs.Prelude.{◌≡◌, ◌⊎◌, ◌++◌, ℕ, ◌≤◌, List}
 use Rattle.pc_source.specs.declared.place.Place.{Place}
@@ -10,7 +10,7 @@ use Rattle.pc_machine.specs.Runs.{End, stopped, PlainRun}
 abbrev pub AreOneRun : List Place → End → List Place → End → Type 0
 AreOneRun events end others last = (events ≡ others) × (end ≡ last)
 
--- for a fuel and choices any two plain runs of a module are one
+-- any two plain runs of a module for the same fuel and choices are the same
 abbrev pub OnePlainRun : Type 0
 OnePlainRun = (m : Module) (fuel : ℕ) (choices : List ℕ) (events others : List Place) (end last : End)
     → PlainRun m fuel choices events end → PlainRun m fuel choices others last → AreOneRun events end others last
@@ -25,16 +25,16 @@ pub record HasPlainRun (m : Module) (fuel : ℕ) (choices : List ℕ) : Type 0 w
 abbrev pub EveryModuleRunsPlainly : Type 0
 EveryModuleRunsPlainly = (m : Module) (fuel : ℕ) (choices : List ℕ) → HasPlainRun m fuel choices
 
--- the first events are a beginning of the others
+-- the first events are a prefix of the others
 pub record IsBeginning (events others : List Place) : Type 0 where
   pub rest : List Place
   pub is : others ≡ events ++ rest
 
--- the events of a run are a beginning of those of another; and it is cut off, or both are one
+-- the events of one run are a prefix of the other's, and it is cut off or both are the same
 abbrev pub BeginsAs : List Place → End → List Place → End → Type 0
 BeginsAs events end others last = IsBeginning events others × ((end ≡ stopped Cut) ⊎ AreOneRun events end others last)
 
--- with less fuel a plain run is a beginning of the one with more, for the same choices
+-- a plain run is a prefix of the one with more fuel and the same choices
 abbrev pub LessFuelGivesABeginning : Type 0
 LessFuelGivesABeginning = (m : Module) (less more : ℕ) (choices : List ℕ) (events others : List Place) (end last : End)
     → less ≤ more → PlainRun m less choices events end → PlainRun m more choices others last

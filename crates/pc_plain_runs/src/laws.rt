@@ -1,4 +1,4 @@
-//! Laws on plain runs: there is exactly one for each fuel and choices, and more fuel only carries it further.
+//! Laws on plain runs: there is exactly one for each fuel and choices, and more fuel only extends it.
 
 ghost use Rattle.pc_plain_runs.specs.PlainRuns.{EveryModuleRunsPlainly, LessFuelGivesABeginning, OnePlainRun};
 
@@ -14,8 +14,8 @@ pub fn every_module_runs_plainly()
     ensures { EveryModuleRunsPlainly }
 {}
 
-/// The law that the events of a plain run are a beginning of those with more fuel and the same choices. Where the run
-/// with less fuel is not cut off, the two runs are the same. Own rule of the profile.
+/// The law that the events of a plain run are a prefix of those with more fuel and the same choices. If the run with
+/// less fuel is not cut off, the two runs are the same. Own rule of the profile.
 pub fn less_fuel_gives_a_beginning()
     ensures { LessFuelGivesABeginning }
 {}

@@ -1,4 +1,4 @@
-//! Laws on plain runs: there is exactly one for each fuel and choices, and more fuel only carries it further.
+//! Laws on plain runs: there is exactly one for each fuel and choices, and more fuel only extends it.
 #![tactic(auto)]
 
 mod laws;

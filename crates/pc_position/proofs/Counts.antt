@@ -1,4 +1,4 @@
--- What the units of texts come to.
+-- Sums of the units of texts.
 use Rattle.std.proofs.Common.{◌≡◌, ℕ, ◌*◌, ◌<◌, ◌≤◌, List, [], ◌∷◌, length, ◌-◌, take, length-take, length-drop, refl}
 use Rattle.std.proofs.Common.{arith}
 use Rattle.std.specs.Prelude.{◌==◌, not, sum_by, All}

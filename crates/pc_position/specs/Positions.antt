@@ -5,29 +5,30 @@ use Rattle.pc_position.specs.declared.positions.Encoding.{Encoding}
 use Rattle.pc_position.specs.declared.positions.Encoding.TheVariants.{Utf8, Utf16, Utf32}
 use Rattle.pc_position.specs.declared.positions.Position.{Position}
 
--- one at each byte where a character begins: each byte that is no continuation byte, 128 to 191, of UTF-8
+-- 1 at each byte where a character begins, otherwise 0: a character begins at each byte that is not a continuation
+-- byte, 128 to 191, of UTF-8
 abbrev pub begins : ℕ → ℕ
 begins byte = if nat_lt byte 128 || nat_le 192 byte then 1 else 0
 
--- one more at the first byte of four: a character of four bytes takes two units of UTF-16
+-- 1 at the first byte of a character of four bytes, otherwise 0: such a character has two units of UTF-16
 abbrev pub begins_pair : ℕ → ℕ
 begins_pair byte = if nat_le 240 byte then 1 else 0
 
--- how many units of the encoding a byte of UTF-8 begins
+-- the number of units of the encoding that begin at a byte of UTF-8
 abbrev pub units : Encoding → ℕ → ℕ
 units Utf8 byte = 1
 units Utf16 byte = begins byte + begins_pair byte
 units Utf32 byte = begins byte
 
--- how many line feeds stand before the byte
+-- the line of a byte: the number of line feeds before it
 abbrev pub line_at : List ℕ → ℕ → ℕ
 line_at text byte = count_by (λ b. b == 10) (take byte text)
 
--- how many units begin from the line's start on and before the byte
+-- the character of a byte: the number of units that begin in its line before it
 abbrev pub character_at : Encoding → List ℕ → ℕ → ℕ
 character_at encoding text byte = sum_by (units encoding) (after_last (λ b. b == 10) (take byte text))
 
--- the position is that of the byte
+-- the position is the byte's
 pub record IsPositionOf (encoding : Encoding) (text : List ℕ) (byte : ℕ) (position : Position) : Type 0 where
   pub line : position.line ≡ line_at text byte
   pub character : position.character ≡ character_at encoding text byte

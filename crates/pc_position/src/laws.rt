@@ -1,4 +1,4 @@
-//! The laws that tie positions to lines and columns.
+//! Laws that relate positions to lines and columns.
 
 ghost use Rattle.pc_position.specs.Laws.{LinesFromOne, ColumnsAreCharacters, AlikeOnAscii};
 

@@ -5,7 +5,7 @@ ghost use Rattle.pc_position.specs.Positions.{IsPositionOf, units, line_at, char
 
 use pc_source::Source;
 
-/// How the characters of a line are counted. Language Server Protocol 3.17, "PositionEncodingKind".
+/// A unit in which the characters of a line are counted. Language Server Protocol 3.17, "PositionEncodingKind".
 #[derive(Clone, Copy, Debug, PartialEq, Eq)]
 pub enum Encoding {
     /// Bytes of UTF-8.
@@ -23,7 +23,7 @@ pub struct Position {
     pub character: u64,
 }
 
-/// A byte and its position: where a walk over a text has come to.
+/// A byte and its position, as far as a scan of a text has come.
 #[derive(Clone, Copy, Debug, PartialEq, Eq)]
 pub struct Mark {
     pub byte: usize,
@@ -31,7 +31,7 @@ pub struct Mark {
 }
 
 impl Mark {
-    /// The start of any text.
+    /// Returns the start of a text.
     pub fn start() -> Mark
         ensures byte { result.byte ≡ 0 }
         ensures line { result.position.line ≡ 0 }
@@ -47,7 +47,7 @@ impl Mark {
     }
 }
 
-/// How many units a byte of UTF-8 begins.
+/// Returns the number of units that begin at a byte of UTF-8.
 fn units_of(encoding: Encoding, byte: u8) -> u64
     ensures units { result ≡ units encoding byte }
     ensures few { result ≤ 2 }
@@ -59,8 +59,8 @@ fn units_of(encoding: Encoding, byte: u8) -> u64
     }
 }
 
-/// The mark of a byte of a text, found from a known one: a walk over what stands between them. Where the byte stands
-/// before the known one, the walk begins at the start of the text.
+/// Returns the mark of a byte, given a known mark of the same text. Scans the text between the two, or from the start
+/// if the byte is before the known one.
 pub fn mark_after(text: &[u8], encoding: Encoding, known: Mark, byte: usize) -> Mark
     requires known { IsPositionOf encoding text.now known.byte known.position }
     ensures byte { result.byte ≡ byte }
@@ -88,14 +88,16 @@ pub fn mark_after(text: &[u8], encoding: Encoding, known: Mark, byte: usize) -> 
     }
 }
 
-/// The position of a byte of a text, for any number. Language Server Protocol 3.17, "Position".
+/// Returns the position of a byte of a text. Beyond the end it is the position of the end. Language Server Protocol
+/// 3.17, "Position".
 pub fn position_in(text: &[u8], byte: usize, encoding: Encoding) -> Position
     ensures { IsPositionOf encoding text.now byte result }
 {
     mark_after(text, encoding, Mark::start(), byte).position
 }
 
-/// The position of a byte of a source text, for any number. Language Server Protocol 3.17, "Position".
+/// Returns the position of a byte of a source text. Beyond the end it is the position of the end. Language Server
+/// Protocol 3.17, "Position".
 pub fn position_of(source: &Source, byte: usize, encoding: Encoding) -> Position
     ensures { IsPositionOf encoding source.now byte result }
 {

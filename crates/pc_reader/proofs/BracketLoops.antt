@@ -1,4 +1,4 @@
--- What loops over the parts of a bracket have read so far.
+-- State of the loops over the parts of a bracket.
 use Rattle.std.specs.Prelude.{ℕ, ◌≡◌, true, List, ◌++◌, Option, Some, Result}
 use Rattle.std.specs.Iterator.{Count}
 use Rattle.pc_source.specs.declared.fault.Fault.{Fault}

@@ -19,7 +19,7 @@ use Rattle.pc_reader.specs.Internal.Operands.{Starts, Ends, Form, a_name, anothe
 pub starts_more : {ts : List Lexeme} {n : ℕ} (us : List Lexeme) → Starts ts n → Starts (ts ++ us) n
 starts_more us s = record { head = s.head; tail = s.tail ++ us; is = ap (λ z. z ++ us) s.is; start = s.start }
 
--- where what follows is put after tokens, they begin at the same place
+-- tokens with others after them begin at the same place
 pub first_more : {ts : List Lexeme} {n : ℕ} (us : List Lexeme) → Starts ts n → first_place (ts ++ us) ≡ first_place ts
 first_more us s = ap (λ z. first_place (z ++ us)) s.is ∙ sym (ap first_place s.is)
 

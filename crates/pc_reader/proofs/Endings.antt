@@ -1,4 +1,4 @@
--- What may follow a whole operand in brackets.
+-- Tokens that may follow a whole operand in brackets.
 use Rattle.std.proofs.Common.{◌≡◌, ℕ, inl, inr, true, false, List, [], ◌∷◌, ◌++◌, Option, Some, refl, arith, ap, sym}
 use Rattle.std.proofs.Common.{◌∙◌}
 use Rattle.pc_token.specs.declared.token.Token.{Token}
@@ -77,7 +77,7 @@ needs_end text wanted level p s a r v u f = record {
       (next (Undotted level) a.ahead t u h) (f t h e);
 }
 
--- ---- what each bracket does not take
+-- ---- tokens that do not fit in each bracket
 
 pub group_unended : (o : List Lexeme) (s : Stack) (p : Part) (t : Lexeme) (k : TokenKind)
     → same_kind k (kind.Operator sign.RightParenthesis) ≡ false → same_kind k (kind.Operator sign.Comma) ≡ false

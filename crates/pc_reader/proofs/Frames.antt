@@ -1,4 +1,4 @@
--- Before a token that does not go on with an operand, what stands open around it is as good as closed.
+-- Before a token that does not continue an operand, the open operators around it may be joined.
 use Rattle.std.proofs.Common.{◌≡◌, ℕ, ◌+◌, ◌≤◌, ◌<◌, ◌⊎◌, inl, inr, Bool, true, false, if◌then◌else◌, List, refl, arith}
 use Rattle.std.proofs.Common.{ap, sym, ◌∙◌}
 use Rattle.std.specs.Prelude.{nat_le}
@@ -111,7 +111,7 @@ join_turn op l o p s level t (ends e) h v u =
     ap (λ (z : Bool). let r = (if z then reduce 0 (joined op l o p) s else (p, joining op l o s)) in
     Rattle.pc_grammar.specs.Machine.Expressions.close r.0 r.1 t e) (is_le 0 (own_of op) (omega arith))
 
--- what follows does not go on with a sign's operand
+-- the next token does not continue the operand of a sign
 pub apply_turn : (x : Prefix) (w : List Lexeme) (p : Part) (s : Stack) (level : ℕ) (t : Lexeme) (f : Follow)
     → prefix_level x ≤ level
     → ((k : Link) → f ≡ link k → left_of_link k ≤ level → own_of_link k < prefix_level x) → Undotted level f

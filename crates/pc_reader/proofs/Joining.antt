@@ -50,7 +50,7 @@ module _ {X I : Type 0} (text : X → List ℕ) (steps : I → Option (Result (T
       (λ t e. signs_turn x ts p s level (lexeme text t) (follow_of t.kind) h (v t e)
       (next (Undotted level) a.ahead t u e) (next (Undotted (prefix_level x)) a.ahead t y e))
 
--- what does not go on with an operand of a negation does not go on with the negation's own operand more tightly
+-- a token that does not continue an operand of a negation does not continue the negation's own operand more tightly
 pub over_sign : {X : Type 0} (a : Option (Token X)) (level : ℕ) → NextIs (Over 2 level) a → (t : Token X) → a ≡ Some t
     → (k : Link) → follow_of t.kind ≡ link k → left_of_link k ≤ level → own_of_link k < 2
 over_sign a level h t e k f g = by_over (subst (Over 2 level) f (next (Over 2 level) a t h e))

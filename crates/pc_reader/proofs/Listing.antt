@@ -1,4 +1,4 @@
--- Items in a bracket, one after another.
+-- Items in a bracket, one by one.
 use Rattle.std.proofs.Common.{◌≡◌, ℕ, ◌<◌, false, List, [], ◌∷◌, ◌++◌, Option, Some, Result, refl, arith, ap, sym, ◌∙◌}
 use Rattle.std.proofs.Common.{subst, append_assoc, append-nil}
 use Rattle.std.specs.Iterator.{Count}
@@ -138,7 +138,7 @@ module _ {X I : Type 0} (text : X → List ℕ) (steps : I → Option (Result (T
         (regroup text steps c (λ y. have 7 (part (head_tree h v.items) y) s) ts v.more (lexeme text t ∷ []) r x));
   }
 
-  -- what stands in a bracket, as an operand
+  -- the contents of a bracket, as an operand
   pub bracketed : {fits : Stack → Type 0} {a b c : Reader X I} {l : Listed} {made : Operand} {start : ℕ} (h : Head)
       (xs : Exprs) (ts : List Lexeme) (n : ListsOn text steps can left b c l h xs ts) → Starts ts start
       → ((t : Token X) → a.ahead ≡ Some t → first_place ts ≡ t.place)
@@ -157,7 +157,7 @@ module _ {X I : Type 0} (text : X → List ℕ) (steps : I → Option (Result (T
         o) lv x));
   }
 
-  -- what stands after an operand in parentheses, as a call
+  -- the arguments after an operand, as a call
   pub called_with : {a b : Reader X I} {l : Listed} {callee made : Operand} (t : Lexeme) (p : Part) → KeepsPart callee p
       → (n : ListsOn text steps can left a b l (in_call p.tree) no_exprs (p.tokens ++ (t ∷ [])))
       → ((es : Exprs) → KeepsItems l.items es → Builds made (λ q. call q p.tree es no_keywords) callee.start l.end)

@@ -1,4 +1,4 @@
--- Operands without a sign, and what goes on with them.
+-- Operands without a sign, and their continuations.
 use Rattle.std.proofs.Common.{◌≡◌, ℕ, ◌≤◌, ◌<◌, ◌⊎◌, inl, inr, false, List, [], ◌∷◌, ◌++◌, Option, Result, refl, arith}
 use Rattle.std.proofs.Common.{ap, sym, ◌∙◌, subst, Ok, Err}
 use Rattle.std.specs.Iterator.{Count}
@@ -45,7 +45,7 @@ behind_signs a b starts (t ∷ ts) s level e h n r d = record {
       inl (let q = signs_rank_is minus ts (applying minus (t ∷ []) s) refl in omega (arith, q));
 }
 
--- what does not go on with an operand does not go on with it after minus signs
+-- a token that does not continue an operand does not continue it after minus signs
 pub minus_undotted : {X : Type 0} (a : Option (Token X)) (ts : List Lexeme) (own : ℕ) → NextIs (Undotted own) a
     → NextIs (Undotted (wrapped_level minus ts own)) a
 minus_undotted a [] own u = u

@@ -28,7 +28,7 @@ pub takes_signs : (x : Prefix) (ts : List Lexeme) (s : Stack) → TakesSign x s 
 takes_signs x [] s h = h
 takes_signs x (t ∷ ts) s h = takes_signs x ts (applying x (t ∷ []) s) (takes_more x t s)
 
--- how tightly the operand after signs must bind
+-- the level that the operand after signs must have
 pub signs_rank : (x : Prefix) (ts : List Lexeme) (s : Stack) (n : ℕ) → rank s ≤ n → prefix_level x ≤ n
     → rank (signs_on x ts s) ≤ n
 signs_rank x [] s n h g = h

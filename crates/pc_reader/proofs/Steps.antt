@@ -115,7 +115,7 @@ same_place {X = X} {t = t} {u = u} e f = ap (λ (z : Token X). z.place) (same (s
 pub nothing_ahead : {X : Type 0} {a : Option (Token X)} {t : Token X} → a ≡ None → a ≡ Some t → ⊥
 nothing_ahead h e = cc
 
--- what is known of the token that was taken from what was seen ahead
+-- facts about the token that was taken, from those about the token ahead
 pub kind_seen : {X : Type 0} {a : Option (Token X)} {t : Token X} (kind : TokenKind) → IsAhead kind a ≡ true
     → a ≡ Some t → t.kind ≡ kind
 kind_seen {t = t} kind e h = same_is t.kind kind (sym (ap (IsAhead kind) h) ∙ e)

@@ -29,7 +29,7 @@ module _ {X : Type 0} (text : X → List ℕ) where
   unfolding run_items
   run_end end r = refl
 
--- what follows from what is said
+-- a blamed fault is blamed for whatever follows
 pub blame : {e : Fault} {P Q : Result Module Fault → Type 0} → ((o : Result Module Fault) → P o → Q o) → Blames e P
     → Blames e Q
 blame {e} f h = record { said = λ r q. f (Err e) (h.said r q) }

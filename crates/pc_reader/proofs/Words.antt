@@ -1,4 +1,4 @@
--- Words that must stand, as the machine reads them.
+-- Fixed words, as the machine reads them.
 use Rattle.std.proofs.Common.{◌≡◌, ℕ, true, false, List, ◌∷◌, Option, Some, None, Result, Ok, Err, MatchResult, drop}
 use Rattle.std.proofs.Common.{refl, ap, sym, ◌∙◌, subst}
 use Rattle.std.specs.Iterator.{Count}

@@ -1,4 +1,4 @@
--- What the functions of the reader promise.
+-- Results of the functions of the reader. A refusal is the machine's if it is the answer to which the tokens lead.
 use Rattle.std.specs.Prelude.{ℕ, ◌≡◌, ◌+◌, ◌<◌, Bool, false, List, [], ◌∷◌, Option, Some, None, Result, Ok, Err}
 use Rattle.std.specs.Iterator.{Count, size, IsFinite}
 use Rattle.pc_source.specs.declared.fault.Fault.{Fault}
@@ -22,11 +22,11 @@ answer_for end (reads m) = Ok m
 answer_for end (refuses byte) = Err (fault.Refused (record { code = code.G1; byte = byte }))
 answer_for end short = Err (fault.Refused (record { code = code.G1; byte = end }))
 
--- the answer for a token after which no module can follow
+-- the answer for a token after which no module can follow: the refusal G1 at its byte
 abbrev pub misfit_at : ℕ → Result Module Fault
 misfit_at byte = Err (fault.Refused (record { code = code.G1; byte = byte }))
 
--- what is said of the answer where a call ends in a fault, unless an allocation failed
+-- P holds of the fault as an answer, unless an allocation failed
 pub record Blames (e : Fault) (P : Result Module Fault → Type 0) : Type 0 where
   pub said : (r : Refusal) → e ≡ fault.Refused r → P (Err e)
 
@@ -50,58 +50,59 @@ module _ {X : Type 0} (text : X → List ℕ) where
   abbrev pub lexeme : Token X → Lexeme
   lexeme t = record { kind = t.kind; place = t.place; text = text t.text; form = form_of (text t.text) t.form }
 
-  -- over items, the last of the tokens before which ended at this byte: a fault among them decides
+  -- the answer of a reading over these items, after tokens that end at this byte; a fault among the items decides
   unfoldable pub run_items : ℕ → Reading → List (Result (Token X) Fault) → Result Module Fault
   run_items end r [] = answer_for end (stop r)
   run_items end r (Ok t ∷ rest) = run_items t.place.end (step r (lexeme t)) rest
   run_items end r (Err e ∷ rest) = Err e
 
 module _ {X I : Type 0} (text : X → List ℕ) (steps : I → Option (Result (Token X) Fault) → I → Type 0) where
-  -- the items that come from an iterator lead from a reading to this answer
+  -- the items of the iterator lead from the reading to this answer
   abbrev pub ComesToAnswer : I → ℕ → Reading → Result Module Fault → Type 0
   ComesToAnswer it end r o = (xs : List (Result (Token X) Fault)) × stream.Yields steps it xs
       × (run_items text end r xs ≡ o)
 
-  -- this token ahead, if there is one, and the items after it lead from a reading to this answer
+  -- the token ahead, if there is one, and the items after it lead from the reading to this answer
   abbrev pub came : Option (Token X) → I → ℕ → Reading → Result Module Fault → Type 0
   came None it end r o = run_items text end r [] ≡ o
   came (Some t) it end r o = (xs : List (Result (Token X) Fault)) × stream.Yields steps it xs
       × (run_items text end r (Ok t ∷ xs) ≡ o)
 
-  -- the token ahead and the items of the iterator lead to this answer; with none ahead the items have ended
+  -- the token ahead and the items of the iterator lead from the reading to this answer; without a token ahead the items
+  -- have ended
   abbrev pub Came : Reader X I → Reading → Result Module Fault → Type 0
   Came a r o = came a.ahead a.tokens a.end r o
 
-  -- what comes of the second reading at b comes of the first at a
+  -- every answer of the second reading at b is one of the first reading at a
   abbrev pub Onward : Reader X I → Reader X I → Reading → Reading → Type 0
   Onward a b r r' = (o : Result Module Fault) → Came b r' o → Came a r o
 
 module _ {X I : Type 0} (can : I → Type 0) (left : I → Count) where
-  -- where there is this token ahead, the iterator after it may be asked, and it ends
+  -- if there is a token ahead, the iterator after it may be called, and is finite
   abbrev pub ready : Option (Token X) → I → Type 0
   ready None it = Unit {0}
   ready (Some t) it = can it × IsFinite (left it)
 
-  -- while a token is ahead the iterator may be asked, and it ends
+  -- while a token is ahead, the iterator may be called, and is finite
   abbrev pub IsReady : Reader X I → Type 0
   IsReady a = ready a.ahead a.tokens
 
 module _ {X I : Type 0} (left : I → Count) where
-  -- at most how many tokens come: this one ahead and those after it, none where none is ahead
+  -- an upper bound on the tokens left: the one ahead and those after it; 0 if none is ahead
   abbrev pub left_behind : Option (Token X) → I → ℕ
   left_behind None it = 0
   left_behind (Some t) it = size (left it) + 1
 
-  -- at most how many tokens are left
+  -- an upper bound on the tokens left to the reader
   abbrev pub left_in : Reader X I → ℕ
   left_in a = left_behind a.ahead a.tokens
 
--- no token that goes on from a state is ahead
+-- the token ahead, if any, does not fit the state
 pub record Rejects {X I : Type 0} (text : X → List ℕ) (st : State) (a : Reader X I) : Type 0 where
   pub unfinished : stop_at st ≡ short
   pub stuck_at : (t : Token X) → a.ahead ≡ Some t → turn st (lexeme text t) t.kind ≡ stuck
 
--- a token of another kind does not go on from a state
+-- only a token of this kind fits the state
 pub record NeedsKind {X I : Type 0} (text : X → List ℕ) (kind : TokenKind) (st : State) (a : Reader X I) : Type 0 where
   pub unfinished : stop_at st ≡ short
   pub stuck_at : (t : Token X) → a.ahead ≡ Some t → same_kind t.kind kind ≡ false
@@ -116,7 +117,7 @@ module _ {X I : Type 0} (text : X → List ℕ) (steps : I → Option (Result (T
     pub later : left_in left b < left_in left a
     pub leads : (r : Reading) → Onward text steps a b r (step r (lexeme text t))
 
-  -- the token ahead was passed over
+  -- the token ahead was skipped
   pub record Skips (a b : Reader X I) : Type 0 where
     pub token : Token X
     pub takes : Takes a b token

@@ -1,4 +1,6 @@
-//! Expressions, by descent: chains of operators by how tightly they bind, and recursion at brackets alone.
+//! Expressions, by descent: operators by precedence, and recursion that gets deeper only at brackets. Each function
+//! takes the tokens that it reads, and fails as `Reader::misfit` does at the first that does not fit, or if an
+//! allocation fails.
 ghost use Rattle.std.specs.Prelude.{◌≡◌, ◌≤◌, ◌++◌, ◌∷◌, [], MatchResult, IfOk, true};
 ghost use Rattle.pc_source.specs.declared.fault.Fault.TheVariants as fault;
 ghost use Rattle.pc_token.specs.declared.token.TokenKind.TheVariants as kind;
@@ -24,7 +26,7 @@ use std::alloc::Global;
 use std::convert::AsStr;
 
 impl<X: AsStr + Drop, I: Iterator<Item = Result<Token<X>, Fault>> + Drop> Reader<X, I> {
-    /// A name, a number, a string, or a word that is a value.
+    /// Reads a name, a number, a string, or a keyword that is a value.
     fn single(&mut self, alloc: Global) -> Result<Operand, Fault>
         requires { IsReady I.can_next I.remaining self.old }
         ensures reads { ReadsOperand X.text I.next_gives I.can_next I.remaining
@@ -54,7 +56,7 @@ fn is_value(kind: TokenKind) -> bool
     }
 }
 
-/// The value that a token is.
+/// Returns the value that a token is.
 fn value<X: AsStr + Drop>(alloc: Global, token: &Token<X>) -> Result<Operand, Fault>
     ensures { MatchResult result
         (λ o. (o.level ≡ 7) × (is_value_start (start_of token.now.kind) ≡ true → IsValue (lexeme X.text token.now) o))
@@ -81,7 +83,8 @@ fn value<X: AsStr + Drop>(alloc: Global, token: &Token<X>) -> Result<Operand, Fa
 }
 
 impl<X: AsStr + Drop, I: Iterator<Item = Result<Token<X>, Fault>> + Drop> Reader<X, I> {
-    /// Operands with operators between them, and none that binds less tightly than the level.
+    /// Reads operands and the operators between them, down to operators of this level. A level is from 0, `or`, to 7, a
+    /// name or a form with brackets.
     #[cycle(expressions)]
     pub fn operators(&mut self, alloc: Global, level: u8) -> Result<Operand, Fault>
         requires ready { IsReady I.can_next I.remaining self.old }
@@ -103,7 +106,7 @@ impl<X: AsStr + Drop, I: Iterator<Item = Result<Token<X>, Fault>> + Drop> Reader
         Ok(left)
     }
 
-    /// An operand with the signs before it. Most operands have none.
+    /// Reads an operand with the signs before it. Most operands have none.
     #[cycle(expressions)]
     fn prefixed(&mut self, alloc: Global, level: u8) -> Result<Operand, Fault>
         requires ready { IsReady I.can_next I.remaining self.old }
@@ -121,7 +124,7 @@ impl<X: AsStr + Drop, I: Iterator<Item = Result<Token<X>, Fault>> + Drop> Reader
         self.postfix(alloc)
     }
 
-    /// The signs that stand before an operand, and the operand.
+    /// Reads the signs before an operand, and the operand.
     #[cycle(expressions)]
     #[inline(never)]
     fn signed(&mut self, alloc: Global, level: u8) -> Result<Operand, Fault>
@@ -143,7 +146,7 @@ impl<X: AsStr + Drop, I: Iterator<Item = Result<Token<X>, Fault>> + Drop> Reader
         wrap_all(alloc, Prefix::Minus, signs, operand)
     }
 
-    /// An operand, and the names after dots, the indices and the calls that go on with it.
+    /// Reads an operand, and the attributes, indices and calls that continue it.
     #[cycle(expressions)]
     fn postfix(&mut self, alloc: Global) -> Result<Operand, Fault>
         requires { IsReady I.can_next I.remaining self.old }
@@ -171,7 +174,7 @@ impl<X: AsStr + Drop, I: Iterator<Item = Result<Token<X>, Fault>> + Drop> Reader
         }
     }
 
-    /// What stands in brackets, or a single token.
+    /// Reads a form with brackets, or a single token.
     #[cycle(expressions)]
     fn atom(&mut self, alloc: Global) -> Result<Operand, Fault>
         requires { IsReady I.can_next I.remaining self.old }
@@ -197,7 +200,7 @@ impl<X: AsStr + Drop, I: Iterator<Item = Result<Token<X>, Fault>> + Drop> Reader
         self.single(alloc)
     }
 
-    /// An expression in parentheses, or a tuple.
+    /// Reads an expression in parentheses, or a tuple.
     #[cycle(expressions)]
     fn group(&mut self, alloc: Global) -> Result<Operand, Fault>
         requires { IsReady I.can_next I.remaining self.old }
@@ -222,7 +225,7 @@ impl<X: AsStr + Drop, I: Iterator<Item = Result<Token<X>, Fault>> + Drop> Reader
         Ok(tuple(alloc, items, open.place.start, end))
     }
 
-    /// Items up to the closing bracket, which is taken too.
+    /// Reads more items, after `some`, up to and including the closing bracket.
     #[cycle(expressions)]
     fn items(&mut self, alloc: Global, some: Items, close: Operator) -> Result<Listed, Fault>
         requires { IsReady I.can_next I.remaining self.old }
@@ -250,7 +253,7 @@ impl<X: AsStr + Drop, I: Iterator<Item = Result<Token<X>, Fault>> + Drop> Reader
         }
     }
 
-    /// A dict display.
+    /// Reads a dict display.
     #[cycle(expressions)]
     fn dict(&mut self, alloc: Global) -> Result<Operand, Fault>
         requires { IsReady I.can_next I.remaining self.old }
@@ -277,7 +280,7 @@ impl<X: AsStr + Drop, I: Iterator<Item = Result<Token<X>, Fault>> + Drop> Reader
         }
     }
 
-    /// The arguments of a call, from after its opening parenthesis: those by position, then those by name.
+    /// Reads the arguments of a call, from after its `(` to its `)`: positional ones, then those by name.
     #[cycle(expressions)]
     fn call(&mut self, alloc: Global, callee: Operand) -> Result<Operand, Fault>
         requires ready { IsReady I.can_next I.remaining self.old }
@@ -309,7 +312,7 @@ impl<X: AsStr + Drop, I: Iterator<Item = Result<Token<X>, Fault>> + Drop> Reader
         }
     }
 
-    /// Arguments by name, from after the `=` of the first, and the closing parenthesis.
+    /// Reads arguments by name, from after the `=` of the first to the closing parenthesis.
     #[cycle(expressions)]
     fn keywords(&mut self, alloc: Global, first: Name) -> Result<Arguments, Fault>
         requires { IsReady I.can_next I.remaining self.old }

@@ -1,4 +1,4 @@
-//! Tokens of which the grammar says exactly which one must stand.
+//! Tokens that the grammar fixes.
 ghost use Rattle.std.specs.Prelude.{◌≡◌};
 ghost use Rattle.pc_reader.specs.Reading.{IsReady};
 ghost use Rattle.pc_reader.specs.Internal.FixedWords.{kinds_of, ReadsForm, ReadsFixed};
@@ -9,7 +9,7 @@ use pc_token::{Token, TokenKind};
 use std::convert::AsStr;
 
 impl<X: AsStr + Drop, I: Iterator<Item = Result<Token<X>, Fault>> + Drop> Reader<X, I> {
-    /// Takes a name of this form, or names what stands in its place.
+    /// Takes a name of this form. Fails as `misfit` does if another token is ahead.
     pub fn expect_name(&mut self, form: &str) -> Result<Token<X>, Fault>
         requires { IsReady I.can_next I.remaining self.old }
         ensures { ReadsForm X.text I.next_gives I.can_next I.remaining form.now self.old self.new result }
@@ -21,7 +21,7 @@ impl<X: AsStr + Drop, I: Iterator<Item = Result<Token<X>, Fault>> + Drop> Reader
         }
     }
 
-    /// Takes tokens of these kinds, one after the other.
+    /// Takes tokens of these kinds, in order. Fails as `misfit` does at the first that is not of its kind.
     pub fn fixed(&mut self, kinds: &[TokenKind]) -> Result<(), Fault>
         requires { IsReady I.can_next I.remaining self.old }
         ensures { ReadsFixed X.text I.next_gives I.can_next I.remaining (kinds_of kinds.now) self.old self.new result }

@@ -1,4 +1,4 @@
-//! What stands in brackets, with commas between.
+//! Parts of brackets, with commas between.
 ghost use Rattle.std.specs.Prelude.{◌≡◌, ◌+◌, ◌≤◌, ℕ, MatchResult, min, max};
 ghost use Rattle.pc_source.specs.declared.fault.Fault.TheVariants as fault;
 ghost use Rattle.pc_tree.specs.Tree.{Exprs, Entries as EntryTrees, Keywords as KeywordTrees, tuple as tuple_tree};
@@ -14,21 +14,21 @@ use pc_source::{Fault, Place};
 use pc_tree::{Entry, Expr, KeywordArgument, Name, put_last};
 use std::alloc::Global;
 
-/// Expressions, and the depth of a node over them, 65 where it is deeper than 64.
+/// Expressions, and the depth of a node over them, 65 if deeper than 64.
 #[derive(Drop)]
 pub(crate) struct Items {
     pub exprs: Vec<Expr>,
     pub depth: u8,
 }
 
-/// The keys and values of a dict display, and the depth of a node over them.
+/// The keys and values of a dict display, and the depth of a node over them, 65 if deeper than 64.
 #[derive(Drop)]
 pub(crate) struct Entries {
     pub entries: Vec<Entry>,
     pub depth: u8,
 }
 
-/// Arguments by name, and the depth of a node over them.
+/// Arguments by name, and the depth of a node over them, 65 if deeper than 64.
 #[derive(Drop)]
 pub(crate) struct Keywords {
     pub arguments: Vec<KeywordArgument>,
@@ -50,6 +50,7 @@ pub(crate) struct Arguments {
 }
 
 impl Items {
+    /// Creates an empty list.
     pub(crate) fn new(alloc: Global) -> Items
         ensures { KeepsItems result no_exprs }
     {
@@ -59,7 +60,7 @@ impl Items {
         }
     }
 
-    /// Adds an expression at the end.
+    /// Appends an expression.
     pub(crate) fn push(&mut self, item: Operand) -> Result<(), Fault>
         requires { item.depth ≤ 65 }
         ensures { MatchResult result
@@ -73,6 +74,7 @@ impl Items {
 }
 
 impl Entries {
+    /// Creates an empty list.
     pub(crate) fn new(alloc: Global) -> Entries
         ensures { KeepsEntries result no_entries }
     {
@@ -82,7 +84,7 @@ impl Entries {
         }
     }
 
-    /// Adds a key and its value at the end.
+    /// Appends a key and its value.
     pub(crate) fn push(&mut self, key: Operand, value: Operand) -> Result<(), Fault>
         requires key { key.depth ≤ 65 }
         requires value { value.depth ≤ 65 }
@@ -103,6 +105,7 @@ impl Entries {
 }
 
 impl Keywords {
+    /// Creates an empty list.
     pub(crate) fn new(alloc: Global) -> Keywords
         ensures { KeepsKeywords result no_keywords }
     {
@@ -112,7 +115,7 @@ impl Keywords {
         }
     }
 
-    /// Adds an argument by name at the end.
+    /// Appends an argument by name.
     pub(crate) fn push(&mut self, name: Name, value: Operand) -> Result<(), Fault>
         requires { value.depth ≤ 65 }
         ensures { MatchResult result
@@ -131,7 +134,7 @@ impl Keywords {
     }
 }
 
-/// A list display of these items.
+/// Returns a list display of these items, as an operand from byte `start` to byte `end`.
 pub(crate) fn list(alloc: Global, items: Items, start: usize, end: usize) -> Operand
     ensures { (result.level ≡ 7)
         × ((es : Exprs) → KeepsItems items es → Builds result (λ q. list_tree q es) start end) }
@@ -143,7 +146,7 @@ pub(crate) fn list(alloc: Global, items: Items, start: usize, end: usize) -> Ope
     node(Expr::List(place, items.exprs), place, 7, items.depth)
 }
 
-/// A tuple of these items.
+/// Returns a tuple of these items, as an operand from byte `start` to byte `end`.
 pub(crate) fn tuple(alloc: Global, items: Items, start: usize, end: usize) -> Operand
     ensures { (result.level ≡ 7)
         × ((es : Exprs) → KeepsItems items es → Builds result (λ q. tuple_tree q es) start end) }
@@ -155,7 +158,7 @@ pub(crate) fn tuple(alloc: Global, items: Items, start: usize, end: usize) -> Op
     node(Expr::Tuple(place, items.exprs), place, 7, items.depth)
 }
 
-/// A dict display of these entries.
+/// Returns a dict display of these entries, as an operand from byte `start` to byte `end`.
 pub(crate) fn dict(alloc: Global, entries: Entries, start: usize, end: usize) -> Operand
     ensures { (result.level ≡ 7)
         × ((es : EntryTrees) → KeepsEntries entries es → Builds result (λ q. dict_tree q es) start end) }
@@ -167,7 +170,7 @@ pub(crate) fn dict(alloc: Global, entries: Entries, start: usize, end: usize) ->
     node(Expr::Dict(place, entries.entries), place, 7, entries.depth)
 }
 
-/// A call with these arguments.
+/// Returns a call with these arguments, as an operand that ends at byte `end`.
 pub(crate) fn called(
     alloc: Global,
     callee: Operand,

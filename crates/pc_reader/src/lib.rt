@@ -1,4 +1,5 @@
-//! The reader: tokens with one ahead, and what is read of them without more state: words, names, literals, expressions.
+//! The reader: tokens with one token of lookahead, and parsing that needs no other state: fixed tokens, names,
+//! literals, expressions.
 #![tactic(auto)]
 
 mod expression;

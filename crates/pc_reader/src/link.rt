@@ -1,4 +1,4 @@
-//! Operators by the tokens that begin them.
+//! Operators, by the tokens that begin them.
 ghost use Rattle.std.specs.Prelude.{◌≡◌, Some};
 ghost use Rattle.pc_grammar.specs.Machine.Kinds.{follow_of};
 ghost use Rattle.pc_grammar.specs.Machine.Expressions.{own_of_link, left_of_link, right_of};
@@ -11,7 +11,7 @@ use crate::operand::Infix;
 use pc_token::{Keyword, Operator, TokenKind};
 use pc_tree::{BinaryOperator, ComparisonOperator};
 
-/// What begins an operator: the operator itself, the `not` of `not in`, or the `is` of `is None`.
+/// The beginning of an operator: the operator itself, the `not` of `not in`, or the `is` of `is None`.
 #[derive(Clone, Copy)]
 pub(crate) enum Link {
     Infix(Infix),
@@ -19,19 +19,21 @@ pub(crate) enum Link {
     Is,
 }
 
+/// Returns an arithmetic operator as the beginning of one.
 fn arithmetic(operator: BinaryOperator) -> Option<Link>
     ensures { result ≡ Some (link_is.Infix (infix_is.Arithmetic operator)) }
 {
     Some(Link::Infix(Infix::Arithmetic(operator)))
 }
 
+/// Returns a comparison as the beginning of an operator.
 fn comparison(operator: ComparisonOperator) -> Option<Link>
     ensures { result ≡ Some (link_is.Infix (infix_is.Comparison operator)) }
 {
     Some(Link::Infix(Infix::Comparison(operator)))
 }
 
-/// The operator that a token begins.
+/// Returns the operator that a token of this kind begins, if it begins one.
 pub(crate) fn link_of(kind: TokenKind) -> Option<Link>
     ensures { Linked (follow_of kind) result }
 {
@@ -57,7 +59,7 @@ pub(crate) fn link_of(kind: TokenKind) -> Option<Link>
 }
 
 impl Infix {
-    /// How tightly its right operand binds.
+    /// Returns the level that the right operand must have.
     pub(crate) fn right(self) -> u8
         ensures { result ≡ right_of (infix_of self) }
     {
@@ -72,7 +74,7 @@ impl Infix {
 }
 
 impl Link {
-    /// How tightly the node binds that the operator makes.
+    /// Returns the level of the node that the operator makes.
     pub(crate) fn level(self) -> u8
         ensures { result ≡ own_of_link (link_view self) }
     {
@@ -82,7 +84,7 @@ impl Link {
         }
     }
 
-    /// How tightly its left operand binds.
+    /// Returns the level that the left operand must have.
     pub(crate) fn left(self) -> u8
         ensures { result ≡ left_of_link (link_view self) }
     {

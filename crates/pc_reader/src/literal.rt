@@ -25,7 +25,7 @@ fn is_literal(kind: TokenKind) -> bool
     )
 }
 
-/// The literal that a token is.
+/// Returns the literal that a token is.
 fn plain<X: AsStr + Drop>(alloc: Global, token: Token<X>) -> Result<Literal, Fault>
     ensures { MatchResult result (λ l. is_literal_kind token.kind ≡ true → IsLiteral (lexeme X.text token) l)
         (λ e. e ≡ fault.OutOfMemory) }
@@ -62,7 +62,7 @@ fn plain<X: AsStr + Drop>(alloc: Global, token: Token<X>) -> Result<Literal, Fau
 }
 
 impl<X: AsStr + Drop, I: Iterator<Item = Result<Token<X>, Fault>> + Drop> Reader<X, I> {
-    /// Whether a token is ahead that is a literal by itself.
+    /// Whether the token ahead is a literal by itself.
     fn sees_literal(&self) -> bool
         ensures { result ≡ literal_ahead self.now.ahead }
     {
@@ -72,7 +72,7 @@ impl<X: AsStr + Drop, I: Iterator<Item = Result<Token<X>, Fault>> + Drop> Reader
         }
     }
 
-    /// A literal: `-` and a whole number, or a single token.
+    /// Reads a literal: `-` and a whole number, or a single token. Fails as `misfit` does if no literal is ahead.
     fn literal(&mut self, alloc: Global) -> Result<Literal, Fault>
         requires { IsReady I.can_next I.remaining self.old }
         ensures { ReadsLiteral X.text I.next_gives I.can_next I.remaining self.old self.new result }
@@ -88,7 +88,7 @@ impl<X: AsStr + Drop, I: Iterator<Item = Result<Token<X>, Fault>> + Drop> Reader
         plain(alloc, token)
     }
 
-    /// The whole number after a `-` that begins at this byte.
+    /// Reads the whole number after a `-` that begins at byte `start`. Fails as `misfit` does if no number is ahead.
     fn negative(&mut self, alloc: Global, start: usize) -> Result<Literal, Fault>
         requires { IsReady I.can_next I.remaining self.old }
         ensures { ReadsNegative X.text I.next_gives I.can_next I.remaining self.old self.new start result }
@@ -105,7 +105,7 @@ impl<X: AsStr + Drop, I: Iterator<Item = Result<Token<X>, Fault>> + Drop> Reader
         })
     }
 
-    /// A literal after `=`, if that is ahead.
+    /// Reads `=` and a literal, if `=` is ahead. Fails as `misfit` does if no literal follows it.
     pub fn default(&mut self, alloc: Global) -> Result<Option<Literal>, Fault>
         requires { IsReady I.can_next I.remaining self.old }
         ensures { ReadsDefault X.text I.next_gives I.can_next I.remaining self.old self.new result }

@@ -13,7 +13,7 @@ use pc_tree::{Name, Text};
 use std::alloc::Global;
 use std::convert::AsStr;
 
-/// The name that a token spells.
+/// Returns the name that a token is.
 #[inline(always)]
 pub(crate) fn named<X: AsStr + Drop>(alloc: Global, token: &Token<X>) -> Result<Name, Fault>
     ensures { MatchResult result (λ n. name_of n ≡ name_at (lexeme X.text token.now)) (λ e. e ≡ fault.OutOfMemory) }
@@ -24,7 +24,7 @@ pub(crate) fn named<X: AsStr + Drop>(alloc: Global, token: &Token<X>) -> Result<
     })
 }
 
-/// The digits of a number: its text without underscores.
+/// Returns the digits of a number: its text without underscores.
 pub(crate) fn digits(alloc: Global, text: &str) -> Result<String, Fault>
     ensures { MatchResult result (λ d. string_bytes d ≡ digits_of text.now) (λ e. e ≡ fault.OutOfMemory) }
 {
@@ -37,7 +37,8 @@ pub(crate) fn digits(alloc: Global, text: &str) -> Result<String, Fault>
     Ok(digits)
 }
 
-/// The characters of a string: its text without the quotes, with each escape replaced by what it stands for.
+/// Returns the characters of a string: its text without the quotes, with each escape replaced by the character that it
+/// means.
 pub(crate) fn characters(alloc: Global, text: &str) -> Result<String, Fault>
     ensures { MatchResult result (λ d. string_bytes d ≡ characters_of text.now) (λ e. e ≡ fault.OutOfMemory) }
 {
@@ -57,7 +58,7 @@ pub(crate) fn characters(alloc: Global, text: &str) -> Result<String, Fault>
     Ok(characters)
 }
 
-/// A text without the quote that it begins with.
+/// Returns a text without the quote that it begins with, if any.
 fn without_first_quote(text: &str) -> &str
     ensures { result.now ≡ unopened text.now }
 {
@@ -70,7 +71,7 @@ fn without_first_quote(text: &str) -> &str
     text
 }
 
-/// A text without the quote that it ends with.
+/// Returns a text without the quote that it ends with, if any.
 fn without_last_quote(text: &str) -> &str
     ensures { result.now ≡ unclosed text.now }
 {
@@ -83,7 +84,7 @@ fn without_last_quote(text: &str) -> &str
     text
 }
 
-/// What a backslash and this character stand for.
+/// Returns the character that a backslash and this character mean.
 fn unescaped(character: char) -> char
     ensures { result ≡ escaped character }
 {
@@ -96,7 +97,7 @@ fn unescaped(character: char) -> char
 }
 
 impl<X: AsStr + Drop, I: Iterator<Item = Result<Token<X>, Fault>> + Drop> Reader<X, I> {
-    /// A name.
+    /// Reads a name. Fails as `misfit` does if another token is ahead.
     pub fn name(&mut self, alloc: Global) -> Result<Name, Fault>
         requires { IsReady I.can_next I.remaining self.old }
         ensures { ReadsName X.text I.next_gives I.can_next I.remaining self.old self.new result }

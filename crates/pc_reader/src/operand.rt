@@ -1,4 +1,4 @@
-//! Parts of expressions, whose depth is counted as they are built.
+//! Operands, whose depth is counted as they are built.
 ghost use Rattle.std.specs.Prelude.{◌≡◌, ◌+◌, ◌≤◌, ℕ, Bool, List, MatchResult, MatchOption, min, max, Some, None};
 ghost use Rattle.std.specs.Prelude.{false};
 ghost use Rattle.pc_source.specs.declared.fault.Fault.TheVariants as fault;
@@ -14,9 +14,8 @@ use pc_tree::{BinaryOperator, ComparisonOperator, Expr, Name};
 use std::alloc::Global;
 use std::cmp::min;
 
-/// An expression that was read, with the bytes from its first to its last token, parentheses around
-/// it included. How tightly it binds goes from 0, `or`, to 7, a name or what has brackets.
-/// One that is deeper than 64 has `None` in the place of its parts.
+/// An expression that has been read, with the bytes from its first to its last token, including parentheses around it.
+/// In one deeper than 64, parts are replaced by the expression `None`.
 #[derive(Drop)]
 pub struct Operand {
     /// The expression.
@@ -25,13 +24,13 @@ pub struct Operand {
     pub start: usize,
     /// The byte where its last token ends.
     pub end: usize,
-    /// Where the expression itself begins.
+    /// The byte where the expression itself begins, inside any parentheses.
     pub first: usize,
-    /// Whether no parentheses stand around it.
+    /// Whether there are no parentheses around it.
     pub plain: bool,
-    /// How tightly it binds.
+    /// Its level of precedence, from 0, `or`, to 7, a name or a form with brackets.
     pub level: u8,
-    /// How deep it is, and 65 where it is deeper than 64.
+    /// Its depth, 65 if deeper than 64.
     pub depth: u8,
 }
 
@@ -45,7 +44,7 @@ pub(crate) enum Infix {
 }
 
 impl Infix {
-    /// How tightly the node binds that the operator makes.
+    /// Returns the level of the node that the operator makes.
     pub(crate) fn level(self) -> u8
         ensures { result ≡ own_of (infix_of self) }
     {
@@ -58,6 +57,7 @@ impl Infix {
         }
     }
 
+    /// Returns the node that the operator makes of its operands, at `place`.
     fn node(self, place: Place, left: Box<Expr>, right: Box<Expr>) -> Expr
         ensures { expr_of result ≡ infix_tree (infix_of self) (expr_of left.value) (expr_of right.value) place }
     {
@@ -70,21 +70,21 @@ impl Infix {
     }
 }
 
-/// A sign before an operand.
+/// A sign before an operand: unary minus or `not`.
 #[derive(Clone, Copy)]
 pub(crate) enum Prefix {
     Minus,
     Not,
 }
 
-/// The greater of two depths.
+/// Returns the greater of two depths.
 pub fn deeper(depth: u8, other: u8) -> u8
     ensures { result ≡ max depth other }
 {
     if depth < other { other } else { depth }
 }
 
-/// The depth over a part of this depth.
+/// Returns the depth of a node over a part of this depth, at most 65.
 pub fn above(depth: u8) -> u8
     requires { depth ≤ 65 }
     ensures { result ≡ min 65 (depth + 1) }
@@ -92,7 +92,7 @@ pub fn above(depth: u8) -> u8
     min(65, depth + 1)
 }
 
-/// A part of a node of this depth: `None` where that is too deep.
+/// Returns the part of a node of this depth, or `None` in its place if the node is too deep.
 #[inline(always)]
 pub(crate) fn kept(depth: u8, part: Expr, place: Place) -> Expr
     ensures { depth ≤ 64 → result ≡ part }
@@ -103,7 +103,7 @@ pub(crate) fn kept(depth: u8, part: Expr, place: Place) -> Expr
     part
 }
 
-/// An expression without parentheses around it.
+/// Returns an expression as an operand, without parentheses around it.
 pub(crate) fn node(expr: Expr, place: Place, level: u8, depth: u8) -> Operand
     ensures { result ≡ node_of expr place level depth }
 {
@@ -118,7 +118,7 @@ pub(crate) fn node(expr: Expr, place: Place, level: u8, depth: u8) -> Operand
     }
 }
 
-/// Two operands as one.
+/// Joins two operands with the operator between them.
 #[inline(always)]
 pub(crate) fn join(
     alloc: Global,
@@ -144,7 +144,7 @@ pub(crate) fn join(
     Ok(node(expr, place, operator.level(), depth))
 }
 
-/// A sign before an operand.
+/// Applies a sign that begins at byte `start` to an operand.
 pub(crate) fn wrap(
     alloc: Global,
     prefix: Prefix,
@@ -169,7 +169,7 @@ pub(crate) fn wrap(
     }
 }
 
-/// `e is None`, or `e is not None`.
+/// Returns the test that an operand is `None`, or is not if `negated`. It ends at byte `end`.
 pub(crate) fn none_test(
     alloc: Global,
     operand: Operand,
@@ -193,7 +193,7 @@ pub(crate) fn none_test(
     Ok(node(Expr::IsNone(place, inner), place, 3, depth))
 }
 
-/// An operand and the name after a dot.
+/// Returns an attribute of an operand, up to byte `end`.
 pub(crate) fn member(
     alloc: Global,
     operand: Operand,
@@ -214,7 +214,7 @@ pub(crate) fn member(
     Ok(node(Expr::Attribute(place, inner, name), place, 7, depth))
 }
 
-/// An operand and what stands in the brackets after it.
+/// Returns an operand indexed by a key, up to byte `end`.
 pub(crate) fn indexed(
     alloc: Global,
     operand: Operand,
@@ -237,7 +237,7 @@ pub(crate) fn indexed(
     Ok(node(Expr::Index(place, object, inner), place, 7, depth))
 }
 
-/// An operand with parentheses around it.
+/// Returns an operand in parentheses, from byte `start` to byte `end`.
 pub(crate) fn grouped(operand: Operand, start: usize, end: usize) -> Operand
     ensures { result ≡ record operand { start = start; end = end; plain = false; level = 7 } }
 {
@@ -252,7 +252,7 @@ pub(crate) fn grouped(operand: Operand, start: usize, end: usize) -> Operand
     }
 }
 
-/// The name that an operand is, if it is one and stands in no parentheses.
+/// Returns the name that an operand is, if it is one without parentheses.
 pub fn plain_name(operand: Operand) -> Option<Name>
     ensures { MatchOption result (if_plain operand.plain (name_of_tree (expr_of operand.expr)) ≡ None)
         (λ n. if_plain operand.plain (name_of_tree (expr_of operand.expr)) ≡ Some (name_of n)) }

@@ -1,4 +1,4 @@
-//! Operators between operands, signs before them, and what stands after them, by single tokens.
+//! Operators between operands, signs before them, and attributes after them, token by token.
 ghost use Rattle.std.specs.Prelude.{◌≡◌, List, [], ◌∷◌, ◌≤◌, MatchResult, MatchOption, IfOk, false};
 ghost use Rattle.pc_source.specs.declared.fault.Fault.TheVariants as fault;
 ghost use Rattle.pc_token.specs.Lexeme.{Lexeme};
@@ -20,7 +20,7 @@ use std::alloc::Global;
 use std::convert::AsStr;
 
 impl Prefix {
-    /// The kind of its token.
+    /// Returns the kind of the sign's token.
     fn kind(self) -> TokenKind
         ensures { result ≡ prefix_kind (prefix_of self) }
     {
@@ -31,7 +31,7 @@ impl Prefix {
     }
 }
 
-/// Signs before an operand, of which the last stands nearest to it.
+/// Applies signs to an operand, the last one first. `signs` are the bytes where they begin.
 pub(crate) fn wrap_all(
     alloc: Global,
     prefix: Prefix,
@@ -53,8 +53,8 @@ pub(crate) fn wrap_all(
 }
 
 impl<X: AsStr + Drop, I: Iterator<Item = Result<Token<X>, Fault>> + Drop> Reader<X, I> {
-    /// The operator ahead, if it goes on with an operand that binds as tightly as `left` where one
-    /// that binds as tightly as `level` is due.
+    /// Returns the operator that the token ahead begins, if it continues an operand of level `left` where a node of at
+    /// least `level` is due.
     pub(crate) fn link(&self, left: u8, level: u8) -> Option<Link>
         ensures { MatchOption result (NextIs (Over level left) self.now.ahead)
             (λ l. HasLink level left (link_view l) self.now.ahead) }
@@ -67,7 +67,8 @@ impl<X: AsStr + Drop, I: Iterator<Item = Result<Token<X>, Fault>> + Drop> Reader
         Some(link)
     }
 
-    /// The tokens of an operator between two operands; of `is`, which has no operand after it, that alone.
+    /// Takes the tokens of an operator between two operands and returns it. Of `is`, which has no right operand, takes
+    /// only that token and returns `None`.
     pub(crate) fn infix(&mut self, link: Link) -> Result<Option<Infix>, Fault>
         requires { IsReady I.can_next I.remaining self.old }
         ensures { ReadsInfix X.text I.next_gives I.can_next I.remaining (link_view link) self.old self.new result }
@@ -83,7 +84,7 @@ impl<X: AsStr + Drop, I: Iterator<Item = Result<Token<X>, Fault>> + Drop> Reader
         }
     }
 
-    /// `None` or `not None`, after an operand and `is`.
+    /// Reads the `None` or `not None` after an operand and `is`.
     pub(crate) fn none_behind(&mut self, alloc: Global, operand: Operand) -> Result<Operand, Fault>
         requires ready { IsReady I.can_next I.remaining self.old }
         requires depth { operand.depth ≤ 65 }
@@ -99,7 +100,7 @@ impl<X: AsStr + Drop, I: Iterator<Item = Result<Token<X>, Fault>> + Drop> Reader
         none_test(alloc, operand, false, none.place.end)
     }
 
-    /// Signs of one kind, by the bytes where they begin.
+    /// Takes all signs of one kind that are ahead and returns the bytes where they begin.
     pub(crate) fn signs(&mut self, alloc: Global, prefix: Prefix) -> Result<Vec<usize>, Fault>
         requires { IsReady I.can_next I.remaining self.old }
         ensures reads { ReadsSigns X.text I.next_gives I.can_next I.remaining
@@ -117,7 +118,7 @@ impl<X: AsStr + Drop, I: Iterator<Item = Result<Token<X>, Fault>> + Drop> Reader
 }
 
 impl<X: AsStr + Drop, I: Iterator<Item = Result<Token<X>, Fault>> + Drop> Reader<X, I> {
-    /// The name after an operand and a dot.
+    /// Reads the name of an attribute, after an operand and a dot.
     pub(crate) fn member(&mut self, alloc: Global, operand: Operand) -> Result<Operand, Fault>
         requires ready { IsReady I.can_next I.remaining self.old }
         requires depth { operand.depth ≤ 65 }

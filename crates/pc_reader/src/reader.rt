@@ -1,4 +1,4 @@
-//! Tokens with the next one taken off already.
+//! Tokens with one token of lookahead.
 ghost use Rattle.std.specs.Prelude.{◌≡◌, ◌<◌, List, ℕ, MatchResult, IfOk, None};
 ghost use Rattle.std.specs.Iterator.{IsFinite};
 ghost use Rattle.pc_token.specs.Lexeme.{form_of};
@@ -21,19 +21,19 @@ pub(crate) fn is_same(kind: TokenKind, other: TokenKind) -> bool
     kind == other
 }
 
-/// Tokens, the one that comes next, and the byte where the last one that came ends.
+/// A stream of tokens, with the next one taken off already, and the byte where the last taken one ends.
 #[derive(Drop)]
 pub struct Reader<X: Drop, I: Drop> {
     /// The tokens after the one ahead.
     pub tokens: I,
-    /// The token that comes next, if one is left.
+    /// The next token, if one is left.
     pub ahead: Option<Token<X>>,
-    /// The byte where the last token ends that was taken, 0 where none was.
+    /// The byte where the last taken token ends, 0 if none was taken.
     pub end: usize,
 }
 
 impl<X: AsStr + Drop, I: Iterator<Item = Result<Token<X>, Fault>> + Drop> Reader<X, I> {
-    /// A reader of the whole stream, or the fault that it begins with.
+    /// Creates a reader of the whole stream. Fails if the stream begins with a fault.
     pub fn new(tokens: I) -> Result<Self, Fault>
         requires can { I.can_next tokens }
         requires ends { IsFinite (I.remaining tokens) }
@@ -59,7 +59,7 @@ impl<X: AsStr + Drop, I: Iterator<Item = Result<Token<X>, Fault>> + Drop> Reader
         }
     }
 
-    /// The kind of the token ahead.
+    /// Returns the kind of the token ahead.
     pub fn kind(&self) -> Option<TokenKind>
         ensures { result ≡ kind_ahead self.now.ahead }
     {
@@ -79,7 +79,7 @@ impl<X: AsStr + Drop, I: Iterator<Item = Result<Token<X>, Fault>> + Drop> Reader
         }
     }
 
-    /// Takes the token ahead. Where there is none, the text ends too early.
+    /// Takes the token ahead. Fails with `G1` at the end of the text if there is none, or with the stream's next fault.
     #[inline(always)]
     pub fn take(&mut self) -> Result<Token<X>, Fault>
         requires { IsReady I.can_next I.remaining self.old }
@@ -104,7 +104,7 @@ impl<X: AsStr + Drop, I: Iterator<Item = Result<Token<X>, Fault>> + Drop> Reader
         }
     }
 
-    /// Passes over the token ahead. Where there is none, the text ends too early.
+    /// Skips the token ahead. Fails with `G1` at the end of the text if there is none, or with the stream's next fault.
     #[inline(always)]
     pub(crate) fn skip(&mut self) -> Result<(), Fault>
         requires { IsReady I.can_next I.remaining self.old }
@@ -135,7 +135,7 @@ impl<X: AsStr + Drop, I: Iterator<Item = Result<Token<X>, Fault>> + Drop> Reader
         }
     }
 
-    /// Reads what is left, for a fault in it.
+    /// Skips all remaining tokens. Fails with the first fault of the stream among them.
     fn drain(&mut self) -> Result<(), Fault>
         requires { IsReady I.can_next I.remaining self.old }
         ensures { MatchResult result
@@ -148,7 +148,8 @@ impl<X: AsStr + Drop, I: Iterator<Item = Result<Token<X>, Fault>> + Drop> Reader
         Ok(())
     }
 
-    /// The fault at the token ahead, with which nothing goes on, or a later one of the stream itself.
+    /// Returns the fault for a token ahead that does not fit: the first fault in the rest of the stream, otherwise `G1`
+    /// at that token, or at the end of the text if there is none. Skips all remaining tokens.
     pub fn misfit(&mut self) -> Fault
         requires { IsReady I.can_next I.remaining self.old }
         ensures { Blames result (λ o. (st : State) → Rejects X.text st self.old
@@ -167,7 +168,7 @@ impl<X: AsStr + Drop, I: Iterator<Item = Result<Token<X>, Fault>> + Drop> Reader
         }
     }
 
-    /// Takes the token ahead, which is of this kind, or names what stands there instead.
+    /// Takes the token ahead, which must be of this kind. Fails as `misfit` does if it is not.
     #[inline(always)]
     pub fn expect(&mut self, kind: TokenKind) -> Result<Token<X>, Fault>
         requires { IsReady I.can_next I.remaining self.old }
@@ -184,7 +185,7 @@ impl<X: AsStr + Drop, I: Iterator<Item = Result<Token<X>, Fault>> + Drop> Reader
     }
 }
 
-/// What a token is compared by: the normal form of a name, the text of any other token.
+/// Returns the word of a token: the normal form of a name, the text of any other token.
 pub(crate) fn form<'t, X: AsStr + Drop>(token: &'t Token<X>) -> &'t str
     ensures { result.now ≡ form_of (X.text token.now.text) token.now.form }
 {
@@ -195,7 +196,7 @@ pub(crate) fn form<'t, X: AsStr + Drop>(token: &'t Token<X>) -> &'t str
 }
 
 impl<X: AsStr + Drop, I: Iterator<Item = Result<Token<X>, Fault>> + Drop> Reader<X, I> {
-    /// Whether a name of this form is ahead.
+    /// Whether the token ahead is a name of this form.
     pub fn sees_name(&self, name: &str) -> bool
         ensures { result ≡ IsFormAhead X.text name.now self.now.ahead }
     {
@@ -207,7 +208,7 @@ impl<X: AsStr + Drop, I: Iterator<Item = Result<Token<X>, Fault>> + Drop> Reader
 }
 
 impl<X: AsStr + Drop, I: Iterator<Item = Result<Token<X>, Fault>> + Drop> Reader<X, I> {
-    /// The place of the token ahead.
+    /// Returns the place of the token ahead.
     pub fn place(&self) -> Option<Place>
         ensures { result ≡ place_ahead self.now.ahead }
     {

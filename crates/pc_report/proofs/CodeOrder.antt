@@ -1,4 +1,4 @@
--- The codes stand in the order of their texts, and no two codes have one text.
+-- The codes are in the order of their texts, and no two codes have the same text.
 use Rattle.std.proofs.Common.{◌≡◌}
 use Rattle.std.proofs.Common.{refl, ap, sym, ◌∙◌, Equal}
 use Rattle.std.specs.Prelude.{Some}

@@ -1,4 +1,4 @@
--- The JSON of a report is the text of its value, is read as that value, and tells of its findings.
+-- The JSON of a report is the text of its value, is parsed as that value, and gives back its findings.
 use Rattle.std.proofs.Common.{◌≡◌, ◌≤◌, ◌<◌, ◌^◌, ℕ, suc, max, List, [], ◌∷◌, ◌++◌, false, Option, Some, None}
 use Rattle.std.proofs.Common.{option_map, option_and_then, codes, decimal, refl, ap, ap₂, sym, ◌∙◌, append_assoc}
 use Rattle.std.proofs.Common.{append-nil, arith}
@@ -188,7 +188,7 @@ small : (format : Format) → format_number format < 2 ^ 64
 small One = omega arith
 small Two = omega arith
 
-report_read : (format : Format) (rows : List Row) → AllByRecursion FitsWords rows → dynamic_count rows < 2 ^ 64
+pub report_read : (format : Format) (rows : List Row) → AllByRecursion FitsWords rows → dynamic_count rows < 2 ^ 64
     → errors_of rows < 2 ^ 64 → read (report_object format rows) ≡ Some (report_data format rows)
 report_read format rows h dynamic errors =
     let d = report_data format rows in
@@ -214,7 +214,7 @@ report_read format rows h dynamic errors =
 
 -- ---- what is told
 
-told : (flow : Option FlowTexts) (row : Row) → finding_in (object (finding_members flow row)) ≡ Some row.finding
+pub told : (flow : Option FlowTexts) (row : Row) → finding_in (object (finding_members flow row)) ≡ Some row.finding
 told None row = ap (option_map (finding row.finding.place)) (code_again row.finding.code)
 told (Some flow) row = ap (option_map (finding row.finding.place)) (code_again row.finding.code)
 

@@ -1,4 +1,4 @@
--- Line feeds that are counted piece by piece.
+-- Line feeds counted piece by piece.
 use Rattle.std.proofs.Common.{◌≡◌, ℕ, ◌+◌, ◌≤◌, ◌-◌, List, take, drop, Bool, count_by, sym, ap, ◌∙◌, arith}
 use Rattle.std.proofs.lemmas.List.{take-take, drop-take}
 use Rattle.std.proofs.lemmas.List.Sums.{sum_by-take-drop}

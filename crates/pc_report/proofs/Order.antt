@@ -25,7 +25,7 @@ finding_cmp = cmp-value.it
 abbrev pub finding_eq : Finding → Finding → Bool
 finding_eq = eq-value.it
 
-cmp_is : (p q : Place) (c d : Code) → finding_cmp (finding p c) (finding q d) ≡ ordering_then
+pub cmp_is : (p q : Place) (c d : Code) → finding_cmp (finding p c) (finding q d) ≡ ordering_then
     (ordering_then (nat_cmp p.start q.start) (nat_cmp p.end q.end)) (slice_cmp nat_cmp (text_of c) (text_of d))
 cmp_is p q c d = ap (λ o. ordering_then (ordering_then (nat_cmp p.start q.start) (nat_cmp p.end q.end)) o)
     (in_text_order c d)

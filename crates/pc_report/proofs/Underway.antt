@@ -1,4 +1,4 @@
--- What has reached a device, as bytes are put and written.
+-- The bytes that have reached a device, as bytes are put and written.
 use Rattle.std.proofs.Common.{◌≡◌, ℕ, ◌+◌, ◌/◌, ◌%◌, ◌<◌, ◌≤◌, List, [], ◌∷◌, ◌++◌, length, take, get_or, Bool, true}
 use Rattle.std.proofs.Common.{false, Option, Result, Ok, Err, refl, sym, ap, ◌∙◌, subst, arith, append_assoc}
 use Rattle.std.proofs.Common.{append-nil, length-append}

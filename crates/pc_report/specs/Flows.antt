@@ -1,4 +1,4 @@
--- The texts of explained flows, and which of them a row has. Own rule of the profile.
+-- The texts of explained flows, and the texts of a row. Own rule of the profile.
 use denote.Bor.{Bor}
 use Rattle.std.specs.Prelude.{◌≡◌, List, Contains, Option, MatchOption}
 use Rattle.std.specs.Rc.{rc_str_bytes}
@@ -12,7 +12,7 @@ use Rattle.pc_tree.specs.declared.code.Code.TheVariants.{A1}
 use Rattle.pc_tree.specs.declared.code.Finding.{Finding}
 use Rattle.pc_report.specs.declared.flow.FlowTexts.{FlowTexts}
 
--- a place, with the texts of the type that a value has there and of the type of where it goes
+-- a place, with the texts of the type of the value there and of the type that it flows into
 abbrev pub FlowEntry : Type 0
 FlowEntry = Place × RcStr Global × RcStr Global
 
@@ -25,8 +25,8 @@ abbrev pub ListsAt : List FlowEntry → Place → FlowTexts → Type 0
 ListsAt flows place texts = (f : FlowEntry) × Contains flows f × (f.0 ≡ place)
     × (rc_str_bytes texts.from ≡ rc_str_bytes f.1) × (rc_str_bytes texts.to ≡ rc_str_bytes f.2)
 
--- a finding of a flow through `Any` has the texts that the list has at its place, where it has some; other findings
--- have none
+-- a finding of a flow through `Any` has the texts that the list has at its place, if there are any; other findings have
+-- none
 abbrev pub IsExplained : List FlowEntry → Finding → Option FlowTexts → Type 0
 IsExplained flows finding texts =
     MatchOption texts (finding.code ≡ A1 → ¬ (IsListed flows finding.place))
@@ -36,7 +36,7 @@ IsExplained flows finding texts =
 abbrev pub place_cmp : Place → Place → Ordering
 place_cmp p q = ordering_then (nat_cmp p.start q.start) (nat_cmp p.end q.end)
 
--- a map has, at each place of the list, a flow of the list
+-- a map has a flow of the list at each place of the list
 abbrev pub HasFlows : List FlowEntry → BTreeMap Place (Bor FlowEntry) → Type 0
 HasFlows flows m = (p : Place)
     → MatchOption (get place_cmp m p) (¬ (IsListed flows p)) (λ f. Contains flows f.now × (f.now.0 ≡ p))

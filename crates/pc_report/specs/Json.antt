@@ -13,17 +13,17 @@ use Rattle.pc_report.specs.Report.{errors_of, dynamic_count, shown_flow}
 
 -- ---- the bytes
 
--- the first type of a flow that is shown
+-- the first type of a flow, if it is shown
 abbrev pub from_json : Option FlowTexts → List ℕ
 from_json None = []
 from_json (Some flow) = codes ",\"from\":" ++ quoted (rc_str_bytes flow.from)
 
--- its second type
+-- the second type of a flow, if it is shown
 abbrev pub to_json : Option FlowTexts → List ℕ
 to_json None = []
 to_json (Some flow) = codes ",\"to\":" ++ quoted (rc_str_bytes flow.to)
 
--- a finding, with the flow that is shown
+-- a finding, with its flow if it is shown
 abbrev pub finding_json : Option FlowTexts → Row → List ℕ
 finding_json flow row = codes "{\"code\":\""
     ++ (text_of row.finding.code
@@ -32,7 +32,7 @@ finding_json flow row = codes "{\"code\":\""
     ++ (decimal row.line ++ (codes ",\"start\":"
     ++ (decimal row.finding.place.start ++ (to_json flow ++ codes "}")))))))))))
 
--- the findings, a comma between two
+-- the findings, separated by commas
 abbrev pub findings_json : Format → List Row → List ℕ
 findings_json format [] = []
 findings_json format (row ∷ []) = finding_json (shown_flow format row) row
@@ -50,9 +50,9 @@ report_object format rows = codes "{\"dynamic\":"
 abbrev pub report_json : Format → List Row → List ℕ
 report_json format rows = report_object format rows ++ 10 ∷ []
 
--- ---- the same as a value
+-- ---- the report as a value
 
--- the members of a finding, with the flow that is shown
+-- the members of a finding, with its flow if it is shown
 abbrev pub finding_members : Option FlowTexts → Row → Members
 finding_members None row =
     member (codes "code") (string (text_of row.finding.code))
@@ -73,7 +73,7 @@ finding_members (Some flow) row =
 abbrev pub finding_data : Format → Row → Data
 finding_data format row = object (finding_members (shown_flow format row) row)
 
--- the findings as items
+-- the findings as array items
 abbrev pub findings_data : Format → List Row → Items
 findings_data format rows = items_of (map (finding_data format) rows)
 
@@ -85,7 +85,7 @@ report_data format rows =
     (member (codes "findings") (array (findings_data format rows))
     (member (codes "format") (number (unsigned (format_number format))) no_members))))
 
--- ---- for private clauses: each number of a row has 64 bits, as the numbers of a value have
+-- ---- for private clauses: each number of a row fits 64 bits, like the numbers of a value
 
 abbrev pub FitsWords : Row → Type 0
 FitsWords row = (row.line < 2 ^ 64) × (row.column < 2 ^ 64) × (row.finding.place.start < 2 ^ 64)

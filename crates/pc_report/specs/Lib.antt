@@ -3,6 +3,9 @@ pub mod Format
 pub mod Json
 pub mod Pieces
 pub mod ReadBack
+pub mod ReadWhole
 pub mod Report
+pub mod TypeListing
+pub mod TypeTexts
 pub mod Writing
 pub mod Reading

@@ -1,4 +1,4 @@
--- The findings that a JSON value tells of. Own rule of the profile.
+-- The findings read back from a JSON value. Own rule of the profile.
 use Rattle.std.specs.Prelude.{ℕ, List, [], ◌∷◌, Option, None, Some, option_map, option_and_then, codes, bytes_eq}
 use Rattle.std.specs.Prelude.{if◌then◌else◌}
 use Rattle.serde_json.specs.Data.{Data, Items, no_items, item}
@@ -11,7 +11,7 @@ use Rattle.pc_tree.specs.declared.code.Code.TheVariants.{E31}
 use Rattle.pc_tree.specs.declared.code.Finding.{Finding}
 use Rattle.pc_tree.specs.Code.{finding}
 
--- the code of a text
+-- the code with this text
 abbrev pub code_of : List ℕ → Option Code
 code_of text =
     if bytes_eq text (codes "A1") then Some A1 else (
@@ -55,11 +55,11 @@ code_of text =
     if bytes_eq text (codes "E31") then Some E31 else (
     None)))))))))))))))))))))))))))))))))))))))
 
--- the number that a member of this name has
+-- the number in the member of this name
 abbrev pub number_at : List ℕ → Data → Option ℕ
 number_at name d = option_and_then as_u64 (option_and_then as_number (get name d))
 
--- the finding that an object tells of, by its start, its end and its code
+-- the finding read from an object, by its start, its end and its code
 abbrev pub finding_in : Data → Option Finding
 finding_in d = option_and_then
     (λ start. option_and_then
@@ -67,11 +67,11 @@ finding_in d = option_and_then
     (option_and_then code_of (option_and_then as_str (get (codes "code") d))))
     (number_at (codes "end") d)) (number_at (codes "start") d)
 
--- the findings of the items, in order
+-- the findings read from the items, in order
 abbrev pub findings_of_items : Items → Option (List Finding)
 findings_of_items no_items = Some []
 findings_of_items (item d ds) = option_and_then (λ f. option_map (λ fs. f ∷ fs) (findings_of_items ds)) (finding_in d)
 
--- the findings that a report tells of
+-- the findings read from a report
 abbrev pub findings_in : Data → Option (List Finding)
 findings_in d = option_and_then findings_of_items (option_and_then as_array (get (codes "findings") d))

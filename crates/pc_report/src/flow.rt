@@ -9,14 +9,14 @@ use std::alloc::Global;
 use std::collections::BTreeMap;
 use std::rc::RcStr;
 
-/// The texts of the two types of a flow: the type of the value, and the type of where it goes. Flows may share them.
+/// The texts of the two types of a flow: the value's type, and the type it flows into. Flows may share texts.
 #[derive(Debug, Drop, PartialEq, Eq)]
 pub struct FlowTexts {
     pub from: RcStr,
     pub to: RcStr,
 }
 
-/// The flows of a list, each by its place.
+/// Returns a map from each place to a flow of the list at that place.
 pub(crate) fn by_place<'a>(
     alloc: Global,
     flows: &'a [(Place, RcStr, RcStr)],
@@ -30,7 +30,8 @@ pub(crate) fn by_place<'a>(
     Ok(map)
 }
 
-/// The texts of the flow that a finding tells of.
+/// Returns the texts of a finding's flow; `None` if the finding is no flow through `Any`, or no flow is given at its
+/// place.
 pub(crate) fn texts_of(
     alloc: Global,
     finding: Finding,

@@ -3,17 +3,17 @@
 ghost use Rattle.std.specs.Prelude.{◌≡◌};
 ghost use Rattle.pc_report.specs.Format.{format_number};
 
-/// How findings are printed. Own rule of the profile.
+/// A format of a report. Own rule of the profile.
 #[derive(Clone, Copy, Debug, PartialEq, Eq)]
 pub enum Format {
-    /// Findings alone.
+    /// Findings only.
     One,
-    /// Each flow through `Any` with the two types that it goes between.
+    /// Each flow through `Any` with its two types.
     Two,
 }
 
 impl Format {
-    /// The number that names the format.
+    /// Returns the number that names the format.
     pub fn number(self) -> u64
         ensures { result ≡ format_number self }
     {

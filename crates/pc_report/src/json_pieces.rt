@@ -1,4 +1,4 @@
-//! The JSON of a report, a piece at a time.
+//! The JSON of a report, written piece by piece.
 
 ghost use Rattle.std.specs.Prelude.{◌≡◌, option_map};
 ghost use Rattle.pc_report.specs.Json.{from_json, to_json, finding_json, findings_json};
@@ -12,7 +12,7 @@ use crate::report::Row;
 use pc_source::Counted;
 use std::io::Write;
 
-/// Puts the first type of a flow that is shown.
+/// Writes the first type of a flow, if it is shown.
 fn put_from<W: Write + Drop>(pieces: &mut Pieces, device: &mut Counted<W>, flow: Option<&FlowTexts>)
     ensures { Puts W.contents (from_json (option_map (λ f. f.now) flow.entry)) device.old device.new
         pieces.old pieces.new }
@@ -23,7 +23,7 @@ fn put_from<W: Write + Drop>(pieces: &mut Pieces, device: &mut Counted<W>, flow:
     }
 }
 
-/// Puts its second type.
+/// Writes the second type of a flow, if it is shown.
 fn put_to<W: Write + Drop>(pieces: &mut Pieces, device: &mut Counted<W>, flow: Option<&FlowTexts>)
     ensures { Puts W.contents (to_json (option_map (λ f. f.now) flow.entry)) device.old device.new
         pieces.old pieces.new }
@@ -34,7 +34,7 @@ fn put_to<W: Write + Drop>(pieces: &mut Pieces, device: &mut Counted<W>, flow: O
     }
 }
 
-/// Puts the finding of a row.
+/// Writes the finding of a row.
 fn put_finding<W: Write + Drop>(
     pieces: &mut Pieces,
     device: &mut Counted<W>,
@@ -59,7 +59,7 @@ fn put_finding<W: Write + Drop>(
     pieces.put_str(device, "}");
 }
 
-/// Puts the findings of rows, a comma between two.
+/// Writes the findings of rows, separated by commas.
 pub(crate) fn put_findings<W: Write + Drop>(
     pieces: &mut Pieces,
     device: &mut Counted<W>,

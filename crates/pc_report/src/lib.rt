@@ -1,10 +1,13 @@
-//! The report of findings: its rows, its text and its JSON, and how it is written to a device; and how
-//! bytes are read from one.
+//! The report of findings: its rows, its text and its JSON, and its output to a device; also the input of bytes from a
+//! device.
 #![tactic(auto)]
 
 mod flow;
 mod format;
 mod json_pieces;
+mod laws;
+mod listing;
+mod listing_pieces;
 mod object;
 mod pieces;
 mod reading;
@@ -14,6 +17,8 @@ mod writing;
 
 pub use flow::FlowTexts;
 pub use format::Format;
+pub use laws::reports_are_read_back;
+pub use listing::{TypeEntry, TypeKind, TypeListing, TypeRow};
 pub use reading::{ReadFault, read_at_most};
 pub use report::{Report, Row};
 pub use writing::WriteFault;

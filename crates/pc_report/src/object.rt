@@ -14,7 +14,7 @@ use pc_source::OutOfMemory;
 use serde_json::{Value, json};
 use std::alloc::{AllocError, Global};
 
-/// A finding as an object.
+/// Returns a finding as a JSON object.
 fn finding_value(alloc: Global, format: Format, row: &Row) -> Result<Value, AllocError>
     ensures value { IfOk result (λ v. view v ≡ finding_data format row.now) }
     ensures words { IfOk result (λ _. FitsWords row.now) }
@@ -41,7 +41,7 @@ fn finding_value(alloc: Global, format: Format, row: &Row) -> Result<Value, Allo
     }
 }
 
-/// Adds the finding of a row.
+/// Appends the finding of a row.
 fn write_finding(
     text: &mut String,
     alloc: Global,
@@ -57,7 +57,7 @@ fn write_finding(
     Ok(())
 }
 
-/// Adds the findings of rows, a comma between two.
+/// Appends the findings of rows, separated by commas.
 fn write_findings(
     text: &mut String,
     alloc: Global,
@@ -78,12 +78,13 @@ fn write_findings(
 }
 
 impl Report {
-    /// The report as JSON, compact and with its keys in order, and a line feed. A finding is made
-    /// as a value and printed before the next one. Own rule of the profile; RFC 8259.
+    /// Returns the report as JSON, compact and with its keys in order, and a line feed. Each finding is built as a
+    /// value and printed before the next one.
+    /// Own rule of the profile; RFC 8259.
     ///
     /// # Errors
     ///
-    /// `OutOfMemory` where the text has no room.
+    /// `OutOfMemory` if an allocation failed.
     pub fn to_json(&self, alloc: Global, format: Format) -> Result<String, OutOfMemory>
         ensures text { IfOk result (λ t. string_bytes t ≡ report_json format self.now) }
         ensures read_back { IfOk result (λ t. (line : List ℕ) × (string_bytes t ≡ line ++ 10 ∷ [])

@@ -1,4 +1,4 @@
-//! Bytes on their way to a device, which takes them a piece at a time.
+//! Bytes buffered for a device, which are written piece by piece.
 
 ghost use Rattle.std.specs.Prelude.{◌≡◌, ◌<◌, [], ◌∷◌, List, false, decimal};
 ghost use Rattle.std.specs.Bool.{OnTrue, OnFalse};
@@ -14,10 +14,10 @@ use itoa::Buffer;
 use pc_source::Counted;
 use std::io::Write;
 
-/// How many bytes are held at most.
+/// The greatest number of bytes held.
 const PIECE: usize = 8192;
 
-/// Bytes that a device is still to take. They lie in a fixed room, so that no memory can be wanting once the first
+/// Bytes not yet written to a device. They are in a buffer of fixed size, so that no allocation can fail once the first
 /// byte is written. After a failed call the device is not called again.
 #[derive(Drop)]
 pub(crate) struct Pieces {
@@ -26,7 +26,7 @@ pub(crate) struct Pieces {
 }
 
 impl Pieces {
-    /// No bytes, for a device of which no call failed.
+    /// Returns an empty buffer, for a device that has not failed.
     pub(crate) fn new() -> Pieces
         ensures held { result.held.items ≡ [] }
         ensures failed { result.failed ≡ false }
@@ -49,7 +49,7 @@ impl Pieces {
         self.held.clear();
     }
 
-    /// Writes bytes at once, where none are held.
+    /// Writes bytes at once; no bytes may be held.
     fn pass<W: Write + Drop>(&mut self, device: &mut Counted<W>, bytes: &[u8])
         requires { OnFalse self.old.failed (self.old.held.items ≡ []) }
         ensures { Puts W.contents bytes.now device.old device.new self.old self.new }
@@ -60,8 +60,8 @@ impl Pieces {
         self.failed = write_whole(device, bytes).is_err();
     }
 
-    /// Adds bytes. Those that do not fit behind the ones that are held are held once these are written, and are
-    /// written at once where there is no room for them at all.
+    /// Adds bytes. If they do not fit after those held, these are written first; if they do not fit even then, they are
+    /// written at once.
     pub(crate) fn put<W: Write + Drop>(&mut self, device: &mut Counted<W>, bytes: &[u8])
         ensures { Puts W.contents bytes.now device.old device.new self.old self.new }
     {
@@ -99,7 +99,7 @@ impl Pieces {
         self.put_str(device, "\"");
     }
 
-    /// Adds bytes as they stand in a JSON string.
+    /// Adds bytes, escaped as in a JSON string.
     fn put_escaped<W: Write + Drop>(&mut self, device: &mut Counted<W>, bytes: &[u8])
         ensures { Puts W.contents (escape bytes.now) device.old device.new self.old self.new }
     {
@@ -112,7 +112,7 @@ impl Pieces {
         }
     }
 
-    /// Adds a byte as it stands in a JSON string.
+    /// Adds a byte, escaped as in a JSON string.
     fn put_byte<W: Write + Drop>(&mut self, device: &mut Counted<W>, byte: u8)
         ensures { Puts W.contents (escape_byte byte) device.old device.new self.old self.new }
     {
@@ -127,11 +127,11 @@ impl Pieces {
         }
     }
 
-    /// Writes the bytes that are still held, and tells whether a call of the device failed.
+    /// Writes the bytes that are still held.
     ///
     /// # Errors
     ///
-    /// `Write` where a call of the device failed.
+    /// `Write` if any call of the device failed.
     pub(crate) fn finish<W: Write + Drop>(
         &mut self,
         device: &mut Counted<W>,
@@ -147,7 +147,7 @@ impl Pieces {
     }
 }
 
-/// Whether bytes all stand for themselves in a JSON string.
+/// Returns whether no byte needs an escape in a JSON string.
 fn are_plain(bytes: &[u8]) -> bool
     ensures { OnTrue result (escape bytes.now ≡ bytes.now) }
 {
@@ -159,7 +159,7 @@ fn are_plain(bytes: &[u8]) -> bool
     true
 }
 
-/// Whether a byte stands for itself in a JSON string.
+/// Returns whether a byte needs no escape in a JSON string.
 #[tactic(auto, using(crate::proofs::Underway::escape_plain))]
 fn is_plain(byte: u8) -> bool
     ensures { OnTrue result (escape_byte byte ≡ byte ∷ []) }
@@ -170,7 +170,7 @@ fn is_plain(byte: u8) -> bool
     escape_letter(byte) == 0
 }
 
-/// The letter of a byte's short escape in a JSON string, or 0 where it has none.
+/// Returns the letter of a byte's short escape in a JSON string, or 0 if it has none.
 fn escape_letter(byte: u8) -> u8
     ensures { result ≡ escape_letter byte }
 {
@@ -185,7 +185,7 @@ fn escape_letter(byte: u8) -> u8
     }
 }
 
-/// A digit to the base 16.
+/// Returns a hexadecimal digit.
 fn hex_digit(digit: u8) -> u8
     requires { digit < 16 }
     ensures { result ≡ digit_char digit }

@@ -1,4 +1,4 @@
-//! Bytes that are read from a device, up to a limit.
+//! Bytes read from a device, up to a limit.
 
 ghost use Rattle.std.specs.Prelude.{◌≡◌, IfOk, IfErr};
 ghost use Rattle.pc_report.specs.Reading.{IsRead, OnReadFault};
@@ -11,7 +11,7 @@ use std::alloc::{AllocError, Global};
 use std::io::Read;
 use thiserror::Error;
 
-/// Why bytes were not read. Own rule of the profile.
+/// The reason that bytes were not read. Own rule of the profile.
 #[derive(Clone, Copy, Debug, PartialEq, Eq, Error)]
 pub enum ReadFault {
     /// An allocation failed.
@@ -30,16 +30,15 @@ impl From<AllocError> for ReadFault {
     }
 }
 
-/// How many bytes are asked of a device at once.
+/// The greatest number of bytes requested from a device at once.
 const PIECE: usize = 8192;
 
-/// The bytes of a device, to its end or to a limit, by as many calls as it asks for, and by none
-/// after one that failed. Own rule of the profile.
+/// Reads the bytes of a device, to its end or to a limit, with as many calls as it needs, and none after one that
+/// failed. Own rule of the profile.
 ///
 /// # Errors
 ///
-/// `Read` where a call of the device failed, an interruption included; `OutOfMemory` only when an
-/// allocation failed.
+/// `Read` if a call of the device failed, even by an interruption; `OutOfMemory` only if an allocation failed.
 pub fn read_at_most<R: Read + Drop>(
     alloc: Global,
     device: &mut Counted<R>,

@@ -19,8 +19,7 @@ use std::collections::BTreeMap;
 use std::marker::Model;
 use std::rc::RcStr;
 
-/// A finding, with the line and the column of its start, both from 1, and the two types of the
-/// flow that it tells of, where they were given.
+/// A finding, with the line and the column of its start, both from 1, and the two types of its flow, if they are given.
 #[derive(Debug, Drop, PartialEq, Eq)]
 pub struct Row {
     pub finding: Finding,
@@ -30,7 +29,7 @@ pub struct Row {
 }
 
 impl Row {
-    /// What a format shows of the flow.
+    /// Returns the flow if the format shows it.
     pub(crate) fn shown_flow(&self, format: Format) -> Option<&FlowTexts>
         ensures { option_map (λ f. f.now) result ≡ shown_flow format self.now }
     {
@@ -44,7 +43,7 @@ impl Row {
     }
 }
 
-/// Findings, sorted by start, end and code, without repeats. Contracts see it as the list of its rows.
+/// Findings, sorted by start, end and code, without repeats. Contracts treat it as the list of its rows.
 #[derive(Drop)]
 pub struct Report {
     rows: Vec<Row>,
@@ -56,39 +55,39 @@ impl Model for Report {
     ghost view = { λ r. r.rows.items };
 }
 
-/// The findings in order, without repeats.
+/// Returns the findings in order, without repeats.
 fn sorted(alloc: Global, findings: &[Finding]) -> Result<Vec<Finding>, OutOfMemory>
     ensures exact { IfOk result (λ v. (f : Finding) → Contains v.items f ↔ Contains findings.now f) }
     ensures in_order { IfOk result (λ v. IsInOrder v.items) }
 {
     let mut sorted = findings.to_vec(alloc)?;
     sorted.sort_unstable();
-    // Sorting has put equal findings side by side.
+    // Equal findings are adjacent after sorting.
     sorted.dedup();
     Ok(sorted)
 }
 
-/// A byte of the source, with its line and its column.
+/// A byte of the source, with its line and its column, both from 1.
 #[derive(Clone, Copy)]
-struct Position {
-    byte: usize,
-    line: u64,
-    column: u64,
+pub(crate) struct RowPosition {
+    pub(crate) byte: usize,
+    pub(crate) line: u64,
+    pub(crate) column: u64,
 }
 
-/// The first byte.
-const START: Position = Position {
+/// The position of the first byte.
+pub(crate) const START: RowPosition = RowPosition {
     byte: 0,
     line: 1,
     column: 1,
 };
 
-/// How many bytes are looked at for line feeds together: below 256, so that the count fits a byte, and a multiple of
-/// the 16 that one instruction looks at.
+/// The number of bytes searched for line feeds at once: below 256, so that the count fits a byte, and a multiple of the
+/// 16 that one instruction processes.
 const TOGETHER: usize = 240;
 
-/// How many of a few bytes are line feeds. A number is added for each byte and no branch is taken, and the numbers are
-/// bytes, so that one instruction looks at 16 of them.
+/// Returns the number of line feeds among a few bytes. A number is added for each byte without a branch, and the
+/// numbers are bytes, so that one instruction processes 16 of them.
 fn line_feeds(bytes: &[u8]) -> u8
     requires { length bytes.now < 256 }
     ensures { result ≡ count_by (λ b. b == 10) bytes.now }
@@ -100,8 +99,8 @@ fn line_feeds(bytes: &[u8]) -> u8
     count
 }
 
-/// The line of a byte, found from a known position before it.
-fn line_at(source: &[u8], known: Position, byte: usize) -> u64
+/// Returns the line of a byte, given a known position before it.
+fn line_at(source: &[u8], known: RowPosition, byte: usize) -> u64
     requires line { known.line ≡ line_of source.now known.byte }
     requires onward { known.byte ≤ byte }
     requires inside { byte ≤ length source.now }
@@ -117,7 +116,7 @@ fn line_at(source: &[u8], known: Position, byte: usize) -> u64
     line
 }
 
-/// The first byte of the last line that begins after one byte and not after another, or the former byte where none
+/// Returns the first byte of the last line that begins after one byte and not after another, or the former byte if none
 /// does.
 fn last_line_start(source: &[u8], after: usize, byte: usize) -> usize
     requires onward { after ≤ byte }
@@ -134,9 +133,9 @@ fn last_line_start(source: &[u8], after: usize, byte: usize) -> usize
     after
 }
 
-/// The position of the first byte of the last line that begins after a known position and not after a byte, or the
-/// known position where none does.
-fn line_before(source: &[u8], known: Position, byte: usize) -> Position
+/// Returns the start of the last line that begins after a known position and not after a byte, or the known position if
+/// none does.
+fn line_before(source: &[u8], known: RowPosition, byte: usize) -> RowPosition
     requires line { known.line ≡ line_of source.now known.byte }
     requires column { known.column ≡ column_of source.now known.byte }
     requires onward { known.byte ≤ byte }
@@ -149,15 +148,15 @@ fn line_before(source: &[u8], known: Position, byte: usize) -> Position
     if start == known.byte {
         return known;
     }
-    Position {
+    RowPosition {
         byte: start,
         line: line_at(source, known, start),
         column: 1,
     }
 }
 
-/// The position of a byte, found from a known one by a walk over what stands between them.
-fn walked(source: &[u8], known: Position, byte: usize) -> Position
+/// Returns the position of a byte, by a walk over the bytes from a known position.
+fn walked(source: &[u8], known: RowPosition, byte: usize) -> RowPosition
     requires line { known.line ≡ line_of source.now known.byte }
     requires column { known.column ≡ column_of source.now known.byte }
     requires onward { known.byte ≤ byte }
@@ -175,12 +174,12 @@ fn walked(source: &[u8], known: Position, byte: usize) -> Position
             position.column += 1;
         }
     }
-    Position { byte, ..position }
+    RowPosition { byte, ..position }
 }
 
-/// The position of a byte, found from a known one: whole lines are counted, and the last one is walked over. Where the
-/// byte stands before the known one, all begins at the first byte.
-fn position_of(source: &[u8], known: Position, byte: usize) -> Position
+/// Returns the position of a byte, given a known one: whole lines are counted, and the last one is walked. If the byte
+/// is before the known one, the search starts at the first byte.
+pub(crate) fn row_position(source: &[u8], known: RowPosition, byte: usize) -> RowPosition
     requires line { known.line ≡ line_of source.now known.byte }
     requires column { known.column ≡ column_of source.now known.byte }
     ensures byte { result.byte ≡ byte }
@@ -195,7 +194,7 @@ fn position_of(source: &[u8], known: Position, byte: usize) -> Position
     }
 }
 
-/// The rows of findings: one walk over the source where they are in order.
+/// Returns the rows of findings, in one walk over the source if they are in order.
 fn rows(
     alloc: Global,
     source: &Source,
@@ -210,7 +209,7 @@ fn rows(
     let mut rows = Vec::with_capacity(alloc, findings.len())?;
     let mut position = START;
     for finding in findings {
-        position = position_of(text, position, finding.place.start);
+        position = row_position(text, position, finding.place.start);
         rows.push(Row {
             finding: *finding,
             line: position.line,
@@ -222,13 +221,12 @@ fn rows(
 }
 
 impl Report {
-    /// The report of findings of a source. The flows give, at the place of each finding of a flow
-    /// through `Any`, the texts of the two types that it goes between; where they give none, the
-    /// row has none.
+    /// Returns the report of findings of a source. `flows` gives, at the place of each finding of a flow through `Any`,
+    /// the texts of its two types; without an entry there, the row has none.
     ///
     /// # Errors
     ///
-    /// `OutOfMemory` where the rows have no room.
+    /// `OutOfMemory` if an allocation failed.
     pub fn of(
         alloc: Global,
         source: &Source,
@@ -244,14 +242,14 @@ impl Report {
         Ok(Report { rows })
     }
 
-    /// The rows.
+    /// Returns the rows.
     pub fn rows(&self) -> &[Row]
         ensures { result.now ≡ self.now }
     {
         &self.rows
     }
 
-    /// How many rows are errors.
+    /// Returns the number of rows that are errors.
     pub fn errors(&self) -> u64
         ensures { result ≡ errors_of self.now }
     {
@@ -261,7 +259,7 @@ impl Report {
             .count() as u64
     }
 
-    /// How many rows are dynamic places.
+    /// Returns the number of rows that are dynamic places.
     pub fn dynamic(&self) -> u64
         ensures { result ≡ dynamic_count self.now }
     {
@@ -271,13 +269,12 @@ impl Report {
             .count() as u64
     }
 
-    /// A line for each row, `LINE:COLUMN CODE LABEL`, and a last line with the numbers of errors
-    /// and of dynamic places. In format two a line of a flow ends with the two types, ` FROM -> TO`.
-    /// Own rule of the profile.
+    /// Returns a line for each row, `LINE:COLUMN CODE LABEL`, and a last line with the numbers of errors and of dynamic
+    /// places. In format two a line of a flow ends with the two types, ` FROM -> TO`. Own rule of the profile.
     ///
     /// # Errors
     ///
-    /// `OutOfMemory` where the text has no room.
+    /// `OutOfMemory` if an allocation failed.
     pub fn to_text(&self, alloc: Global, format: Format) -> Result<String, OutOfMemory>
         ensures { IfOk result (λ t. string_bytes t ≡ report_text format self.now) }
     {
@@ -292,7 +289,7 @@ impl Report {
     }
 }
 
-/// Writes the line of a row.
+/// Appends the line of a row.
 fn write_row(text: &mut String, format: Format, row: &Row) -> Result<(), OutOfMemory>
     ensures { OnOk result (string_bytes text.new ≡ string_bytes text.old ++ (row_text format row.now ++ 10 ∷ [])) }
 {

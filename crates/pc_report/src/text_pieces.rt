@@ -1,4 +1,4 @@
-//! The text of a report, a piece at a time.
+//! The text of a report, written piece by piece.
 
 ghost use Rattle.std.specs.Prelude.{◌≡◌, ◌++◌, ◌∷◌, [], codes, decimal, option_map};
 ghost use Rattle.pc_report.specs.Pieces.{Puts};
@@ -11,7 +11,7 @@ use crate::report::Row;
 use pc_source::Counted;
 use std::io::Write;
 
-/// Puts the two types of a flow that is shown.
+/// Writes the two types of a flow, if it is shown.
 fn put_flow<W: Write + Drop>(pieces: &mut Pieces, device: &mut Counted<W>, flow: Option<&FlowTexts>)
     ensures { Puts W.contents (flow_text (option_map (λ f. f.now) flow.entry)) device.old device.new
         pieces.old pieces.new }
@@ -25,7 +25,7 @@ fn put_flow<W: Write + Drop>(pieces: &mut Pieces, device: &mut Counted<W>, flow:
     pieces.put_str(device, flow.to.as_str());
 }
 
-/// Puts the line of a row.
+/// Writes the line of a row.
 pub(crate) fn put_row<W: Write + Drop>(
     pieces: &mut Pieces,
     device: &mut Counted<W>,
@@ -45,7 +45,7 @@ pub(crate) fn put_row<W: Write + Drop>(
     pieces.put_str(device, "\n");
 }
 
-/// Puts the last line: the numbers of errors and of dynamic places.
+/// Writes the last line: the numbers of errors and of dynamic places.
 pub(crate) fn put_counts<W: Write + Drop>(
     pieces: &mut Pieces,
     device: &mut Counted<W>,

@@ -1,4 +1,4 @@
-//! A report that is written to a device.
+//! The output of a report to a device.
 
 ghost use Rattle.std.specs.Prelude.{◌≡◌};
 ghost use Rattle.pc_report.specs.Json.{report_json};
@@ -14,15 +14,15 @@ use pc_source::Counted;
 use std::io::Write;
 use thiserror::Error;
 
-/// Why a report was not written whole. Own rule of the profile.
+/// The reason that a report was not written whole. Own rule of the profile.
 #[derive(Clone, Copy, Debug, PartialEq, Eq, Error)]
 pub enum WriteFault {
-    /// The device failed, after a beginning of the report.
+    /// The device failed, after a beginning of the report was written.
     #[error("the report could not be written")]
     Write,
 }
 
-/// Writes bytes, by as many calls as the device asks for, and by none after one that failed.
+/// Writes bytes, with as many calls as the device needs, and none after one that failed.
 pub(crate) fn write_whole<W: Write + Drop>(
     device: &mut Counted<W>,
     bytes: &[u8],
@@ -40,11 +40,11 @@ pub(crate) fn write_whole<W: Write + Drop>(
 }
 
 impl Report {
-    /// Writes the text of the report to a device, a piece at a time. It takes no memory.
+    /// Writes the text of the report to a device, piece by piece. It allocates no memory.
     ///
     /// # Errors
     ///
-    /// `Write` where a call of the device failed, and a beginning of the text was written.
+    /// `Write` if a call of the device failed; a beginning of the text is written then.
     pub fn write_text<W: Write + Drop>(
         &self,
         format: Format,
@@ -60,11 +60,11 @@ impl Report {
         pieces.finish(device)
     }
 
-    /// Writes the JSON of the report to a device, a piece at a time. It takes no memory.
+    /// Writes the JSON of the report to a device, piece by piece. It allocates no memory.
     ///
     /// # Errors
     ///
-    /// As `write_text`.
+    /// As for `write_text`.
     pub fn write_json<W: Write + Drop>(
         &self,
         format: Format,

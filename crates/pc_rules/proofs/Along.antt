@@ -16,7 +16,7 @@ pub pushed_by : {T E : Type 0} (r : Result T E) (new old more : List Note) → o
     → OnOk r (new ≡ more)
 pushed_by r new old more e h = subst (λ (x : List Note). OnOk r (new ≡ x)) e h
 
--- what holds anyway holds where there is a value
+-- a fact that holds anyway holds for the value of a result
 pub on_ok : {T E : Type 0} {P : Type 0} (r : Result T E) → P → OnOk r P
 on_ok (Ok x) p = p
 on_ok (Err x) p = tt

@@ -1,4 +1,4 @@
--- What calls give, and what their arguments flow into, are well-formed types.
+-- The types that calls give, and that their arguments flow into, are well-formed.
 use Rattle.std.proofs.Common.{◌++◌, ℕ, zero, suc, Bool as Test, true, false, List, [], ◌∷◌, Option, Some, None}
 use Rattle.std.proofs.lemmas.Bool.{cond_both}
 use Rattle.std.specs.Prelude.{if◌then◌else◌, nat_lt, slice_get, map, flat_map, codes, bytes_eq}
@@ -8,8 +8,8 @@ use Rattle.pc_tree.specs.Tree.{Name, Expr, Exprs, name, attribute}
 use Rattle.pc_tree.specs.Stopping.{has_none}
 use Rattle.pc_scope.specs.declared.resolution.Builtin.{Builtin}
 use Rattle.pc_scope.specs.declared.resolution.Builtin.TheVariants as builtin
-use Rattle.pc_scope.specs.declared.resolution.Res.{Res}
-use Rattle.pc_scope.specs.declared.resolution.Res.TheVariants as res
+use Rattle.pc_scope.specs.declared.resolution.NameMeaning.{NameMeaning}
+use Rattle.pc_scope.specs.declared.resolution.NameMeaning.TheVariants as res
 use Rattle.pc_scope.specs.Resolution.{is_one_of}
 use Rattle.pc_types.specs.Tree.{Tree, Any, Str, NoneType, Class, ListOf, DictOf}
 use Rattle.pc_types.specs.Below.{Bases, AreSmaller}
@@ -42,17 +42,17 @@ use Rattle.pc_class.specs.WellFormed.{ParametersWellFormed, ClassesWellFormed}
 use Rattle.pc_class.proofs.WellFormed.{class_at_well_formed}
 use Rattle.pc_rules.specs.Laws.WellFormed.{SignatureWellFormed, SignaturesWellFormed, ContextWellFormed}
 
--- what a call comes to on one member is of well-formed types
+-- the result of a call on one member has well-formed types
 pub record CallWellFormed (bases : Bases) (o : CallOffer) : Type 0 where
   pub gives : IsWellFormed bases o.gives
   pub calls : SignaturesWellFormed bases o.calls
 
--- so on each
+-- likewise on each
 abbrev pub CallsWellFormed : Bases → List CallOffer → Type 0
 CallsWellFormed bases [] = Unit {0}
 CallsWellFormed bases (o ∷ os) = CallWellFormed bases o × CallsWellFormed bases os
 
--- what is expected, and what is flowed into
+-- the expected type of a seat, and the types that it flows into, are well-formed
 pub record SeatWellFormed (bases : Bases) (s : Seat) : Type 0 where
   pub want : IsWellFormedIfAny bases s.want
   pub into : AreWellFormed bases s.into
@@ -302,7 +302,7 @@ module _ (ctx : Context) (ck : ContextWellFormed ctx) where
   function_well_formed g (s ∷ ss) zero h = called_well_formed ctx.bases g s h.0
   function_well_formed g (s ∷ ss) (suc i) h = function_well_formed g ss i h.1
 
-  name_calls : (env : Env) (g : GivenArguments) (r : Res) → CallsWellFormed ctx.bases (name_callee ctx env g r).offers
+  name_calls : (env : Env) (g : GivenArguments) (r : NameMeaning) → CallsWellFormed ctx.bases (name_callee ctx env g r).offers
   name_calls env g (res.Func i) = if_offers ctx.bases ctx.in_body
       (good_callee (function_offer g (slice_get ctx.functions i) ∷ [])) (value_callee (in_error E03))
       (function_well_formed g ctx.functions i ck.functions, tt) (called_value ctx.bases Any)
@@ -350,7 +350,7 @@ module _ (ctx : Context) (ck : ContextWellFormed ctx) where
       (good_callee (fails_at_call E14 ∷ [])) (any_well_formed ctx.bases) (any_well_formed ctx.bases)
   built_in_label g _ = any_well_formed ctx.bases
 
-  name_callee_label : (env : Env) → IsWellFormedEnv ctx.bases env → (g : GivenArguments) (r : Res)
+  name_callee_label : (env : Env) → IsWellFormedEnv ctx.bases env → (g : GivenArguments) (r : NameMeaning)
       → IsWellFormed ctx.bases (name_callee ctx env g r).label.type
   name_callee_label env k g (res.Func i) = if_label ctx.in_body
       (good_callee (function_offer g (slice_get ctx.functions i) ∷ [])) (value_callee (in_error E03))

@@ -124,15 +124,15 @@ module _ (ctx : Context) (declared : List Tree) (ck : ContextWellFormed ctx) (dk
   abbrev labels_here : Env → Option Tree → (e : Expr) → Labels e
   labels_here env want e = labels ctx declared static assignable env want e
 
-  -- those of items
+  -- the labels of items in this context
   abbrev items_here : Env → (ℕ → Seat) → (es : Exprs) → ItemsLabels es
   items_here env seat es = items_labels ctx declared static assignable env seat es
 
-  -- those of entries
+  -- the labels of entries in this context
   abbrev entries_here : Env → Seat → Seat → (es : Entries) → EntriesLabels es
   entries_here env x y es = entries_labels ctx declared static assignable env x y es
 
-  -- those of arguments by name
+  -- the labels of arguments by name in this context
   abbrev keywords_here : Env → (List ℕ → Seat) → List (List ℕ) → (es : Keywords) → KeywordsLabels es
   keywords_here env seat before es = keywords_labels ctx declared static assignable env seat before es
 
@@ -144,7 +144,7 @@ module _ (ctx : Context) (declared : List Tree) (ck : ContextWellFormed ctx) (dk
     pub each : LabelsWellFormed ctx.bases e (labels_here env want e)
     pub object : ObjectWellFormed ctx ck e (labels_here env want e)
 
-  -- so for items
+  -- likewise for items
   pub record ItemsLawful (env : Env) (seat : ℕ → Seat) (es : Exprs) : Type 0 where
     pub lawful : LawfulItems ctx declared env seat es (items_here env seat es)
     pub well_formed : AreWellFormed ctx.bases (item_types es (items_here env seat es))

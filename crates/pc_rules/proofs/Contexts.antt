@@ -4,7 +4,7 @@ use Rattle.std.specs.Prelude.{map}
 use Rattle.pc_tree.specs.Tree.{FuncDef, Module}
 use Rattle.pc_scope.specs.Bindings.{functions_in}
 use Rattle.pc_class.specs.Bases.{bases_of}
-use Rattle.pc_ann.proofs.Earlier.{smaller}
+use Rattle.pc_annotations.proofs.Earlier.{smaller}
 use Rattle.pc_class.proofs.WellFormed.{params_well_formed, returned_well_formed, all_classes_well_formed}
 use Rattle.pc_rules.specs.Signatures.{signature_of, signatures_of}
 use Rattle.pc_rules.specs.Laws.WellFormed.{SignaturesWellFormed, BodyContextsAreWellFormed}

@@ -1,4 +1,4 @@
--- What is expected of the parts of a display, and the display's type, are well-formed types.
+-- The expected types of the parts of a display, and the display's type, are well-formed.
 use Rattle.std.proofs.Common.{ℕ, List, [], ◌∷◌, Option, Some, None}
 use Rattle.std.proofs.lemmas.Bool.{cond_both}
 use Rattle.std.specs.Prelude.{nat_eq}

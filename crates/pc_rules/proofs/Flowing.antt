@@ -1,5 +1,4 @@
--- The flows of a label into several types: what is found of them, and that it is what is found of each label with the
--- same codes.
+-- The notes of the flows of a label into several types, which depend only on the label's type and set of codes.
 use Rattle.std.proofs.Common.{◌≡◌, ◌∙◌, ◌+◌, ◌<◌, ◌≤◌, ◌++◌, ℕ, List, [], ◌∷◌, refl, sym, ap, subst, length, get_or}
 use Rattle.std.proofs.Common.{drop, append_assoc, append-nil}
 use Rattle.std.specs.Prelude.{map, Option, Some, None, Bool as Test, true, false}
@@ -32,22 +31,22 @@ pub flows_alike : (bases : Bases) (p : Place) (l m : Label) (ts : List Tree) →
 flows_alike bases p l m ts e = ap (λ (x : Label). flows_at p (flows_of bases x ts)) e
     ∙ ap (flows_at p) (brief_flows bases m ts)
 
--- what is found of one flow
+-- the findings of one flow
 pub one_flow : (p : Place) (s t : Tree) (o : Option Code) → flow_at p s t o ≡ flow_then p [] s t o (λ codes. [])
 one_flow p s t None = refl
 one_flow p s t (Some c) = sym (append-nil (own_flow p s t c))
 
 module _ {Ty : Type 0} (tree : Ty → Tree) (bases : Bases) (p : Place) (m : Label) (into : List Ty)
     (before : List Note) where
-  -- what is found of flows into the types from this number on, after these codes
+  -- the findings of flows into the types from this number on, after these codes
   abbrev pub to_come : ℕ → List Code → List Note
   to_come i codes = flows_behind p codes (flows_of bases m (drop i (map tree into)))
 
-  -- what is noted so far and what is to come are all that is found of the flows
+  -- the notes so far and the findings to come are all that is found of the flows
   abbrev pub IsFound : ℕ → List Code → (noted : List Note) → Type 0
   IsFound i codes noted = noted ++ to_come i codes ≡ before ++ flows_at p (flows_of bases m (map tree into))
 
-  -- what is found of the next flow, by its code, is what comes first
+  -- the finding of the next flow, given its code, is the first of those to come
   pub found_next : (i : ℕ) (codes : List Code) (noted : List Note) (ty : Ty) (o : Option Code) → i < length into
       → ty ≡ get_or into i ty → o ≡ code_of bases (is_early m.codes) m.type (tree ty) → IsFound i codes noted
       → noted ++ flow_then p codes m.type (tree ty) o (to_come (i + 1)) ≡ before ++ flows_at p

@@ -1,6 +1,5 @@
--- What is found under the labels of an expression as a list of findings alone, without the types of flows; and that
--- this is what the
--- list with these types tells.
+-- The findings under the labels of an expression as a list without the types of flows; and that this is the list with
+-- these types, forgotten.
 use Rattle.std.proofs.Common.{refl, sym, ap, ◌∙◌, append_assoc, append-nil}
 use Rattle.std.proofs.lemmas.List.{map-append}
 use Rattle.std.proofs.lemmas.Grind.{flat_map-append}
@@ -54,7 +53,7 @@ whole e m parts = parts ++ codes_at (place_of e) (whole_label e m).codes
 
 -- the findings in the parts of an expression, under the labels of items, of arguments, and of the entries of a dict
 abbrev mutual
-  -- what is found in the parts of an expression and of their flows
+  -- the findings in the parts of an expression and of their flows
   pub found_in_parts : (e : Expr) → Labels e → List Finding
   found_in_parts (name n) m = []
   found_in_parts (number p digits) m = []

@@ -1,4 +1,4 @@
--- Lists of what is found, with what is found in annotations after them all.
+-- Lists of notes, with the findings in annotations moved after them all.
 use Rattle.std.proofs.Common.{◌≡◌, ◌⊎◌, ◌↔◌, List, ◌++◌, sym, ap, ◌∙◌, subst, inl, inr, Contains}
 use Rattle.std.proofs.Common.{append_assoc}
 use Rattle.std.specs.Prelude.{map}
@@ -13,7 +13,7 @@ pub with_plain : (ns : List Note) (fs : List Finding) → findings_of (ns ++ map
 with_plain ns fs = flat_map-append finding_in ns (map plain_note fs)
     ∙ ap (λ (l : List Finding). findings_of ns ++ l) (plain_findings fs)
 
--- what stands in a list moved ahead stands there still
+-- a finding in a list stays in it when a part of the list moves ahead
 pub moved : (xs ys zs : List Finding) (f : Finding) → Contains (xs ++ (ys ++ zs)) f → Contains (ys ++ (xs ++ zs)) f
 moved xs ys zs f h = elim (Contains-append_cases xs (ys ++ zs) f h) [
   | inl a ↦ Contains-append_right ys (xs ++ zs) f (Contains-append_left xs zs f a)
@@ -103,7 +103,7 @@ module _ (f : Finding) where
     ]),
   )
 
-  -- what is found in one more annotation, behind the others
+  -- the findings in one more annotation, behind the others
   pub noted_behind : (xs : List Note) (as' bs : List Finding) {P Q : Type 0} → Noted f (xs ++ map plain_note as') P
       → Noted f (map plain_note bs) Q → Noted f (xs ++ map plain_note (as' ++ bs)) (P ⊎ Q)
   noted_behind xs as' bs {P} {Q} h k =

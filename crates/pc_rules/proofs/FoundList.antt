@@ -1,4 +1,4 @@
--- The list of an expression's findings has just what stands under its labels and is not found of scopes.
+-- The list of an expression's findings holds exactly the findings under its labels, except those of scope analysis.
 use Rattle.std.proofs.Common.{◌≡◌, ◌⊎◌, ◌↔◌, List, [], ◌∷◌, ◌++◌, refl, sym, ap, ◌∙◌, subst, inl, inr, Contains}
 use Rattle.std.specs.Prelude.{Bool as Test, true, false, if◌then◌else◌, Option, Some, None, flat_map, map}
 use Rattle.std.specs.Prelude.{option_to_list}
@@ -38,7 +38,7 @@ lists_unless : (b : Test) (g : Finding) → b ≡ false → Contains (if b then 
 lists_unless true g e = absurd (cc e)
 lists_unless false g e = first_among g []
 
--- what is listed is no finding of scopes
+-- a finding whose code is not one of scope analysis
 abbrev pub IsFoundElsewhere : Finding → Type 0
 IsFoundElsewhere f = is_of_scopes f.code ≡ false
 
@@ -170,7 +170,7 @@ first_third s = elim s [ inl r ↦ inr (inr r) | inr t ↦ elim t [ inl p ↦ in
 second_first : {P Q R : Type 0} → P ⊎ (Q ⊎ R) → Q ⊎ (P ⊎ R)
 second_first s = elim s [ inl p ↦ inr (inl p) | inr t ↦ elim t [ inl q ↦ inl q | inr r ↦ inr (inr r) ] ]
 
--- what is found of a call: in the callee, in the arguments, in those by name, at what stands second
+-- the cases of a finding of a call, with the one at the second argument moved before those in the arguments
 of_call : {C A K S : Type 0} → C ⊎ (A ⊎ (K ⊎ S)) → C ⊎ (S ⊎ (A ⊎ K))
 of_call s = elim s [
   | inl c ↦ inl c

@@ -1,6 +1,5 @@
--- The list of what is found of an initializer has just what stands under its lawful labels and of its flow, but for
--- what is found of
--- scopes; and its type is that of those labels.
+-- The list of the notes of an initializer holds exactly the findings under its lawful labels and of its flow, except
+-- those of scope analysis; and its type is that of those labels.
 use Rattle.std.specs.Prelude.{false}
 use Rattle.std.proofs.Common.{◌≡◌, ◌⊎◌, List, [], ◌∷◌, ◌++◌, refl, sym, ap, ◌∙◌, subst}
 use Rattle.pc_tree.specs.declared.code.Finding.{Finding}
@@ -8,7 +7,7 @@ use Rattle.pc_tree.specs.Tree.{Expr, Module}
 use Rattle.pc_tree.specs.Depth.{place_of}
 use Rattle.pc_types.specs.Tree.{Tree}
 use Rattle.pc_types.specs.Below.{Bases}
-use Rattle.pc_ann.proofs.Earlier.{smaller}
+use Rattle.pc_annotations.proofs.Earlier.{smaller}
 use Rattle.pc_class.specs.Bases.{bases_of}
 use Rattle.pc_flow.specs.WellFormed.{AreWellFormed, IsWellFormedIfAny}
 use Rattle.pc_rules.specs.Operations.{Label}
@@ -78,7 +77,7 @@ module _ (m : Module) (r : ItemsReached) (known : AreWellFormed (bases_of m) r.c
       λ s own. l.1 (record { stands = s; own = own }),
     )
 
-    -- what is found of an initializer, by its lawful labels and its lawful flow
+    -- the findings of an initializer, by its lawful labels and its lawful flow
     pub value_listed : (flows : FlowLabels) → FlowsInto (bases_of m) (whole_label e labels) into flows → (f : Finding)
         → Noted f (value_findings m false r into e) (Finds e labels f ⊎ IsFlowAt (place_of e) flows f)
     value_listed flows h f =

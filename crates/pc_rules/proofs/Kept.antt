@@ -1,4 +1,4 @@
--- What an expression stands in stays given over calls that may add types to the store.
+-- The types of a setting and an environment are kept over calls that may add types to the store.
 use Rattle.std.proofs.Common.{◌≡◌, List, Option, Some, None}
 use Rattle.std.specs.Prelude.{All}
 use Rattle.std.proofs.lemmas.List.Elements.{All-weaker}
@@ -12,8 +12,8 @@ use Rattle.pc_flow.specs.Stored.{HasOne, HasEach, env_of}
 use Rattle.pc_rules.specs.Operations.{Label}
 use Rattle.pc_rules.specs.Computed.Standing.{HasGivenAll, HasIfAny, HasSignature, MeansLabel}
 use Rattle.pc_rules.specs.declared.label.Label.{Label as RustLabel}
-use Rattle.pc_rules.specs.declared.setting.Setting.{Setting}
-use Rattle.pc_rules.specs.declared.setting.Signature.{Signature}
+use Rattle.pc_rules.specs.declared.expr_context.ExprContext.{ExprContext}
+use Rattle.pc_rules.specs.declared.expr_context.Signature.{Signature}
 
 module _ {Ty : Type 0} (has later : Ty → Type 0) (k : (ty : Ty) → has ty → later ty) where
   params_kept : (ps : List (Parameter Ty)) → All (HasParameter has) ps → All (HasParameter later) ps
@@ -49,7 +49,7 @@ module _ {Ty : Type 0} (has later : Ty → Type 0) (k : (ty : Ty) → has ty →
   pub types_kept : (types : List Ty) → All has types → All later types
   types_kept types h = All-weaker has later k types h
 
-  module _ (tree : Ty → Tree) (s : Setting Ty) (env : List (Option Ty)) where
+  module _ (tree : Ty → Tree) (s : ExprContext Ty) (env : List (Option Ty)) where
     -- all types of a setting and of an environment stay given
     pub stands_kept : HasGivenAll has tree s env → HasGivenAll later tree s env
     stands_kept h = record {
@@ -78,7 +78,7 @@ module _ {Ty : Type 0} (has later : Ty → Type 0) (k : (ty : Ty) → has ty →
     }
 
 -- the same, for tactics: what stood first, then that it is kept
-pub stands_further : {Ty : Type 0} {has later : Ty → Type 0} {tree : Ty → Tree} {s : Setting Ty}
+pub stands_further : {Ty : Type 0} {has later : Ty → Type 0} {tree : Ty → Tree} {s : ExprContext Ty}
     {env : List (Option Ty)} → HasGivenAll has tree s env → ((ty : Ty) → has ty → later ty)
     → HasGivenAll later tree s env
 stands_further {has = has} {later = later} {tree = tree} {s = s} {env = env} h k = stands_kept has later k tree s env h

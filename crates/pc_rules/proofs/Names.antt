@@ -1,9 +1,9 @@
--- What a context, the declared types and an environment must keep for expressions to have labels.
+-- The properties of a context, the declared types and an environment that give expressions labels.
 use Rattle.std.proofs.Common.{Bool as Test, true, false, Option, Some, None}
 use Rattle.std.specs.Prelude.{if◌then◌else◌, nat_lt, slice_get}
 use Rattle.pc_tree.specs.declared.code.Code.TheVariants.{E03, E20}
-use Rattle.pc_scope.specs.declared.resolution.Res.{Res}
-use Rattle.pc_scope.specs.declared.resolution.Res.TheVariants as res
+use Rattle.pc_scope.specs.declared.resolution.NameMeaning.{NameMeaning}
+use Rattle.pc_scope.specs.declared.resolution.NameMeaning.TheVariants as res
 use Rattle.pc_types.specs.Tree.{Tree}
 use Rattle.pc_types.specs.Below.{Bases}
 use Rattle.pc_flow.specs.Environment.{Env, current}
@@ -29,7 +29,7 @@ early_well_formed : (bases : Bases) (b : Test) → IsWellFormed bases (if b then
 early_well_formed bases true = any_well_formed bases
 early_well_formed bases false = any_well_formed bases
 
-pub name_well_formed : (ctx : Context) → ContextWellFormed ctx → (env : Env) → IsWellFormedEnv ctx.bases env → (r : Res)
+pub name_well_formed : (ctx : Context) → ContextWellFormed ctx → (env : Env) → IsWellFormedEnv ctx.bases env → (r : NameMeaning)
     → IsWellFormed ctx.bases (name_label ctx env r).type
 name_well_formed ctx k env h (res.Local x) = local_well_formed ctx.bases (current env x)
     (current_well_formed ctx.bases env x h)

@@ -1,4 +1,4 @@
--- What operations give, and what their operands flow into, are well-formed types.
+-- The types that operations give, and that their operands flow into, are well-formed.
 use Rattle.std.proofs.Common.{◌++◌, ℕ, Bool as Test, true, false, List, [], ◌∷◌, Option, Some, None, arith, inl}
 use Rattle.std.proofs.lemmas.Bool.{cond_both, leb-true}
 use Rattle.std.specs.Prelude.{if◌then◌else◌, nat_le, ◌||◌, slice_get, map, flat_map}
@@ -26,12 +26,12 @@ use Rattle.pc_rules.proofs.WellFormed.{str_well_formed, item_well_formed, key_we
 use Rattle.pc_rules.proofs.WellFormed.{parts_well_formed, members_well_formed, at_well_formed, unwrap_well_formed}
 use Rattle.pc_rules.proofs.WellFormed.{append_well_formed, if_any, if_none, all_well_formed}
 
--- what an operation gives, and what its operands flow into, is well-formed
+-- the type that an operation gives, and the types that its operands flow into, are well-formed
 pub record OfferWellFormed (bases : Bases) (o : Offer) : Type 0 where
   pub gives : IsWellFormed bases o.gives
   pub takes : AreWellFormed bases o.takes
 
--- so of each offer
+-- likewise of each offer
 abbrev pub OffersWellFormed : Bases → List Offer → Type 0
 OffersWellFormed bases [] = Unit {0}
 OffersWellFormed bases (o ∷ os) = OfferWellFormed bases o × OffersWellFormed bases os
@@ -41,7 +41,7 @@ abbrev pub ParameterWellFormed : Bases → Option TypedParameter → Type 0
 ParameterWellFormed bases None = Unit {0}
 ParameterWellFormed bases (Some p) = IsWellFormed bases p.type
 
--- so are those of a method, if there is one
+-- likewise those of a method, if there is one
 abbrev pub FoundMethodWellFormed : Bases → Option Method → Type 0
 FoundMethodWellFormed bases None = Unit {0}
 FoundMethodWellFormed bases (Some m) = MethodWellFormed bases m

@@ -1,4 +1,4 @@
--- Codes, each once where it stands first: what that keeps of them.
+-- Codes, each once at its first occurrence, and the properties that this keeps.
 use Rattle.std.proofs.Common.{◌≡◌, ◌∙◌, ◌++◌, List, [], ◌∷◌, refl, sym, ap, subst, append_assoc}
 use Rattle.std.specs.Prelude.{◌↔◌, ℕ, Bool as Test, true, false, ◌||◌, if◌then◌else◌, unwrap_or, find, Contains}
 use Rattle.std.specs.Prelude.{bytes_eq, Result, IfOk}
@@ -136,7 +136,7 @@ once_early (c ∷ cs) = early_onto c [] cs ∙ by_first c [] cs
 
 -- ---- once is enough
 
--- those that are new after others, once
+-- each code of a list that is not among the codes before it, once
 abbrev new_of : List Code → List Code → List Code
 new_of bs [] = []
 new_of bs (c ∷ cs) = if has_code bs c then new_of bs cs else c ∷ new_of (bs ++ c ∷ []) cs

@@ -1,4 +1,4 @@
--- What is found in the parts of an expression has nothing of the expression's own label.
+-- The notes in the parts of an expression do not depend on the expression's own label.
 use Rattle.std.proofs.Common.{◌≡◌, refl}
 use Rattle.std.specs.Prelude.{Bool as Test}
 use Rattle.pc_tree.specs.Tree.{Expr, name, number, text, truth, nothing, tuple, list, dict, negative, negation, binary}

@@ -1,4 +1,4 @@
--- What the labels of an expression say of scopes, one of its parts says.
+-- Each E02 and E03 under the labels of an expression comes from one of its parts.
 use Rattle.std.proofs.Common.{◌≡◌, ℕ, suc, List, [], ◌∷◌, ◌++◌, refl, subst, inl, inr}
 use Rattle.std.specs.Prelude.{◌⊎◌, Bool as Test, true, false, ◌&&◌, if◌then◌else◌, Option, None}
 use Rattle.pc_source.specs.declared.place.Place.{Place}
@@ -89,7 +89,7 @@ module _ (ctx : Context) (declared : List Tree) (j : Test) (f : Finding) (s : is
       (not_of_scopes q (method_callee ctx g n.text t).label.codes f (method_callee_silent ctx g n.text t) s found)
   method_late g p q e n args kws rest t false is found = callee_late p (attribute q e n) args kws rest refl is found
 
-  -- what stands at a callee
+  -- a finding of scopes at the callee of a call is one that the call or a part of it says
   callee_said : (env : Env) (g : GivenArguments) (p : Place) (c : Expr) (args : Exprs) (kws : Keywords)
       (rest : List Expr) (value : Labels c) → Lawful ctx declared env None c value
       → IsFoundAt (place_of c) (callee_of ctx env g c value).label.codes f

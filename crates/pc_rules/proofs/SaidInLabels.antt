@@ -1,4 +1,4 @@
--- What a judged part of an expression says, the expression's labels say.
+-- Each E02 and E03 of a judged part of an expression is under the expression's labels.
 use Rattle.std.proofs.Common.{◌≡◌, ℕ, suc, List, [], ◌∷◌, ◌++◌, refl, sym, ap, ◌∙◌, subst, inl, inr, arith}
 use Rattle.std.specs.Prelude.{◌⊎◌, Bool as Test, true, false, if◌then◌else◌, Option, None}
 use Rattle.pc_tree.specs.declared.code.Code.TheVariants.{E03}
@@ -99,7 +99,7 @@ as_arguments (more_exprs e rest) m f h = elim h [
 ]
 
 module _ (ctx : Context) (declared : List Tree) (part : Expr) (f : Finding) (says : PartSays ctx part f) where
-  -- what an expression of another form than a name or a call says: nothing
+  -- an expression other than a name or a call says nothing of scopes
   nothing_said : (e : Expr) → (PartSays ctx e f → ⊥) → e ≡ part → ⊥
   nothing_said e silent is = silent (subst (λ x. PartSays ctx x f) (sym is) says)
 

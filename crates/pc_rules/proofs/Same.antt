@@ -1,9 +1,9 @@
--- Environments go by the declared types of assigned locals alone.
+-- Environments depend only on the declared types of assigned locals.
 use Rattle.std.proofs.Common.{◌≡◌, ℕ, zero, suc, List, [], ◌∷◌, refl, ap, ◌∙◌, arith}
 use Rattle.std.specs.Prelude.{Bool as Test, true, false, not, if◌then◌else◌, Option, Some, None, unwrap_or}
 use Rattle.pc_tree.specs.Tree.{Expr, name, number, text, truth, nothing, tuple, list, dict, negative, negation, binary}
 use Rattle.pc_tree.specs.Tree.{compare, is_none, is_not_none, conjunction, disjunction, attribute, index, call}
-use Rattle.pc_scope.specs.declared.resolution.Res.{Res}
+use Rattle.pc_scope.specs.declared.resolution.NameMeaning.{NameMeaning}
 use Rattle.pc_scope.specs.Expressions.{is_instance_test}
 use Rattle.pc_types.specs.Tree.{Tree}
 use Rattle.pc_types.specs.Below.{Bases}
@@ -94,7 +94,7 @@ module _ (bases : Bases) where
 
   -- ---- narrowing
 
-  module _ (ds ds' : List Tree) (resolve : List ℕ → Res) where
+  module _ (ds ds' : List Tree) (resolve : List ℕ → NameMeaning) where
     current_kept : (holds : Test) (test : Tested) (x : ℕ) (env : Env) (o : Option Tree) → current env x ≡ o
         → SameWhere ds ds' env → SameWhere ds ds' (narrow_current bases holds test x env o)
     current_kept holds test x env None e h = h

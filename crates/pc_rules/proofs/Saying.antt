@@ -1,6 +1,5 @@
--- What labels say of scopes: that a name means nothing, or is named too early, and that an initializer calls what is no
--- name.
--- They say it of the parts of an expression alone, and of each part that is judged.
+-- The E02 and E03 of labels: that a name means nothing, or is named too early, and that an initializer calls something
+-- other than a name. Labels have them only for parts of an expression, and for each part that is judged.
 use Rattle.std.proofs.Common.{◌≡◌, ℕ, List, [], ◌∷◌, ◌++◌, refl, sym, ap, ◌∙◌, subst, inl, inr, arith, Contains}
 use Rattle.std.specs.Prelude.{◌⊎◌, Bool as Test, true, false, if◌then◌else◌, nat_lt, Option, Some, None, slice_get}
 use Rattle.std.proofs.lemmas.Option.{same_Some}
@@ -15,8 +14,8 @@ use Rattle.pc_tree.specs.Tree.{Name, Expr, name, number, text, truth, nothing, t
 use Rattle.pc_tree.specs.Tree.{binary, compare, is_none, is_not_none, conjunction, disjunction, attribute, index, call}
 use Rattle.pc_scope.specs.declared.resolution.Builtin.{Builtin}
 use Rattle.pc_scope.specs.declared.resolution.Builtin.TheVariants as builtin
-use Rattle.pc_scope.specs.declared.resolution.Res.{Res}
-use Rattle.pc_scope.specs.declared.resolution.Res.TheVariants as res
+use Rattle.pc_scope.specs.declared.resolution.NameMeaning.{NameMeaning}
+use Rattle.pc_scope.specs.declared.resolution.NameMeaning.TheVariants as res
 use Rattle.pc_scope.specs.Expressions.{is_name}
 use Rattle.pc_types.specs.Tree.{Tree}
 use Rattle.pc_types.specs.Below.{Bases}
@@ -80,7 +79,7 @@ unless_silent : (early : Test) (bases : Bases) (s t : Tree) (c : Option Code) �
 unless_silent true bases s t c h x e = absurd (grind (arith, h, e))
 unless_silent false bases s t c h x e = flow_silent h x e
 
--- what is found at flows is of another code
+-- no finding at a flow has a code of scope analysis
 pub no_flow_of_scopes : (bases : Bases) (m : Label) (ts : List Tree) (flows : FlowLabels) (p : Place) (f : Finding)
     → FlowsInto bases m ts flows → is_of_scopes f.code ≡ true → IsFlowAt p flows f → ⊥
 no_flow_of_scopes bases m ts [] p f law s found = none_among found.flow found.among
@@ -126,8 +125,8 @@ part_either e (x ∷ xs) ys h = elim h [
       [ inl c ↦ inl (inr c) | inr d ↦ inr d ]
 ]
 
--- what an expression may not name here
-abbrev pub IsEarlyHere : Context → Res → Type 0
+-- an expression in this context may not name this meaning yet
+abbrev pub IsEarlyHere : Context → NameMeaning → Type 0
 IsEarlyHere ctx (res.Func i) = ctx.in_body ≡ false
 IsEarlyHere ctx (res.Const i) = slice_get ctx.constants i ≡ None
 IsEarlyHere ctx (res.Class c) = nat_lt c ctx.known ≡ false
@@ -142,7 +141,7 @@ NameSays ctx n f = ((ctx.resolve n.text ≡ res.None) × (f ≡ finding n.place 
 abbrev pub CalleeSays : Context → Expr → Finding → Type 0
 CalleeSays ctx c f = (is_name c ≡ false) × (ctx.in_body ≡ false) × (f ≡ finding (place_of c) E03)
 
--- what a part says
+-- a part of an expression says this finding of scopes
 abbrev pub PartSays : Context → Expr → Finding → Type 0
 PartSays ctx (name n) f = NameSays ctx n f
 PartSays ctx (call p c args kws) f = CalleeSays ctx c f
@@ -236,12 +235,12 @@ with_found (call p c args kws) m here f h = elim h [ inl a ↦ inl a | inr b ↦
 -- ---- names and callees
 
 module _ (ctx : Context) where
-  -- what a name's label says of scopes
+  -- a finding of scopes at a name's label is one that the name says
   pub name_says : (env : Env) (n : Name) (f : Finding) → is_of_scopes f.code ≡ true
       → IsFoundAt n.place (name_label ctx env (ctx.resolve n.text)).codes f → NameSays ctx n f
   name_says env n f s found = go (ctx.resolve n.text) refl found
     where
-      early : (r : Res) → ctx.resolve n.text ≡ r → IsEarlyHere ctx r → IsFoundAt n.place (E03 ∷ []) f → NameSays ctx n f
+      early : (r : NameMeaning) → ctx.resolve n.text ≡ r → IsEarlyHere ctx r → IsFoundAt n.place (E03 ∷ []) f → NameSays ctx n f
       early r is h found = inr (subst (IsEarlyHere ctx) (sym is) h, only_at n.place E03 f found)
 
       of_local : (o : Option Tree) → IsFoundAt n.place (local_label o).codes f → NameSays ctx n f
@@ -263,7 +262,7 @@ module _ (ctx : Context) where
       of_class c true is e found = absurd (not_of_scopes n.place _ f (refl, tt) s found)
       of_class c false is e found = early (res.Class c) is e found
 
-      go : (r : Res) → ctx.resolve n.text ≡ r → IsFoundAt n.place (name_label ctx env r).codes f → NameSays ctx n f
+      go : (r : NameMeaning) → ctx.resolve n.text ≡ r → IsFoundAt n.place (name_label ctx env r).codes f → NameSays ctx n f
       go (res.Local x) is found = of_local (current env x) found
       go (res.Const i) is found = of_constant i (slice_get ctx.constants i) is refl found
       go (res.Func i) is found = of_function i ctx.in_body is refl found
@@ -276,10 +275,10 @@ module _ (ctx : Context) where
       → IsFoundAt n.place (name_callee ctx env g (ctx.resolve n.text)).label.codes f → NameSays ctx n f
   callee_name_says env g n f s found = go (ctx.resolve n.text) refl found
     where
-      early : (r : Res) → ctx.resolve n.text ≡ r → IsEarlyHere ctx r → IsFoundAt n.place (E03 ∷ []) f → NameSays ctx n f
+      early : (r : NameMeaning) → ctx.resolve n.text ≡ r → IsEarlyHere ctx r → IsFoundAt n.place (E03 ∷ []) f → NameSays ctx n f
       early r is h found = inr (subst (IsEarlyHere ctx) (sym is) h, only_at n.place E03 f found)
 
-      as_value : (r : Res) → ctx.resolve n.text ≡ r → IsFoundAt n.place (name_label ctx env r).codes f
+      as_value : (r : NameMeaning) → ctx.resolve n.text ≡ r → IsFoundAt n.place (name_label ctx env r).codes f
           → NameSays ctx n f
       as_value r is found = name_says env n f s (subst (λ x. IsFoundAt n.place (name_label ctx env x).codes f) (sym is)
           found)
@@ -309,7 +308,7 @@ module _ (ctx : Context) where
       of_builtin builtin.Range found = not_of_scopes n.place [] f tt s found
       of_builtin _ found = not_of_scopes n.place _ f (refl, tt) s found
 
-      go : (r : Res) → ctx.resolve n.text ≡ r → IsFoundAt n.place (name_callee ctx env g r).label.codes f
+      go : (r : NameMeaning) → ctx.resolve n.text ≡ r → IsFoundAt n.place (name_callee ctx env g r).label.codes f
           → NameSays ctx n f
       go (res.Local x) is found = as_value (res.Local x) is found
       go (res.Const i) is found = as_value (res.Const i) is found
@@ -318,7 +317,7 @@ module _ (ctx : Context) where
       go (res.Builtin b) is found = absurd (of_builtin b found)
       go res.None is found = as_value res.None is found
 
-  -- what is said of a name stands at its label
+  -- a finding that a name says is one at its label
   pub name_said : (env : Env) (n : Name) (f : Finding) → NameSays ctx n f
       → IsFoundAt n.place (name_label ctx env (ctx.resolve n.text)).codes f
   name_said env n f h = elim h [
@@ -326,7 +325,7 @@ module _ (ctx : Context) where
     | inr b ↦ go (ctx.resolve n.text) b.0 (found_at n.place E03 f b.1)
   ]
     where
-      go : (r : Res) → IsEarlyHere ctx r → IsFoundAt n.place (E03 ∷ []) f
+      go : (r : NameMeaning) → IsEarlyHere ctx r → IsFoundAt n.place (E03 ∷ []) f
           → IsFoundAt n.place (name_label ctx env r).codes f
       go (res.Func i) e h = subst (λ b. IsFoundAt n.place (if b then in_error E20 else in_error E03).codes f) (sym e) h
       go (res.Const i) e h = subst (λ o. IsFoundAt n.place (constant_label o).codes f) (sym e) h
@@ -343,7 +342,7 @@ module _ (ctx : Context) where
     | inr b ↦ go (ctx.resolve n.text) b.0 (found_at n.place E03 f b.1)
   ]
     where
-      go : (r : Res) → IsEarlyHere ctx r → IsFoundAt n.place (E03 ∷ []) f
+      go : (r : NameMeaning) → IsEarlyHere ctx r → IsFoundAt n.place (E03 ∷ []) f
           → IsFoundAt n.place (name_callee ctx env g r).label.codes f
       go (res.Func i) e h =
           subst (λ b. IsFoundAt n.place (if b then good_callee (function_offer g (slice_get ctx.functions i) ∷ [])

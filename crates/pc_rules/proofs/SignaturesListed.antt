@@ -1,6 +1,5 @@
--- The lists of what is found of parameters, functions' signatures and fields have just what the rules find, but for
--- what is found of
--- scopes.
+-- The lists of the notes of parameters, functions' signatures and fields hold exactly the findings of the rules, except
+-- those of scope analysis.
 use Rattle.std.proofs.Common.{◌≡◌, ◌⊎◌, List, [], ◌∷◌, ◌++◌, refl, sym, ap, ◌∙◌, subst, inl, inr, arith}
 use Rattle.std.specs.Prelude.{ℕ, Bool as Test, true, false, Option, Some, None, MatchOption, codes, map}
 use Rattle.pc_source.specs.declared.place.Place.{Place}
@@ -16,12 +15,12 @@ use Rattle.pc_scope.specs.Resolution.{is_one_of, resolve_in_module}
 use Rattle.pc_types.specs.Tree.{Tree}
 use Rattle.pc_types.specs.Below.{Bases}
 use Rattle.pc_types.specs.WellFormed.{IsWellFormed}
-use Rattle.pc_ann.specs.Annotations.{named_type, applied_type, empty_type, union_type, readings, read_ann, read_option}
-use Rattle.pc_ann.specs.Annotations.{PartFinds, PartsFind, AnnFinds, OptionAnnFinds}
-use Rattle.pc_ann.proofs.Earlier.{smaller}
-use Rattle.pc_ann.proofs.Readings.{read_ann_well_formed}
-use Rattle.pc_ann.specs.Listed.{ann_findings, option_findings}
-use Rattle.pc_ann.proofs.Listing.{listed}
+use Rattle.pc_annotations.specs.Annotations.{named_type, applied_type, empty_type, union_type, readings, read_ann, read_option}
+use Rattle.pc_annotations.specs.Annotations.{PartFinds, PartsFind, AnnFinds, OptionAnnFinds}
+use Rattle.pc_annotations.proofs.Earlier.{smaller}
+use Rattle.pc_annotations.proofs.Readings.{read_ann_well_formed}
+use Rattle.pc_annotations.specs.Listed.{ann_findings, option_findings}
+use Rattle.pc_annotations.proofs.Listing.{listed}
 use Rattle.pc_class.specs.Annotated.{params_annotated, def_annotated}
 use Rattle.pc_class.specs.Bases.{bases_of}
 use Rattle.pc_class.specs.Facts.{ClassFacts, binds_field}
@@ -56,7 +55,7 @@ module _ (m : Module) (f : Finding) where
   nothing_flows : (p : Place) (flows : FlowLabels) → flows ≡ [] → Noted f [] (IsFlowAt p flows f)
   nothing_flows p flows e = subst (λ (fs : FlowLabels). Noted f [] (IsFlowAt p fs f)) (sym e) (at_flows f p [])
 
-  -- what is found at a default, where its flow is lawful
+  -- the findings computed at a default are those found there, where its flow is lawful
   pub default_listed : (binds : Test) (d : Option Literal) (t : Tree) (flows : FlowLabels) → IsWellFormed bases t
       → LawfulDefault bases binds d t flows → Noted f (default_findings bases binds d t) (DefaultFinds d flows f)
   default_listed binds None t flows k h = nothing_noted f
@@ -100,7 +99,7 @@ module _ (m : Module) (f : Finding) where
   ann_elsewhere : (a : Ann) → AnnFinds m bases a f → IsFoundElsewhere f
   ann_elsewhere a h = elim h [ inl x ↦ part_elsewhere a x | inr y ↦ elsewhere _ E26 refl y.is ]
 
-  -- what is found in an annotation
+  -- the findings in an annotation
   pub ann_listed : (a : Ann) → Noted f (map plain_note (ann_findings m bases a)) (AnnFinds m bases a f)
   ann_listed a =
       let l = listed m bases f a in
@@ -126,7 +125,7 @@ module _ (m : Module) (f : Finding) where
   option_well_formed None = (tt, tt, omega arith)
   option_well_formed (Some a) = read_ann_well_formed m bases (smaller m) a
 
-  -- what is found of parameters, after names
+  -- the findings of parameters, after names
   pub params_listed : (before : List (List ℕ)) (ps : List Param) (labels : ParamsLabels ps)
       → LawfulParams m before ps labels → Noted f (params_findings m (λ t. is_one_of t before) ps)
       (ParamsFind m ps labels f)
@@ -143,7 +142,7 @@ module _ (m : Module) (f : Finding) where
       (λ t. is_one_of t (p.name.text ∷ before)) ps) one (params_listed (p.name.text ∷ before) ps labels.rest
       h.rest))
 
-  -- what is found of a function's signature
+  -- the findings of a function's signature
   pub def_listed : (before : List (List ℕ)) (d : FuncDef) (labels : ParamsLabels d.params)
       → LawfulParams m before d.params labels → Noted f (def_findings m (λ t. is_one_of t before) d)
       (ParamsFind m d.params labels f ⊎ OptionAnnFinds m bases d.returns f)
@@ -151,7 +150,7 @@ module _ (m : Module) (f : Finding) where
       (map plain_note (option_findings m bases d.returns)) (params_listed before d.params labels h)
       (option_listed d.returns)
 
-  -- what is found at the defaults of parameters after names, and in their annotations
+  -- the findings at the defaults of parameters after names, and in their annotations
   method_params_listed : (before : List (List ℕ)) (ps : List Param) (labels : ParamsLabels ps)
       → LawfulParams m before ps labels → Noted f (params_defaults m (λ t. is_one_of t before) ps
       ++ map plain_note (params_annotated m ps)) (ParamsFind m ps labels f)
@@ -167,7 +166,7 @@ module _ (m : Module) (f : Finding) where
       (noted_beside f default rest anns (params_annotated m ps) (anns ++ params_annotated m ps) (λ c. c, λ c. c) one
       (method_params_listed (p.name.text ∷ before) ps labels.rest h.rest))
 
-  -- what is found at the defaults of a method, and in its annotations
+  -- the findings at the defaults of a method, and in its annotations
   pub method_listed : (d : FuncDef) (labels : ParamsLabels d.params)
       → LawfulParams m (codes "self" ∷ []) d.params labels
       → Noted f (method_defaults m d ++ map plain_note (def_annotated m d))
@@ -177,7 +176,7 @@ module _ (m : Module) (f : Finding) where
       noted_behind f (method_defaults m d) (params_annotated m d.params) anns
       (method_params_listed (codes "self" ∷ []) d.params labels h) (option_listed d.returns)
 
-  -- what is found at the default of a field of a class with this base, and in its annotation
+  -- the findings at the default of a field of a class with this base, and in its annotation
   pub field_listed : (base : ClassFacts) (before : List (List ℕ)) (d : Field) (flows : FlowLabels)
       → LawfulDefault bases (binds_field base before d.name.text) d.default (read_ann m bases d.annotation) flows
       → Noted f (field_default m base (λ t. is_one_of t before) d ++ map plain_note (ann_findings m bases d.annotation))

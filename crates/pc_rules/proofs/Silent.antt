@@ -1,4 +1,4 @@
--- Labels say nothing of scopes but at names and callees: no operation, display or call has E02 or E03.
+-- Labels have E02 and E03 only at names and callees: no operation, display or call has them.
 use Rattle.std.proofs.Common.{◌≡◌, ℕ, List, [], ◌∷◌, ◌++◌, map, refl, sym, subst, arith}
 use Rattle.std.specs.Prelude.{Bool as Test, true, false, ◌||◌, if◌then◌else◌, nat_le, nat_lt, Option, Some, None}
 use Rattle.std.specs.Prelude.{slice_get, flat_map, bytes_eq, codes}
@@ -12,8 +12,8 @@ use Rattle.pc_tree.specs.Tree.{binary, compare, is_none, is_not_none, conjunctio
 use Rattle.pc_tree.specs.Stopping.{has_none}
 use Rattle.pc_scope.specs.declared.resolution.Builtin.{Builtin}
 use Rattle.pc_scope.specs.declared.resolution.Builtin.TheVariants as builtin
-use Rattle.pc_scope.specs.declared.resolution.Res.{Res}
-use Rattle.pc_scope.specs.declared.resolution.Res.TheVariants as res
+use Rattle.pc_scope.specs.declared.resolution.NameMeaning.{NameMeaning}
+use Rattle.pc_scope.specs.declared.resolution.NameMeaning.TheVariants as res
 use Rattle.pc_scope.specs.Expressions.{is_name}
 use Rattle.pc_types.specs.Tree.{Tree, Any, Never, Int, Bool, Str, NoneType, Class, ListOf, DictOf, TupleOf}
 use Rattle.pc_types.specs.Below.{Bases}
@@ -45,7 +45,7 @@ abbrev pub Silent : List Code → Type 0
 Silent [] = Unit {0}
 Silent (c ∷ cs) = (is_of_scopes c ≡ false) × Silent cs
 
--- so E03 does not stand there
+-- silent codes have no E03 among them
 pub silent_punctual : (cs : List Code) → Silent cs → is_early cs ≡ false
 silent_punctual [] h = refl
 silent_punctual (E03 ∷ cs) h = h.0
@@ -344,7 +344,7 @@ module _ (ctx : Context) where
   function_silent g None = ((tt, (refl, tt)), tt)
   function_silent g (Some s) = called_silent g s
 
-  name_callee_silent : (env : Env) (g : GivenArguments) (r : Res) → AllCalls (name_callee ctx env g r).offers
+  name_callee_silent : (env : Env) (g : GivenArguments) (r : NameMeaning) → AllCalls (name_callee ctx env g r).offers
   name_callee_silent env g (res.Func i) = go ctx.in_body
     where
       go : (x : Test) → AllCalls (if x then good_callee (function_offer g (slice_get ctx.functions i) ∷ [])
@@ -384,7 +384,7 @@ module _ (ctx : Context) where
   whole_call_silent env test_rule offers h args ts = test_codes_silent env
       (local_of_argument ctx.resolve (first_argument args)) (test_of_argument ctx.resolve (second_argument args))
 
-  -- what is found at the callee `e.m`
+  -- the findings at the callee `e.m`
   pub method_callee_silent : (g : GivenArguments) (word : List ℕ) (t : Tree)
       → Silent (method_callee ctx g word t).label.codes
   method_callee_silent g word t = callees_silent (flat_map (method_offers ctx g word) (members t))

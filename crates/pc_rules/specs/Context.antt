@@ -1,11 +1,11 @@
--- What an expression stands in: the classes, functions and constants that it may name, and what its names mean.
+-- The context of an expression: the classes, functions and constants that it may name, and the meanings of names there.
 -- Language Reference 3.12, 4.2.2 "Resolution of names"; own rules of the profile.
 use Rattle.std.specs.Prelude.{◌≡◌, ℕ, List, [], ◌∷◌, Bool as Test, true, false, if◌then◌else◌, nat_lt, Option, Some}
 use Rattle.std.specs.Prelude.{None, slice_get}
 use Rattle.pc_tree.specs.declared.code.Code.{Code}
 use Rattle.pc_tree.specs.declared.code.Code.TheVariants.{E02, E03, E04, E20}
-use Rattle.pc_scope.specs.declared.resolution.Res.{Res}
-use Rattle.pc_scope.specs.declared.resolution.Res.TheVariants as res
+use Rattle.pc_scope.specs.declared.resolution.NameMeaning.{NameMeaning}
+use Rattle.pc_scope.specs.declared.resolution.NameMeaning.TheVariants as res
 use Rattle.pc_types.specs.Tree.{Tree}
 use Rattle.pc_types.specs.Below.{Bases, Static}
 use Rattle.pc_types.specs.Assignable.{Assignable}
@@ -15,13 +15,14 @@ use Rattle.pc_class.specs.Facts.{TypedParameter}
 use Rattle.pc_flow.specs.Environment.{Env, current}
 use Rattle.pc_rules.specs.Operations.{Label, FlowLabel, clean, in_error}
 
--- what is called: its parameters, what it returns, and whether it takes arguments by name
+-- a signature: parameters, return type, and whether arguments may be given by name
 pub record Signature : Type 0 where
   pub parameters : List TypedParameter
   pub returns : Tree
   pub takes_names : Test
 
--- what an expression may name; in an initializer the constants and classes defined earlier alone, and no function
+-- everything that an expression may name; in an initializer only the constants and classes defined earlier, and no
+-- function
 pub record Context : Type 0 where
   pub bases : Bases
   pub classes : List facts.ClassFacts
@@ -29,26 +30,26 @@ pub record Context : Type 0 where
   pub constants : List Tree
   pub known : ℕ
   pub in_body : Test
-  pub resolve : List ℕ → Res
+  pub resolve : List ℕ → NameMeaning
 
--- a flow of a type into another: nothing where static, A1 where assignable alone, else E12
+-- the code of a flow of a type into another: none if static, A1 if only assignable, else E12
 pub data Flows (bases : Bases) (s t : Tree) : Option Code → Type 0 where
   static : Static bases s t → Flows bases s t None
   dynamic : ¬ (Static bases s t) → Assignable bases s t → Flows bases s t (Some A1)
   wrong : ¬ (Assignable bases s t) → Flows bases s t (Some E12)
 
--- a local that is not assigned is E04
+-- the label of a local: E04 if it is not assigned
 abbrev pub local_label : Option Tree → Label
 local_label None = in_error E04
 local_label (Some t) = clean t
 
--- a constant that an initializer names too early reads as Any
+-- the label of a constant: E03, with type Any, if an initializer names it too early
 abbrev pub constant_label : Option Tree → Label
 constant_label None = in_error E03
 constant_label (Some t) = clean t
 
--- what a name is as a value: a function, a class and a reserved name are none
-abbrev pub name_label : Context → Env → Res → Label
+-- the label of a name as a value: a function, a class and a reserved name are in error
+abbrev pub name_label : Context → Env → NameMeaning → Label
 name_label ctx env (res.Local x) = local_label (current env x)
 name_label ctx env (res.Const i) = constant_label (slice_get ctx.constants i)
 name_label ctx env (res.Func i) = if ctx.in_body then in_error E20 else in_error E03
@@ -56,23 +57,23 @@ name_label ctx env (res.Class c) = if nat_lt c ctx.known then in_error E20 else 
 name_label ctx env (res.Builtin b) = in_error E20
 name_label ctx env res.None = in_error E02
 
--- the codes of a node are those of E03, in place of all other findings at it
+-- whether the first code of a node is E03, which replaces all other findings at it
 abbrev pub is_early : List Code → Test
 is_early (E03 ∷ rest) = true
 is_early _ = false
 
--- the flow of a labelled expression into a type; where E03 stands at it, that is the only finding
+-- the code of the flow of a labelled expression into a type, none if the expression is E03
 abbrev pub FlowUnless : (early : Test) → Bases → Tree → Tree → Option Code → Type 0
 FlowUnless true bases s t code = code ≡ None
 FlowUnless false bases s t code = Flows bases s t code
 
--- the flow of an expression with this label into one type: its type, that type, and its code
+-- the flow of an expression with this label into one type: its type, that type, and the code
 pub record FlowAt (bases : Bases) (m : Label) (t : Tree) (flow : FlowLabel) : Type 0 where
   pub from : flow.from ≡ m.type
   pub into : flow.into ≡ t
   pub code : FlowUnless (is_early m.codes) bases m.type t flow.code
 
--- its flow into several types, one after another
+-- the flows of an expression with this label into several types, one after another
 abbrev pub FlowsInto : Bases → Label → List Tree → List FlowLabel → Type 0
 FlowsInto bases m [] [] = Unit {0}
 FlowsInto bases m (t ∷ ts) (f ∷ fs) = FlowAt bases m t f × FlowsInto bases m ts fs

@@ -1,5 +1,5 @@
--- The labels of an expression: for each of its parts a type and the codes that stand there, and for each flow its types
--- and its code. Own rule of the profile.
+-- The labels of an expression: a type and codes for each of its parts, and the types and the code of each flow. Own
+-- rule of the profile.
 use Rattle.std.specs.Prelude.{◌≡◌, ◌⊎◌, List, [], ◌∷◌, Bool as Test, true, false, Option, Some, None, Contains}
 use Rattle.pc_source.specs.declared.place.Place.{Place}
 use Rattle.pc_tree.specs.declared.code.Code.{Code}
@@ -21,7 +21,7 @@ FlowLabels = List FlowLabel
 
 -- the labels of an expression, of items, of the entries of a dict and of arguments by name, by recursion on the tree
 abbrev mutual
-  -- of an expression: its own label, the labels of its parts, and their flows
+  -- the labels of an expression: its own label, the labels of its parts, and their flows
   pub Labels : Expr → Type 0
   Labels (name n) = Label
   Labels (number p digits) = Label
@@ -49,12 +49,12 @@ abbrev mutual
     keywords : KeywordsLabels keywords;
   }
 
-  -- of items and of arguments by position: the labels of each, and its flows
+  -- the labels of items and of arguments by position: those of each, and its flows
   pub ItemsLabels : Exprs → Type 0
   ItemsLabels no_exprs = Unit {0}
   ItemsLabels (more_exprs e rest) = record { first : Labels e; flows : FlowLabels; rest : ItemsLabels rest }
 
-  -- of the entries of a dict: the labels of each key and value, and their flows
+  -- the labels of the entries of a dict: those of each key and value, and their flows
   pub EntriesLabels : Entries → Type 0
   EntriesLabels no_entries = Unit {0}
   EntriesLabels (more_entries key value rest) = record {
@@ -65,7 +65,7 @@ abbrev mutual
     rest : EntriesLabels rest;
   }
 
-  -- of arguments by name: the labels of each value, and its flows
+  -- the labels of arguments by name: those of each value, and its flows
   pub KeywordsLabels : Keywords → Type 0
   KeywordsLabels no_keywords = Unit {0}
   KeywordsLabels (more_keywords parameter value rest) = record {
@@ -96,11 +96,11 @@ whole_label (attribute p e field) m = m.here
 whole_label (index p e i) m = m.here
 whole_label (call p callee arguments by_name) m = m.here
 
--- its type
+-- the type of an expression
 abbrev pub type_of : (e : Expr) → Labels e → Tree
 type_of e m = (whole_label e m).type
 
--- the labels with another one for the expression itself
+-- labels with the expression's own label replaced
 abbrev pub with_label : (e : Expr) → Labels e → Label → Labels e
 with_label (name n) m here = here
 with_label (number p digits) m here = here
@@ -143,22 +143,22 @@ abbrev pub value_types : (es : Entries) → EntriesLabels es → List Tree
 value_types no_entries m = []
 value_types (more_entries key value rest) m = type_of value m.value ∷ value_types rest m.rest
 
--- ---- what stands under labels
+-- ---- the findings under labels
 
--- E02 and E03 are found of scopes: labels have them for their types, and a law says that they have them where scopes
--- find them
+-- whether scope analysis reports the code: E02 and E03; labels have them for their types, and a law says that they have
+-- them where scope analysis finds them
 abbrev pub is_of_scopes : Code → Test
 is_of_scopes E02 = true
 is_of_scopes E03 = true
 is_of_scopes _ = false
 
--- a code of a label stands at its place
+-- the finding is one of the codes at the place
 pub record IsFoundAt (place : Place) (codes : List Code) (f : Finding) : Type 0 where
   pub code : Code
   pub among : Contains codes code
   pub is : f ≡ finding place code
 
--- a code of a flow stands at the place of what flows
+-- the finding is the code of one of the flows, at the place of the expression that flows
 pub record IsFlowAt (place : Place) (flows : FlowLabels) (f : Finding) : Type 0 where
   pub flow : FlowLabel
   pub among : Contains flows flow
@@ -177,7 +177,7 @@ second_place no_exprs p = p
 second_place (more_exprs e no_exprs) p = p
 second_place (more_exprs e (more_exprs f rest)) p = place_of f
 
--- what stands under the labels of an expression, of items, of arguments, and of the entries of a dict
+-- the findings under the labels of an expression, of items, of arguments, and of the entries of a dict
 abbrev mutual
   pub Finds : (e : Expr) → Labels e → Finding → Type 0
   Finds (name n) m f = IsFoundAt n.place m.codes f
@@ -211,7 +211,7 @@ abbrev mutual
   ItemsFind no_exprs m f = ⊥
   ItemsFind (more_exprs e rest) m f = IsFlowAt (place_of e) m.flows f ⊎ (Finds e m.first f ⊎ ItemsFind rest m.rest f)
 
-  -- of a test of an instance what stands second is not looked at
+  -- the findings of arguments by position; of an instance test only those in the first argument
   pub ArgumentsFind : (is_test : Test) → (es : Exprs) → ItemsLabels es → Finding → Type 0
   ArgumentsFind is_test no_exprs m f = ⊥
   ArgumentsFind true (more_exprs e rest) m f = Finds e m.first f

@@ -1,4 +1,4 @@
--- The lawful labelling of an expression: each part obeys its own rule with respect to its neighbours alone.
+-- The lawful labelling of an expression: each part follows the rule of its form, which mentions only its neighbours.
 -- Language Reference 3.12, 6 "Expressions"; own rules of the profile.
 use Rattle.std.specs.Prelude.{◌≡◌, ℕ, suc, List, [], ◌∷◌, map, Bool as Test, true, false, if◌then◌else◌}
 use Rattle.std.specs.Prelude.{nat_eq, Option, Some, None, All, slice_get}
@@ -28,7 +28,7 @@ use Rattle.pc_rules.specs.Calls.{second_code}
 use Rattle.pc_rules.specs.Labels.{Labels, ItemsLabels, EntriesLabels, KeywordsLabels, whole_label, type_of, with_label}
 use Rattle.pc_rules.specs.Labels.{item_types, key_types, value_types}
 
--- ---- what is expected of the parts of a display
+-- ---- the expected types of the parts of a display
 
 -- the item type of the first list among members, if there is one
 abbrev pub list_item : List Tree → Option Tree
@@ -36,7 +36,7 @@ list_item [] = None
 list_item (ListOf t ∷ ms) = Some t
 list_item (m ∷ ms) = list_item ms
 
--- the types of a dict's keys and of its values
+-- the key type and the value type of a dict
 pub record KeyValue : Type 0 where
   pub key : Tree
   pub value : Tree
@@ -47,34 +47,34 @@ dict_parts [] = None
 dict_parts (DictOf k v ∷ ms) = Some (record { key = k; value = v })
 dict_parts (m ∷ ms) = dict_parts ms
 
--- the parts of the first tuple of this length among members, none where there is no such tuple
+-- the item types of the first tuple of this length among members, none if there is no such tuple
 abbrev pub tuple_parts : ℕ → List Tree → List Tree
 tuple_parts n [] = []
 tuple_parts n (TupleOf ts ∷ ms) = if nat_eq (count ts) n then list_of_trees ts else tuple_parts n ms
 tuple_parts n (m ∷ ms) = tuple_parts n ms
 
--- the members of an expected type, none where nothing is expected
+-- the members of an expected type, none if there is no such type
 abbrev pub members_of_expected : Option Tree → List Tree
 members_of_expected None = []
 members_of_expected (Some t) = members t
 
--- an item that is expected of a type and flows into it, or of which nothing is expected
+-- the seat of an item with this expected type, which flows into it; without one it flows nowhere
 abbrev pub item_seat : Option Tree → Seat
 item_seat None = nowhere
 item_seat (Some t) = record { want = Some t; into = t ∷ [] }
 
--- an item of a tuple is expected of the type there, and flows nowhere
+-- the seat of an item of a tuple: the type at its position is expected, and it flows nowhere
 abbrev pub part_seat : List Tree → ℕ → Seat
 part_seat ts i = record { want = slice_get ts i; into = [] }
 
--- the type of a list display: of the expected items, else of the join of its items, of Any where it is empty
+-- the label of a list display: a list of the expected items, else of the join of its items, of Any if it is empty
 abbrev pub list_label : Bases → Option Tree → List Tree → Label
 list_label bases (Some t) types = clean (ListOf t)
 list_label bases None [] = display_label (ListOf Any)
 list_label bases None (t ∷ ts) = display_label (ListOf (join_all bases (t ∷ ts)))
 
--- the type of a dict display without an expected dict: its keys are int or str where every key is static to it, and int
--- where both
+-- the label of a dict display without an expected dict: its keys are int if all are static subtypes of int, str if all
+-- are static subtypes of str, else it is in error
 pub data DictLabel (bases : Bases) (values : List Tree) : List Tree → Label → Type 0 where
   no_keys : DictLabel bases values [] (in_error E22)
   int_keys : {k : Tree} {ks : List Tree} → All (λ t. Static bases t Int) (k ∷ ks)
@@ -85,7 +85,7 @@ pub data DictLabel (bases : Bases) (values : List Tree) : List Tree → Label �
   other_keys : {k : Tree} {ks : List Tree} → ¬ (All (λ t. Static bases t Int) (k ∷ ks))
       → ¬ (All (λ t. Static bases t Str) (k ∷ ks)) → DictLabel bases values (k ∷ ks) (in_error E22)
 
--- the label of a dict display: the type of the expected dict, else what its own keys and values make
+-- the label of a dict display: the expected dict, else the dict of its own keys and values
 abbrev pub DictRule : Bases → Option KeyValue → (keys values : List Tree) → Label → Type 0
 DictRule bases (Some kv) keys values m = m ≡ clean (DictOf kv.key kv.value)
 DictRule bases None keys values m = DictLabel bases values keys m
@@ -102,18 +102,18 @@ value_seat (Some kv) = item_seat (Some kv.value)
 
 -- ---- an int literal as an index
 
--- the number of an int literal, none for any other expression
+-- the value of an int literal, none for any other expression
 abbrev pub int_literal : Expr → Option ℕ
 int_literal (number p digits) = Some (number_behind 0 digits)
 int_literal _ = None
 
 -- ---- comparisons
 
--- what `in` comes to on each member of its right operand's type
+-- the results of `in` on each member of its right operand's type
 abbrev pub contain_offers : Tree → List Offer
 contain_offers t = map contain_member (members t)
 
--- `==` and `!=` take anything; `in` goes by its right operand
+-- the label of a comparison: `==` and `!=` take anything; `in` follows its right operand
 abbrev pub compare_label : Bases → ComparisonOperator → Tree → Tree → Label
 compare_label bases Equal s t = clean Bool
 compare_label bases NotEqual s t = clean Bool
@@ -121,7 +121,8 @@ compare_label bases In s t = offers_label bases (contain_offers t)
 compare_label bases NotIn s t = offers_label bases (contain_offers t)
 compare_label bases _ s t = order_label bases s t
 
--- what the left operand of a comparison flows into: with `in` and `not in` what the right one takes, else nothing
+-- the types that the left operand of a comparison flows into: with `in` and `not in` those that the right one takes,
+-- else none
 abbrev pub compare_types : ComparisonOperator → Tree → List Tree
 compare_types In t = operand_types (contain_offers t)
 compare_types NotIn t = operand_types (contain_offers t)
@@ -129,7 +130,7 @@ compare_types _ t = []
 
 -- ---- calls
 
--- a callee: a name, a method of an object, or a value; in an initializer a callee that is no name is E03
+-- a callee: a name, a method of an object, or a value; in an initializer only a name is not E03
 abbrev pub callee_of : Context → Env → GivenArguments → (e : Expr) → Labels e → CalleeLabel
 callee_of ctx env g (name n) m = name_callee ctx env g (ctx.resolve n.text)
 callee_of ctx env g (attribute p e field) m = if ctx.in_body then method_callee ctx g field.text (type_of e m.object)
@@ -155,16 +156,16 @@ whole_second_code ctx test_rule arguments m =
     second_code (test_of_argument ctx.resolve (second_argument arguments)) (early_second arguments m)
 whole_second_code ctx _ arguments m = None
 
--- the seat of an argument by name, after arguments of these names: nowhere where its own is among them
+-- the seat of an argument by name, after arguments of these names: nowhere if its name is among them
 abbrev pub keyword_seat : (List ℕ → Seat) → List (List ℕ) → Name → Seat
 keyword_seat seat before n = if is_one_of n.text before then nowhere else seat n.text
 
--- ---- each form's rule
+-- ---- the rule of each form
 
 module _ (ctx : Context) (declared : List Tree) where
-  -- the labels are lawful: of an expression, of items, of the entries of a dict, of arguments by name
+  -- the labels of an expression, of items, of the entries of a dict, and of arguments by name are lawful
   abbrev mutual
-    -- an expression obeys its form's rule, in an environment and with the type that is expected of it
+    -- an expression follows the rule of its form, in an environment and with its expected type
     pub Lawful : Env → (want : Option Tree) → (e : Expr) → Labels e → Type 0
     Lawful env want (name n) m = m ≡ name_label ctx env (ctx.resolve n.text)
     Lawful env want (number p digits) m = m ≡ clean Int
@@ -212,7 +213,7 @@ module _ (ctx : Context) (declared : List Tree) where
       operand : Lawful env None e m.operand;
       here : m.here ≡ clean Bool;
     }
-    -- the right side of `and` is checked after the left one is true, that of `or` after it is false
+    -- the right operand of `and` is checked where the left one is true, that of `or` where it is false
     Lawful env want (conjunction p l r) m = record {
       left : Lawful env None l m.left;
       right : Lawful (narrow ctx.bases declared ctx.resolve true l env) None r m.right;
@@ -236,7 +237,7 @@ module _ (ctx : Context) (declared : List Tree) where
       flows : FlowsInto ctx.bases (whole_label i m.key)
           (operand_types (map (index_member ctx.bases (int_literal i)) (members (type_of e m.object)))) m.flows;
     }
-    -- the callee has the labels of a value but for its own, which says what it is as a callee
+    -- the callee has the labels of a value, with its own label replaced by its label as a callee
     Lawful env want (call p c args kws) m = record {
       value : Labels c;
       lawful : Lawful env None c value;
@@ -251,7 +252,7 @@ module _ (ctx : Context) (declared : List Tree) where
           (callee_of ctx env (arguments_given args kws) c value).rule args m.arguments;
     }
 
-    -- items or arguments by position are lawful, each for the seat at its position
+    -- items or arguments by position are lawful, each in the seat at its position
     pub LawfulItems : Env → (seat : ℕ → Seat) → (es : Exprs) → ItemsLabels es → Type 0
     LawfulItems env seat no_exprs m = Unit {0}
     LawfulItems env seat (more_exprs e rest) m = record {
@@ -260,7 +261,7 @@ module _ (ctx : Context) (declared : List Tree) where
       rest : LawfulItems env (λ i. seat (suc i)) rest m.rest;
     }
 
-    -- the entries of a dict are lawful, each key and each value for its seat
+    -- the entries of a dict are lawful, each key and each value in its seat
     pub LawfulEntries : Env → (key value : Seat) → (es : Entries) → EntriesLabels es → Type 0
     LawfulEntries env k v no_entries m = Unit {0}
     LawfulEntries env k v (more_entries a b rest) m = record {
@@ -271,7 +272,7 @@ module _ (ctx : Context) (declared : List Tree) where
       rest : LawfulEntries env k v rest m.rest;
     }
 
-    -- of a name given twice the later argument flows nowhere
+    -- arguments by name are lawful; one whose name was given before flows nowhere
     pub LawfulKeywords : Env → (seat : List ℕ → Seat) → (before : List (List ℕ)) → (es : Keywords) → KeywordsLabels es
         → Type 0
     LawfulKeywords env seat before no_keywords m = Unit {0}

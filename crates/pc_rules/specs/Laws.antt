@@ -1,3 +1,3 @@
--- Laws on the rules of expressions: what holds of every lawful labelling.
+-- Laws on the rules of expressions: properties of every lawful labelling.
 pub mod ListTests
 pub mod WellFormed

@@ -1,5 +1,5 @@
--- What functions and methods take and return, and the flows of defaults into their types.
--- Language Reference 3.12, 8.7 "Function definitions"; typing specification, "Annotations".
+-- The signatures of functions and methods, and the flows of defaults into their types. Language Reference 3.12, 8.7
+-- "Function definitions"; typing specification, "Annotations".
 use Rattle.std.specs.Prelude.{◌≡◌, ◌⊎◌, ℕ, List, [], ◌∷◌, map, length, Bool as Test, true, false, ◌||◌, not, Option}
 use Rattle.std.specs.Prelude.{Some, None}
 use Rattle.pc_source.specs.declared.place.Place.{Place}
@@ -11,22 +11,22 @@ use Rattle.pc_scope.specs.Bindings.{functions_in, classes_in}
 use Rattle.pc_scope.specs.Resolution.{is_one_of, resolve_among, resolve_in_module}
 use Rattle.pc_types.specs.Tree.{Tree, Int, Bool, Str, NoneType}
 use Rattle.pc_types.specs.Below.{Bases}
-use Rattle.pc_ann.specs.Annotations.{read_ann, read_option, OptionAnnFinds}
+use Rattle.pc_annotations.specs.Annotations.{read_ann, read_option, OptionAnnFinds}
 use Rattle.pc_class.specs.Bases.{bases_of}
 use Rattle.pc_class.specs.Facts.{parameters_of, return_type, classes_of}
 use Rattle.pc_rules.specs.Operations.{clean}
 use Rattle.pc_rules.specs.Context.{Context, Signature, FlowsInto}
 use Rattle.pc_rules.specs.Labels.{FlowLabels, IsFlowAt}
 
--- a function of a module as what is called
+-- the signature of a function of a module
 abbrev pub signature_of : Module → FuncDef → Signature
 signature_of m f = record { parameters = parameters_of m f.params; returns = return_type m f; takes_names = true }
 
--- the functions of a module as what is called
+-- the signatures of the functions of a module
 unfoldable pub signatures_of : Module → List Signature
 signatures_of m = map (signature_of m) (functions_in m.items)
 
--- what a body with these locals may name: everything that the module has
+-- the context of a body with these locals: everything that the module has
 abbrev pub body_context : Module → (constants : List Tree) → (names : List (List ℕ)) → Context
 body_context m constants names = record {
   bases = bases_of m;
@@ -38,7 +38,7 @@ body_context m constants names = record {
   resolve = resolve_among m names;
 }
 
--- what an initializer may name: the constants and so many classes defined earlier
+-- the context of an initializer: the constants and the number of classes defined earlier
 abbrev pub initializer_context : Module → (constants : List Tree) → (classes : ℕ) → Context
 initializer_context m constants classes = record {
   bases = bases_of m;
@@ -68,27 +68,27 @@ literal_place (text_literal p characters) = p
 literal_place (truth_literal p value) = p
 literal_place (none_literal p) = p
 
--- a default flows into its type, at the literal; what binds nothing, nothing flows into
+-- the flow of a default into its type is lawful; there is none into a name that is not bound
 abbrev pub LawfulDefault : Bases → (binds : Test) → Option Literal → Tree → FlowLabels → Type 0
 LawfulDefault bases binds None t flows = flows ≡ []
 LawfulDefault bases false (Some l) t flows = flows ≡ []
 LawfulDefault bases true (Some l) t flows = FlowsInto bases (clean (literal_type l)) (t ∷ []) flows
 
--- what is found at a default: the code of its flow, at the literal
+-- the findings at a default: the code of its flow, at the literal
 abbrev pub DefaultFinds : Option Literal → FlowLabels → Finding → Type 0
 DefaultFinds None flows f = ⊥
 DefaultFinds (Some l) flows f = IsFlowAt (literal_place l) flows f
 
--- a name is bound where it stands: not reserved, and none of those before it
+-- whether a name is bound here: it is not reserved, and none of those before it
 abbrev pub binds_name : List (List ℕ) → Name → Test
 binds_name before n = not (is_builtin_name n.text || is_one_of n.text before)
 
--- the flow of the default of each parameter, none where nothing flows
+-- the flows of the defaults of parameters
 abbrev pub ParamsLabels : List Param → Type 0
 ParamsLabels [] = Unit {0}
 ParamsLabels (p ∷ ps) = record { default : FlowLabels; rest : ParamsLabels ps }
 
--- the default of each parameter is lawful, after parameters of these names
+-- the defaults of parameters are lawful, after parameters of these names
 abbrev pub LawfulParams : Module → (before : List (List ℕ)) → (ps : List Param) → ParamsLabels ps → Type 0
 LawfulParams m before [] labels = Unit {0}
 LawfulParams m before (p ∷ ps) labels = record {
@@ -110,8 +110,8 @@ abbrev pub constant_type : Module → Option Ann → Tree → Tree
 constant_type m None from = from
 constant_type m (Some a) from = read_ann m (bases_of m) a
 
--- an initializer flows into the annotation and is expected there; where the name is bound already or reserved, nothing
--- is expected and it flows nowhere
+-- the types that an initializer flows into: its annotation, which is also expected; none if the name is reserved or
+-- already bound
 abbrev pub annotated_types : Module → (binds : Test) → Option Ann → List Tree
 annotated_types m true (Some a) = read_ann m (bases_of m) a ∷ []
 annotated_types m binds a = []

@@ -4,21 +4,21 @@
 ghost use Rattle.std.specs.Prelude.{◌≡◌, All, IfOk, OnOk, map};
 ghost use Rattle.pc_types.specs.Computed.{static_test, assignable_test};
 ghost use Rattle.pc_types.specs.Store.{KeepsTypes};
-ghost use Rattle.pc_rules.specs.Computed.Checkers.{Finds, GoesOn};
+ghost use Rattle.pc_rules.specs.Computed.Checkers.{Finds, CheckerKept};
 ghost use Rattle.pc_rules.specs.Operations.{Label as LabelOf};
 ghost use Rattle.pc_rules.specs.Context.{is_early};
 ghost use Rattle.pc_rules.specs.Computed.Expressions.{code_unless, flows_of};
 ghost use Rattle.pc_rules.specs.Computed.Findings.{own_flow, flow_at, flows_at, brief};
 ghost use Rattle.pc_rules.specs.Computed.Standing.{label_with};
 
-use crate::checker::Checker;
 use crate::label::{Label, has_code, is_early, is_of_scopes};
+use crate::typing_state::TypingState;
 use pc_source::{OutOfMemory, Place};
 use pc_tree::Code;
 use pc_types::{Parents, TypeStore};
 
-/// The code of a flow of a labelled expression into a type: none where it is static or E03 stands at the expression, A1
-/// where it is assignable alone, else E12.
+/// Returns the code of a flow of a labelled expression into a type: none if its type is a static subtype or the label
+/// is E03, A1 if it is assignable but no static subtype, else E12.
 fn flow_code<S: TypeStore>(
     store: &mut S,
     parents: &Parents,
@@ -40,9 +40,10 @@ fn flow_code<S: TypeStore>(
     Some(Code::E12)
 }
 
-/// Notes a flow with this code, a dynamic one with its two types; but nothing of a code that is found of scopes.
+/// Appends the finding of a flow with this code; a dynamic flow is noted with its two types. E02 and E03 are left to
+/// scope analysis.
 fn note_flow<S: TypeStore>(
-    checker: &mut Checker<'_, S>,
+    checker: &mut TypingState<'_, S>,
     place: Place,
     code: Code,
     from: &S::Ty,
@@ -52,7 +53,7 @@ fn note_flow<S: TypeStore>(
     requires into { S.has checker.old.store.now into.now }
     ensures found { OnOk result
         (Finds checker.old checker.new (own_flow place (S.tree from.now) (S.tree into.now) code)) }
-    ensures goes_on { GoesOn S.TypeStore checker.old checker.new }
+    ensures goes_on { CheckerKept S.TypeStore checker.old checker.new }
 {
     if is_of_scopes(code) {
         return Ok(());
@@ -65,10 +66,12 @@ fn note_flow<S: TypeStore>(
     checker.found.put(place, code)
 }
 
-/// Finds the flow of a labelled expression, which stands at this place, into a type, and answers its code. Typing
-/// specification, "Type system concepts", assignability; own rule of the profile.
+/// Checks the flow of a labelled expression at `place` into the type `into`. If the flow is not static, appends its
+/// code and returns it: A1 with both types if the expression's type is assignable, else E12. Returns `None` if the flow
+/// is static, or if the expression is E03. Typing specification, "Type system concepts", assignability; own rule of the
+/// profile.
 pub fn find_flow<S: TypeStore>(
-    checker: &mut Checker<'_, S>,
+    checker: &mut TypingState<'_, S>,
     parents: &Parents,
     place: Place,
     label: &Label<S::Ty>,
@@ -81,7 +84,7 @@ pub fn find_flow<S: TypeStore>(
         (S.tree label.now.ty) (S.tree into.now)) }
     ensures found { IfOk result
         (λ c. Finds checker.old checker.new (flow_at place (S.tree label.now.ty) (S.tree into.now) c)) }
-    ensures goes_on { GoesOn S.TypeStore checker.old checker.new }
+    ensures goes_on { CheckerKept S.TypeStore checker.old checker.new }
 {
     let code = flow_code(checker.store, parents, label, into);
     if let Some(code) = code {
@@ -90,9 +93,10 @@ pub fn find_flow<S: TypeStore>(
     Ok(code)
 }
 
-/// Finds the flows of a labelled expression, which stands at this place, into several types, each code once.
+/// Checks the flows of a labelled expression at this place into several types. Appends each code once, for the first
+/// flow that has it.
 pub fn find_flows<S: TypeStore>(
-    checker: &mut Checker<'_, S>,
+    checker: &mut TypingState<'_, S>,
     parents: &Parents,
     place: Place,
     label: &Label<S::Ty>,
@@ -102,7 +106,7 @@ pub fn find_flows<S: TypeStore>(
     requires into { All (S.has checker.old.store.now) into.now }
     ensures found { (m : LabelOf) → label_with S.tree label.now ≡ brief m
         → OnOk result (Finds checker.old checker.new (flows_at place (flows_of parents.now m (map S.tree into.now)))) }
-    ensures goes_on { GoesOn S.TypeStore checker.old checker.new }
+    ensures goes_on { CheckerKept S.TypeStore checker.old checker.new }
 {
     let mut codes = Vec::new(checker.alloc);
     for ty in into {

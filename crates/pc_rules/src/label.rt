@@ -1,4 +1,4 @@
-//! The label of a node, and the offers of operations.
+//! The label of a node, and offers: results of operations on single members of a union.
 
 ghost use Rattle.std.specs.Prelude.{◌≡◌, ◌++◌, IfOk, OnOk, flat_map, option_to_list};
 ghost use Rattle.pc_types.specs.Tree.{Tree};
@@ -16,14 +16,15 @@ use pc_tree::Code;
 use pc_types::TypeStore;
 use std::alloc::Global;
 
-/// What a node is labelled with: its type, and the codes that are found at it.
+/// The label of a node: its type, and the codes found at it.
 #[derive(Drop)]
 pub struct Label<Ty: Drop> {
     pub ty: Ty,
     pub codes: Vec<Code>,
 }
 
-/// What an operation comes to on one member: what is found, what it gives, and what an operand of it flows into.
+/// The result of an operation on one member of its operand's type: the code found, the type of the result, and the type
+/// that the other operand flows into.
 #[derive(Drop)]
 pub struct Offer<Ty: Drop> {
     pub found: Option<Code>,
@@ -31,7 +32,7 @@ pub struct Offer<Ty: Drop> {
     pub takes: Option<Ty>,
 }
 
-/// A label of a type at which nothing is found.
+/// Returns a label of this type without codes.
 pub fn clean<Ty: Drop>(alloc: Global, ty: Ty) -> Label<Ty>
     ensures label { (tree : Ty → Tree) → label_with tree result ≡ clean (tree ty) }
     ensures ty { result.ty ≡ ty }
@@ -42,7 +43,7 @@ pub fn clean<Ty: Drop>(alloc: Global, ty: Ty) -> Label<Ty>
     }
 }
 
-/// The label of an expression in error: `Any`, with the error's code.
+/// Returns the label of an expression in error: `Any`, with the error's code.
 pub fn in_error<S: TypeStore>(
     store: &mut S,
     alloc: Global,
@@ -57,7 +58,7 @@ pub fn in_error<S: TypeStore>(
     Ok(Label { ty, codes })
 }
 
-/// Whether the first of the codes is E03: then no other finding stands at the node.
+/// Returns whether the first of the codes is E03, which replaces all other findings at the node.
 pub fn is_early(codes: &[Code]) -> bool
     ensures { result ≡ is_early codes.now }
 {
@@ -67,14 +68,14 @@ pub fn is_early(codes: &[Code]) -> bool
     }
 }
 
-/// Whether a code is found of scopes.
+/// Returns whether scope analysis, not typing, reports the code: E02 and E03.
 pub(crate) fn is_of_scopes(code: Code) -> bool
     ensures { result ≡ is_of_scopes code }
 {
     matches!(code, Code::E02 | Code::E03)
 }
 
-/// Adds the findings of codes at a place, but for those of codes that are found of scopes.
+/// Appends a finding at a place for each of the codes, except E02 and E03, which scope analysis reports.
 pub fn find_codes(place: Place, codes: &[Code], found: &mut Notes) -> Result<(), OutOfMemory>
     ensures { OnOk result (notes_of found.new ≡ notes_of found.old ++ flat_map (own_at place) codes.now) }
 {
@@ -86,7 +87,8 @@ pub fn find_codes(place: Place, codes: &[Code], found: &mut Notes) -> Result<(),
     Ok(())
 }
 
-/// Notes what a label tells at its place: its type, where types are kept, and its codes.
+/// Appends the notes of a label at its place: its type, if types are kept, and the findings of its codes. `shown` says
+/// whether that type is shown.
 pub fn note_label<S: TypeStore>(
     store: &S,
     alloc: Global,
@@ -106,14 +108,14 @@ pub fn note_label<S: TypeStore>(
     find_codes(place, &label.codes, found)
 }
 
-/// Whether a code is one of these.
+/// Returns whether a code is among these codes.
 pub(crate) fn has_code(codes: &[Code], code: Code) -> bool
     ensures { result ≡ has_code codes.now code }
 {
     codes.contains(&code)
 }
 
-/// Adds a code, unless it is one of the codes.
+/// Adds a code, unless it is already among the codes.
 pub(crate) fn add_code(codes: &mut Vec<Code>, code: Code) -> Result<(), OutOfMemory>
     ensures { OnOk result (codes.new.items ≡ add_code codes.old.items code) }
 {
@@ -123,7 +125,7 @@ pub(crate) fn add_code(codes: &mut Vec<Code>, code: Code) -> Result<(), OutOfMem
     Ok(())
 }
 
-/// Adds a code, if there is one, unless it is one of the codes.
+/// Adds a code, if there is one, unless it is already among the codes.
 pub fn add_found(codes: &mut Vec<Code>, found: Option<Code>) -> Result<(), OutOfMemory>
     ensures { OnOk result (codes.new.items ≡ once_onto codes.old.items (option_to_list found)) }
 {

@@ -1,14 +1,14 @@
 //! The rules of expressions and their laws; labels, names as values, and flows into types.
 #![tactic(auto)]
 
-mod checker;
+mod expr_context;
 mod flows;
 mod label;
 mod laws;
 mod naming;
-mod setting;
+mod typing_state;
 
-pub use checker::Checker;
+pub use expr_context::{ExprContext, ModuleContext, Signature};
 pub use flows::{find_flow, find_flows};
 pub use label::{Label, Offer, add_found, clean, find_codes, in_error, is_early, note_label};
 pub use laws::{
@@ -16,4 +16,4 @@ pub use laws::{
     list_tests_are_dynamic_places, one_labelling_of_expressions,
 };
 pub use naming::name_label;
-pub use setting::{ModuleContext, Setting, Signature};
+pub use typing_state::TypingState;

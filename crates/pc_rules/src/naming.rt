@@ -10,16 +10,16 @@ ghost use Rattle.pc_rules.specs.Context.{local_label, constant_label, name_label
 ghost use Rattle.pc_rules.specs.Computed.Standing.{context_with, HasGivenAll, MeansLabel};
 ghost use Rattle.pc_flow.specs.Naming.{meanings};
 
+use crate::expr_context::ExprContext;
 use crate::label::{Label, clean, in_error};
-use crate::setting::Setting;
 use pc_flow::Env;
-use pc_scope::Res;
+use pc_scope::NameMeaning;
 use pc_source::OutOfMemory;
 use pc_tree::{Code, Name};
 use pc_types::TypeStore;
 use std::alloc::Global;
 
-/// The label of a local: its current type, E04 where it is not assigned.
+/// Returns the label of a local: its current type, or E04 if it is not assigned.
 fn local_label<S: TypeStore>(
     store: &mut S,
     alloc: Global,
@@ -37,7 +37,7 @@ fn local_label<S: TypeStore>(
     }
 }
 
-/// The label of a constant: its type, E03 where it isn't known yet.
+/// Returns the label of a constant: its type, or E03 if it is not known yet.
 fn constant_label<S: TypeStore>(
     store: &mut S,
     alloc: Global,
@@ -55,12 +55,13 @@ fn constant_label<S: TypeStore>(
     }
 }
 
-/// The label of a name as a value: a function, a class and a reserved name are none. Language Reference 4.2.2
-/// "Resolution of names"; own rules of the profile.
+/// Returns the label of a name used as a value: E20 for a function, a class or a reserved name, E03 for one that an
+/// initializer may not use yet, E02 for an unknown name. Language Reference 4.2.2 "Resolution of names"; own rules of
+/// the profile.
 pub fn name_label<S: TypeStore>(
     store: &mut S,
     alloc: Global,
-    setting: &Setting<'_, S::Ty>,
+    setting: &ExprContext<'_, S::Ty>,
     env: &Env<S::Ty>,
     name: &Name,
 ) -> Result<Label<S::Ty>, OutOfMemory>
@@ -72,9 +73,14 @@ pub fn name_label<S: TypeStore>(
     ensures kept { KeepsTypes S.has store.old store.new }
 {
     match setting.names.resolve(name.text.as_str()) {
-        Res::Local(local) => local_label(store, alloc, env, local),
-        Res::Const(number) => constant_label(store, alloc, setting.globals.constants, number),
-        Res::Func(_) => {
+        NameMeaning::Local(local) => local_label(store, alloc, env, local),
+        NameMeaning::Const(number) => constant_label(
+            store,
+            alloc,
+            setting.globals.constants,
+            number,
+        ),
+        NameMeaning::Func(_) => {
             let code = if setting.in_body {
                 Code::E20
             } else {
@@ -82,7 +88,7 @@ pub fn name_label<S: TypeStore>(
             };
             in_error(store, alloc, code)
         }
-        Res::Class(class) => {
+        NameMeaning::Class(class) => {
             let code = if class < setting.globals.known {
                 Code::E20
             } else {
@@ -90,7 +96,7 @@ pub fn name_label<S: TypeStore>(
             };
             in_error(store, alloc, code)
         }
-        Res::Builtin(_) => in_error(store, alloc, Code::E20),
-        Res::None => in_error(store, alloc, Code::E02),
+        NameMeaning::Builtin(_) => in_error(store, alloc, Code::E20),
+        NameMeaning::None => in_error(store, alloc, Code::E02),
     }
 }

@@ -1,4 +1,4 @@
--- Calls and loops told apart by their forms.
+-- Calls and loops distinguished by their forms.
 use Rattle.std.proofs.Common.{◌≡◌, ◌≢◌, List, [], ◌∷◌, length, get_or, refl, ap, ◌∙◌, arith, true}
 use Rattle.pc_tree.specs.Text.{text_bytes}
 use Rattle.pc_tree.specs.declared.tree.Expr.{Expr as RustExpr}

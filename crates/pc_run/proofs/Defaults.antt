@@ -9,7 +9,7 @@ use Rattle.pc_value.specs.Value.{Value, whole, Stop, Raised, Outside, TypeError,
 use Rattle.pc_value.specs.Actions as action
 use Rattle.pc_value.specs.Actions.{gives, stops}
 use Rattle.pc_value.specs.Numbers.{number_of_digits, negative_of_digits, fits}
-use Rattle.pc_machine.specs.State.{State, Parameter, Function, Class, a_function}
+use Rattle.pc_machine.specs.State.{State, FormalParameter, Function, Class, a_function}
 use Rattle.pc_machine.specs.Calls.{class_at}
 use Rattle.pc_machine.specs.Steps.{value_out}
 use Rattle.pc_machine.specs.Plain.{Progress, After, Came, Ended, Step, plain, and_then, comes, act, after_action}
@@ -83,11 +83,11 @@ made_of false x f w = refl
 parameters_then : (n : List ℕ) (d : Option Value) (ps : List Param) (b : Bool) (w : Progress)
     → ((v : Progress) → text.make_parameters Step plain ps v ≡ made_if (have_values ps) (map parameter_of_param ps) v)
     → and_then (made_if b d w) (λ x v. and_then (text.make_parameters Step plain ps v)
-    (λ (others : List Parameter). Came (record { name = n; default = x } ∷ others))) ≡ made_if (b && have_values ps)
+    (λ (others : List FormalParameter). Came (record { name = n; default = x } ∷ others))) ≡ made_if (b && have_values ps)
     (record { name = n; default = d } ∷ map parameter_of_param ps) w
 parameters_then n d ps true w rest =
-    ap (λ r. and_then r (λ (others : List Parameter). Came (record { name = n; default = d } ∷ others))) (rest w)
-    ∙ made_of (have_values ps) (map parameter_of_param ps) (λ (others : List Parameter).
+    ap (λ r. and_then r (λ (others : List FormalParameter). Came (record { name = n; default = d } ∷ others))) (rest w)
+    ∙ made_of (have_values ps) (map parameter_of_param ps) (λ (others : List FormalParameter).
     record { name = n; default = d } ∷ others) w
 parameters_then n d ps false w rest = refl
 
@@ -96,16 +96,16 @@ pub parameters_run : (ps : List Param) (w : Progress) → text.make_parameters S
 parameters_run [] w = refl
 parameters_run (p ∷ ps) w =
     ap (λ r. and_then r (λ x v. and_then (text.make_parameters Step plain ps v)
-    (λ (others : List Parameter). Came (record { name = p.name.text; default = x } ∷ others))))
+    (λ (others : List FormalParameter). Came (record { name = p.name.text; default = x } ∷ others))))
     (default_run p.default w) ∙ parameters_then p.name.text (default_value p.default) ps (has_value p.default) w
     (parameters_run ps)
 
 pub function_run : (f : FuncDef) (w : Progress) → text.make_function Step plain f w ≡ made_if (have_values f.params)
     (function_of f) w
 function_run f w =
-    ap (λ r. and_then r (λ (ps : List Parameter). Came (record { name = f.name; parameters = ps; body = f.body })))
+    ap (λ r. and_then r (λ (ps : List FormalParameter). Came (record { name = f.name; parameters = ps; body = f.body })))
     (parameters_run f.params w) ∙ made_of (have_values f.params) (map parameter_of_param f.params)
-    (λ (ps : List Parameter). record { name = f.name; parameters = ps; body = f.body }) w
+    (λ (ps : List FormalParameter). record { name = f.name; parameters = ps; body = f.body }) w
 
 -- ---- members
 

@@ -4,8 +4,8 @@ use Rattle.std.proofs.Common.{get_or, drop, true, false, ◌⊎◌, inl, inr}
 use Rattle.std.specs.Prelude.{Result, Err, Some, None}
 use Rattle.pc_tree.specs.Tree.{Expr, Stmt, Stmts, no_stmts, more_stmts, Branches, more_branches, stmt_of, stmts_of_list}
 use Rattle.pc_tree.specs.declared.tree.Stmt.{Stmt as RustStmt}
-use Rattle.pc_machine.specs.declared.state.Flow.{Flow as RustFlow}
-use Rattle.pc_machine.specs.declared.state.Flow.TheVariants as rust_flow
+use Rattle.pc_machine.specs.declared.state.Completion.{Completion as RustFlow}
+use Rattle.pc_machine.specs.declared.state.Completion.TheVariants as rust_flow
 use Rattle.pc_run.proofs.Bounds.{Above, Turns}
 use Rattle.pc_value.specs.Value.{Value, is_true}
 use Rattle.pc_value.specs.Actions as action

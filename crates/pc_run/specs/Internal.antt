@@ -1,4 +1,4 @@
--- What only the contracts of private functions say: the public contracts speak of the files beside this folder.
+-- Definitions for the contracts of private functions; public contracts use the files beside this folder.
 pub mod LastLine
 pub mod CallForms
 pub mod Items

@@ -8,7 +8,7 @@ use Rattle.pc_machine.specs.Runs.{End, done, stopped}
 use Rattle.pc_run.specs.declared.trace.End.{End as RustEnd}
 use Rattle.pc_run.specs.declared.trace.End.TheVariants as rust
 
--- what the program's end of a run means
+-- the end of a run, as the program represents it
 abbrev pub end_of_rust : RustEnd → End
 end_of_rust rust.Done = done
 end_of_rust rust.TypeError = stopped (Raised TypeError)
@@ -30,7 +30,7 @@ word_of (stopped Other) = codes "Other"
 word_of (stopped Outside) = codes "Outside"
 word_of (stopped Cut) = codes "Cut"
 
--- an event's line: where its place starts and ends
+-- an event's line: the bytes at which its place starts and ends
 abbrev pub event_line : Place → List ℕ
 event_line p = decimal p.start ++ codes " " ++ decimal p.end ++ codes "\n"
 

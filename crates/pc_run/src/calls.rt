@@ -1,4 +1,4 @@
-//! Calls: what is called, its arguments, and the body that it enters.
+//! Calls: the callee, its arguments, and the body that is entered.
 
 ghost use Rattle.std.specs.Prelude.{◌≤◌, ◌<◌, ℕ, map};
 ghost use Rattle.pc_tree.specs.Tree.{expr_of};
@@ -20,7 +20,7 @@ use pc_tree::{Expr, FuncDef, KeywordArgument, Name};
 use pc_value::{Exception, Value};
 use std::alloc::Global;
 
-/// A callee: a name or an attribute is looked up, and its place evaluated, before the arguments.
+/// Evaluates a callee before the arguments: a name or an attribute is looked up, and its event recorded.
 #[cycle(evaluate)]
 #[inline(never)]
 fn eval_callee<'m>(
@@ -44,7 +44,7 @@ fn eval_callee<'m>(
     Ok(Callee::Value(v))
 }
 
-/// A test `isinstance(e, T)`: its first argument alone is evaluated.
+/// Evaluates a test `isinstance(e, T)`, of whose arguments only the first is evaluated.
 #[cycle(evaluate)]
 #[inline(never)]
 fn eval_instance_test<'m>(
@@ -66,7 +66,7 @@ fn eval_instance_test<'m>(
     machine.test_instance(place, &v, test)
 }
 
-/// A call: the callee, the arguments, its event, its action. Language Reference 6.3.4 "Calls".
+/// Evaluates a call: the callee, the arguments, its event, its action. Language Reference 6.3.4 "Calls".
 #[cycle(evaluate)]
 #[inline(never)]
 pub(crate) fn eval_call<'m>(
@@ -93,7 +93,7 @@ pub(crate) fn eval_call<'m>(
     call(machine, alloc, called, &values, &named)
 }
 
-/// What a callee does with its arguments.
+/// Calls a callee with evaluated arguments and returns its value; a value that cannot be called is TypeError.
 #[cycle(evaluate)]
 #[inline(never)]
 pub fn call<'m>(
@@ -121,7 +121,7 @@ pub fn call<'m>(
     }
 }
 
-/// A function, or a method with its object, runs from a frame of its own.
+/// Runs the body of a function, or of a method with its object, in a frame of its own and returns its value.
 #[cycle(evaluate)]
 #[inline(never)]
 fn enter<'m>(

@@ -1,5 +1,5 @@
-//! Lists of values that grow, one value at a time: kept out of the functions that evaluate (`inline(never)`), so that
-//! the room of a growing list does not stand in each of their frames.
+//! Lists of values that grow by one value at a time. These functions stay out of those that evaluate (`inline(never)`),
+//! so that a growing list does not enlarge each of their stack frames.
 
 ghost use Rattle.std.specs.Prelude.{◌≡◌, ◌<◌, ◌+◌, ◌-◌, ◌++◌, ◌∷◌, [], map, OnOk};
 ghost use Rattle.pc_value.specs.Meaning.{value_of, entry_of};
@@ -23,14 +23,14 @@ pub fn keep(values: &mut Vec<Value>, value: Value) -> Result<(), OutOfMemory>
 /// Adds an entry of a dict.
 #[inline(never)]
 pub fn keep_entry(
-    entries: &mut Vec<pc_value::Entry>,
+    entries: &mut Vec<pc_value::DictEntry>,
     key: Value,
     value: Value,
 ) -> Result<(), OutOfMemory>
     ensures { OnOk result (map entry_of entries.new.items
         ≡ map entry_of entries.old.items ++ record { key = value_of key; value = value_of value } ∷ []) }
 {
-    match entries.push(pc_value::Entry { key, value }) {
+    match entries.push(pc_value::DictEntry { key, value }) {
         Ok(()) => Ok(()),
         Err(_) => Err(OutOfMemory),
     }

@@ -1,5 +1,5 @@
-//! The evaluation of expressions. Its functions are kept out of each other (`inline(never)`): one frame
-//! of all of them would be large, and the deepest runs would not fit the usual stack.
+//! The evaluation of expressions. Its functions are not inlined into each other (`inline(never)`): a single stack frame
+//! for all of them would be large, and the deepest runs would overflow the usual stack.
 
 ghost use Rattle.std.specs.Prelude.{◌≤◌, ◌<◌, ℕ, OnOk, if◌then◌else◌};
 ghost use Rattle.pc_tree.specs.Tree.{expr_of};
@@ -21,7 +21,7 @@ use pc_tree::{BinaryOperator, ComparisonOperator, Entry, Expr, KeywordArgument, 
 use pc_value::{Action, Value};
 use std::alloc::Global;
 
-/// An expression: it is charged, then its parts, its event, its action.
+/// Evaluates an expression: its charge, its parts, its event, its action.
 #[cycle(evaluate)]
 pub fn eval<'m>(machine: &mut Machine<'m>, alloc: Global, e: &'m Expr) -> Result<Value, Halt>
     ensures plain { (n : ℕ) → machine.old.fuel < n
@@ -33,7 +33,7 @@ pub fn eval<'m>(machine: &mut Machine<'m>, alloc: Global, e: &'m Expr) -> Result
     eval_node(machine, alloc, e)
 }
 
-/// An expression that was charged.
+/// Evaluates an expression after its charge.
 #[cycle(evaluate)]
 fn eval_node<'m>(machine: &mut Machine<'m>, alloc: Global, e: &'m Expr) -> Result<Value, Halt>
     ensures plain { (n : ℕ) → machine.old.fuel < n
@@ -72,7 +72,7 @@ fn eval_node<'m>(machine: &mut Machine<'m>, alloc: Global, e: &'m Expr) -> Resul
     }
 }
 
-/// A number with its sign turned. Language Reference 6.6 "Unary arithmetic and bitwise operations".
+/// Evaluates unary `-`. Language Reference 6.6 "Unary arithmetic and bitwise operations".
 #[cycle(evaluate)]
 #[inline(never)]
 fn eval_negative<'m>(
@@ -90,7 +90,7 @@ fn eval_negative<'m>(
     machine.perform(alloc, place, Action::Negative(v))
 }
 
-/// `not`: whether its operand is false. Language Reference 6.11 "Boolean operations".
+/// Evaluates `not`. Language Reference 6.11 "Boolean operations".
 #[cycle(evaluate)]
 #[inline(never)]
 fn eval_not<'m>(
@@ -108,8 +108,8 @@ fn eval_not<'m>(
     machine.perform(alloc, place, Action::Not(v))
 }
 
-/// A field or a method that is read: the object, its event, its action. Language Reference 6.3.1 "Attribute
-/// references".
+/// Reads a field or a method: the object, its event, its action.
+/// Language Reference 6.3.1 "Attribute references".
 #[cycle(evaluate)]
 #[inline(never)]
 fn eval_attribute<'m>(
@@ -128,7 +128,7 @@ fn eval_attribute<'m>(
     machine.read_attribute(alloc, place, v, field.text.as_str())
 }
 
-/// A tuple display: its items, its event, the tuple.
+/// Evaluates a tuple display: its items, its event, the tuple.
 #[cycle(evaluate)]
 #[inline(never)]
 fn eval_tuple<'m>(
@@ -146,7 +146,7 @@ fn eval_tuple<'m>(
     machine.give(place, Value::Tuple(values))
 }
 
-/// A list display: its items, its event, its action. Language Reference 6.2.5 "List displays".
+/// Evaluates a list display: its items, its event, its action. Language Reference 6.2.5 "List displays".
 #[cycle(evaluate)]
 #[inline(never)]
 fn eval_list<'m>(
@@ -164,7 +164,7 @@ fn eval_list<'m>(
     machine.perform(alloc, place, Action::NewList(values))
 }
 
-/// A dict display: its entries, its event, its action. Language Reference 6.2.7 "Dictionary displays".
+/// Evaluates a dict display: its entries, its event, its action. Language Reference 6.2.7 "Dictionary displays".
 #[cycle(evaluate)]
 #[inline(never)]
 fn eval_dict<'m>(
@@ -182,7 +182,7 @@ fn eval_dict<'m>(
     machine.perform(alloc, place, Action::NewDict(entries))
 }
 
-/// An operator with two operands, the left one first. Language Reference 6.7 "Binary arithmetic operations".
+/// Evaluates a binary operator, the left operand first. Language Reference 6.7 "Binary arithmetic operations".
 #[cycle(evaluate)]
 #[inline(never)]
 fn eval_binary<'m>(
@@ -203,7 +203,7 @@ fn eval_binary<'m>(
     machine.perform(alloc, place, Action::Binary(operator, v, w))
 }
 
-/// A comparison, its left operand first. Language Reference 6.10 "Comparisons".
+/// Evaluates a comparison, the left operand first. Language Reference 6.10 "Comparisons".
 #[cycle(evaluate)]
 #[inline(never)]
 fn eval_compare<'m>(
@@ -224,7 +224,7 @@ fn eval_compare<'m>(
     machine.perform(alloc, place, Action::Compare(operator, v, w))
 }
 
-/// A test `e is None`, or `e is not None`.
+/// Evaluates a test `e is None`, or `e is not None` if `negated`.
 #[cycle(evaluate)]
 #[inline(never)]
 fn eval_none_test<'m>(
@@ -247,7 +247,7 @@ fn eval_none_test<'m>(
     machine.give(place, Value::Bool(is_nothing(&v)))
 }
 
-/// `and`: the right operand only where the left one is true. Language Reference 6.11 "Boolean operations".
+/// Evaluates `and`, its right operand only if the left one is true. Language Reference 6.11 "Boolean operations".
 #[cycle(evaluate)]
 #[inline(never)]
 fn eval_and<'m>(
@@ -270,7 +270,7 @@ fn eval_and<'m>(
     machine.give(place, second)
 }
 
-/// `or`: the right operand only where the left one is false. Language Reference 6.11 "Boolean operations".
+/// Evaluates `or`, its right operand only if the left one is false. Language Reference 6.11 "Boolean operations".
 #[cycle(evaluate)]
 #[inline(never)]
 fn eval_or<'m>(
@@ -293,7 +293,7 @@ fn eval_or<'m>(
     machine.give(place, second)
 }
 
-/// An item that is read: the object, the key, its event, its action. Language Reference 6.3.2 "Subscriptions".
+/// Reads an item: the object, the key, its event, its action. Language Reference 6.3.2 "Subscriptions".
 #[cycle(evaluate)]
 #[inline(never)]
 fn eval_index<'m>(
@@ -313,7 +313,7 @@ fn eval_index<'m>(
     machine.perform(alloc, place, Action::ReadItem(v, k))
 }
 
-/// Expressions, from left to right.
+/// Evaluates expressions from left to right.
 #[cycle(evaluate)]
 #[inline(never)]
 pub(crate) fn eval_all<'m>(
@@ -334,14 +334,14 @@ pub(crate) fn eval_all<'m>(
     Ok(values)
 }
 
-/// Keys and values: key, value, key, value.
+/// Evaluates the entries of a dict display: key, value, key, value.
 #[cycle(evaluate)]
 #[inline(never)]
 fn eval_entries<'m>(
     machine: &mut Machine<'m>,
     alloc: Global,
     items: &'m [Entry],
-) -> Result<Vec<pc_value::Entry>, Halt>
+) -> Result<Vec<pc_value::DictEntry>, Halt>
     ensures plain { (n : ℕ) → machine.old.fuel < n
         → TellsProgress entries_of_vec result machine.new
         (entries_in n (entries_of_list items.now) (progress_of machine.old)) }
@@ -356,7 +356,7 @@ fn eval_entries<'m>(
     Ok(entries)
 }
 
-/// Arguments by name, as they are written.
+/// Evaluates arguments by name, in the order of the text.
 #[cycle(evaluate)]
 #[inline(never)]
 pub(crate) fn eval_keywords<'m>(

@@ -1,4 +1,4 @@
-//! The forms of calls and of what a `for` goes over.
+//! The forms of calls and of a `for`'s iterable.
 
 ghost use Rattle.std.specs.Prelude.{◌≡◌, ◌<◌, ◌+◌, ◌-◌, ◌^◌, ℕ};
 ghost use Rattle.pc_tree.specs.Tree.{expr_of};
@@ -11,12 +11,12 @@ ghost use Rattle.pc_value.specs.declared.action.Iteration.{Iteration as RustIter
 ghost use Rattle.pc_value.specs.declared.action.Action.TheVariants as rust_action;
 ghost use Rattle.pc_machine.specs.declared.state.Callee.TheVariants as callee;
 
-use pc_machine::Flow;
+use pc_machine::Completion;
 use pc_source::Place;
 use pc_tree::{Expr, KeywordArgument, Name};
 use pc_value::{Action, Value};
 
-/// Whether a value is None.
+/// Returns whether a value is None.
 pub fn is_nothing(value: &Value) -> bool
     ensures { result ≡ is_none_value (value_of value.now) }
 {
@@ -30,19 +30,19 @@ pub fn is_nothing(value: &Value) -> bool
     }
 }
 
-/// What a call gives, by how the body ended.
-pub fn value_of_flow(flow: Flow) -> Value
+/// Returns the value of a call, given the way its body ended.
+pub fn value_of_flow(flow: Completion) -> Value
     ensures { value_of result ≡ value_of_flow (flow_of flow) }
 {
     match flow {
-        Flow::Next => Value::None,
-        Flow::Breaking => Value::None,
-        Flow::Continuing => Value::None,
-        Flow::Leaves(value) => value,
+        Completion::Next => Value::None,
+        Completion::Breaking => Value::None,
+        Completion::Continuing => Value::None,
+        Completion::Leaves(value) => value,
     }
 }
 
-/// The callee, its object and its test, where a call is a test `isinstance(e, T)`.
+/// Returns the callee, object and test of a call of the form `isinstance(e, T)`; `None` for any other call.
 pub fn instance_test<'m>(
     callee: &'m Expr,
     arguments: &'m [Expr],
@@ -66,7 +66,7 @@ pub fn instance_test<'m>(
     Some((name, &arguments[0], &arguments[1]))
 }
 
-/// The place, the name and the arguments, where a `for` goes over a call of `range`.
+/// Returns the place, name and arguments of a call of `range`; `None` for any other expression.
 pub fn range_call<'m>(e: &'m Expr) -> Option<(Place, &'m Name, &'m [Expr], &'m [KeywordArgument])>
     ensures { range_seen result ≡ iterable_form (expr_of e.now) }
 {
@@ -83,7 +83,7 @@ pub fn range_call<'m>(e: &'m Expr) -> Option<(Place, &'m Name, &'m [Expr], &'m [
     }
 }
 
-/// Goes on to the next turn of a `for`.
+/// Advances the action to the next turn of a `for`.
 pub fn advance(turn: &mut Action)
     requires { (over : RustIteration) × ((i : ℕ) × ((turn.now ≡ rust_action.Turn over i) × (i < 2 ^ 64 - 1))) }
     ensures { (over : RustIteration) (i : ℕ) → turn.old ≡ rust_action.Turn over i

@@ -16,7 +16,7 @@ ghost use Rattle.pc_machine.specs.Runs.{plain_module};
 
 use crate::evaluate::eval;
 use crate::running::enter_main;
-use pc_machine::{Bound, Class, Halt, Machine, Meaning, Parameter, Stop, raised};
+use pc_machine::{Bound, Class, FormalParameter, Halt, Machine, Meaning, Stop, raised};
 use pc_source::OutOfMemory;
 use pc_tree::{
     ClassDef, FuncDef, Item, ItemKind, Literal, LiteralKind, Member, Module, Name, Param,
@@ -24,7 +24,7 @@ use pc_tree::{
 use pc_value::{Exception, Value, read_number};
 use std::alloc::Global;
 
-/// Whether a literal has a value: a whole number fits 128 signed bits.
+/// Returns whether a literal has a value: a whole number must fit 128 signed bits.
 fn literal_has_value(literal: &Literal) -> bool
     ensures { result ≡ is_some (literal_value (literal_of literal.now)) }
 {
@@ -38,7 +38,7 @@ fn literal_has_value(literal: &Literal) -> bool
     }
 }
 
-/// Whether a default has a value, or is left out.
+/// Returns whether a default has a value or is absent.
 fn has_value(default: &Option<Literal>) -> bool
     ensures { result ≡ has_value (option_literal_of default.now) }
 {
@@ -48,7 +48,7 @@ fn has_value(default: &Option<Literal>) -> bool
     }
 }
 
-/// Whether each default of a def has a value.
+/// Returns whether each default of a def has a value.
 fn have_values(params: &[Param]) -> bool
     ensures { result ≡ have_values (map param_of params.now) }
 {
@@ -60,7 +60,7 @@ fn have_values(params: &[Param]) -> bool
     true
 }
 
-/// Whether each default of a member has a value.
+/// Returns whether each default of a member has a value.
 fn member_has_values(member: &Member) -> bool
     ensures { result ≡ member_has_values (member_of member.now) }
 {
@@ -70,7 +70,7 @@ fn member_has_values(member: &Member) -> bool
     }
 }
 
-/// Whether each default in a class has a value.
+/// Returns whether each default in a class has a value.
 fn members_have_values(members: &[Member]) -> bool
     ensures { result ≡ members_have_values (map member_of members.now) }
 {
@@ -82,8 +82,8 @@ fn members_have_values(members: &[Member]) -> bool
     true
 }
 
-/// Whether a field has a default with a value.
-fn is_defaulted(field: &Parameter<'_>) -> bool
+/// Returns whether a field has a default with a value.
+fn is_defaulted(field: &FormalParameter<'_>) -> bool
     ensures { result ≡ is_some (parameter_of field.now).default }
 {
     match field.default {
@@ -92,8 +92,8 @@ fn is_defaulted(field: &Parameter<'_>) -> bool
     }
 }
 
-/// Whether no field without default follows one with default.
-fn defaults_last(fields: &[Parameter<'_>]) -> bool
+/// Returns whether no field without default follows one with default.
+fn defaults_last(fields: &[FormalParameter<'_>]) -> bool
     ensures { result ≡ defaults_last (map parameter_of fields.now) }
 {
     let mut defaulted = false;
@@ -107,7 +107,7 @@ fn defaults_last(fields: &[Parameter<'_>]) -> bool
     true
 }
 
-/// The numbers of a class and its ancestors.
+/// Returns the numbers of a class and its ancestors.
 fn ancestors(
     alloc: Global,
     number: usize,
@@ -126,11 +126,11 @@ fn ancestors(
     Ok(numbers)
 }
 
-/// The fields that a class has from its base.
+/// Returns the fields that a class inherits from its base.
 fn inherited_fields<'m>(
     alloc: Global,
     base: Option<&Class<'m>>,
-) -> Result<Vec<Parameter<'m>>, OutOfMemory>
+) -> Result<Vec<FormalParameter<'m>>, OutOfMemory>
     ensures { IfOk result (λ fs. map parameter_of fs.items ≡ fields_of (found_class base.entry)) }
 {
     let mut fields = Vec::new(alloc);
@@ -143,19 +143,19 @@ fn inherited_fields<'m>(
     Ok(fields)
 }
 
-/// The fields of a class, with those of its base first.
+/// Returns the fields of a class, inherited ones first.
 fn fields<'m>(
     alloc: Global,
     base: Option<&Class<'m>>,
     members: &'m [Member],
-) -> Result<Vec<Parameter<'m>>, OutOfMemory>
+) -> Result<Vec<FormalParameter<'m>>, OutOfMemory>
     ensures { IfOk result (λ fs. map parameter_of fs.items
         ≡ fields_of (found_class base.entry) ++ (members_made (map member_of members.now)).fields) }
 {
     let mut fields = inherited_fields(alloc, base)?;
     for member in members {
         if let Member::Field(field) = member {
-            fields.push(Parameter {
+            fields.push(FormalParameter {
                 name: field.name.text.as_str(),
                 default: field.default.as_ref(),
             })?;
@@ -164,7 +164,7 @@ fn fields<'m>(
     Ok(fields)
 }
 
-/// The methods of a class that are its own.
+/// Returns the methods that a class defines itself.
 fn own_methods<'m>(alloc: Global, members: &'m [Member]) -> Result<Vec<&'m FuncDef>, OutOfMemory>
     ensures { IfOk result (λ fs. map method_of_def fs.items ≡ (members_made (map member_of members.now)).methods) }
 {
@@ -177,7 +177,7 @@ fn own_methods<'m>(alloc: Global, members: &'m [Member]) -> Result<Vec<&'m FuncD
     Ok(methods)
 }
 
-/// The methods of a class, and then those of its base.
+/// Returns the methods of a class, followed by those of its base.
 fn methods<'m>(
     alloc: Global,
     base: Option<&Class<'m>>,
@@ -196,7 +196,8 @@ fn methods<'m>(
     Ok(methods)
 }
 
-/// The number of the base of a class, if it names one: a class that was made.
+/// Returns the number of the base of a class, if it names one. NameError if the name means nothing; any but a class is
+/// out of the profile.
 fn find_base<'m>(machine: &Machine<'m>, base: &Option<Name>) -> Result<Option<usize>, Halt>
     ensures { TellsOutcome base_seen result (base_number (option_name_of base.now) (state_of machine.now)) }
 {
@@ -213,7 +214,7 @@ fn find_base<'m>(machine: &Machine<'m>, base: &Option<Name>) -> Result<Option<us
     }
 }
 
-/// The class that comes next, after its base. Language Reference 8.8 "Class definitions".
+/// Returns the next class to be made, given its base and members. Language Reference 8.8 "Class definitions".
 fn class_behind<'m>(
     machine: &Machine<'m>,
     alloc: Global,
@@ -235,7 +236,7 @@ fn class_behind<'m>(
     })
 }
 
-/// The module binds a name.
+/// Binds a name of the module.
 fn bind_global<'m>(
     machine: &mut Machine<'m>,
     name: &'m str,
@@ -249,7 +250,7 @@ fn bind_global<'m>(
     machine.globals.bind(name, bound)
 }
 
-/// The module binds a name to a class that was made.
+/// Adds a class and binds a name of the module to it.
 fn bind_class<'m>(
     machine: &mut Machine<'m>,
     name: &'m str,
@@ -267,7 +268,7 @@ fn bind_class<'m>(
     }
 }
 
-/// A class is made: `@dataclass`, the base, the defaults, the order of its fields.
+/// Makes a class: `@dataclass`, the base, the defaults, the order of its fields.
 fn make_class<'m>(
     machine: &mut Machine<'m>,
     alloc: Global,
@@ -293,7 +294,7 @@ fn make_class<'m>(
     Ok(())
 }
 
-/// A constant, a class or a def runs.
+/// Runs a constant, a class or a def.
 fn run_item<'m>(
     machine: &mut Machine<'m>,
     alloc: Global,
@@ -323,7 +324,7 @@ fn run_item<'m>(
     }
 }
 
-/// The items, in the order of the text.
+/// Runs the items, in the order of the text.
 fn run_items<'m>(
     machine: &mut Machine<'m>,
     alloc: Global,
@@ -341,7 +342,7 @@ fn run_items<'m>(
     Ok(())
 }
 
-/// The items, and then `main` is entered.
+/// Runs the items, then `main`, and returns its value.
 pub fn run_module<'m>(
     machine: &mut Machine<'m>,
     alloc: Global,

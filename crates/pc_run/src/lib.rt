@@ -1,4 +1,4 @@
-//! A tracer: it follows the plain run of a module, and gives its events and its end.
+//! A tracer: carries out the plain run of a module and returns its events and its end.
 #![tactic(auto)]
 
 mod calls;

@@ -10,12 +10,12 @@ ghost use Rattle.pc_machine.specs.Machine.{TellsProgress, progress_of, flow_of};
 use crate::evaluate::{eval, eval_all, eval_keywords};
 use crate::forms::{advance, range_call};
 use crate::statements::exec;
-use pc_machine::{Flow, Halt, Machine};
+use pc_machine::{Completion, Halt, Machine};
 use pc_tree::{Expr, Stmt};
 use pc_value::{Action, Iteration};
 use std::alloc::Global;
 
-/// The turns of a `while`. Language Reference 8.2 "The while statement".
+/// Runs a `while`. Language Reference 8.2 "The while statement".
 #[cycle(evaluate)]
 #[inline(never)]
 pub(crate) fn run_while<'m>(
@@ -23,7 +23,7 @@ pub(crate) fn run_while<'m>(
     alloc: Global,
     condition: &'m Expr,
     body: &'m [Stmt],
-) -> Result<Flow, Halt>
+) -> Result<Completion, Halt>
     ensures plain { (n : ℕ) → machine.old.fuel < n
         → TellsProgress flow_of result machine.new
         ((plain_parts n).again (expr_of condition.now) (stmts_of_list body.now) (progress_of machine.old)) }
@@ -32,19 +32,19 @@ pub(crate) fn run_while<'m>(
     loop {
         let v = eval(machine, alloc, condition)?;
         if !machine.is_true(&v) {
-            return Ok(Flow::Next);
+            return Ok(Completion::Next);
         }
         machine.charge_empty(body)?;
         match exec(machine, alloc, body)? {
-            Flow::Next => {}
-            Flow::Continuing => {}
-            Flow::Breaking => return Ok(Flow::Next),
-            Flow::Leaves(v) => return Ok(Flow::Leaves(v)),
+            Completion::Next => {}
+            Completion::Continuing => {}
+            Completion::Breaking => return Ok(Completion::Next),
+            Completion::Leaves(v) => return Ok(Completion::Leaves(v)),
         }
     }
 }
 
-/// What a `for` goes over. Language Reference 8.3 "The for statement".
+/// Evaluates the iterable of a `for` and returns its source of items. Language Reference 8.3 "The for statement".
 #[cycle(evaluate)]
 #[inline(never)]
 pub(crate) fn eval_iterable<'m>(
@@ -68,7 +68,7 @@ pub(crate) fn eval_iterable<'m>(
     machine.act_iteration(alloc, Action::Iterate(v))
 }
 
-/// The turns of a `for`. Language Reference 8.3 "The for statement".
+/// Runs the turns of a `for`. Language Reference 8.3 "The for statement".
 #[cycle(evaluate)]
 #[inline(never)]
 pub(crate) fn run_for<'m>(
@@ -77,26 +77,26 @@ pub(crate) fn run_for<'m>(
     over: Iteration,
     name: &'m str,
     body: &'m [Stmt],
-) -> Result<Flow, Halt>
+) -> Result<Completion, Halt>
     ensures plain { (n : ℕ) → machine.old.fuel < n
         → TellsProgress flow_of result machine.new
         ((plain_parts n).turns (iteration_of over) 0 name.now (stmts_of_list body.now) (progress_of machine.old)) }
     ensures fuel { machine.new.fuel ≤ machine.old.fuel }
 {
-    // A turn takes one of fuel at least, so no more turns than this follow.
+    // Each turn takes at least one unit of fuel, so no more turns than this follow.
     let _most = machine.fuel;
     let mut turn = Action::Turn(over, 0);
     loop {
         match machine.act_item(alloc, &turn)? {
-            None => return Ok(Flow::Next),
+            None => return Ok(Completion::Next),
             Some(v) => machine.bind_local(name, v),
         }
         machine.charge_empty(body)?;
         match exec(machine, alloc, body)? {
-            Flow::Next => {}
-            Flow::Continuing => {}
-            Flow::Breaking => return Ok(Flow::Next),
-            Flow::Leaves(v) => return Ok(Flow::Leaves(v)),
+            Completion::Next => {}
+            Completion::Continuing => {}
+            Completion::Breaking => return Ok(Completion::Next),
+            Completion::Leaves(v) => return Ok(Completion::Leaves(v)),
         }
         advance(&mut turn);
     }

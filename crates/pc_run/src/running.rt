@@ -15,13 +15,13 @@ use crate::items::run_module;
 use crate::trace::{End, Trace};
 use pc_machine::{Halt, Machine, Stop};
 use pc_source::OutOfMemory;
-use pc_stop::stops;
+use pc_stopping::stops;
 use pc_tree::Module;
 use pc_value::{Exception, Value};
 use std::alloc::Global;
 use std::hash::RandomState;
 
-/// How a run that was stopped ends.
+/// Returns the end of a run that was stopped.
 fn end_of_stop(stop: Stop) -> End
     ensures { end_of_rust result ≡ stopped (stop_of stop) }
 {
@@ -36,7 +36,7 @@ fn end_of_stop(stop: Stop) -> End
     }
 }
 
-/// `main` is entered, without an event.
+/// Calls `main`, without an event.
 pub fn enter_main<'m>(machine: &mut Machine<'m>, alloc: Global) -> Result<Value, Halt>
     ensures plain { (n : ℕ) → machine.old.fuel < n
         → TellsProgress value_of result machine.new (main_entered n (progress_of machine.old)) }
@@ -46,7 +46,7 @@ pub fn enter_main<'m>(machine: &mut Machine<'m>, alloc: Global) -> Result<Value,
     call(machine, alloc, called, &[], &[])
 }
 
-/// The trace of a run that came to its end.
+/// Returns the trace of a run that has ended.
 fn trace_of(machine: Machine<'_>, ended: Result<Value, Halt>) -> Result<Trace, OutOfMemory>
     ensures { (l : After ValueOf) → TellsProgress value_of ended machine.entry l
         → IfOk result (λ trace. Leaves l trace.events.items (end_of_rust trace.end)) }
@@ -64,13 +64,13 @@ fn trace_of(machine: Machine<'_>, ended: Result<Value, Halt>) -> Result<Trace, O
     }
 }
 
-/// Runs a module: the trace is its plain run for this fuel and these choices, each a byte from which one free answer is
-/// taken. A module that a code stops leaves the profile without an event. The keys are those of the hashes of names,
-/// which no author of a text should know. Own rule of the profile.
+/// Runs a module and returns the trace of its plain run for this fuel and these choices, each a byte from which one
+/// free answer is taken. A module with a code that prevents running leaves the profile without an event. `keys` are the
+/// keys for hashing names, which no author of a text should know. Own rule of the profile.
 ///
 /// # Errors
 ///
-/// `OutOfMemory` where the run or its trace has no room.
+/// `OutOfMemory` if an allocation failed.
 pub fn run(
     alloc: Global,
     keys: RandomState,

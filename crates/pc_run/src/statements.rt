@@ -13,18 +13,18 @@ ghost use Rattle.pc_tree.specs.Tree.{asserts, assigns, evaluates, option_expr_of
 
 use crate::evaluate::eval;
 use crate::loops::{eval_iterable, run_for, run_while};
-use pc_machine::{Flow, Halt, Machine, Stop};
+use pc_machine::{Completion, Halt, Machine, Stop};
 use pc_tree::{Branch, Expr, Name, Stmt, StmtKind, Target};
 use pc_value::Value;
 use std::alloc::Global;
 
-/// Statements, one after another.
+/// Executes statements one after another; returns the way the last of them ended.
 #[cycle(evaluate)]
 pub(crate) fn exec<'m>(
     machine: &mut Machine<'m>,
     alloc: Global,
     body: &'m [Stmt],
-) -> Result<Flow, Halt>
+) -> Result<Completion, Halt>
     ensures plain { (n : ℕ) → machine.old.fuel < n
         → TellsProgress flow_of result machine.new
         ((plain_parts n).exec (stmts_of_list body.now) (progress_of machine.old)) }
@@ -34,36 +34,40 @@ pub(crate) fn exec<'m>(
     for statement in body {
         machine.charge()?;
         match exec_node(machine, alloc, &statement.kind)? {
-            Flow::Next => {}
+            Completion::Next => {}
             flow => return Ok(flow),
         }
     }
-    Ok(Flow::Next)
+    Ok(Completion::Next)
 }
 
-/// A statement that was charged.
+/// Executes a statement after its charge.
 #[cycle(evaluate)]
 #[inline(never)]
-fn exec_node<'m>(machine: &mut Machine<'m>, alloc: Global, kind: &'m StmtKind) -> Result<Flow, Halt>
+fn exec_node<'m>(
+    machine: &mut Machine<'m>,
+    alloc: Global,
+    kind: &'m StmtKind,
+) -> Result<Completion, Halt>
     ensures plain { (n : ℕ) (p : PlaceOf) → machine.old.fuel < n
         → TellsProgress flow_of result machine.new (exec_one n (stmt_of_kind p kind.now) (progress_of machine.old)) }
     ensures fuel { machine.new.fuel ≤ machine.old.fuel }
 {
     match kind {
-        StmtKind::Pass => Ok(Flow::Next),
-        StmtKind::Break => Ok(Flow::Breaking),
-        StmtKind::Continue => Ok(Flow::Continuing),
-        StmtKind::Return(None) => Ok(Flow::Leaves(Value::None)),
+        StmtKind::Pass => Ok(Completion::Next),
+        StmtKind::Break => Ok(Completion::Breaking),
+        StmtKind::Continue => Ok(Completion::Continuing),
+        StmtKind::Return(None) => Ok(Completion::Leaves(Value::None)),
         StmtKind::Return(Some(e)) => {
             let v = eval(machine, alloc, e)?;
-            Ok(Flow::Leaves(v))
+            Ok(Completion::Leaves(v))
         }
         StmtKind::Assert(condition, message) => exec_assert(machine, alloc, condition, message),
-        StmtKind::Annotated(_, _, None) => Ok(Flow::Next),
+        StmtKind::Annotated(_, _, None) => Ok(Completion::Next),
         StmtKind::Annotated(name, _, Some(e)) => {
             let v = eval(machine, alloc, e)?;
             machine.bind_local(name.text.as_str(), v);
-            Ok(Flow::Next)
+            Ok(Completion::Next)
         }
         StmtKind::Assign(target, e) => exec_assignment(machine, alloc, target, e),
         StmtKind::Expr(e) => exec_expression(machine, alloc, e),
@@ -76,7 +80,7 @@ fn exec_node<'m>(machine: &mut Machine<'m>, alloc: Global, kind: &'m StmtKind) -
     }
 }
 
-/// An assignment: its value, then its target. Language Reference 7.2 "Assignment statements".
+/// Executes an assignment: its value, then its target. Language Reference 7.2 "Assignment statements".
 #[cycle(evaluate)]
 #[inline(never)]
 fn exec_assignment<'m>(
@@ -84,7 +88,7 @@ fn exec_assignment<'m>(
     alloc: Global,
     target: &'m Target,
     e: &'m Expr,
-) -> Result<Flow, Halt>
+) -> Result<Completion, Halt>
     ensures plain { (n : ℕ) (p : PlaceOf) → machine.old.fuel < n
         → TellsProgress flow_of result machine.new
         (exec_one n (assigns p (target_of target.now) (expr_of e.now)) (progress_of machine.old)) }
@@ -94,20 +98,24 @@ fn exec_assignment<'m>(
     assign(machine, alloc, target, v)
 }
 
-/// An expression whose value is not kept. Language Reference 7.1 "Expression statements".
+/// Executes an expression and drops its value. Language Reference 7.1 "Expression statements".
 #[cycle(evaluate)]
 #[inline(never)]
-fn exec_expression<'m>(machine: &mut Machine<'m>, alloc: Global, e: &'m Expr) -> Result<Flow, Halt>
+fn exec_expression<'m>(
+    machine: &mut Machine<'m>,
+    alloc: Global,
+    e: &'m Expr,
+) -> Result<Completion, Halt>
     ensures plain { (n : ℕ) (p : PlaceOf) → machine.old.fuel < n
         → TellsProgress flow_of result machine.new
         (exec_one n (evaluates p (expr_of e.now)) (progress_of machine.old)) }
     ensures fuel { machine.new.fuel ≤ machine.old.fuel }
 {
     eval(machine, alloc, e)?;
-    Ok(Flow::Next)
+    Ok(Completion::Next)
 }
 
-/// An `assert`: its condition, and where that is false its message, then another exception.
+/// Executes an `assert`: its condition, and if that is false its message, then another exception.
 #[cycle(evaluate)]
 #[inline(never)]
 fn exec_assert<'m>(
@@ -115,7 +123,7 @@ fn exec_assert<'m>(
     alloc: Global,
     condition: &'m Expr,
     message: &'m Option<Box<Expr>>,
-) -> Result<Flow, Halt>
+) -> Result<Completion, Halt>
     ensures plain { (n : ℕ) (p : PlaceOf) → machine.old.fuel < n
         → TellsProgress flow_of result machine.new
         (exec_one n (asserts p (expr_of condition.now) (option_expr_of message.now)) (progress_of machine.old)) }
@@ -123,7 +131,7 @@ fn exec_assert<'m>(
 {
     let v = eval(machine, alloc, condition)?;
     if machine.is_true(&v) {
-        return Ok(Flow::Next);
+        return Ok(Completion::Next);
     }
     if let Some(e) = message {
         eval(machine, alloc, e)?;
@@ -131,7 +139,7 @@ fn exec_assert<'m>(
     Err(Halt::Stopped(Stop::Other))
 }
 
-/// After its value, a target: its parts, its event, the store.
+/// Assigns a value to a target: the target's parts, its event, the store.
 #[cycle(evaluate)]
 #[inline(never)]
 fn assign<'m>(
@@ -139,7 +147,7 @@ fn assign<'m>(
     alloc: Global,
     target: &'m Target,
     value: Value,
-) -> Result<Flow, Halt>
+) -> Result<Completion, Halt>
     ensures plain { (n : ℕ) → machine.old.fuel < n
         → TellsProgress flow_of result machine.new
         (assign_traced n (target_of target.now) (value_of value) (progress_of machine.old)) }
@@ -148,7 +156,7 @@ fn assign<'m>(
     match target {
         Target::Name(name) => {
             machine.bind_local(name.text.as_str(), value);
-            Ok(Flow::Next)
+            Ok(Completion::Next)
         }
         Target::Attribute(place, object, field) => {
             let o = eval(machine, alloc, object)?;
@@ -162,7 +170,7 @@ fn assign<'m>(
     }
 }
 
-/// The first branch whose condition is true, else the suite of `else`.
+/// Executes the first branch whose condition is true, else the suite of `else`.
 #[cycle(evaluate)]
 #[inline(never)]
 fn exec_branches<'m>(
@@ -170,7 +178,7 @@ fn exec_branches<'m>(
     alloc: Global,
     branches: &'m [Branch],
     otherwise: &'m [Stmt],
-) -> Result<Flow, Halt>
+) -> Result<Completion, Halt>
     ensures plain { (n : ℕ) → machine.old.fuel < n
         → TellsProgress flow_of result machine.new
         (branches_in n (branches_of_list branches.now) (stmts_of_list otherwise.now) (progress_of machine.old)) }

@@ -1,4 +1,4 @@
-//! Traces: the events of a run, and how it ends.
+//! Traces: the events of a run and its end.
 
 ghost use Rattle.std.specs.Prelude.{◌≡◌, ◌++◌, IfOk, OnOk, string_bytes};
 ghost use Rattle.pc_run.specs.Traces.{word_of, end_of_rust, event_line, trace_lines};
@@ -6,16 +6,16 @@ ghost use Rattle.pc_run.specs.Traces.{word_of, end_of_rust, event_line, trace_li
 use pc_source::{OutOfMemory, Place};
 use std::alloc::{AllocError, Global};
 
-/// How a run ends. Own rule of the profile.
+/// The end of a run. Own rule of the profile.
 #[derive(Clone, Copy, Debug, PartialEq, Eq)]
 pub enum End {
-    /// `main` came to its end.
+    /// `main` ended.
     Done,
     TypeError,
     AttributeError,
     NameError,
     UnboundLocalError,
-    /// Another exception.
+    /// Any other exception.
     Other,
     /// The run left the profile.
     Outside,
@@ -24,7 +24,7 @@ pub enum End {
 }
 
 impl End {
-    /// The end as it is printed.
+    /// Returns the end as it is printed.
     pub fn word(self) -> &'static str
         ensures { result.now ≡ word_of (end_of_rust self) }
     {
@@ -41,19 +41,19 @@ impl End {
     }
 }
 
-/// What a run left: the places that it evaluated, in their order, and its end.
+/// The trace of a run: the places that it evaluated, in order, and its end.
 #[derive(Debug, Drop)]
 pub struct Trace {
     pub events: Vec<Place>,
     pub end: End,
 }
 
-/// The trace as text: each event on a line, as the bytes at which its place starts and ends, and then
-/// a line with `end` and the word of the end. Own rule of the profile.
+/// Returns the trace as text: for each event a line with the bytes at which its place starts and ends, then a line with
+/// `end` and the word of the end. Own rule of the profile.
 ///
 /// # Errors
 ///
-/// `OutOfMemory` where the text has no room.
+/// `OutOfMemory` if an allocation failed.
 pub fn trace_text(alloc: Global, trace: &Trace) -> Result<String, OutOfMemory>
     ensures { IfOk result (λ text. string_bytes text ≡ trace_lines trace.now.events.items (end_of_rust trace.now.end)) }
 {

@@ -1,12 +1,12 @@
--- What a name means by the tables of a module is what it means in the module.
+-- A name's meaning by the tables of a module is its meaning in the module.
 use Rattle.std.proofs.Common.{◌≡◌, ℕ, zero, suc, List, [], ◌∷◌, map, refl, ap, ◌∙◌, true, false}
 use Rattle.std.specs.Prelude.{Option, Some, None, slice_get}
 use Rattle.std.specs.Option.{option_map}
 use Rattle.pc_tree.specs.Tree.{Module, FuncDef, ClassDef}
 use Rattle.pc_scope.specs.declared.resolution.Owner.{Owner}
 use Rattle.pc_scope.specs.declared.resolution.Owner.TheVariants as owners
-use Rattle.pc_scope.specs.declared.resolution.Res.{Res}
-use Rattle.pc_scope.specs.declared.resolution.Res.TheVariants as res
+use Rattle.pc_scope.specs.declared.resolution.NameMeaning.{NameMeaning}
+use Rattle.pc_scope.specs.declared.resolution.NameMeaning.TheVariants as res
 use Rattle.pc_scope.specs.Reserved.{builtin_of, beside}
 use Rattle.pc_scope.specs.Bindings.{functions_in, classes_in, methods_in}
 use Rattle.pc_scope.specs.Resolution.{resolve, index_of, or_meaning, local_meaning, builtin_meaning, locals_of}
@@ -50,5 +50,5 @@ means m t are owner text =
     ap (λ (names : List (List ℕ)). or_meaning (local_meaning (index_of text names))
     (or_meaning (builtin_meaning (builtin_of text)) (or_meaning (beside t.globals text) res.None)))
     (same_locals m t are owner)
-    ∙ ap (λ (o : Option Res). or_meaning (local_meaning (index_of text (locals_of m owner)))
+    ∙ ap (λ (o : Option NameMeaning). or_meaning (local_meaning (index_of text (locals_of m owner)))
     (or_meaning (builtin_meaning (builtin_of text)) (or_meaning o res.None))) (are.globals text)

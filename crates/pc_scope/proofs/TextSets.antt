@@ -43,25 +43,25 @@ map_end : {A B : Type 0} (f : A → B) (xs : List A) (y : A) → map f (xs ++ (y
 map_end f [] y = refl
 map_end f (x ∷ xs) y = ap (λ l. f x ∷ l) (map_end f xs y)
 
--- a text that is put in stands after the others, if it isn't among them
+-- a text that is put in comes after the others, if it is not among them
 pub put : {A : Type 0} (f : A → List ℕ) (ks : List A) (s : A) (b : Bool) → list_any (λ k. bytes_eq (f s) (f k)) ks ≡ b
     → b ≡ false → map f (if b then ks else ks ++ (s ∷ [])) ≡ map f ks ++ (f s ∷ [])
 put f ks s true e e' = absurd (grind (arith, e'))
 put f ks s false e e' = map_end f ks s
 
--- a free name that is no local yet becomes one
+-- a name that is neither reserved nor a local becomes a local
 pub bound_new : (names : List (List ℕ)) (t : List ℕ) → is_some (builtin_of t) ≡ false → is_one_of t names ≡ false
     → with_new_local names t ≡ names ++ (t ∷ [])
 bound_new names t e e' = added (is_builtin_name t || is_one_of t names) names t
     (or_both (is_builtin_name t) (is_one_of t names) e e')
 
--- a reserved name doesn't
+-- a reserved name does not become a local
 pub bound_reserved : (names : List (List ℕ)) (t : List ℕ) → is_some (builtin_of t) ≡ true
     → with_new_local names t ≡ names
 bound_reserved names t e = kept (is_builtin_name t || is_one_of t names) names t
     (or_first (is_builtin_name t) (is_one_of t names) e)
 
--- nor does a local again
+-- a local does not become a local again
 pub bound_again : (names : List (List ℕ)) (t : List ℕ) → is_one_of t names ≡ true → with_new_local names t ≡ names
 bound_again names t e = kept (is_builtin_name t || is_one_of t names) names t
     (or_second (is_builtin_name t) (is_one_of t names) e)
@@ -77,7 +77,7 @@ same_behind t x (n ∷ names) = ap (λ b. bytes_eq t n || b) (same_behind t x na
     turned true false c = refl
     turned false b c = refl
 
--- names put in one after another: those that stand first, after those that were there
+-- names put in one after another are those of first occurrence, after the earlier ones
 pub puts : (before names ts : List (List ℕ)) → ((t : List ℕ) → is_one_of t before ≡ is_one_of t names)
     → fold with_new_local names ts ≡ names ++ first_of_each before ts
 puts before names [] same = sym (append-nil names)
@@ -94,7 +94,7 @@ puts before names (t ∷ ts) same = go (is_builtin_name t || is_one_of t names) 
     go false e old new = rw (ap (λ c. is_builtin_name t || c) (same t) ∙ e)
         (new ∙ append_assoc names (t ∷ []) (first_of_each (t ∷ before) ts))
 
--- names put in by three lists in turn are those that stand first in all of them
+-- names put in by three lists in turn are the first occurrences in all three
 pub in_turn : (self params body : List (List ℕ)) → fold with_new_local
     (fold with_new_local (fold with_new_local [] self) params) body ≡ first_of_each [] (self ++ (params ++ body))
 in_turn self params body = sym (fold-append with_new_local (fold with_new_local [] self) params body)
@@ -116,7 +116,7 @@ later i n = ap (λ c. cond c (Some (suc i)) None) (one_more i n) ∙ go (nat_lt 
     go true = refl
     go false = refl
 
--- the place of a text in a set is that in the list of its texts
+-- the position of a text in a set is its position in the list of its texts
 pub placed : {A : Type 0} (f : A → List ℕ) (t : List ℕ) (ks : List A) → position (λ k. bytes_eq t (f k)) ks
     ≡ index_of t (map f ks)
 placed f t [] = refl
@@ -135,7 +135,7 @@ some_mapped : (o : Option ℕ) → is_some (option_map suc o) ≡ is_some o
 some_mapped None = refl
 some_mapped (Some n) = refl
 
--- a text has a place among others where it is one of them
+-- a text has a position among others if and only if it is one of them
 pub placed_among : (t : List ℕ) (ts : List (List ℕ)) → is_some (index_of t ts) ≡ is_one_of t ts
 placed_among t [] = refl
 placed_among t (u ∷ us) = go (bytes_eq t u) (placed_among t us)

@@ -1,4 +1,4 @@
--- The positions at which a module, a function and a class bind names.
+-- The binding positions of a module, a function and a class.
 -- Language Reference 3.12, 4.2.1 "Binding of names".
 use Rattle.std.specs.Prelude.{ℕ, suc, List, [], ◌∷◌, ◌++◌, map, Option, Some, None, filter_map}
 use Rattle.pc_tree.specs.Tree.{Name, Param, FuncDef, Member, field_member, method_member, ClassDef, Constant, Item}
@@ -55,22 +55,22 @@ functions_in items = filter_map as_function items
 abbrev pub methods_in : List Member → List FuncDef
 methods_in members = filter_map as_method members
 
--- a function of the module or a method, with what it is
+-- a function of the module or a method of a class, with its owner
 pub record Body : Type 0 where
   pub owner : Owner
   pub function : FuncDef
 
--- functions of the module as bodies, by the number of the first of them
+-- functions of the module as bodies, given the number of the first
 abbrev pub function_bodies : ℕ → List FuncDef → List Body
 function_bodies i [] = []
 function_bodies i (f ∷ rest) = record { owner = owners.Func i; function = f } ∷ function_bodies (suc i) rest
 
--- methods of a class as bodies, by the number of the class and that of the first of them
+-- methods of a class as bodies, given the number of the class and that of the first method
 abbrev pub method_bodies : ℕ → ℕ → List FuncDef → List Body
 method_bodies c i [] = []
 method_bodies c i (f ∷ rest) = record { owner = owners.Method c i; function = f } ∷ method_bodies c (suc i) rest
 
--- the methods of classes as bodies, by the number of the first class
+-- the methods of classes as bodies, given the number of the first class
 abbrev pub class_bodies : ℕ → List ClassDef → List Body
 class_bodies c [] = []
 class_bodies c (class ∷ rest) = method_bodies c 0 (methods_in class.members) ++ class_bodies (suc c) rest

@@ -12,31 +12,31 @@ use Rattle.pc_tree.specs.Tree.{while_loop, for_loop, conditional, no_stmts, more
 use Rattle.pc_tree.specs.Depth.{place_of}
 use Rattle.pc_scope.specs.Reach.{completes}
 
--- whether an expression is a name, and this one
+-- whether an expression is a name
 abbrev pub is_name : Expr → Bool
 is_name (name n) = true
 is_name _ = false
 
--- the expression is a name of this text
+-- whether an expression is a name with this text
 abbrev pub is_named : List ℕ → Expr → Bool
 is_named word (name n) = bytes_eq word n.text
 is_named word _ = false
 
--- exactly two arguments by position, and none by name
+-- exactly two positional arguments and no keyword argument
 abbrev pub are_two : Exprs → Keywords → Bool
 are_two (more_exprs e (more_exprs f no_exprs)) no_keywords = true
 are_two _ _ = false
 
--- a test of an instance: `isinstance` with exactly two arguments by position
+-- an `isinstance` test: `isinstance` with exactly two positional arguments
 abbrev pub is_instance_test : Expr → Exprs → Keywords → Bool
 is_instance_test callee arguments keywords = is_named (codes "isinstance") callee && are_two arguments keywords
 
--- the parts of the first argument alone where a test holds, else those of all arguments
+-- the parts of the first argument alone if a test holds, else the parts of all arguments
 abbrev pub first_or_all : List Expr → List Expr → Bool → List Expr
 first_or_all first all true = first
 first_or_all first all false = all
 
--- an expression and its parts; where it is judged, without those of the second argument of a test of an instance
+-- an expression and its parts; if it is judged, without the second argument of an `isinstance` test
 abbrev mutual
   pub parts_in : (judged : Bool) → Expr → List Expr
   parts_in j (name n) = name n ∷ []
@@ -78,17 +78,17 @@ abbrev mutual
   parts_in_keywords j no_keywords = []
   parts_in_keywords j (more_keywords parameter value rest) = parts_in j value ++ parts_in_keywords j rest
 
--- the names of the arguments by name, in text order
+-- the names of keyword arguments, in text order
 abbrev pub keyword_names : Keywords → List Name
 keyword_names no_keywords = []
 keyword_names (more_keywords parameter value rest) = parameter ∷ keyword_names rest
 
--- the place of a callee that is no name
+-- the place of a callee that is not a name
 abbrev pub other_callee : Expr → Option Place
 other_callee (call p callee arguments by_name) = if is_name callee then None else Some (place_of callee)
 other_callee _ = None
 
--- the expressions that stand in a target
+-- the expressions inside an assignment target
 abbrev pub target_exprs : Target → List Expr
 target_exprs (to_name n) = []
 target_exprs (to_attribute p e field) = e ∷ []
@@ -99,7 +99,7 @@ abbrev pub option_exprs : Option Expr → List Expr
 option_exprs None = []
 option_exprs (Some e) = e ∷ []
 
--- the expressions of statements: of all, or of those alone that are reached
+-- the expressions of statements: of all, or only of those that are reached
 abbrev mutual
   pub exprs_in : (reached : Bool) → Stmt → List Expr
   exprs_in r (pass p) = []

@@ -1,2 +1,2 @@
--- What only the contracts of private functions say: the public contracts speak of the files beside this folder.
+-- Definitions that only the contracts of private functions use: the public contracts use the files beside this folder.
 pub mod WalkViews

@@ -1,16 +1,17 @@
--- Which statements can complete.
+-- The statements that can complete.
 -- Own rule of the profile.
 use Rattle.std.specs.Prelude.{Bool, true, false, ◌&&◌, ◌||◌}
 use Rattle.pc_tree.specs.Tree.{Stmt, Stmts, Branches, pass, breaks, continues, returns, asserts, annotated, assigns}
 use Rattle.pc_tree.specs.Tree.{evaluates, while_loop, for_loop, conditional, no_stmts, more_stmts, no_branches}
 use Rattle.pc_tree.specs.Tree.{more_branches}
 
--- the suite has no statement, as that of a missing `else`
+-- the suite has no statement, like that of a missing `else`
 abbrev pub is_empty : Stmts → Bool
 is_empty no_stmts = true
 is_empty (more_stmts s rest) = false
 
--- all but `return`, `break`, `continue`, and an `if` with `else` none of whose branches can, can complete
+-- every statement can complete but `return`, `break`, `continue`, and an `if` with `else` none of whose suites can
+-- complete
 abbrev mutual
   pub completes : Stmt → Bool
   completes (pass p) = true

@@ -1,10 +1,10 @@
--- The names that a module may not bind, and what each of them means.
+-- The names that a module may not bind, and the meaning of each.
 -- Own rule of the profile; Language Reference 3.12, 4.2.2 "Resolution of names".
 use Rattle.std.specs.Prelude.{ℕ, List, [], ◌∷◌, Bool, if◌then◌else◌, Option, Some, None, is_some, codes, bytes_eq}
 use Rattle.pc_scope.specs.declared.resolution.Builtin.{Builtin}
 use Rattle.pc_scope.specs.declared.resolution.Builtin.TheVariants as builtin
 
--- the reserved names
+-- the reserved names, each with its built-in
 abbrev pub reserved_builtins : List (List ℕ × Builtin)
 reserved_builtins =
     (codes "Any", builtin.Any)
@@ -23,7 +23,7 @@ reserved_builtins =
     ∷ (codes "tuple", builtin.Tuple)
     ∷ []
 
--- what stands beside a text in a list
+-- the value beside a text in a list
 abbrev pub beside : {A : Type 0} → List (List ℕ × A) → List ℕ → Option A
 beside [] text = None
 beside (entry ∷ rest) text = if bytes_eq entry.0 text then Some entry.1 else beside rest text

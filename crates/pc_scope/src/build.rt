@@ -1,4 +1,4 @@
-//! The scopes of a module, made from its tree.
+//! Builds the scopes of a module from its tree.
 
 ghost use Rattle.std.specs.Prelude.{IfOk};
 ghost use Rattle.pc_tree.specs.Tree.{module_of};
@@ -10,7 +10,7 @@ use pc_source::OutOfMemory;
 use pc_tree::Module;
 use std::alloc::Global;
 
-/// The scopes of a module. Language Reference 4.2 "Naming and binding".
+/// Returns the scopes of a module. Language Reference 4.2 "Naming and binding".
 pub fn scopes(alloc: Global, module: &Module) -> Result<Scopes, OutOfMemory>
     ensures scopes { IfOk result (λ s. AreScopes (module_of module.now) s) }
 {

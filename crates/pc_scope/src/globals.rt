@@ -1,4 +1,4 @@
-//! What the module binds first by each name.
+//! The first binding of each name at module level.
 
 ghost use Rattle.std.specs.Prelude.{◌≡◌, map, Option, OnOk, IfOk, List, ℕ};
 ghost use Rattle.pc_tree.specs.Tree.{item_of};
@@ -6,21 +6,21 @@ ghost use Rattle.pc_scope.specs.Resolution.{bound_first};
 ghost use Rattle.pc_tree.specs.Names.{first_of, bound_as};
 ghost use Rattle.pc_scope.specs.Internal.WalkViews.{at_text};
 
-use crate::resolution::Res;
+use crate::resolution::NameMeaning;
 use indexmap::IndexMap;
 use pc_source::OutOfMemory;
 use pc_tree::{Item, ItemKind, Keys};
 use std::alloc::Global;
 
-/// What the module binds first by each name.
-pub type Globals = IndexMap<String, Res, Keys>;
+/// The first binding of each name at module level.
+pub type GlobalMeanings = IndexMap<String, NameMeaning, Keys>;
 
-/// A name means this, unless something is bound to it already.
+/// Binds a name to a meaning, unless the name is bound already.
 fn bind_first(
-    globals: &mut Globals,
+    globals: &mut GlobalMeanings,
     alloc: Global,
     name: &str,
-    meaning: Res,
+    meaning: NameMeaning,
 ) -> Result<(), OutOfMemory>
     ensures { OnOk result ((text : List ℕ)
         → at_text globals.new text ≡ first_of (at_text globals.old text) (bound_as name.now meaning text)) }
@@ -32,8 +32,8 @@ fn bind_first(
     Ok(())
 }
 
-/// What the items of a module bind first by each name. Constants, functions and classes are numbered in text order.
-pub fn globals(alloc: Global, keys: Keys, items: &[Item]) -> Result<Globals, OutOfMemory>
+/// Returns the first binding of each name that items bind. Constants, functions and classes are numbered in text order.
+pub fn globals(alloc: Global, keys: Keys, items: &[Item]) -> Result<GlobalMeanings, OutOfMemory>
     ensures { IfOk result (λ g. (text : List ℕ) → at_text g text ≡ bound_first 0 0 0 (map item_of items.now) text) }
 {
     let mut globals = IndexMap::with_hasher(alloc, keys);
@@ -47,7 +47,7 @@ pub fn globals(alloc: Global, keys: Keys, items: &[Item]) -> Result<Globals, Out
                     &mut globals,
                     alloc,
                     constant.name.text.as_str(),
-                    Res::Const(constants),
+                    NameMeaning::Const(constants),
                 )?;
                 constants += 1;
             }
@@ -56,7 +56,7 @@ pub fn globals(alloc: Global, keys: Keys, items: &[Item]) -> Result<Globals, Out
                     &mut globals,
                     alloc,
                     class.name.text.as_str(),
-                    Res::Class(classes),
+                    NameMeaning::Class(classes),
                 )?;
                 classes += 1;
             }
@@ -65,7 +65,7 @@ pub fn globals(alloc: Global, keys: Keys, items: &[Item]) -> Result<Globals, Out
                     &mut globals,
                     alloc,
                     def.name.text.as_str(),
-                    Res::Func(functions),
+                    NameMeaning::Func(functions),
                 )?;
                 functions += 1;
             }

@@ -1,4 +1,4 @@
-//! Tests of an instance: the calls of `isinstance` that tell something of a name.
+//! The `isinstance` test: the form of call that narrows a name.
 
 ghost use Rattle.std.specs.Prelude.{◌≡◌, codes};
 ghost use Rattle.pc_tree.specs.Tree.{expr_of};
@@ -7,7 +7,7 @@ ghost use Rattle.pc_scope.specs.Expressions.{is_named, are_two, is_instance_test
 
 use pc_tree::{Expr, KeywordArgument};
 
-/// Whether an expression is the name `isinstance`.
+/// Returns whether an expression is the name `isinstance`.
 fn is_isinstance(e: &Expr) -> bool
     ensures { result ≡ is_named (codes "isinstance") (expr_of e.now) }
 {
@@ -17,7 +17,7 @@ fn is_isinstance(e: &Expr) -> bool
     "isinstance" == name.text.as_str()
 }
 
-/// Whether there are exactly two arguments by position, and none by name.
+/// Returns whether there are exactly two positional arguments and no keyword argument.
 fn are_two(arguments: &[Expr], by_name: &[KeywordArgument]) -> bool
     ensures { result ≡ are_two (exprs_of_list arguments.now) (keywords_of_list by_name.now) }
 {
@@ -27,7 +27,8 @@ fn are_two(arguments: &[Expr], by_name: &[KeywordArgument]) -> bool
     by_name.is_empty()
 }
 
-/// Whether a call is a test of an instance: `isinstance` of exactly two arguments by position. Own rule of the profile.
+/// Returns whether a call is an `isinstance` test: `isinstance` with exactly two positional arguments. Own rule of the
+/// profile.
 pub fn is_instance_test(callee: &Expr, arguments: &[Expr], by_name: &[KeywordArgument]) -> bool
     ensures { result ≡ is_instance_test (expr_of callee.now) (exprs_of_list arguments.now)
         (keywords_of_list by_name.now) }

@@ -1,10 +1,10 @@
-//! The laws on what names mean.
+//! Laws of name resolution.
 
 ghost use Rattle.std.specs.Prelude.{◌≡◌, ℕ, List, Some};
 ghost use Rattle.pc_tree.specs.Tree.{Module};
 ghost use Rattle.pc_scope.specs.declared.resolution.Owner.{Owner};
 ghost use Rattle.pc_scope.specs.declared.resolution.Builtin.{Builtin};
-ghost use Rattle.pc_scope.specs.declared.resolution.Res.TheVariants as res;
+ghost use Rattle.pc_scope.specs.declared.resolution.NameMeaning.TheVariants as res;
 ghost use Rattle.pc_scope.specs.Reserved.{builtin_of};
 ghost use Rattle.pc_scope.specs.Resolution.{resolve};
 ghost use Rattle.pc_scope.specs.ModuleScopes.{ModuleScopes, AreScopes};
@@ -16,7 +16,7 @@ pub fn reserved_names_are_unbound()
         → resolve m owner name ≡ res.Builtin b }
 {}
 
-/// The law that by the tables of a module's scopes each name means what it means in the module.
+/// The law that the tables of a module's scopes resolve each name as the module does.
 pub fn tables_resolve_names()
     ensures { (m : Module) (s : ModuleScopes) → AreScopes m s → (owner : Owner) (name : List ℕ)
         → meaning_by_tables s.tables owner name ≡ resolve m owner name }

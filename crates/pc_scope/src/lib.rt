@@ -1,4 +1,4 @@
-//! What each name of a module means.
+//! Name resolution: the meaning of each name of a module.
 #![tactic(auto)]
 
 mod build;
@@ -17,4 +17,4 @@ pub use build::scopes;
 pub use instance_test::is_instance_test;
 pub use laws::{reserved_names_are_unbound, tables_resolve_names};
 pub use module_scopes::Scopes;
-pub use resolution::{Builtin, Owner, Res};
+pub use resolution::{Builtin, NameMeaning, Owner};

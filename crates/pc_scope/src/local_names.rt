@@ -11,17 +11,18 @@ use pc_source::OutOfMemory;
 use pc_tree::{Keys, Text};
 use std::alloc::Global;
 
-/// The locals of a function, numbered by their order: a short list, or a set where there may be more.
+/// The locals of a function, numbered by their order: a short list, or a set if there may be more.
 #[derive(Drop)]
 pub enum Locals {
     Few(Vec<Text>),
     Many(IndexSet<String, Keys>),
 }
 
-/// Up to how many names are compared one by one: to hash one costs more.
+/// A list is enough if the parameters and bound names are fewer than this: to compare them one by one costs less than
+/// to hash one.
 const FEW: usize = 16;
 
-/// The place of a text among these.
+/// Returns the position of a text in a list.
 fn place_of(texts: &[Text], name: &str) -> Option<usize>
     ensures { result ≡ position (λ t. bytes_eq name.now (text_bytes t)) texts.now }
 {
@@ -29,7 +30,8 @@ fn place_of(texts: &[Text], name: &str) -> Option<usize>
 }
 
 impl Locals {
-    /// No locals, with room for as many as these parameters and names in the body can be.
+    /// Returns no locals, with capacity for this many parameters and names bound in the body if a list is enough for
+    /// them.
     pub fn new(
         alloc: Global,
         keys: Keys,
@@ -45,7 +47,7 @@ impl Locals {
         Ok(Locals::Many(IndexSet::with_hasher(alloc, keys)))
     }
 
-    /// How many locals there are.
+    /// Returns the number of locals.
     pub fn len(&self) -> usize
         ensures { result ≡ length (locals_in self.now) }
     {
@@ -55,7 +57,7 @@ impl Locals {
         }
     }
 
-    /// The number of a name, if it is a local.
+    /// Returns the number of a name, or `None` if it is no local.
     pub fn number_of(&self, name: &str) -> Option<usize>
         ensures { result ≡ index_of name.now (locals_in self.now) }
     {
@@ -65,14 +67,14 @@ impl Locals {
         }
     }
 
-    /// Whether a name is a local.
+    /// Returns whether a name is a local.
     fn has(&self, name: &str) -> bool
         ensures { result ≡ is_one_of name.now (locals_in self.now) }
     {
         self.number_of(name).is_some()
     }
 
-    /// Adds a local that is new.
+    /// Adds a local that must be new.
     fn add(&mut self, alloc: Global, name: &str) -> Result<(), OutOfMemory>
         requires { is_one_of name.now (locals_in self.old) ≡ false }
         ensures { OnOk result (locals_in self.new ≡ locals_in self.old ++ (name.now ∷ [])) }
@@ -86,7 +88,7 @@ impl Locals {
         Ok(())
     }
 
-    /// Adds a local, unless the name is reserved or a local already.
+    /// Adds a local, unless the name is reserved or already a local.
     pub fn bind(&mut self, alloc: Global, name: &str) -> Result<(), OutOfMemory>
         ensures { OnOk result (locals_in self.new ≡ with_new_local (locals_in self.old) name.now) }
     {

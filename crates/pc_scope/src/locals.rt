@@ -13,7 +13,7 @@ use pc_source::OutOfMemory;
 use pc_tree::{FuncDef, Item, ItemKind, Keys, Member, Name, Param, add_bound};
 use std::alloc::Global;
 
-/// The object of a method as a local.
+/// Binds `self` as a local of a method.
 fn bind_self(locals: &mut Locals, alloc: Global, is_method: bool) -> Result<(), OutOfMemory>
     ensures { OnOk result (locals_in locals.new
         ≡ fold with_new_local (locals_in locals.old) (self_before is_method)) }
@@ -24,7 +24,7 @@ fn bind_self(locals: &mut Locals, alloc: Global, is_method: bool) -> Result<(), 
     Ok(())
 }
 
-/// The names of parameters as locals.
+/// Binds the names of parameters as locals.
 fn bind_parameters(locals: &mut Locals, alloc: Global, params: &[Param]) -> Result<(), OutOfMemory>
     ensures { OnOk result (locals_in locals.new
         ≡ fold with_new_local (locals_in locals.old) (texts (param_names (map param_of params.now)))) }
@@ -35,7 +35,7 @@ fn bind_parameters(locals: &mut Locals, alloc: Global, params: &[Param]) -> Resu
     Ok(())
 }
 
-/// Names as locals.
+/// Binds names as locals.
 fn bind_all(locals: &mut Locals, alloc: Global, names: &[&Name]) -> Result<(), OutOfMemory>
     ensures { OnOk result (locals_in locals.new
         ≡ fold with_new_local (locals_in locals.old) (texts (map name_seen names.now))) }
@@ -46,8 +46,8 @@ fn bind_all(locals: &mut Locals, alloc: Global, names: &[&Name]) -> Result<(), O
     Ok(())
 }
 
-/// The locals of a function: `self` of a method, the parameters, and the names that its body binds.
-/// Language Reference 4.2.1 "Binding of names".
+/// Returns the locals of a function: `self` of a method, the parameters, and the names that its body binds. Language
+/// Reference 4.2.1 "Binding of names".
 fn locals(alloc: Global, keys: Keys, is_method: bool, def: &FuncDef) -> Result<Locals, OutOfMemory>
     ensures { IfOk result (λ s. locals_in s ≡ locals_by is_method (func_of def.now)) }
 {
@@ -60,7 +60,7 @@ fn locals(alloc: Global, keys: Keys, is_method: bool, def: &FuncDef) -> Result<L
     Ok(locals)
 }
 
-/// The locals of each method of a class.
+/// Returns the locals of each method of a class, in text order.
 fn locals_of_methods(
     alloc: Global,
     keys: Keys,
@@ -79,7 +79,7 @@ fn locals_of_methods(
     Ok(all)
 }
 
-/// The locals of each function of a module.
+/// Returns the locals of each function of a module, in text order.
 pub fn locals_of_functions(
     alloc: Global,
     keys: Keys,
@@ -99,7 +99,7 @@ pub fn locals_of_functions(
     Ok(all)
 }
 
-/// The locals of the methods of each class of a module.
+/// Returns the locals of each method of each class of a module, in text order.
 pub fn locals_of_classes(
     alloc: Global,
     keys: Keys,

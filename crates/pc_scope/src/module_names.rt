@@ -1,4 +1,4 @@
-//! What the names of a module mean.
+//! Builds the name tables of a module.
 
 ghost use Rattle.std.specs.Prelude.{IfOk};
 ghost use Rattle.pc_tree.specs.Tree.{module_of};
@@ -11,7 +11,7 @@ use pc_source::OutOfMemory;
 use pc_tree::Module;
 use std::alloc::Global;
 
-/// What the names of a module mean. Language Reference 4.2 "Naming and binding".
+/// Returns the name tables of a module. Language Reference 4.2 "Naming and binding".
 pub fn names_of(alloc: Global, module: &Module) -> Result<Names, OutOfMemory>
     ensures tables { IfOk result (λ s. AreTables (module_of module.now) s) }
 {

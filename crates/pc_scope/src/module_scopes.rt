@@ -6,11 +6,11 @@ ghost use Rattle.pc_scope.specs.Resolution.{resolve, locals_of};
 ghost use Rattle.pc_scope.specs.Tables.{meaning_by_tables};
 ghost use Rattle.pc_scope.specs.ModuleScopes.{ModuleScopes, AreScopes};
 
-use crate::resolution::{Owner, Res};
+use crate::resolution::{NameMeaning, Owner};
 use crate::tables::Names;
 use std::marker::Model;
 
-/// The scopes of a module: what each name of it means.
+/// The scopes of a module, which resolve its names.
 #[derive(Drop)]
 pub struct Scopes {
     pub(crate) names: Names,
@@ -23,17 +23,17 @@ impl Model for Scopes {
 }
 
 impl Scopes {
-    /// What a name means to its owner, the module or a function or method of it; the name is in the normal form NFKC.
-    /// Language Reference 4.2.2 "Resolution of names".
-    pub fn resolve(&self, owner: Owner, name: &str) -> Res
+    /// Returns the meaning of a name to its owner: the module, or a function or method of it. The name must be in
+    /// normal form NFKC. Language Reference 4.2.2 "Resolution of names".
+    pub fn resolve(&self, owner: Owner, name: &str) -> NameMeaning
         ensures by_tables { result ≡ meaning_by_tables self.now.tables owner name.now }
         ensures resolved { (m : Tree) → AreScopes m self.now → result ≡ resolve m owner name.now }
     {
         self.names.mean(owner, name)
     }
 
-    /// How many locals an owner has, the module or a function or method of it: they are numbered from 0.
-    /// Language Reference 4.2.1 "Binding of names".
+    /// Returns the number of locals of an owner: the module, which has none, or a function or method of it. Locals are
+    /// numbered from 0. Language Reference 4.2.1 "Binding of names".
     pub fn count_locals(&self, owner: Owner) -> usize
         ensures { (m : Tree) → AreScopes m self.now → result ≡ length (locals_of m owner) }
     {

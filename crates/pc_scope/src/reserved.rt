@@ -1,4 +1,4 @@
-//! The reserved names, each with the built-in that it means.
+//! The reserved names and the built-ins they mean.
 
 ghost use Rattle.std.specs.Prelude.{◌≡◌, ◌==◌, map, slice_index};
 ghost use Rattle.std.specs.List.{filter};
@@ -7,7 +7,7 @@ ghost use Rattle.pc_scope.specs.Internal.WalkViews.{reserved_entry_seen};
 
 use crate::resolution::Builtin;
 
-/// The reserved names that begin with a byte, each with the built-in that it means. Own rule of the profile.
+/// Returns the reserved names that begin with a byte, each with the built-in it means. Own rule of the profile.
 fn beginning_with(byte: u8) -> &'static [(&'static str, Builtin)]
     ensures { map reserved_entry_seen result.now ≡ filter (λ e. slice_index e.0 0 == byte) reserved_builtins }
 {
@@ -27,7 +27,7 @@ fn beginning_with(byte: u8) -> &'static [(&'static str, Builtin)]
     }
 }
 
-/// What stands beside a name in a table.
+/// Returns the built-in beside a name in a table.
 fn beside(table: &[(&str, Builtin)], name: &str) -> Option<Builtin>
     ensures { result ≡ beside (map reserved_entry_seen table.now) name.now }
 {
@@ -39,7 +39,8 @@ fn beside(table: &[(&str, Builtin)], name: &str) -> Option<Builtin>
     None
 }
 
-/// The built-in that a name means, if it is reserved: it is sought among those that begin as it does.
+/// Returns the built-in that a name means, or `None` if it is not reserved. Only reserved names with the same first
+/// byte are compared.
 #[tactic(auto, unfolding(crate::specs::Reserved::builtin_of))]
 pub fn builtin(name: &str) -> Option<Builtin>
     ensures { result ≡ builtin_of name.now }

@@ -1,6 +1,6 @@
-//! What a name may mean: built-ins, owners, resolutions.
+//! Meanings of names: built-ins, owners, resolutions.
 
-/// A built-in of the profile: what a reserved name means where it is not bound, which it never is.
+/// A built-in of the profile: the meaning of a reserved name, which no module can bind.
 ///
 /// Own rule of the profile.
 #[derive(Clone, Copy, PartialEq, Eq, Debug)]
@@ -21,8 +21,8 @@ pub enum Builtin {
     Tuple,
 }
 
-/// Whose names a name is looked up among: the module's, or those of a function or a method of it. Functions, classes
-/// and each class's methods are numbered from 0 in text order.
+/// The owner of a lookup: the module, or a function or method of it. Functions, classes and the methods of each class
+/// are numbered from 0 in text order.
 #[derive(Clone, Copy, PartialEq, Eq, Debug)]
 pub enum Owner {
     Module,
@@ -30,12 +30,12 @@ pub enum Owner {
     Method(usize, usize),
 }
 
-/// What a name means. Constants, functions and classes are numbered from 0 in text order, locals from 0 by their first
-/// binding; a method's first local is `self`.
+/// The meaning of a name. Constants, functions and classes are numbered from 0 in text order, locals from 0 by their
+/// first binding; the first local of a method is `self`.
 ///
 /// Python Language Reference 3.12, 4.2.2 "Resolution of names".
 #[derive(Clone, Copy, PartialEq, Eq, Debug)]
-pub enum Res {
+pub enum NameMeaning {
     Local(usize),
     Const(usize),
     Func(usize),

@@ -1,4 +1,4 @@
-//! The tables of a module's names.
+//! The name tables of a module.
 
 ghost use Rattle.std.specs.Prelude.{◌≡◌, length, map};
 ghost use Rattle.pc_scope.specs.Resolution.{index_of};
@@ -6,17 +6,17 @@ ghost use Rattle.pc_scope.specs.Reserved.{beside};
 ghost use Rattle.pc_scope.specs.Tables.{Tables, meaning_by_tables, locals_for};
 ghost use Rattle.pc_scope.specs.Internal.WalkViews.{text_entry, locals_in, methods_texts, locals_seen};
 
-use crate::globals::Globals;
+use crate::globals::GlobalMeanings;
 use crate::local_names::Locals;
 use crate::reserved::builtin;
-use crate::resolution::{Owner, Res};
+use crate::resolution::{NameMeaning, Owner};
 use std::marker::Model;
 
-/// What each name of a module means: what the module binds first by each name, and the locals of its functions and
+/// The name tables of a module: the first binding of each name at module level, and the locals of its functions and
 /// methods.
 #[derive(Drop)]
 pub struct Names {
-    pub globals: Globals,
+    pub globals: GlobalMeanings,
     pub functions: Vec<Locals>,
     pub methods: Vec<Vec<Locals>>,
 }
@@ -32,7 +32,7 @@ impl Model for Names {
 }
 
 impl Names {
-    /// The locals of an owner, if it is a function or a method of the module.
+    /// Returns the locals of an owner, or `None` unless it is a function or method of the module.
     fn locals(&self, owner: Owner) -> Option<&Locals>
         ensures { locals_seen result ≡ locals_for self.now owner }
     {
@@ -46,7 +46,7 @@ impl Names {
         }
     }
 
-    /// The number of a local, if the name is one.
+    /// Returns the number of a name among an owner's locals, or `None` if it is no local.
     fn local(&self, owner: Owner, name: &str) -> Option<usize>
         ensures { result ≡ index_of name.now (locals_for self.now owner) }
     {
@@ -56,7 +56,7 @@ impl Names {
         }
     }
 
-    /// How many locals an owner has.
+    /// Returns the number of locals of an owner.
     pub fn count_locals(&self, owner: Owner) -> usize
         ensures { result ≡ length (locals_for self.now owner) }
     {
@@ -66,26 +66,26 @@ impl Names {
         }
     }
 
-    /// What the module binds first by a name, if anything.
-    fn global(&self, name: &str) -> Option<Res>
+    /// Returns the first binding of a name at module level, if there is one.
+    fn global(&self, name: &str) -> Option<NameMeaning>
         ensures { result ≡ beside self.now.globals name.now }
     {
         self.globals.get(name).copied()
     }
 
-    /// What a name means: a local, a built-in, what the module binds first, or nothing.
-    pub fn mean(&self, owner: Owner, name: &str) -> Res
+    /// Returns the meaning of a name: a local, a built-in, the first binding at module level, or nothing.
+    pub fn mean(&self, owner: Owner, name: &str) -> NameMeaning
         ensures { result ≡ meaning_by_tables self.now owner name.now }
     {
         if let Some(number) = self.local(owner, name) {
-            return Res::Local(number);
+            return NameMeaning::Local(number);
         }
         if let Some(found) = builtin(name) {
-            return Res::Builtin(found);
+            return NameMeaning::Builtin(found);
         }
         match self.global(name) {
             Some(found) => found,
-            None => Res::None,
+            None => NameMeaning::None,
         }
     }
 }

@@ -1,4 +1,4 @@
--- What the walks find of a module's names and places is what its scopes find.
+-- The walks find exactly the findings about a module's scopes.
 use Rattle.std.proofs.Common.{◌≡◌, ◌↔◌, ◌+◌, ℕ, suc, List, [], ◌∷◌, ◌++◌, refl, sym, ap, ◌∙◌, subst, inl, inr, arith}
 use Rattle.std.proofs.Common.{Contains, map, length}
 use Rattle.std.specs.Prelude.{Bool, true, false, Some, take, slice_get}
@@ -12,11 +12,11 @@ use Rattle.pc_tree.specs.Code.{finding, at_code}
 use Rattle.pc_tree.specs.Tree.{FuncDef, Constant, Member, field_member, method_member, Item, constant_item, class_item}
 use Rattle.pc_tree.specs.Tree.{def_item, Module}
 use Rattle.pc_tree.specs.Stopping.{of_members, of_defs, IsStopping}
-use Rattle.pc_stop.specs.Found.{found_in_scopes}
-use Rattle.pc_stop.proofs.AllStops.{of_scopes, to_twice, to_loose, to_main, to_reserved, to_default}
+use Rattle.pc_stopping.specs.Found.{found_in_scopes}
+use Rattle.pc_stopping.proofs.AllStops.{of_scopes, to_twice, to_loose, to_main, to_reserved, to_default}
 use Rattle.pc_scope.specs.declared.resolution.Owner.{Owner}
 use Rattle.pc_scope.specs.declared.resolution.Owner.TheVariants as owners
-use Rattle.pc_scope.specs.declared.resolution.Res.{Res}
+use Rattle.pc_scope.specs.declared.resolution.NameMeaning.{NameMeaning}
 use Rattle.pc_scope.specs.Bindings.{constants_in, classes_in, functions_in, Body, bodies, function_bodies, class_bodies}
 use Rattle.pc_scope.specs.Resolution.{resolve}
 use Rattle.pc_scope_findings.specs.Unreached.{unreached_places}
@@ -52,14 +52,14 @@ defs_over g i c (class_item p x ∷ is) = ap (λ l. l ++ of_defs g g is) (method
     ∙ ap (λ l. over_methods (λ o f. g f) c 0 x.members ++ l) (defs_over g i (suc c) is)
 defs_over g i c (def_item p f ∷ is) = ap (λ l. g f ++ l) (defs_over g (suc i) c is)
 
-unknown_over_methods : (means : Owner → List ℕ → Res) (c i : ℕ) (ms : List Member) → unknown_in_methods means c i ms
+unknown_over_methods : (means : Owner → List ℕ → NameMeaning) (c i : ℕ) (ms : List Member) → unknown_in_methods means c i ms
     ≡ over_methods (λ o f. unknown_in (means o) (exprs_in_all true f.body)) c i ms
 unknown_over_methods means c i [] = refl
 unknown_over_methods means c i (field_member f ∷ ms) = unknown_over_methods means c i ms
 unknown_over_methods means c i (method_member f ∷ ms) = ap (λ l. unknown_in (means (owners.Method c i))
     (exprs_in_all true f.body) ++ l) (unknown_over_methods means c (suc i) ms)
 
-unknown_over : (means : Owner → List ℕ → Res) (i c : ℕ) (items : List Item) → unknown_in_bodies means i c items
+unknown_over : (means : Owner → List ℕ → NameMeaning) (i c : ℕ) (items : List Item) → unknown_in_bodies means i c items
     ≡ over_bodies (λ o f. unknown_in (means o) (exprs_in_all true f.body)) i c items
 unknown_over means i c [] = refl
 unknown_over means i c (constant_item p x ∷ is) = unknown_over means i c is

@@ -1,17 +1,17 @@
--- What stands too early in initializers: as a walk over the items counts, and as it is defined by the items before.
+-- E03 in initializers: found by a walk that counts items, and defined by the items before.
 use Rattle.std.proofs.Common.{◌≡◌, ◌+◌, ℕ, zero, suc, List, [], ◌∷◌, refl, sym, ap, subst, arith, Contains, length}
 use Rattle.std.specs.Prelude.{false, Option, Some, None, take, slice_get}
 use Rattle.std.proofs.lemmas.List.Elements.{Contains-append_left, Contains-append_right}
 use Rattle.pc_source.specs.declared.place.Place.{Place}
 use Rattle.pc_tree.specs.Tree.{Constant, Item, constant_item, class_item, def_item}
-use Rattle.pc_scope.specs.declared.resolution.Res.{Res}
+use Rattle.pc_scope.specs.declared.resolution.NameMeaning.{NameMeaning}
 use Rattle.pc_scope.specs.Bindings.{constants_in, classes_in}
 use Rattle.pc_scope.specs.Expressions.{parts_in}
 use Rattle.pc_scope_findings.specs.Internal.FindingLists.{early_among, early_in}
 use Rattle.pc_tree.proofs.Among.{none_among, either}
 
 -- a constant after so many constants and classes, with something too early in its initializer
-pub record IsEarlyAt (resolve : List ℕ → Res) (k c : ℕ) (items : List Item) (p : Place) : Type 0 where
+pub record IsEarlyAt (resolve : List ℕ → NameMeaning) (k c : ℕ) (items : List Item) (p : Place) : Type 0 where
   pub at : ℕ
   pub first : Place
   pub constant : Constant
@@ -25,7 +25,7 @@ constant_or y (Some (constant_item p c)) = c
 constant_or y (Some (class_item p c)) = y
 constant_or y (Some (def_item p f)) = y
 
-module _ (resolve : List ℕ → Res) where
+module _ (resolve : List ℕ → NameMeaning) where
   -- the counts may be written otherwise
   pub moved : (k k' c c' : ℕ) (x : Constant) (p : Place) → k ≡ k' → c ≡ c'
       → Contains (early_among k c resolve (parts_in false x.value)) p

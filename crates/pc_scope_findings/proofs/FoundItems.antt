@@ -1,4 +1,4 @@
--- What is found in constants, functions and methods: as walks over the items find it, and as it is defined.
+-- Findings in constants, functions and methods: found by walks over the items, and as they are defined.
 use Rattle.std.proofs.Common.{◌≡◌, ◌⊎◌, ◌+◌, ℕ, suc, List, [], ◌∷◌, ◌++◌, sym, subst, inl, inr, Contains}
 use Rattle.std.specs.Prelude.{true}
 use Rattle.std.proofs.lemmas.List.Elements.{Contains-append_left, Contains-append_right}
@@ -7,7 +7,7 @@ use Rattle.pc_tree.specs.Tree.{FuncDef, Member, field_member, method_member, Cla
 use Rattle.pc_tree.specs.Tree.{class_item, def_item}
 use Rattle.pc_scope.specs.declared.resolution.Owner.{Owner}
 use Rattle.pc_scope.specs.declared.resolution.Owner.TheVariants as owners
-use Rattle.pc_scope.specs.declared.resolution.Res.{Res}
+use Rattle.pc_scope.specs.declared.resolution.NameMeaning.{NameMeaning}
 use Rattle.pc_scope.specs.Bindings.{constants_in, classes_in, functions_in, methods_in, Body, function_bodies}
 use Rattle.pc_scope.specs.Bindings.{method_bodies, class_bodies}
 use Rattle.pc_scope.specs.Expressions.{parts_in}
@@ -17,12 +17,12 @@ use Rattle.pc_tree.proofs.Among.{none_among, first_among, later_among, among_fir
 -- ---- constants
 
 -- a constant with such a name in its initializer
-pub record IsUnknownConstant (resolve : List ℕ → Res) (items : List Item) (p : Place) : Type 0 where
+pub record IsUnknownConstant (resolve : List ℕ → NameMeaning) (items : List Item) (p : Place) : Type 0 where
   pub c : Constant
   pub among : Contains (constants_in items) c
   pub part : Contains (unknown_among resolve (parts_in true c.value)) p
 
-module _ (resolve : List ℕ → Res) where
+module _ (resolve : List ℕ → NameMeaning) where
   pub constant_of : (items : List Item) (p : Place) → Contains (unknown_in_constants resolve items) p
       → IsUnknownConstant resolve items p
   constant_of [] p h = absurd (none_among p h)

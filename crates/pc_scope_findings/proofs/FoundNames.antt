@@ -1,4 +1,4 @@
--- The names of expressions that mean nothing, or that stand too early: as a walk finds them, and as they are defined.
+-- The names in expressions that mean nothing or are used too early: as a walk finds them, and as they are defined.
 use Rattle.std.proofs.Common.{◌≡◌, ◌⊎◌, ℕ, List, [], ◌∷◌, ◌++◌, refl, sym, ap, ◌∙◌, subst, inl, inr, arith, Contains}
 use Rattle.std.specs.Prelude.{Bool, true, false, Option, Some, None, filter_map}
 use Rattle.std.specs.List.{cons_option}
@@ -9,8 +9,8 @@ use Rattle.pc_tree.specs.Tree.{Name, Expr}
 use Rattle.pc_tree.specs.NamesAlone.{name_of_tree}
 use Rattle.pc_tree.specs.Stopping.{one_if}
 use Rattle.pc_tree.proofs.Among.{none_among, first_among, later_among, among_first, either}
-use Rattle.pc_scope.specs.declared.resolution.Res.{Res}
-use Rattle.pc_scope.specs.declared.resolution.Res.TheVariants as res
+use Rattle.pc_scope.specs.declared.resolution.NameMeaning.{NameMeaning}
+use Rattle.pc_scope.specs.declared.resolution.NameMeaning.TheVariants as res
 use Rattle.pc_scope.specs.Expressions.{parts_in, other_callee}
 use Rattle.pc_scope_findings.specs.Findings.{IsEarlyMeaning}
 use Rattle.pc_scope_findings.specs.Internal.FindingLists.{means_nothing, unknown_at, unknown_among, unknown_in}
@@ -24,7 +24,7 @@ to_one : (b : Bool) (p : Place) → b ≡ true → Contains (one_if b p) p
 to_one true p e = first_among p []
 to_one false p e = absurd (grind (arith, e))
 
-nothing_is : (r : Res) → means_nothing r ≡ true → r ≡ res.None
+nothing_is : (r : NameMeaning) → means_nothing r ≡ true → r ≡ res.None
 nothing_is (res.Local n) e = absurd (grind (arith, e))
 nothing_is (res.Const n) e = absurd (grind (arith, e))
 nothing_is (res.Func n) e = absurd (grind (arith, e))
@@ -35,13 +35,13 @@ nothing_is res.None e = refl
 -- ---- names among expressions
 
 -- a name among expressions that means nothing
-pub record IsUnknownAmong (resolve : List ℕ → Res) (es : List Expr) (p : Place) : Type 0 where
+pub record IsUnknownAmong (resolve : List ℕ → NameMeaning) (es : List Expr) (p : Place) : Type 0 where
   pub n : Name
   pub named : Contains (filter_map name_of_tree es) n
   pub unknown : resolve n.text ≡ res.None
   pub is : n.place ≡ p
 
-module _ (resolve : List ℕ → Res) where
+module _ (resolve : List ℕ → NameMeaning) where
   unknown_more : (o : Option Name) (e : Expr) (es : List Expr) (p : Place) → name_of_tree e ≡ o
       → Contains (unknown_at resolve o) p → IsUnknownAmong resolve (e ∷ es) p
   unknown_more None e es p is h = absurd (none_among p h)
@@ -111,7 +111,7 @@ module _ (resolve : List ℕ → Res) where
 
 -- ---- names too early
 
-early_is : (k c : ℕ) (r : Res) → is_early_meaning k c r ≡ true → IsEarlyMeaning k c r
+early_is : (k c : ℕ) (r : NameMeaning) → is_early_meaning k c r ≡ true → IsEarlyMeaning k c r
 early_is k c (res.Local n) e = absurd (grind (arith, e))
 early_is k c (res.Const n) e = grind (arith, nat_tests, e)
 early_is k c (res.Func n) e = tt
@@ -119,7 +119,7 @@ early_is k c (res.Class n) e = grind (arith, nat_tests, e)
 early_is k c (res.Builtin b) e = absurd (grind (arith, e))
 early_is k c res.None e = absurd (grind (arith, e))
 
-to_early_is : (k c : ℕ) (r : Res) → IsEarlyMeaning k c r → is_early_meaning k c r ≡ true
+to_early_is : (k c : ℕ) (r : NameMeaning) → IsEarlyMeaning k c r → is_early_meaning k c r ≡ true
 to_early_is k c (res.Local n) e = absurd e
 to_early_is k c (res.Const n) e = grind (arith, nat_tests, e)
 to_early_is k c (res.Func n) e = refl
@@ -128,13 +128,13 @@ to_early_is k c (res.Builtin b) e = absurd e
 to_early_is k c res.None e = absurd e
 
 -- what stands too early among expressions: a name, or a callee that is none
-pub record IsEarlyAmong (k c : ℕ) (resolve : List ℕ → Res) (es : List Expr) (p : Place) : Type 0 where
+pub record IsEarlyAmong (k c : ℕ) (resolve : List ℕ → NameMeaning) (es : List Expr) (p : Place) : Type 0 where
   pub n : Name
   pub named : Contains (filter_map name_of_tree es) n
   pub early : IsEarlyMeaning k c (resolve n.text)
   pub is : n.place ≡ p
 
-module _ (k c : ℕ) (resolve : List ℕ → Res) where
+module _ (k c : ℕ) (resolve : List ℕ → NameMeaning) where
   abbrev pub Early : List Expr → Place → Type 0
   Early es p = IsEarlyAmong k c resolve es p ⊎ Contains (filter_map other_callee es) p
 

@@ -1,4 +1,4 @@
--- What is sought among the parts of an expression, list after list.
+-- The findings of a search among the parts of an expression, list after list.
 use Rattle.std.proofs.Common.{◌≡◌, ◌<◌, ℕ, ◌+◌, List, [], ◌∷◌, ◌++◌, length, get_or, drop, refl, ap, ◌∙◌, sym}
 use Rattle.std.proofs.Common.{append_assoc, Bool, true, false}
 use Rattle.pc_source.specs.declared.place.Place.{Place}
@@ -15,7 +15,7 @@ use Rattle.pc_tree.proofs.Stops.{cons_at}
 use Rattle.pc_tree.proofs.Finds.{at_both}
 use Rattle.pc_scope.specs.declared.resolution.Owner.{Owner}
 use Rattle.pc_scope.specs.declared.resolution.Owner.TheVariants as owners
-use Rattle.pc_scope.specs.declared.resolution.Res.{Res}
+use Rattle.pc_scope.specs.declared.resolution.NameMeaning.{NameMeaning}
 use Rattle.pc_scope.specs.Expressions.{parts_in, parts_in_all, parts_in_entries, parts_in_keywords, other_callee}
 use Rattle.pc_scope.specs.Tables.{Tables, meaning_by_tables}
 use Rattle.pc_scope_findings.specs.declared.parts.Sought.{Sought}
@@ -40,7 +40,7 @@ unknown_sought t owner (e ∷ es) = ap (λ (fs : List Finding). at_code E02
     (unknown_among (meaning_by_tables t owner) es))
 
 -- the names that mean nothing in two lists of expressions
-pub unknown_both : (r : List ℕ → Res) (a b : List Expr) → unknown_in r (a ++ b) ≡ unknown_in r a ++ unknown_in r b
+pub unknown_both : (r : List ℕ → NameMeaning) (a b : List Expr) → unknown_in r (a ++ b) ≡ unknown_in r a ++ unknown_in r b
 unknown_both r [] b = refl
 unknown_both r (e ∷ a) b = ap (λ (ps : List Place). unknown_among r (parts_in true e) ++ ps) (unknown_both r a b)
     ∙ sym (append_assoc (unknown_among r (parts_in true e)) (unknown_in r a) (unknown_in r b))

@@ -9,7 +9,7 @@ use Rattle.pc_tree.specs.declared.tree.Branch.{Branch as RustBranch, out-Branch}
 use Rattle.pc_tree.specs.Tree.{Expr, Stmts, Branches, expr_of, stmt_of, stmts_of_list}
 use Rattle.pc_tree.specs.Lists.{branches_of_list}
 use Rattle.pc_tree.proofs.Trees.{stmts_next, branches_next}
-use Rattle.pc_scope.specs.declared.resolution.Res.{Res}
+use Rattle.pc_scope.specs.declared.resolution.NameMeaning.{NameMeaning}
 use Rattle.pc_scope.specs.Expressions.{parts_in, exprs_in, exprs_in_all, exprs_in_branches}
 use Rattle.pc_scope.specs.Reach.{completes}
 use Rattle.pc_tree.specs.Code.{at_code}
@@ -17,7 +17,7 @@ use Rattle.pc_scope_findings.specs.Internal.FindingLists.{unknown_among, unknown
 use Rattle.pc_tree.proofs.Finds.{at_both}
 use Rattle.pc_scope_findings.proofs.Seeking.{unknown_both}
 
-module _ (r : List ℕ → Res) where
+module _ (r : List ℕ → NameMeaning) where
   abbrev here : List Expr → List Finding
   here es = at_code E02 (unknown_in r es)
 

@@ -1,4 +1,4 @@
--- The findings that are conditions on names and on the places of statements: E01, E02, E03, E05, E28, E29, E30, E31.
+-- The findings about names and the places of statements: E01, E02, E03, E05, E28, E29, E30, E31.
 -- Language Reference 3.12, 4.2 "Naming and binding"; each code is an own rule of the profile.
 use Rattle.std.specs.Prelude.{◌≡◌, ◌⊎◌, ◌≤◌, ℕ, length, take, true, false, Some, Contains, slice_get, filter_map}
 use Rattle.pc_source.specs.declared.place.Place.{Place}
@@ -11,14 +11,14 @@ use Rattle.pc_tree.specs.Tree.{Name, Expr, ClassDef, Constant, constant_item, Mo
 use Rattle.pc_tree.specs.NamesAlone.{name_of_tree}
 use Rattle.pc_scope.specs.declared.resolution.Owner.{Owner}
 use Rattle.pc_scope.specs.declared.resolution.Owner.TheVariants as owners
-use Rattle.pc_scope.specs.declared.resolution.Res.{Res}
-use Rattle.pc_scope.specs.declared.resolution.Res.TheVariants as res
+use Rattle.pc_scope.specs.declared.resolution.NameMeaning.{NameMeaning}
+use Rattle.pc_scope.specs.declared.resolution.NameMeaning.TheVariants as res
 use Rattle.pc_scope.specs.Bindings.{constants_in, classes_in, Body, bodies}
 use Rattle.pc_scope.specs.Resolution.{resolve, resolve_in_module}
 use Rattle.pc_scope.specs.Expressions.{parts_in, other_callee, exprs_in_all}
 use Rattle.pc_scope_findings.specs.Unreached.{unreached_places}
 
--- E01, E05, E28, E29, E31: those of the codes that stop a run which are not of classes
+-- E01, E05, E28, E29, E31: the codes that stop a run and do not concern classes
 abbrev pub IsScopeCode : Code → Type 0
 IsScopeCode E01 = Unit {0}
 IsScopeCode E05 = Unit {0}
@@ -27,14 +27,14 @@ IsScopeCode E29 = Unit {0}
 IsScopeCode E31 = Unit {0}
 IsScopeCode _ = ⊥
 
--- a name of an expression, the second argument of a test of an instance aside, means nothing to its owner
+-- a name in an expression, apart from the second argument of an `isinstance` test, means nothing to its owner
 pub record IsUnknownIn (m : Module) (owner : Owner) (e : Expr) (f : Finding) : Type 0 where
   pub n : Name
   pub named : Contains (filter_map name_of_tree (parts_in true e)) n
   pub unknown : resolve m owner n.text ≡ res.None
   pub is : f ≡ finding n.place E02
 
--- E02: a name in an expression means nothing, or `dataclass` after `@` has no header
+-- E02: a name in an expression means nothing, or the header does not import the decorator `dataclass`
 pub data IsUnknown (m : Module) (f : Finding) : Type 0 where
   in_constant : (c : Constant) → Contains (constants_in m.items) c → IsUnknownIn m owners.Module c.value f
       → IsUnknown m f
@@ -43,28 +43,28 @@ pub data IsUnknown (m : Module) (f : Finding) : Type 0 where
   decorator : (c : ClassDef) → m.imports_dataclass ≡ false → Contains (classes_in m.items) c
       → f ≡ finding c.decorator E02 → IsUnknown m f
 
--- what an initializer may not name after so many constants and classes: a function, and a constant or class that is
--- not one of them
-abbrev pub IsEarlyMeaning : (constants classes : ℕ) → Res → Type 0
+-- an initializer after this many constants and classes may not use a function, a later constant or class, or its own
+-- constant
+abbrev pub IsEarlyMeaning : (constants classes : ℕ) → NameMeaning → Type 0
 IsEarlyMeaning k c (res.Func i) = Unit {0}
 IsEarlyMeaning k c (res.Const i) = k ≤ i
 IsEarlyMeaning k c (res.Class i) = c ≤ i
 IsEarlyMeaning k c _ = ⊥
 
--- a name in an initializer means what it may not name after so many constants and classes
+-- an initializer uses a name that it may not use after this many constants and classes
 pub record IsEarlyName (m : Module) (constants classes : ℕ) (e : Expr) (f : Finding) : Type 0 where
   pub n : Name
   pub named : Contains (filter_map name_of_tree (parts_in false e)) n
   pub early : IsEarlyMeaning constants classes (resolve_in_module m n.text)
   pub is : f ≡ finding n.place E03
 
--- a callee in an initializer is no name
+-- a callee in an initializer is not a name
 pub record IsEarlyCallee (e : Expr) (f : Finding) : Type 0 where
   pub place : Place
   pub callee : Contains (filter_map other_callee (parts_in false e)) place
   pub is : f ≡ finding place E03
 
--- E03: an initializer names what it may not, or calls what is no name
+-- E03: an initializer uses a name that it may not use, or calls an expression that is not a name
 pub record IsEarly (m : Module) (f : Finding) : Type 0 where
   pub at : ℕ
   pub first : Place
@@ -73,7 +73,7 @@ pub record IsEarly (m : Module) (f : Finding) : Type 0 where
   pub found : IsEarlyName m (length (constants_in (take at m.items)))
       (length (classes_in (take at m.items))) constant.value f ⊎ IsEarlyCallee constant.value f
 
--- E30: the first statement of a suite after one that cannot complete
+-- E30: a statement that is the first of its suite after one that cannot complete
 pub record IsUnreachable (m : Module) (f : Finding) : Type 0 where
   pub body : Body
   pub of : Contains (bodies m) body
@@ -81,7 +81,7 @@ pub record IsUnreachable (m : Module) (f : Finding) : Type 0 where
   pub first : Contains (unreached_places body.function.body) place
   pub is : f ≡ finding place E30
 
--- the findings of scopes
+-- the findings about names and the places of statements
 pub data ScopeFinds (m : Module) (f : Finding) : Type 0 where
   stopping : IsScopeCode f.code → IsStopping m f.place f.code → ScopeFinds m f
   unknown : IsUnknown m f → ScopeFinds m f

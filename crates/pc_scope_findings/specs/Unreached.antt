@@ -1,4 +1,4 @@
--- Which statements no run reaches.
+-- The unreachable statements.
 -- Own rule of the profile.
 use Rattle.std.specs.Prelude.{List, [], ◌∷◌, ◌++◌, if◌then◌else◌}
 use Rattle.pc_source.specs.declared.place.Place.{Place}
@@ -21,12 +21,12 @@ first_of (while_loop p condition body) = p
 first_of (for_loop p n iterable body) = p
 first_of (conditional p arms otherwise) = p
 
--- the first statement of a suite, if it has one
+-- the place of the first statement of a suite, if it has one
 abbrev pub first_places : Stmts → List Place
 first_places no_stmts = []
 first_places (more_stmts s rest) = first_of s ∷ []
 
--- the first statements after one that cannot complete, in the suites that are reached
+-- the places of the first statement after one that cannot complete, in each suite that is reached
 abbrev mutual
   pub unreached_in : Stmt → List Place
   unreached_in (while_loop p condition body) = unreached_places body

@@ -1,4 +1,4 @@
-//! Which statements can complete.
+//! The statements that can complete.
 
 ghost use Rattle.std.specs.Prelude.{◌≡◌};
 ghost use Rattle.pc_source.specs.declared.place.Place.{Place as PlaceOf};
@@ -8,7 +8,7 @@ ghost use Rattle.pc_scope.specs.Reach.{completes, completes_all, some_completes}
 
 use pc_tree::{Branch, Stmt, StmtKind};
 
-/// Whether a statement can complete. Own rule of the profile.
+/// Returns whether a statement can complete. Own rule of the profile.
 #[cycle(completing)]
 pub fn completes(kind: &StmtKind) -> bool
     ensures { (first : PlaceOf) → result ≡ completes (stmt_of_kind first kind.now) }
@@ -33,7 +33,7 @@ pub fn completes(kind: &StmtKind) -> bool
     }
 }
 
-/// Whether statements can complete, one after another.
+/// Returns whether every statement of a suite can complete.
 #[cycle(completing)]
 fn completes_all(body: &[Stmt]) -> bool
     ensures { result ≡ completes_all (stmts_of_list body.now) }
@@ -46,7 +46,7 @@ fn completes_all(body: &[Stmt]) -> bool
     true
 }
 
-/// Whether the suite of one of these conditions can complete.
+/// Returns whether the suite of one of these conditions can complete.
 #[cycle(completing)]
 fn some_completes(branches: &[Branch]) -> bool
     ensures { result ≡ some_completes (branches_of_list branches.now) }

@@ -1,4 +1,5 @@
-//! E03: an initializer that names what is not defined yet, or calls what is no name. Own rule of the profile.
+//! E03: an initializer that uses a name not yet defined, or calls an expression that is not a name. Own rule of the
+//! profile.
 #![tactic(auto, using(crate::proofs::Seeking::early_sought, pc_tree::proofs::Finds::at_both, pc_tree::proofs::Joints::joined))]
 
 ghost use Rattle.std.specs.Prelude.{◌≡◌, ◌++◌, map, OnOk, false};
@@ -15,8 +16,8 @@ use pc_scope::Scopes;
 use pc_source::OutOfMemory;
 use pc_tree::{Expr, Findings, Item, ItemKind};
 
-/// Adds the names in an initializer that stand too early after so many constants and classes, and the callees that are
-/// no names. Own rule of the profile.
+/// Adds E03 for each name that an initializer after this many constants and classes uses too early, and for each callee
+/// that is not a name. Own rule of the profile.
 fn find_early(
     found: &mut Findings,
     scopes: &Scopes,
@@ -32,7 +33,7 @@ fn find_early(
     seek(found, scopes, Sought::Early(constants, classes), e)
 }
 
-/// Finds what stands too early in initializers.
+/// Adds E03 for each name used too early in an initializer and for each callee there that is not a name.
 pub fn find_early_names(
     found: &mut Findings,
     scopes: &Scopes,

@@ -1,4 +1,4 @@
-//! What is found of a module's names and of the places of its statements: conditions that need no types.
+//! Findings about a module's names and the places of its statements: conditions that need no types.
 #![tactic(auto)]
 
 mod completion;

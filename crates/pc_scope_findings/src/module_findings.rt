@@ -1,4 +1,4 @@
-//! All findings of a module's names and of the places of its statements.
+//! All findings about a module's names and the places of its statements.
 
 ghost use Rattle.std.specs.Prelude.{◌≡◌, ◌↔◌, ◌++◌, [], map, Contains, OnOk, IfOk};
 ghost use Rattle.pc_tree.specs.declared.code.Finding.{Finding as FindingOf};
@@ -13,11 +13,11 @@ use crate::unknown::{find_unknown_decorators, find_unknown_in_bodies, find_unkno
 use crate::unreached::find_unreached_in_defs;
 use pc_scope::Scopes;
 use pc_source::OutOfMemory;
-use pc_stop::find_in_scopes;
+use pc_stopping::find_in_scopes;
 use pc_tree::{Findings, Module};
 use std::alloc::Global;
 
-/// Finds names that mean nothing or stand too early: E02, E03.
+/// Adds E02 for each unknown name and E03 for each name or callee that an initializer may not use.
 fn find_names(found: &mut Findings, scopes: &Scopes, program: &Module) -> Result<(), OutOfMemory>
     ensures { OnOk result (found.new.items
         ≡ found.old.items ++ name_findings (meaning_by_tables scopes.now.tables) (module_of program.now)) }
@@ -28,7 +28,7 @@ fn find_names(found: &mut Findings, scopes: &Scopes, program: &Module) -> Result
     find_early_names(found, scopes, &program.items)
 }
 
-/// What is found of a module's names and places.
+/// Returns all findings about a module's names and the places of its statements.
 fn find_all(alloc: Global, scopes: &Scopes, program: &Module) -> Result<Findings, OutOfMemory>
     ensures { IfOk result (λ fs. fs.items
         ≡ scope_findings (meaning_by_tables scopes.now.tables) (module_of program.now)) }
@@ -41,12 +41,12 @@ fn find_all(alloc: Global, scopes: &Scopes, program: &Module) -> Result<Findings
     Ok(found)
 }
 
-/// What is found of a module's names and of the places of its statements, in any order, where the scopes are those of
-/// the module: E01, E02, E03, E05, E28, E29, E30, E31. Own rules of the profile.
+/// Returns the findings about a module's names and the places of its statements, in any order, if the scopes are those
+/// of the module: E01, E02, E03, E05, E28, E29, E30, E31. Own rules of the profile.
 ///
 /// # Errors
 ///
-/// `OutOfMemory` only when an allocation failed.
+/// `OutOfMemory` only if an allocation failed.
 pub fn scope_findings(
     alloc: Global,
     module: &Module,

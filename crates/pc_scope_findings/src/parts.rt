@@ -1,4 +1,4 @@
-//! The walk over the parts of an expression.
+//! A search through an expression and its parts.
 #![tactic(auto, using(crate::proofs::Seeking::sought_both, pc_tree::proofs::Finds::at_both))]
 
 ghost use Rattle.std.specs.Prelude.{◌≡◌, ◌++◌, ◌&&◌, OnOk};
@@ -16,21 +16,21 @@ ghost use Rattle.pc_scope_findings.specs.Internal.FindingLists.{callee_at};
 ghost use Rattle.pc_scope_findings.specs.Internal.SoughtParts.{is_judged, sought_at, sought_among, some_parts};
 ghost use Rattle.pc_scope_findings.specs.Internal.SoughtParts.{inner_parts};
 
-use pc_scope::{Owner, Res, Scopes, is_instance_test};
+use pc_scope::{NameMeaning, Owner, Scopes, is_instance_test};
 use pc_source::OutOfMemory;
 use pc_tree::{Code, Entry, Expr, Findings, KeywordArgument, find, find_if};
 
-/// What a walk over the parts of an expression seeks.
+/// The aim of a search through the parts of an expression.
 #[derive(Clone, Copy, PartialEq, Eq, Debug)]
 pub enum Sought {
-    /// Names that mean nothing to their owner.
+    /// Names that mean nothing to this owner.
     Unknown(Owner),
-    /// Names of what is not among so many constants and classes of the module, and callees that are no names.
+    /// Names that an initializer after this many constants and classes may not use, and callees that are not names.
     Early(usize, usize),
 }
 
 impl Sought {
-    /// Whether the second argument of a test of an instance is passed over.
+    /// Returns whether the search skips the second argument of an `isinstance` test.
     fn is_judged(self) -> bool
         ensures { result ≡ is_judged self }
     {
@@ -41,35 +41,35 @@ impl Sought {
     }
 }
 
-/// Whether a name means nothing.
-fn is_nothing(meaning: Res) -> bool
+/// Returns whether a name means nothing.
+fn is_nothing(meaning: NameMeaning) -> bool
     ensures { result ≡ means_nothing meaning }
 {
-    matches!(meaning, Res::None)
+    matches!(meaning, NameMeaning::None)
 }
 
-/// Whether a name means what an initializer after so many constants and classes may not name.
-fn is_early(constants: usize, classes: usize, meaning: Res) -> bool
+/// Returns whether an initializer after this many constants and classes may not use a name of this meaning.
+fn is_early(constants: usize, classes: usize, meaning: NameMeaning) -> bool
     ensures { result ≡ is_early_meaning constants classes meaning }
 {
     match meaning {
-        Res::Func(_) => true,
-        Res::Const(constant) => constants <= constant,
-        Res::Class(class) => classes <= class,
-        Res::Local(_) => false,
-        Res::Builtin(_) => false,
-        Res::None => false,
+        NameMeaning::Func(_) => true,
+        NameMeaning::Const(constant) => constants <= constant,
+        NameMeaning::Class(class) => classes <= class,
+        NameMeaning::Local(_) => false,
+        NameMeaning::Builtin(_) => false,
+        NameMeaning::None => false,
     }
 }
 
-/// Whether an expression is a name.
+/// Returns whether an expression is a name.
 fn is_name(e: &Expr) -> bool
     ensures { result ≡ is_name (expr_of e.now) }
 {
     matches!(e, Expr::Name(_))
 }
 
-/// Whether the second argument of a call is passed over, as a test of an instance has it where it is judged.
+/// Returns whether a search skips the second argument of this call, since it is an `isinstance` test.
 fn passes_over(
     sought: Sought,
     callee: &Expr,
@@ -82,7 +82,7 @@ fn passes_over(
     sought.is_judged() && is_instance_test(callee, arguments, by_name)
 }
 
-/// Adds an expression that is a name which means nothing.
+/// Adds E02 if an expression is a name that means nothing to its owner.
 fn find_unknown_at(
     found: &mut Findings,
     scopes: &Scopes,
@@ -100,7 +100,7 @@ fn find_unknown_at(
     find_if(found, is_nothing(meaning), Code::E02, name.place)
 }
 
-/// Adds an expression that is a name which stands too early.
+/// Adds E03 if an expression is a name that an initializer after this many constants and classes may not use.
 fn find_early_at(
     found: &mut Findings,
     scopes: &Scopes,
@@ -125,7 +125,7 @@ fn find_early_at(
     )
 }
 
-/// Adds the callee of a call, if it is no name.
+/// Adds E03 if an expression is a call whose callee is not a name.
 fn find_other_callee(found: &mut Findings, e: &Expr) -> Result<(), OutOfMemory>
     ensures { OnOk result (found.new.items
         ≡ found.old.items ++ at_code E03 (callee_at (other_callee (expr_of e.now)))) }
@@ -139,7 +139,7 @@ fn find_other_callee(found: &mut Findings, e: &Expr) -> Result<(), OutOfMemory>
     find(found, Code::E03, callee.place())
 }
 
-/// Adds what is sought at an expression itself.
+/// Adds the findings of a search at an expression without its parts.
 fn seek_at(
     found: &mut Findings,
     scopes: &Scopes,
@@ -157,7 +157,7 @@ fn seek_at(
     }
 }
 
-/// Adds what is sought at an expression and its parts.
+/// Adds the findings of a search in an expression and its parts.
 #[cycle(parts)]
 pub fn seek(
     found: &mut Findings,
@@ -172,7 +172,7 @@ pub fn seek(
     seek_inside(found, scopes, sought, e)
 }
 
-/// Adds what is sought at the parts of an expression.
+/// Adds the findings of a search in the parts of an expression.
 #[cycle(parts)]
 fn seek_inside(
     found: &mut Findings,
@@ -215,7 +215,7 @@ fn seek_inside(
     }
 }
 
-/// Adds what is sought at several expressions and their parts, or at the first alone.
+/// Adds the findings of a search in several expressions and their parts, or in the first alone.
 #[cycle(parts)]
 fn seek_all(
     found: &mut Findings,
@@ -237,7 +237,7 @@ fn seek_all(
     Ok(())
 }
 
-/// Adds what is sought at keys and values and their parts.
+/// Adds the findings of a search in the keys and values of a dict display and their parts.
 #[cycle(parts)]
 fn seek_entries(
     found: &mut Findings,
@@ -256,7 +256,7 @@ fn seek_entries(
     Ok(())
 }
 
-/// Adds what is sought at the values of arguments by name and their parts.
+/// Adds the findings of a search in the values of keyword arguments and their parts.
 #[cycle(parts)]
 fn seek_values(
     found: &mut Findings,

@@ -1,4 +1,4 @@
-//! E02: a name that means nothing. Own rule of the profile.
+//! E02: an unknown name, which means nothing to its owner. Own rule of the profile.
 #![tactic(auto, using(crate::proofs::Seeking::unknown_sought, pc_tree::proofs::Finds::at_both, pc_tree::proofs::Joints::joined, crate::proofs::Seeking::unknown_both))]
 
 ghost use Rattle.std.specs.Prelude.{◌≡◌, ◌++◌, map, OnOk, true};
@@ -22,7 +22,7 @@ use pc_scope::{Owner, Scopes};
 use pc_source::OutOfMemory;
 use pc_tree::{Branch, Code, Expr, Findings, Item, ItemKind, Member, Stmt, StmtKind, Target, find};
 
-/// Adds the names in an expression that mean nothing to its owner. Own rule of the profile.
+/// Adds E02 for each name in an expression that is unknown to its owner. Own rule of the profile.
 fn find_unknown(
     found: &mut Findings,
     scopes: &Scopes,
@@ -36,7 +36,7 @@ fn find_unknown(
     seek(found, scopes, Sought::Unknown(owner), e)
 }
 
-/// Adds those in an expression, if there is one.
+/// Adds E02 for each unknown name in an expression that may be missing.
 fn find_unknown_in_option(
     found: &mut Findings,
     scopes: &Scopes,
@@ -53,7 +53,7 @@ fn find_unknown_in_option(
     }
 }
 
-/// Adds those in what is assigned to.
+/// Adds E02 for each unknown name in an assignment target.
 fn find_unknown_in_target(
     found: &mut Findings,
     scopes: &Scopes,
@@ -74,7 +74,7 @@ fn find_unknown_in_target(
     }
 }
 
-/// Adds those in the statements of a body that are reached. Own rule of the profile.
+/// Adds E02 for each unknown name in the reached statements of a body. Own rule of the profile.
 #[cycle(unknown_in_body)]
 fn find_unknown_in_body(
     found: &mut Findings,
@@ -95,7 +95,7 @@ fn find_unknown_in_body(
     Ok(())
 }
 
-/// Adds those in a statement.
+/// Adds E02 for each unknown name in a statement.
 #[cycle(unknown_in_body)]
 fn find_unknown_in_statement(
     found: &mut Findings,
@@ -138,7 +138,7 @@ fn find_unknown_in_statement(
     }
 }
 
-/// Adds those in conditions and their suites.
+/// Adds E02 for each unknown name in conditions and the reached statements of their suites.
 #[cycle(unknown_in_body)]
 fn find_unknown_in_branches(
     found: &mut Findings,
@@ -158,7 +158,7 @@ fn find_unknown_in_branches(
     Ok(())
 }
 
-/// Finds the names in initializers that mean nothing.
+/// Adds E02 for each unknown name in the initializer of a constant.
 pub fn find_unknown_in_constants(
     found: &mut Findings,
     scopes: &Scopes,
@@ -183,7 +183,7 @@ pub fn find_unknown_in_constants(
     Ok(())
 }
 
-/// Finds the names in the bodies of a class's methods that mean nothing.
+/// Adds E02 for each unknown name in the methods of a class.
 fn find_unknown_in_methods(
     found: &mut Findings,
     scopes: &Scopes,
@@ -207,7 +207,7 @@ fn find_unknown_in_methods(
     Ok(())
 }
 
-/// Finds the names in the bodies of functions and methods that mean nothing.
+/// Adds E02 for each unknown name in the functions and methods of a module.
 pub fn find_unknown_in_bodies(
     found: &mut Findings,
     scopes: &Scopes,
@@ -235,7 +235,7 @@ pub fn find_unknown_in_bodies(
     Ok(())
 }
 
-/// Finds the decorators of classes.
+/// Adds E02 for the decorator of each class.
 fn find_decorators(found: &mut Findings, items: &[Item]) -> Result<(), OutOfMemory>
     ensures { OnOk result (found.new.items ≡ found.old.items ++ at_code E02 (decorators_in (map item_of items.now))) }
 {
@@ -249,7 +249,7 @@ fn find_decorators(found: &mut Findings, items: &[Item]) -> Result<(), OutOfMemo
     Ok(())
 }
 
-/// Finds the decorators of classes, where no header imports what they name.
+/// Adds E02 for the decorator of each class, unless the header imports `dataclass`.
 pub fn find_unknown_decorators(
     found: &mut Findings,
     imported: bool,

@@ -1,4 +1,4 @@
-//! E30: a statement that no run reaches. Own rule of the profile.
+//! E30: an unreachable statement. Own rule of the profile.
 #![tactic(auto, using(pc_tree::proofs::Finds::at_both, pc_tree::proofs::Joints::joined))]
 
 ghost use Rattle.std.specs.Prelude.{◌≡◌, ◌++◌, map, OnOk};
@@ -15,8 +15,8 @@ use crate::completion::completes;
 use pc_source::OutOfMemory;
 use pc_tree::{Branch, Code, Findings, Item, ItemKind, Member, Stmt, StmtKind, find};
 
-/// Finds the first statement after one that cannot complete, in a suite and in the suites that are reached in it. Own
-/// rule of the profile.
+/// Adds E30 for the first statement after one that cannot complete, in a suite and in each suite of its reached
+/// statements. Own rule of the profile.
 #[cycle(unreached)]
 fn find_unreached(found: &mut Findings, body: &[Stmt]) -> Result<(), OutOfMemory>
     ensures { OnOk result (found.new.items
@@ -33,7 +33,7 @@ fn find_unreached(found: &mut Findings, body: &[Stmt]) -> Result<(), OutOfMemory
     Ok(())
 }
 
-/// Finds those in the suites of a statement.
+/// Adds E30 for the first unreachable statement of each suite of a statement, and of the suites reached in them.
 #[cycle(unreached)]
 fn find_unreached_in(found: &mut Findings, kind: &StmtKind) -> Result<(), OutOfMemory>
     ensures { (p : PlaceOf) → OnOk result
@@ -44,7 +44,7 @@ fn find_unreached_in(found: &mut Findings, kind: &StmtKind) -> Result<(), OutOfM
     find_unreached(found, last)
 }
 
-/// Finds those in the suites of conditions.
+/// Adds E30 for the first unreachable statement of the suite of each condition, and of the suites reached in them.
 #[cycle(unreached)]
 fn find_unreached_among(found: &mut Findings, branches: &[Branch]) -> Result<(), OutOfMemory>
     ensures { OnOk result (found.new.items
@@ -56,7 +56,7 @@ fn find_unreached_among(found: &mut Findings, branches: &[Branch]) -> Result<(),
     Ok(())
 }
 
-/// Finds those in the methods of a class.
+/// Adds E30 for the first unreachable statement of each reached suite of a class's methods.
 fn find_unreached_in_methods(found: &mut Findings, members: &[Member]) -> Result<(), OutOfMemory>
     ensures { OnOk result (found.new.items
         ≡ found.old.items ++ at_code E30 (of_members unreached_def (map member_of members.now))) }
@@ -70,7 +70,7 @@ fn find_unreached_in_methods(found: &mut Findings, members: &[Member]) -> Result
     Ok(())
 }
 
-/// Finds those in the functions and methods of a module.
+/// Adds E30 for the first unreachable statement of each reached suite of a module's functions and methods.
 pub fn find_unreached_in_defs(found: &mut Findings, items: &[Item]) -> Result<(), OutOfMemory>
     ensures { OnOk result (found.new.items
         ≡ found.old.items ++ at_code E30 (unreached_in_defs (map item_of items.now))) }

@@ -1,34 +1,39 @@
 -- No reply nests deep, so the text of each reads back.
+use Rattle.std.specs.List.{AllZip}
+use Rattle.std.specs.Prelude.{codes, ℤ, Bool, false, filter, nat_le}
 use Rattle.std.proofs.Common.{◌≡◌, ℕ, ◌≤◌, suc, List, [], ◌∷◌, ◌++◌, map, Option, None, Some, true, refl, sym, subst}
 use Rattle.std.proofs.Common.{inl, inr, arith, zero, cond, take, length, ◌-◌}
 use Rattle.std.proofs.Math.Nat.{max-le, le-max_left, le-max_right, le_trans}
 use Rattle.std.proofs.lemmas.Bool.{false≢true}
-use Rattle.std.specs.Prelude.{codes, ℤ, Bool, false, filter, nat_le}
-use Rattle.std.specs.List.{AllZip}
 use Rattle.serde_json.specs.Data.{Data, null, boolean, number, string, array, object, no_items, depth, items_depth}
 use Rattle.serde_json.specs.Find.{get}
 use Rattle.serde_json.specs.Read.{max_depth}
 use Rattle.serde_json.specs.View.{items_of}
 use Rattle.pc_source.specs.Refusals.{code_text}
-use Rattle.pc_tree.specs.Code.{text_of}
-use Rattle.pc_help.specs.Refusals.{refusal_meaning_of}
 use Rattle.pc_position.specs.declared.positions.Encoding.{Encoding}
-use Rattle.pc_session.specs.declared.checker.Found.{Found}
-use Rattle.pc_session.specs.declared.checker.Found.TheVariants.{Items, Refused}
-use Rattle.pc_session.specs.declared.checker.Item.{Item}
-use Rattle.pc_session.specs.declared.messages.Method.{Method}
-use Rattle.pc_session.specs.declared.messages.Method.TheVariants.{Initialize, Initialized, Shutdown, Exit, DidOpen}
-use Rattle.pc_session.specs.declared.messages.Method.TheVariants.{DidChange, DidSave, DidClose, Hover, Diagnostic}
-use Rattle.pc_session.specs.declared.messages.Method.TheVariants.{CodeAction, Other}
+use Rattle.pc_tree.specs.Code.{text_of}
+use Rattle.pc_code_texts.specs.Refusals.{refusal_meaning_of}
+use Rattle.pc_documents.specs.declared.checker.CheckOutcome.{CheckOutcome}
+use Rattle.pc_documents.specs.declared.checker.CheckOutcome.TheVariants.{Items, Refused}
+use Rattle.pc_documents.specs.declared.checker.ReportedFinding.{ReportedFinding}
+use Rattle.pc_documents.specs.Agreed.{Agreed}
+use Rattle.pc_documents.specs.Anchors.{anchor_of, refusal_anchor_of, entry_at}
+use Rattle.pc_documents.specs.Checked.{IsChecked, IsCheckedAs, is_sent}
+use Rattle.pc_documents.specs.Diagnostics.{range_data, diagnostic_data, item_data, refusal_data, found_data}
+use Rattle.pc_documents.specs.Diagnostics.{severity_of, message_text, limited, more_data, unknown_data, start_of}
+use Rattle.pc_documents.specs.Diagnostics.{end_of}
+use Rattle.pc_documents.specs.Documents.{OpenDocument}
+use Rattle.pc_session.specs.declared.messages.LspMethod.{LspMethod}
+use Rattle.pc_session.specs.declared.messages.LspMethod.TheVariants.{Initialize, Initialized, Shutdown, Exit, DidOpen}
+use Rattle.pc_session.specs.declared.messages.LspMethod.TheVariants.{DidChange, DidSave, DidClose, Hover, Diagnostic}
+use Rattle.pc_session.specs.declared.messages.LspMethod.TheVariants.{CodeAction, Other}
 use Rattle.pc_session.specs.declared.replies.ErrorCode.{ErrorCode}
 use Rattle.pc_session.specs.declared.replies.ErrorCode.TheVariants.{ParseError, InvalidRequest, MethodNotFound}
 use Rattle.pc_session.specs.declared.replies.ErrorCode.TheVariants.{InvalidParams, ServerNotInitialized, TooLong}
 use Rattle.pc_session.specs.declared.session.Stage.{Stage}
 use Rattle.pc_session.specs.declared.session.Stage.TheVariants.{Fresh, Running, ShutDown, Ended}
-use Rattle.pc_session.specs.Checked.{IsChecked, IsCheckedAs, IsPublished, IsSentWhere, is_sent}
-use Rattle.pc_session.specs.Diagnostics.{range_data, diagnostic_data, item_data, refusal_data, found_data, severity_of}
-use Rattle.pc_session.specs.Diagnostics.{message_text, limited, more_data, unknown_data, start_of, end_of}
 use Rattle.pc_session.specs.Messages.{is_identifier, agreed_in}
+use Rattle.pc_session.specs.Publications.{IsPublished, IsSentWhere}
 use Rattle.pc_session.specs.Replies.{publish_data, result_data, full_data, hover_data, capabilities_data, refusal_of}
 use Rattle.pc_session.specs.Sent.{IsTextOf, AreSent, SendsRefusal}
 use Rattle.pc_session.specs.Sessions.{IsTurn, OnOpen, OnChange, OnClose, OnNoMethod, OnFresh, OnRunning, OnRequest}
@@ -36,7 +41,7 @@ use Rattle.pc_session.specs.Sessions.{OnNotice, OnStage, OnNotification, OnMetho
 use Rattle.pc_session.specs.Sessions.{IsPulled, IsHovered, RepliesWith, unknown_of, unknown_all, told_of, cleared}
 use Rattle.pc_session.specs.Sessions.{OnSpoiled, opened_in, changed_in, identifier_or_null}
 use Rattle.pc_session.specs.Spelled.{IsSpelled, AreSpelled}
-use Rattle.pc_session.specs.States.{Agreed, OpenDocument, State}
+use Rattle.pc_session.specs.States.{State}
 
 -- each of the values is shallow enough to be read
 abbrev AreShallow : List Data → Type 0
@@ -61,13 +66,13 @@ diagnostic_depth : (page : Option (List ℕ)) (e : Encoding) (text : List ℕ) (
 diagnostic_depth None e text start end severity code message = refl
 diagnostic_depth (Some page) e text start end severity code message = refl
 
-items_low : (agreed : Agreed) (text : List ℕ) (items : List Item)
+items_low : (agreed : Agreed) (text : List ℕ) (items : List ReportedFinding)
     → items_depth (items_of (map (item_data agreed text) items)) ≤ 3
 items_low agreed text [] = z 3
 items_low agreed text (item ∷ items) =
     let is : depth (item_data agreed text item) ≡ 3 =
-    diagnostic_depth agreed.codes_page agreed.encoding text item.finding.place.start item.finding.place.end
-    (severity_of agreed.dynamic_severity item.finding.code) (text_of item.finding.code)
+    diagnostic_depth (entry_at agreed.codes_page (anchor_of item.finding.code)) agreed.encoding text
+    item.finding.place.start item.finding.place.end (severity_of agreed.dynamic_severity item.finding.code) (text_of item.finding.code)
     (message_text item.finding.code item.flow) in
     let first : depth (item_data agreed text item) ≤ 3 = omega (arith, is) in
     max-le first (items_low agreed text items)
@@ -89,14 +94,14 @@ limited_low ds low =
     let one : depth (more_data (length ds - 999)) ≤ 3 = omega arith in
     elim (nat_le (length ds) 1000) as M [ true ↦ low | false ↦ first_low 999 ds (more_data (length ds - 999)) low one ]
 
-found_low : (agreed : Agreed) (text : List ℕ) (found : Found)
+found_low : (agreed : Agreed) (text : List ℕ) (found : CheckOutcome)
     → items_depth (items_of (found_data agreed text found)) ≤ 3
 found_low agreed text (Items items) =
     limited_low (map (item_data agreed text) items.items) (items_low agreed text items.items)
 found_low agreed text (Refused refusal) =
     let is : depth (refusal_data agreed text refusal) ≡ 3 =
-    diagnostic_depth agreed.codes_page agreed.encoding text (start_of text refusal.byte) (end_of text refusal.byte) 1
-    (code_text refusal.code) (refusal_meaning_of refusal.code) in
+    diagnostic_depth (entry_at agreed.codes_page (refusal_anchor_of refusal.code)) agreed.encoding text
+    (start_of text refusal.byte) (end_of text refusal.byte) 1 (code_text refusal.code) (refusal_meaning_of refusal.code) in
     let first : depth (refusal_data agreed text refusal) ≤ 3 = omega (arith, is) in
     max-le first (z 3)
 
@@ -194,7 +199,7 @@ unreadable code old new replies turn = turned turn (
       (unknown_shallow (filter (is_sent old.agreed) old.documents)) (told_of_shallow old.documents),
 )
 
-module _ (finds : List ℕ → Found → Type 0) where
+module _ (finds : List ℕ → CheckOutcome → Type 0) where
   checked_low : (agreed : Agreed) (text : Option (List ℕ)) (ds : List Data) → IsChecked finds agreed text ds
       → items_depth (items_of ds) ≤ 3
   checked_low agreed None ds checked =
@@ -241,7 +246,7 @@ module _ (finds : List ℕ → Found → Type 0) where
   closed message old new replies (inr (inl it)) = answered it.answered log_low
   closed message old new replies (inr (inr it)) = answered it.answered log_low
 
-  noticed : (method : Method) (message : Data) (old new : State) (replies : List Data)
+  noticed : (method : LspMethod) (message : Data) (old new : State) (replies : List Data)
       → OnNotice finds method message old replies new → AreShallow replies
   noticed DidOpen message old new replies h = opened message old new replies h
   noticed DidChange message old new replies h = changed message old new replies h
@@ -256,14 +261,14 @@ module _ (finds : List ℕ → Found → Type 0) where
   noticed CodeAction message old new replies h = turned h tt
   noticed Other message old new replies h = turned h tt
 
-  staged : (stage : Stage) (method : Method) (message : Data) (old new : State) (replies : List Data)
+  staged : (stage : Stage) (method : LspMethod) (message : Data) (old new : State) (replies : List Data)
       → OnStage finds stage method message old replies new → AreShallow replies
   staged Running method message old new replies h = noticed method message old new replies h
   staged Fresh method message old new replies h = turned h tt
   staged ShutDown method message old new replies h = turned h tt
   staged (Ended status) method message old new replies h = turned h tt
 
-  notified : (method : Method) (stage : Stage) (message : Data) (old new : State) (replies : List Data)
+  notified : (method : LspMethod) (stage : Stage) (message : Data) (old new : State) (replies : List Data)
       → OnNotification finds method stage message old replies new → AreShallow replies
   notified Exit stage message old new replies h = turned h tt
   notified Initialize stage message old new replies h = staged stage Initialize message old new replies h
@@ -303,7 +308,7 @@ module _ (finds : List ℕ → Found → Type 0) where
       ] in
       answered it.answered low_reply
 
-  running : (method : Method) (id message : Data) (old new : State) (replies : List Data) → depth id ≡ 0
+  running : (method : LspMethod) (id message : Data) (old new : State) (replies : List Data) → depth id ≡ 0
       → OnRunning finds method id message old replies new → AreShallow replies
   running Shutdown id message old new replies flat h = answered h (result_low id null flat (z 5))
   running Hover id message old new replies flat h = hovered message id old new replies flat h
@@ -319,7 +324,7 @@ module _ (finds : List ℕ → Found → Type 0) where
   running DidClose id message old new replies flat h = answered h (refusal_low MethodNotFound id flat)
   running Other id message old new replies flat h = answered h (refusal_low MethodNotFound id flat)
 
-  begun : (method : Method) (id message : Data) (old new : State) (replies : List Data) → depth id ≡ 0
+  begun : (method : LspMethod) (id message : Data) (old new : State) (replies : List Data) → depth id ≡ 0
       → OnFresh method id message old replies new → AreShallow replies
   begun Initialize id message old new replies flat h =
       answered h (result_low id (capabilities_data (agreed_in message).encoding) flat
@@ -336,7 +341,7 @@ module _ (finds : List ℕ → Found → Type 0) where
   begun CodeAction id message old new replies flat h = answered h (refusal_low ServerNotInitialized id flat)
   begun Other id message old new replies flat h = answered h (refusal_low ServerNotInitialized id flat)
 
-  requested : (stage : Stage) (method : Method) (id message : Data) (old new : State) (replies : List Data)
+  requested : (stage : Stage) (method : LspMethod) (id message : Data) (old new : State) (replies : List Data)
       → depth id ≡ 0 → OnRequest finds stage method id message old replies new → AreShallow replies
   requested Fresh method id message old new replies flat h = begun method id message old new replies flat h
   requested Running method id message old new replies flat h = running method id message old new replies flat h
@@ -344,7 +349,7 @@ module _ (finds : List ℕ → Found → Type 0) where
   requested (Ended status) method id message old new replies flat h =
       answered h (refusal_low InvalidRequest id flat)
 
-  with_method : (method : Method) (id : Option Data) (message : Data) (old new : State) (replies : List Data)
+  with_method : (method : LspMethod) (id : Option Data) (message : Data) (old new : State) (replies : List Data)
       → OnMethod finds method id message old replies new → AreShallow replies
   with_method method None message old new replies h = notified method old.stage message old new replies h
   with_method method (Some id) message old new replies (inl h) =
@@ -398,7 +403,7 @@ sent_of replies bytes shallow spelled = record {
 }
 
 -- what a step replies is sent where it is spelled
-pub sent : (finds : List ℕ → Found → Type 0) (old new : State) (message bytes : List ℕ) (replies : List Data)
+pub sent : (finds : List ℕ → CheckOutcome → Type 0) (old new : State) (message bytes : List ℕ) (replies : List Data)
     → Step finds old message replies new → AreSpelled replies bytes → AreSent replies bytes
 sent finds old new message bytes replies step spelled =
     sent_of replies bytes (stepped finds old new message replies step) spelled

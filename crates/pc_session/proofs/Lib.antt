@@ -1,9 +1,11 @@
+pub mod Addresses
 pub mod Depths
-pub mod Finding
-pub mod Keeping
-pub mod Limits
+pub mod Determined
+pub mod InStep
 pub mod Mending
 pub mod Notices
+pub mod Publishing
 pub mod Reading
-pub mod Rulesets
 pub mod Sending
+pub mod Showing
+pub mod StepsInStep

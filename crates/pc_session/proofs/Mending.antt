@@ -1,13 +1,14 @@
 -- Bytes whose escapes are mended, and what they spoil.
-use Rattle.std.proofs.Common.{◌≡◌, ℕ, ◌+◌, ◌<◌, ◌≤◌, List, [], ◌∷◌, ◌++◌, length, drop, get_or, Option, None, Some, refl}
-use Rattle.std.proofs.Common.{ap, sym, ◌∙◌, append_assoc, arith}
 use Rattle.std.specs.Prelude.{IsUtf8}
+use Rattle.std.proofs.Common.{◌≡◌, ℕ, ◌+◌, ◌<◌, ◌≤◌, List, [], ◌∷◌, ◌++◌, length, drop, get_or, Option, None, Some}
+use Rattle.std.proofs.Common.{refl, ap, sym, ◌∙◌, append_assoc, arith}
 use Rattle.std.proofs.lemmas.List.{drop_more, drop_all}
 use Rattle.serde_json.specs.Data.{Data}
 use Rattle.serde_json.specs.Read.{read}
+use Rattle.pc_documents.specs.Documents.{OpenDocument}
 use Rattle.pc_session.specs.declared.spoiled.Escape.{Escape}
 use Rattle.pc_session.specs.Spoiled.{escape_after, mended_byte, mended_from, mended, spoiled_in, IsMended, Spoils}
-use Rattle.pc_session.specs.States.{OpenDocument, State}
+use Rattle.pc_session.specs.States.{State}
 
 -- one more byte
 pub mends_more : (place : Escape) (bytes : List ℕ) (i byte : ℕ) (done : List ℕ) → i < length bytes

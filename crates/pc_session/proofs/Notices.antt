@@ -1,18 +1,18 @@
 -- What comes of a notification about a document in a session that runs.
-use Rattle.std.proofs.Common.{◌≡◌, ℕ, List, Option, None, Some, sym, ap, ◌∙◌, subst, inl, inr, true≢false, arith}
 use Rattle.std.specs.Prelude.{codes, option_map, option_and_then, is_some, false}
+use Rattle.std.proofs.Common.{◌≡◌, ℕ, List, Option, None, Some, sym, ap, ◌∙◌, subst, inl, inr, true≢false, arith}
 use Rattle.serde_json.specs.Data.{Data}
 use Rattle.serde_json.specs.Find.{get}
-use Rattle.pc_session.specs.declared.checker.Found.{Found}
-use Rattle.pc_session.specs.declared.messages.Method.{Method}
+use Rattle.pc_documents.specs.declared.checker.CheckOutcome.{CheckOutcome}
+use Rattle.pc_documents.specs.Documents.{is_open, document_at, OpenDocument}
+use Rattle.pc_session.specs.declared.messages.LspMethod.{LspMethod}
 use Rattle.pc_session.specs.declared.session.Stage.{Stage}
 use Rattle.pc_session.specs.declared.session.Stage.TheVariants.{Running}
-use Rattle.pc_session.specs.Documents.{is_open, document_at}
 use Rattle.pc_session.specs.Messages.{method_in, method_named, version_in, is_older}
 use Rattle.pc_session.specs.Notices.{IsNoticeOf}
 use Rattle.pc_session.specs.Sessions.{Step, OnMessage, OnMethod, OnNotification, OnOpen, OnChange, IsKept, opened_in}
 use Rattle.pc_session.specs.Sessions.{changed_in, named_document}
-use Rattle.pc_session.specs.States.{State, OpenDocument}
+use Rattle.pc_session.specs.States.{State}
 
 some_inj : {A : Type 0} {x y : A} → Some x ≡ Some y → x ≡ y
 some_inj e = grind arith
@@ -20,7 +20,7 @@ some_inj e = grind arith
 some_none : {A : Type 0} {x : A} → Some x ≡ None → ⊥
 some_none e = grind arith
 
-module _ (finds : List ℕ → Found → Type 0) where
+module _ (finds : List ℕ → CheckOutcome → Type 0) where
   -- what comes of a message is what comes of a notification of its method
   of_notice : (method uri bytes : List ℕ) (message : Data) (old new : State) (replies : List Data)
       → IsNoticeOf method uri bytes message → Step finds old bytes replies new
@@ -35,7 +35,7 @@ module _ (finds : List ℕ → Found → Type 0) where
         | inr other ↦ absurd (some_none (sym names ∙ other.none))
         | inl named ↦
             let same : named.method ≡ method_named method = some_inj (sym named.names ∙ names) in
-            let Does : Method → Type 0 = λ m. OnMethod finds m (get (codes "id") message) message old replies new in
+            let Does : LspMethod → Type 0 = λ m. OnMethod finds m (get (codes "id") message) message old replies new in
             let Asks : Option Data → Type 0 = λ i. OnMethod finds (method_named method) i message old replies new in
             subst Asks notice.no_request (subst Does same named.answered)
       ]

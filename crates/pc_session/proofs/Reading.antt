@@ -1,16 +1,15 @@
 -- Items of an array, and what a text of them says.
-use Rattle.std.proofs.Common.{◌≡◌, ℕ, ◌+◌, ◌-◌, ◌<◌, ◌≤◌, suc, false, ◌||◌, List, [], ◌∷◌, length, map, drop}
-use Rattle.std.proofs.Common.{get_or, refl, ap, sym, ◌∙◌}
-use Rattle.std.proofs.Common.{arith}
 use Rattle.std.specs.Prelude.{Option, None, Some, codes, option_map, option_and_then, slice_get}
+use Rattle.std.proofs.Common.{◌≡◌, ℕ, ◌+◌, ◌-◌, ◌<◌, ◌≤◌, suc, false, ◌||◌, List, [], ◌∷◌, length, map, drop, get_or}
+use Rattle.std.proofs.Common.{refl, ap, sym, ◌∙◌, arith}
 use Rattle.std.proofs.lemmas.List.{drop_more, drop_all}
 use Rattle.serde_json.specs.declared.value.Value.{Value}
 use Rattle.serde_json.specs.View.{view, items_view}
+use Rattle.pc_documents.specs.declared.documents.Document.{Document}
+use Rattle.pc_documents.specs.Documents.{opened_of}
 use Rattle.pc_session.specs.Messages.{last_item, is_text, has_text, whole_text, text_after}
-use Rattle.pc_session.specs.declared.documents.Document.{Document}
 use Rattle.pc_session.specs.Replies.{log_data}
 use Rattle.pc_session.specs.Sessions.{told_of}
-use Rattle.pc_session.specs.States.{opened_of}
 
 -- the last item of an array
 pub last_is : (vs : List Value) → last_item (items_view vs) ≡ option_map view (slice_get vs (length vs - 1))

@@ -1,13 +1,12 @@
 pub mod Answers
-pub mod Checked
-pub mod Diagnostics
-pub mod Documents
-pub mod Hovers
+pub mod Exchanges
 pub mod Messages
 pub mod Notices
+pub mod Publications
 pub mod Replies
 pub mod Sent
 pub mod Sessions
+pub mod Shown
 pub mod Spelled
 pub mod Spoiled
 pub mod States

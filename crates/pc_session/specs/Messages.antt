@@ -1,20 +1,18 @@
--- What messages say. Language Server Protocol 3.17.
+-- Members of messages. Language Server Protocol 3.17.
 use Rattle.std.specs.Prelude.{ℕ, ℤ, int_lt, Bool, true, false, ◌||◌, List, codes, Option, None, Some, bytes_eq}
-use Rattle.std.specs.Prelude.{if◌then◌else◌}
-use Rattle.std.specs.Prelude.{is_some, unwrap_or, option_map, option_and_then}
+use Rattle.std.specs.Prelude.{if◌then◌else◌, is_some, unwrap_or, option_map, option_and_then}
 use Rattle.serde_json.specs.Data.{Data, Items, no_items, item}
 use Rattle.serde_json.specs.Find.{get, as_str, as_number, as_null, as_array, as_object, as_u64, as_i64}
 use Rattle.pc_position.specs.declared.positions.Encoding.TheVariants.{Utf8, Utf16}
 use Rattle.pc_position.specs.declared.positions.Position.{Position}
-use Rattle.pc_session.specs.declared.messages.Method.{Method}
-use Rattle.pc_session.specs.declared.messages.Method.TheVariants.{Initialize, Initialized, Shutdown, Exit, DidOpen}
-use Rattle.pc_session.specs.declared.messages.Method.TheVariants.{DidChange}
-use Rattle.pc_session.specs.declared.messages.Method.TheVariants.{DidSave, DidClose, Hover, Diagnostic, CodeAction}
-use Rattle.pc_session.specs.declared.messages.Method.TheVariants.{Other}
-use Rattle.pc_session.specs.States.{Agreed}
+use Rattle.pc_documents.specs.Agreed.{Agreed}
+use Rattle.pc_session.specs.declared.messages.LspMethod.{LspMethod}
+use Rattle.pc_session.specs.declared.messages.LspMethod.TheVariants.{Initialize, Initialized, Shutdown, Exit, DidOpen}
+use Rattle.pc_session.specs.declared.messages.LspMethod.TheVariants.{DidChange, DidSave, DidClose, Hover, Diagnostic}
+use Rattle.pc_session.specs.declared.messages.LspMethod.TheVariants.{CodeAction, Other}
 
 -- the method of this name
-abbrev pub method_named : List ℕ → Method
+abbrev pub method_named : List ℕ → LspMethod
 method_named name =
     if bytes_eq name (codes "initialize") then Initialize else (
     if bytes_eq name (codes "initialized") then Initialized else (
@@ -29,14 +27,14 @@ method_named name =
     if bytes_eq name (codes "textDocument/codeAction") then CodeAction else Other))))))))))
 
 -- the method that a message names
-abbrev pub method_in : Data → Option Method
+abbrev pub method_in : Data → Option LspMethod
 method_in message = option_map method_named (option_and_then as_str (get (codes "method") message))
 
 -- an identifier of a request: a text, a number or null
 abbrev pub is_identifier : Data → Bool
 is_identifier value = is_some (as_str value) || (is_some (as_number value) || is_some (as_null value))
 
--- a message without a method is a reply where it has a result or an error
+-- a message without a method is a reply if it has a result or an error
 abbrev pub is_reply : Data → Bool
 is_reply message = is_some (get (codes "result") message) || is_some (get (codes "error") message)
 
@@ -44,11 +42,11 @@ is_reply message = is_some (get (codes "result") message) || is_some (get (codes
 abbrev pub parameter : List ℕ → Data → Option Data
 parameter name message = option_and_then (get name) (get (codes "params") message)
 
--- what the parameter of the first name has under the second
+-- the member of the second name in the parameter of the first
 abbrev pub inside : List ℕ → List ℕ → Data → Option Data
 inside name inner message = option_and_then (get inner) (parameter name message)
 
--- the address of the document that a message names
+-- the URI of the document that a message names
 abbrev pub uri_in : Data → Option (List ℕ)
 uri_in message = option_and_then as_str (inside (codes "textDocument") (codes "uri") message)
 
@@ -57,7 +55,7 @@ abbrev pub version_in : Data → Option ℤ
 version_in message =
     option_and_then as_i64 (option_and_then as_number (inside (codes "textDocument") (codes "version") message))
 
--- the first version is older than the second; where one is not known, it is not
+-- the first version is older than the second; false if either is unknown
 abbrev pub is_older : Option ℤ → Option ℤ → Bool
 is_older None known = false
 is_older (Some version) None = false
@@ -73,22 +71,22 @@ last_item no_items = None
 last_item (item value no_items) = Some value
 last_item (item value (item next rest)) = last_item (item next rest)
 
--- the whole text that a change gives: none where it names a range
+-- the whole text that a change gives; none if it names a range
 abbrev pub whole_text : Data → Option (List ℕ)
 whole_text change =
     if is_some (get (codes "range") change) then None else option_and_then as_str (get (codes "text") change)
 
--- the text after changes: the whole text that the last of them gives, or the text before where there are none
+-- the text after changes: the whole text that the last of them gives, or the text before if there are none
 abbrev pub text_after : Option (List ℕ) → Items → Option (List ℕ)
 text_after before no_items = before
 text_after before (item change changes) = option_and_then whole_text (last_item (item change changes))
 
--- the text that a message makes of the text before
+-- the text after the changes in a message
 abbrev pub changed_text : Option (List ℕ) → Data → Option (List ℕ)
 changed_text before message =
     option_and_then (text_after before) (option_and_then as_array (parameter (codes "contentChanges") message))
 
--- the position that two numbers make
+-- the position of a line and a character, if both are given
 abbrev pub position_from : Option ℕ → Option ℕ → Option Position
 position_from None character = None
 position_from (Some line) None = None
@@ -111,13 +109,13 @@ abbrev pub has_text : List ℕ → Items → Bool
 has_text text no_items = false
 has_text text (item value values) = is_text text value || has_text text values
 
--- the encodings that the client offers have this one
+-- the client offers this position encoding
 abbrev pub offers : List ℕ → Data → Bool
 offers name message = unwrap_or (option_map (has_text name) (option_and_then as_array (option_and_then
     (get (codes "positionEncodings")) (option_and_then (get (codes "general"))
     (parameter (codes "capabilities") message))))) false
 
--- the document that is opened is Python: its language is, or none is named
+-- the document that is opened is Python: its language is `python` or missing
 abbrev pub is_python : Data → Bool
 is_python message = unwrap_or (option_map (is_text (codes "python"))
     (inside (codes "textDocument") (codes "languageId") message)) true
@@ -131,8 +129,9 @@ pulls_in message = is_some (option_and_then as_object (option_and_then (get (cod
 abbrev pub option_in : List ℕ → Data → Option Data
 option_in name message = inside (codes "initializationOptions") name message
 
--- what `initialize` agrees on: UTF-8 where the client offers it, otherwise UTF-16; dynamic places are information where
--- the client asks for it, otherwise warnings; the page that explains the codes; and whether the client pulls diagnostics
+-- the settings that `initialize` agrees on: UTF-8 if the client offers it, otherwise UTF-16; dynamic places are
+-- information if the client asks for it, otherwise warnings; the page that explains the codes; and whether the client
+-- pulls diagnostics
 abbrev pub agreed_in : Data → Agreed
 agreed_in message = record {
   encoding = if offers (codes "utf-8") message then Utf8 else Utf16;

@@ -16,7 +16,7 @@ notification_data method params =
     (member (codes "method") (string method)
     (member (codes "params") params no_members)))
 
--- the diagnostics of a document and, where it has one, of its version
+-- the parameters of a publication: the diagnostics of a document, with its version if it has one
 abbrev pub published_data : List ℕ → Option ℤ → List Data → Data
 published_data uri None diagnostics =
     object (member (codes "diagnostics") (array (items_of diagnostics))
@@ -63,7 +63,7 @@ encoding_name Utf8 = codes "utf-8"
 encoding_name Utf16 = codes "utf-16"
 encoding_name Utf32 = codes "utf-32"
 
--- what the server can do: it takes whole texts, counts characters in this encoding, and answers to hover and to pulls
+-- the capabilities of the server: it takes whole texts, counts characters in this encoding, and answers hover and pulls
 abbrev pub capabilities_data : Encoding → Data
 capabilities_data encoding =
     object (member (codes "capabilities")
@@ -80,7 +80,7 @@ capabilities_data encoding =
     (member (codes "version") (string (codes "1.0.0")) no_members)))
     no_members))
 
--- the result of a request for what stands at a position: a text in Markdown, or null where it is empty
+-- the result of a hover request: a text in Markdown, or null if it is empty
 abbrev pub hover_data : List ℕ → Data
 hover_data [] = null
 hover_data (byte ∷ bytes) =

@@ -1,11 +1,11 @@
 -- Replies as bytes. Own rule of the server.
-use Rattle.std.specs.Prelude.{◌≡◌, ℕ, List, flat_map, Some, false}
 use Rattle.std.specs.List.{AllZip}
+use Rattle.std.specs.Prelude.{◌≡◌, ℕ, List, flat_map, Some, false}
 use Rattle.serde_json.specs.Data.{Data}
 use Rattle.serde_json.specs.Read.{read}
 use Rattle.serde_json.specs.Written.{has_float, compact_text}
 use Rattle.pc_wire.specs.Frames.{frame}
-use Rattle.pc_session.specs.declared.checker.Found.{Found}
+use Rattle.pc_documents.specs.declared.checker.CheckOutcome.{CheckOutcome}
 use Rattle.pc_session.specs.declared.replies.ErrorCode.TheVariants.{TooLong}
 use Rattle.pc_session.specs.Sessions.{Step, IsUnreadable}
 use Rattle.pc_session.specs.States.{State}
@@ -21,14 +21,14 @@ pub record AreSent (replies : List Data) (bytes : List ℕ) : Type 0 where
   pub each : AllZip IsTextOf replies texts
   pub framed : bytes ≡ flat_map frame texts
 
--- the bytes are the frames of what is replied to a message, and this is the session after it
-pub record SendsStep (finds : List ℕ → Found → Type 0) (old : State) (message bytes : List ℕ) (new : State)
+-- the bytes are the frames of the replies to a message, and this is the session after it
+pub record SendsStep (finds : List ℕ → CheckOutcome → Type 0) (old : State) (message bytes : List ℕ) (new : State)
     : Type 0 where
   pub replies : List Data
   pub step : Step finds old message replies new
   pub are_sent : AreSent replies bytes
 
--- the bytes are the frames of what is replied to a message that is too long, and this is the session after it
+-- the bytes are the frames of the replies to a message that is too long, and this is the session after it
 pub record SendsRefusal (old : State) (bytes : List ℕ) (new : State) : Type 0 where
   pub replies : List Data
   pub refused : IsUnreadable TooLong old replies new

@@ -1,30 +1,31 @@
--- What messages change in a session, and what is replied. Own rule of the server, over Language Server Protocol 3.17.
-use Rattle.std.specs.Prelude.{◌≡◌, ◌⊎◌, ℕ, Bool, List, [], ◌∷◌, ◌++◌, map, filter, codes, true, false}
-use Rattle.std.specs.Prelude.{Option, None, Some, option_and_then, IsUtf8, if◌then◌else◌}
+-- Steps of a session: the replies to a message, and the session after it. Own rule of the server, over Language Server
+-- Protocol 3.17.
+use Rattle.std.specs.Prelude.{◌≡◌, ◌⊎◌, ℕ, Bool, List, [], ◌∷◌, ◌++◌, map, filter, codes, true, false, Option, None}
+use Rattle.std.specs.Prelude.{Some, option_and_then, IsUtf8, if◌then◌else◌}
 use Rattle.serde_json.specs.Data.{Data, null, array, no_items}
 use Rattle.serde_json.specs.Find.{get}
 use Rattle.serde_json.specs.Read.{read}
 use Rattle.pc_position.specs.declared.positions.Position.{Position}
-use Rattle.pc_session.specs.declared.checker.Found.{Found}
-use Rattle.pc_session.specs.declared.messages.Method.{Method}
-use Rattle.pc_session.specs.declared.messages.Method.TheVariants.{Initialize, Shutdown, Exit, DidOpen, DidChange}
-use Rattle.pc_session.specs.declared.messages.Method.TheVariants.{DidClose}
-use Rattle.pc_session.specs.declared.messages.Method.TheVariants.{Hover, Diagnostic, CodeAction}
+use Rattle.pc_documents.specs.declared.checker.CheckOutcome.{CheckOutcome}
+use Rattle.pc_documents.specs.Checked.{IsCheckedAs, is_sent}
+use Rattle.pc_documents.specs.Diagnostics.{unknown_data}
+use Rattle.pc_documents.specs.Documents.{document_at, is_open, with_document, without_document, forgotten, OpenDocument}
+use Rattle.pc_documents.specs.Hovers.{IsToldAs}
+use Rattle.pc_session.specs.declared.messages.LspMethod.{LspMethod}
+use Rattle.pc_session.specs.declared.messages.LspMethod.TheVariants.{Initialize, Shutdown, Exit, DidOpen, DidChange}
+use Rattle.pc_session.specs.declared.messages.LspMethod.TheVariants.{DidClose, Hover, Diagnostic, CodeAction}
 use Rattle.pc_session.specs.declared.replies.ErrorCode.{ErrorCode}
 use Rattle.pc_session.specs.declared.replies.ErrorCode.TheVariants.{ParseError, InvalidRequest, MethodNotFound}
 use Rattle.pc_session.specs.declared.replies.ErrorCode.TheVariants.{InvalidParams, ServerNotInitialized}
 use Rattle.pc_session.specs.declared.session.Stage.{Stage}
 use Rattle.pc_session.specs.declared.session.Stage.TheVariants.{Fresh, Running, ShutDown, Ended}
-use Rattle.pc_session.specs.Checked.{IsCheckedAs, IsPublished, is_sent}
-use Rattle.pc_session.specs.Diagnostics.{unknown_data}
-use Rattle.pc_session.specs.Documents.{document_at, is_open, with_document, without_document, forgotten}
-use Rattle.pc_session.specs.Hovers.{hover_text}
 use Rattle.pc_session.specs.Messages.{method_in, is_identifier, is_reply, uri_in, version_in, opened_text, changed_text}
 use Rattle.pc_session.specs.Messages.{position_in, agreed_in, is_older, is_python}
+use Rattle.pc_session.specs.Publications.{IsPublished}
 use Rattle.pc_session.specs.Replies.{publish_data, log_data, result_data, full_data, hover_data, capabilities_data}
 use Rattle.pc_session.specs.Replies.{refusal_of}
 use Rattle.pc_session.specs.Spoiled.{Spoils}
-use Rattle.pc_session.specs.States.{Agreed, OpenDocument, State}
+use Rattle.pc_session.specs.States.{State}
 
 -- the same session, at another stage
 abbrev pub at_stage : Stage → State → State
@@ -39,7 +40,7 @@ pub record IsTurn (wanted : List Data) (next : State) (replies : List Data) (new
   pub replies_are : replies ≡ wanted
   pub new_is : new ≡ next
 
--- nothing is replied, and nothing changes
+-- there is no reply, and nothing changes
 abbrev pub IsLetBe : State → List Data → State → Type 0
 IsLetBe old replies new = IsTurn [] old replies new
 
@@ -52,25 +53,25 @@ abbrev pub exit_status : Stage → ℕ
 exit_status ShutDown = 0
 exit_status stage = 1
 
--- the same session, in which no text is known
+-- the same session, with no text known
 abbrev pub forgot : State → State
 forgot old = with_documents (map forgotten old.documents) old
 
--- the client shows of a document that its text is not known
+-- the publication that says that the text of a document is not known
 abbrev pub unknown_of : OpenDocument → Data
 unknown_of document = publish_data document.uri document.version (unknown_data ∷ [])
 
--- the client is told of each document whose diagnostics are sent that its text is not known
+-- the publications that the text is not known, for each document whose diagnostics are sent
 abbrev pub unknown_all : State → List Data
 unknown_all old = map unknown_of (filter (is_sent old.agreed) old.documents)
 
--- what the log is told where texts are forgotten: nothing where no document is open
+-- the line for the log where texts are forgotten; none if no document is open
 abbrev pub told_of : List OpenDocument → List Data
 told_of [] = []
 told_of (document ∷ documents) =
     log_data (codes "a message was not read: the texts of the open documents are not known until they change") ∷ []
 
--- a message that is not read: this error, and nothing is known of any text from now on
+-- an unreadable message: the reply is this error, and no text is known from then on
 abbrev pub IsUnreadable : ErrorCode → State → List Data → State → Type 0
 IsUnreadable code old replies new = IsTurn
     (refusal_of code null ∷ (unknown_all old ++ told_of old.documents)) (forgot old) replies new
@@ -91,11 +92,11 @@ pub record IsNotOpen (told : List ℕ) (message : Data) (old : State) (replies :
   pub closed : is_open uri old.documents ≡ false
   pub answered : IsAnswered (log_data told) old replies new
 
--- the client shows no diagnostics of a document, unless it pulls them
+-- an empty publication for a document, or nothing if the client pulls diagnostics
 abbrev pub cleared : Bool → List ℕ → List Data
 cleared pulls uri = if pulls then [] else publish_data uri None [] ∷ []
 
--- an open document is closed: nothing is left of it, and the client shows no diagnostics of it
+-- an open document is closed: it is removed, and an empty publication is sent
 pub record IsClosed (message : Data) (old : State) (replies : List Data) (new : State) : Type 0 where
   pub uri : List ℕ
   pub names : uri_in message ≡ Some uri
@@ -126,7 +127,7 @@ pub record RepliesWith (IsReply : Data → Type 0) (old : State) (replies : List
   pub answered : IsAnswered reply old replies new
 
 -- a request before `initialize` gets an error; `initialize` begins the session
-abbrev pub OnFresh : Method → Data → Data → State → List Data → State → Type 0
+abbrev pub OnFresh : LspMethod → Data → Data → State → List Data → State → Type 0
 OnFresh Initialize id message old replies new =
     IsTurn (result_data id (capabilities_data (agreed_in message).encoding) ∷ [])
     (record { stage = Running; agreed = agreed_in message; documents = old.documents }) replies new
@@ -141,7 +142,7 @@ opened_in message uri = record {
   text = opened_text message;
 }
 
--- the document that a message makes of an open one
+-- an open document after the changes in a message
 abbrev pub changed_in : Data → OpenDocument → OpenDocument
 changed_in message document = record {
   uri = document.uri;
@@ -157,7 +158,7 @@ pub record IsOutdated (message : Data) (old : State) (replies : List Data) (new 
   pub older : is_older (version_in message) document.version ≡ true
   pub answered : IsAnswered (log_data (codes "didChange gives an older version: it was let be")) old replies new
 
-module _ (finds : List ℕ → Found → Type 0) where
+module _ (finds : List ℕ → CheckOutcome → Type 0) where
   -- this is the document of its address from now on, and its diagnostics are published: nothing else changes
   pub record IsKept (document : OpenDocument) (old : State) (replies : List Data) (new : State) : Type 0 where
     pub published : IsPublished finds old.agreed document replies
@@ -200,22 +201,6 @@ module _ (finds : List ℕ → Found → Type 0) where
   IsPulled message id old reply = IsPulledOf message id old reply
       ⊎ ((named_document message old ≡ None) × (reply ≡ refusal_of InvalidParams id))
 
-  -- this is said of what is found in the text
-  pub record IsSaidOf (text : List ℕ) (position : Position) (agreed : Agreed) (told : List ℕ) : Type 0 where
-    pub found : Found
-    pub finds_it : finds text found
-    pub are : told ≡ hover_text agreed text found position
-
-  -- what is said at a position of a text: nothing of one that is not known
-  abbrev pub IsToldOf : Option (List ℕ) → Position → Agreed → List ℕ → Type 0
-  IsToldOf None position agreed told = told ≡ []
-  IsToldOf (Some text) position agreed told = IsSaidOf text position agreed told
-
-  -- what is said at a position of a document: nothing where it is not Python
-  abbrev pub IsToldAs : Bool → Option (List ℕ) → Position → Agreed → List ℕ → Type 0
-  IsToldAs false text position agreed told = told ≡ []
-  IsToldAs true text position agreed told = IsToldOf text position agreed told
-
   -- the reply to `hover` has what is said at the position of the open document that the message names
   pub record IsHoveredOf (message id : Data) (old : State) (reply : Data) : Type 0 where
     pub document : OpenDocument
@@ -223,7 +208,7 @@ module _ (finds : List ℕ → Found → Type 0) where
     pub position : Position
     pub placed : position_in message ≡ Some position
     pub told : List ℕ
-    pub is_told : IsToldAs document.python document.text position old.agreed told
+    pub is_told : IsToldAs finds document.python document.text position old.agreed told
     pub replied : reply ≡ result_data id (hover_data told)
 
   -- the reply to `hover`: what is said at the position, or an error where the message names no open document or no
@@ -234,7 +219,7 @@ module _ (finds : List ℕ → Found → Type 0) where
       × (reply ≡ refusal_of InvalidParams id))
 
   -- a request of a session that runs, by its method
-  abbrev pub OnRunning : Method → Data → Data → State → List Data → State → Type 0
+  abbrev pub OnRunning : LspMethod → Data → Data → State → List Data → State → Type 0
   OnRunning Shutdown id message old replies new =
       IsTurn (result_data id null ∷ []) (at_stage ShutDown old) replies new
   OnRunning Hover id message old replies new = RepliesWith (IsHovered message id old) old replies new
@@ -244,30 +229,30 @@ module _ (finds : List ℕ → Found → Type 0) where
   OnRunning method id message old replies new = IsAnswered (refusal_of MethodNotFound id) old replies new
 
   -- a request, by how far the session has come; after `shutdown` none is valid
-  abbrev pub OnRequest : Stage → Method → Data → Data → State → List Data → State → Type 0
+  abbrev pub OnRequest : Stage → LspMethod → Data → Data → State → List Data → State → Type 0
   OnRequest Fresh method id message old replies new = OnFresh method id message old replies new
   OnRequest Running method id message old replies new = OnRunning method id message old replies new
   OnRequest stage method id message old replies new = IsAnswered (refusal_of InvalidRequest id) old replies new
 
   -- a notification of a session that runs, by its method; those that are not known are let be
-  abbrev pub OnNotice : Method → Data → State → List Data → State → Type 0
+  abbrev pub OnNotice : LspMethod → Data → State → List Data → State → Type 0
   OnNotice DidOpen message old replies new = OnOpen message old replies new
   OnNotice DidChange message old replies new = OnChange message old replies new
   OnNotice DidClose message old replies new = OnClose message old replies new
   OnNotice method message old replies new = IsLetBe old replies new
 
   -- a notification other than `exit`, by how far the session has come: it is let be unless the session runs
-  abbrev pub OnStage : Stage → Method → Data → State → List Data → State → Type 0
+  abbrev pub OnStage : Stage → LspMethod → Data → State → List Data → State → Type 0
   OnStage Running method message old replies new = OnNotice method message old replies new
   OnStage stage method message old replies new = IsLetBe old replies new
 
   -- a notification: `exit` ends the session at any time
-  abbrev pub OnNotification : Method → Stage → Data → State → List Data → State → Type 0
+  abbrev pub OnNotification : LspMethod → Stage → Data → State → List Data → State → Type 0
   OnNotification Exit stage message old replies new = IsTurn [] (at_stage (Ended (exit_status stage)) old) replies new
   OnNotification method stage message old replies new = OnStage stage method message old replies new
 
   -- a message with a method: a request where it has an identifier, otherwise a notification
-  abbrev pub OnMethod : Method → Option Data → Data → State → List Data → State → Type 0
+  abbrev pub OnMethod : LspMethod → Option Data → Data → State → List Data → State → Type 0
   OnMethod method None message old replies new = OnNotification method old.stage message old replies new
   OnMethod method (Some id) message old replies new =
       ((is_identifier id ≡ true) × OnRequest old.stage method id message old replies new)
@@ -275,7 +260,7 @@ module _ (finds : List ℕ → Found → Type 0) where
 
   -- a message that names a method
   pub record HasMethod (message : Data) (old : State) (replies : List Data) (new : State) : Type 0 where
-    pub method : Method
+    pub method : LspMethod
     pub names : method_in message ≡ Some method
     pub answered : OnMethod method (get (codes "id") message) message old replies new
 

@@ -4,17 +4,17 @@ use Rattle.std.specs.Prelude.{IsUtf8, if◌then◌else◌}
 use Rattle.serde_json.specs.Data.{Data}
 use Rattle.serde_json.specs.Find.{get}
 use Rattle.serde_json.specs.Read.{read}
-use Rattle.pc_session.specs.declared.messages.Method.{Method}
-use Rattle.pc_session.specs.declared.messages.Method.TheVariants.{DidOpen, DidChange}
+use Rattle.pc_documents.specs.Documents.{document_at, OpenDocument}
+use Rattle.pc_session.specs.declared.messages.LspMethod.{LspMethod}
+use Rattle.pc_session.specs.declared.messages.LspMethod.TheVariants.{DidOpen, DidChange}
 use Rattle.pc_session.specs.declared.session.Stage.{Stage}
 use Rattle.pc_session.specs.declared.session.Stage.TheVariants.{Running}
 use Rattle.pc_session.specs.declared.spoiled.Escape.{Escape}
 use Rattle.pc_session.specs.declared.spoiled.Escape.TheVariants.{Outside, Backslash, Unicode}
-use Rattle.pc_session.specs.Documents.{document_at}
 use Rattle.pc_session.specs.Messages.{method_in, uri_in, version_in, is_python}
-use Rattle.pc_session.specs.States.{OpenDocument, State}
+use Rattle.pc_session.specs.States.{State}
 
--- where the next byte stands, after a byte
+-- the position of the byte after a byte, relative to an escape
 abbrev pub escape_after : Escape → ℕ → Escape
 escape_after Outside byte = if byte == 92 then Backslash else Outside
 escape_after Backslash byte = if byte == 117 then Unicode else Outside
@@ -35,7 +35,7 @@ mended_from place (byte ∷ bytes) = mended_byte place byte ∷ mended_from (esc
 abbrev pub mended : List ℕ → List ℕ
 mended bytes = mended_from Outside bytes
 
--- the document that a message opens, of which the text is not known
+-- the document that a message opens, without its text
 abbrev pub opened_part : Data → List ℕ → OpenDocument
 opened_part message uri = record {
   uri = uri;
@@ -44,7 +44,7 @@ opened_part message uri = record {
   text = None;
 }
 
--- the document that a message changes, of which the text is not known
+-- the document that a message changes, without its text
 abbrev pub changed_part : Data → OpenDocument → OpenDocument
 changed_part message document = record {
   uri = document.uri;
@@ -53,8 +53,8 @@ changed_part message document = record {
   text = None;
 }
 
--- the document that a notification opens or changes, of which the text is not known
-abbrev pub spoiled_by : Method → Data → State → Option OpenDocument
+-- the document that a notification opens or changes, without its text
+abbrev pub spoiled_by : LspMethod → Data → State → Option OpenDocument
 spoiled_by DidOpen message old = option_map (opened_part message) (uri_in message)
 spoiled_by DidChange message old = option_map (changed_part message)
     (option_and_then (λ uri. document_at uri old.documents) (uri_in message))
@@ -70,7 +70,7 @@ abbrev pub spoiled_at : Stage → Data → State → Option OpenDocument
 spoiled_at Running message old = spoiled_as (get (codes "id") message) message old
 spoiled_at stage message old = None
 
--- the document of which a message spoils the text, and that text alone
+-- the document whose text alone a message spoils
 abbrev pub spoiled_in : Data → State → Option OpenDocument
 spoiled_in message old = spoiled_at old.stage message old
 

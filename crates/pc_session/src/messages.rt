@@ -1,4 +1,4 @@
-//! What messages have in them.
+//! Readers of the members of messages.
 
 ghost use Rattle.std.specs.Prelude.{◌≡◌, Option, option_map};
 ghost use Rattle.serde_json.specs.View.{view};
@@ -9,9 +9,9 @@ ghost use Rattle.pc_session.specs.Messages.{position_in, is_older};
 use pc_position::Position;
 use serde_json::Value;
 
-/// The methods that the server knows. Language Server Protocol 3.17.
+/// Methods that the server knows. Language Server Protocol 3.17.
 #[derive(Clone, Copy)]
-pub(crate) enum Method {
+pub(crate) enum LspMethod {
     Initialize,
     Initialized,
     Shutdown,
@@ -26,28 +26,28 @@ pub(crate) enum Method {
     Other,
 }
 
-/// The method of a name.
-fn method_named(name: &str) -> Method
+/// Returns the method with this name.
+fn method_named(name: &str) -> LspMethod
     ensures { result ≡ method_named name.now }
 {
     match name {
-        "initialize" => Method::Initialize,
-        "initialized" => Method::Initialized,
-        "shutdown" => Method::Shutdown,
-        "exit" => Method::Exit,
-        "textDocument/didOpen" => Method::DidOpen,
-        "textDocument/didChange" => Method::DidChange,
-        "textDocument/didSave" => Method::DidSave,
-        "textDocument/didClose" => Method::DidClose,
-        "textDocument/hover" => Method::Hover,
-        "textDocument/diagnostic" => Method::Diagnostic,
-        "textDocument/codeAction" => Method::CodeAction,
-        _ => Method::Other,
+        "initialize" => LspMethod::Initialize,
+        "initialized" => LspMethod::Initialized,
+        "shutdown" => LspMethod::Shutdown,
+        "exit" => LspMethod::Exit,
+        "textDocument/didOpen" => LspMethod::DidOpen,
+        "textDocument/didChange" => LspMethod::DidChange,
+        "textDocument/didSave" => LspMethod::DidSave,
+        "textDocument/didClose" => LspMethod::DidClose,
+        "textDocument/hover" => LspMethod::Hover,
+        "textDocument/diagnostic" => LspMethod::Diagnostic,
+        "textDocument/codeAction" => LspMethod::CodeAction,
+        _ => LspMethod::Other,
     }
 }
 
-/// The method that a message names.
-pub(crate) fn method_in(message: &Value) -> Option<Method>
+/// Returns the method that a message names, if it names one.
+pub(crate) fn method_in(message: &Value) -> Option<LspMethod>
     ensures { result ≡ method_in (view message.now) }
 {
     match message.get("method")?.as_str() {
@@ -56,49 +56,49 @@ pub(crate) fn method_in(message: &Value) -> Option<Method>
     }
 }
 
-/// Whether a value may be the identifier of a request.
+/// Returns whether a value is a valid request identifier.
 pub(crate) fn is_identifier(value: &Value) -> bool
     ensures { result ≡ is_identifier (view value.now) }
 {
     value.is_string() || value.is_number() || value.is_null()
 }
 
-/// Whether a message without a method is a reply.
+/// Returns whether a message without a method is a reply.
 pub(crate) fn is_reply(message: &Value) -> bool
     ensures { result ≡ is_reply (view message.now) }
 {
     message.get("result").is_some() || message.get("error").is_some()
 }
 
-/// The parameter of a name.
+/// Returns the parameter `name` of a message.
 pub(crate) fn parameter<'a>(message: &'a Value, name: &str) -> Option<&'a Value>
     ensures { option_map (λ v. view v.now) result ≡ parameter name.now (view message.now) }
 {
     message.get("params")?.get(name)
 }
 
-/// What the parameter of the first name has under the second.
+/// Returns the member `inner` of the parameter `name`.
 pub(crate) fn inside<'a>(message: &'a Value, name: &str, inner: &str) -> Option<&'a Value>
     ensures { option_map (λ v. view v.now) result ≡ inside name.now inner.now (view message.now) }
 {
     parameter(message, name)?.get(inner)
 }
 
-/// The address of the document that a message names.
+/// Returns the URI of the document that a message names.
 pub(crate) fn uri_in(message: &Value) -> Option<&str>
     ensures { option_map (λ text. text.now) result ≡ uri_in (view message.now) }
 {
     inside(message, "textDocument", "uri")?.as_str()
 }
 
-/// The version of the document that a message gives.
+/// Returns the document version that a message gives.
 pub(crate) fn version_in(message: &Value) -> Option<i64>
     ensures { result ≡ version_in (view message.now) }
 {
     inside(message, "textDocument", "version")?.as_i64()
 }
 
-/// Whether the first version is older than the second; where one is not known, it is not.
+/// Returns whether `version` is older than `known`; `false` if either is unknown.
 pub(crate) fn is_older(version: Option<i64>, known: Option<i64>) -> bool
     ensures { result ≡ is_older version known }
 {
@@ -108,14 +108,14 @@ pub(crate) fn is_older(version: Option<i64>, known: Option<i64>) -> bool
     }
 }
 
-/// The text of the document that is opened.
+/// Returns the text of the document that a message opens.
 pub(crate) fn opened_text(message: &Value) -> Option<&str>
     ensures { option_map (λ text. text.now) result ≡ opened_text (view message.now) }
 {
     inside(message, "textDocument", "text")?.as_str()
 }
 
-/// The whole text that a change gives: none where it names a range.
+/// Returns the whole text that a change gives; `None` if the change names a range.
 fn whole_text(change: &Value) -> Option<&str>
     ensures { option_map (λ text. text.now) result ≡ whole_text (view change.now) }
 {
@@ -125,8 +125,8 @@ fn whole_text(change: &Value) -> Option<&str>
     change.get("text")?.as_str()
 }
 
-/// The text that a message makes of the text before: the whole text that its last change gives, or the text before where
-/// it gives no change.
+/// Returns the text after the changes in a message: the whole text given by the last change, or `before` if there is no
+/// change.
 #[tactic(auto, using(crate::proofs::Reading::text_after_is))]
 pub(crate) fn changed_text<'a>(before: Option<&'a str>, message: &'a Value) -> Option<&'a str>
     ensures { option_map (λ text. text.now) result
@@ -139,14 +139,14 @@ pub(crate) fn changed_text<'a>(before: Option<&'a str>, message: &'a Value) -> O
     }
 }
 
-/// One number of the position that a message names.
+/// Returns the member `name` of the position that a message names.
 fn place_in(message: &Value, name: &str) -> Option<u64>
     ensures { result ≡ place_in name.now (view message.now) }
 {
     inside(message, "position", name)?.as_u64()
 }
 
-/// The position that a message names.
+/// Returns the position that a message names.
 pub(crate) fn position_in(message: &Value) -> Option<Position>
     ensures { result ≡ position_in (view message.now) }
 {

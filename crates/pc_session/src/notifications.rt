@@ -1,26 +1,26 @@
-//! What is replied to notifications, and what they change.
+//! Answers to notifications.
 
 ghost use Rattle.std.specs.Prelude.{◌≡◌, ◌∷◌, [], IfOk, None, map, option_map, string_bytes};
 ghost use Rattle.serde_json.specs.View.{view};
+ghost use Rattle.pc_documents.specs.Documents.{opened_of};
 ghost use Rattle.pc_session.specs.Answers.{after};
 ghost use Rattle.pc_session.specs.Replies.{log_data};
 ghost use Rattle.pc_session.specs.Sessions.{IsLetBe, IsAnswered, IsKept, OnOpen, OnChange, OnClose, OnNotice, OnStage};
 ghost use Rattle.pc_session.specs.Sessions.{OnNotification, changed_in, cleared, exit_status, named_document};
-ghost use Rattle.pc_session.specs.States.{opened_of, state_of};
+ghost use Rattle.pc_session.specs.States.{state_of};
 
-use crate::checker::Checker;
-use crate::documents::{Document, place_of};
-use crate::messages::{Method, changed_text, is_older, opened_text, uri_in, version_in};
+use crate::messages::{LspMethod, changed_text, is_older, opened_text, uri_in, version_in};
+use crate::published::published;
 use crate::replies::{log, publish};
 use crate::requests::named;
-use crate::session::{Answer, Change, Session, Stage};
+use crate::session::{Answer, Session, SessionChange, Stage};
 use crate::settings::{is_python, owned};
-use crate::texts::published;
+use pc_documents::{Checker, Document, place_of};
 use pc_source::OutOfMemory;
 use serde_json::Value;
 use std::alloc::Global;
 
-/// No reply, and no change.
+/// Returns an answer without replies and without a change.
 pub(crate) fn nothing(session: &Session, alloc: Global) -> Answer
     ensures { IsLetBe (state_of session.now) (map view result.replies.items)
         (after result.change (state_of session.now)) }
@@ -28,12 +28,12 @@ pub(crate) fn nothing(session: &Session, alloc: Global) -> Answer
     let _ = session;
     Answer {
         replies: Vec::new(alloc),
-        change: Change::Nothing,
+        change: SessionChange::Nothing,
     }
 }
 
-/// One reply, and a change.
-pub(crate) fn one(alloc: Global, reply: Value, change: Change) -> Result<Answer, OutOfMemory>
+/// Returns an answer with one reply and a change.
+pub(crate) fn one(alloc: Global, reply: Value, change: SessionChange) -> Result<Answer, OutOfMemory>
     ensures reply { IfOk result (λ a. map view a.replies.items ≡ view reply ∷ []) }
     ensures change { IfOk result (λ a. a.change ≡ change) }
 {
@@ -42,17 +42,17 @@ pub(crate) fn one(alloc: Global, reply: Value, change: Change) -> Result<Answer,
     Ok(Answer { replies, change })
 }
 
-/// A line for the log, and no change.
+/// Returns an answer that writes a line to the client's log and changes nothing.
 fn told(session: &Session, alloc: Global, text: &str) -> Result<Answer, OutOfMemory>
     ensures { IfOk result (λ a. IsAnswered (log_data text.now) (state_of session.now) (map view a.replies.items)
         (after a.change (state_of session.now))) }
 {
     let _ = session;
-    let answer = one(alloc, log(alloc, text)?, Change::Nothing)?;
+    let answer = one(alloc, log(alloc, text)?, SessionChange::Nothing)?;
     Ok(answer)
 }
 
-/// A document is that of its address from now on, and its diagnostics are published.
+/// Keeps a document under its URI, in place of an earlier one, and publishes its diagnostics.
 pub(crate) fn kept<C: Checker>(
     session: &Session,
     checker: &C,
@@ -65,11 +65,11 @@ pub(crate) fn kept<C: Checker>(
     let replies = published(checker, alloc, &session.settings, &document)?;
     Ok(Answer {
         replies,
-        change: Change::Put(document),
+        change: SessionChange::Put(document),
     })
 }
 
-/// A document is opened.
+/// Answers `textDocument/didOpen`.
 fn opened<C: Checker>(
     session: &Session,
     checker: &C,
@@ -97,7 +97,7 @@ fn opened<C: Checker>(
     }
 }
 
-/// The text of a document, where it is known.
+/// Returns the text of a document, if it is known.
 fn text_of(document: &Document) -> Option<&str>
     ensures { option_map (λ text. text.now) result ≡ option_map string_bytes document.now.text }
 {
@@ -107,7 +107,7 @@ fn text_of(document: &Document) -> Option<&str>
     }
 }
 
-/// The document that a message makes of an open one.
+/// Returns an open document after the changes in a message.
 fn changed_in(alloc: Global, message: &Value, document: &Document) -> Result<Document, OutOfMemory>
     ensures { IfOk result (λ d. opened_of d ≡ changed_in (view message.now) (opened_of document.now)) }
 {
@@ -120,8 +120,8 @@ fn changed_in(alloc: Global, message: &Value, document: &Document) -> Result<Doc
     })
 }
 
-/// What comes of a change of a document that is not open, or of none.
-#[tactic(auto, using(crate::proofs::Rulesets::opens))]
+/// Answers a change that names no open document: the client's log says so.
+#[tactic(auto, using(pc_documents::proofs::Rulesets::opens))]
 fn unchanged<C: Checker>(
     session: &Session,
     checker: &C,
@@ -144,7 +144,7 @@ fn unchanged<C: Checker>(
     Ok(answer)
 }
 
-/// A document gets a new text, unless its version is older than that of the document.
+/// Answers `textDocument/didChange`. A change to an older version is ignored, and the client's log says so.
 fn changed<C: Checker>(
     session: &Session,
     checker: &C,
@@ -175,7 +175,7 @@ fn changed<C: Checker>(
     Ok(answer)
 }
 
-/// What is replied to the end of a document: no diagnostics are left of it.
+/// Returns the replies to the closing of a document: an empty publication, or nothing if the client pulls diagnostics.
 fn cleared(alloc: Global, pulls: bool, uri: &str) -> Result<Vec<Value>, OutOfMemory>
     ensures { IfOk result (λ v. map view v.items ≡ cleared pulls uri.now) }
 {
@@ -186,8 +186,8 @@ fn cleared(alloc: Global, pulls: bool, uri: &str) -> Result<Vec<Value>, OutOfMem
     Ok(replies)
 }
 
-/// A document is closed: no diagnostics are left of it.
-#[tactic(auto, using(crate::proofs::Rulesets::closes))]
+/// Answers `textDocument/didClose`.
+#[tactic(auto, using(pc_documents::proofs::Rulesets::closes))]
 fn closed(session: &Session, alloc: Global, message: &Value) -> Result<Answer, OutOfMemory>
     ensures { IfOk result (λ a. OnClose (view message.now) (state_of session.now) (map view a.replies.items)
         (after a.change (state_of session.now))) }
@@ -205,32 +205,32 @@ fn closed(session: &Session, alloc: Global, message: &Value) -> Result<Answer, O
             let replies = cleared(alloc, session.settings.pulls, uri)?;
             Ok(Answer {
                 replies,
-                change: Change::Remove(place),
+                change: SessionChange::Remove(place),
             })
         }
     }
 }
 
-/// What a notification of a session that runs comes to.
+/// Answers a notification in a running session.
 fn noticed<C: Checker>(
     session: &Session,
     checker: &C,
     alloc: Global,
-    method: Method,
+    method: LspMethod,
     message: &Value,
 ) -> Result<Answer, OutOfMemory>
     ensures { IfOk result (λ a. OnNotice (C.finds checker.now) method (view message.now)
         (state_of session.now) (map view a.replies.items) (after a.change (state_of session.now))) }
 {
     match method {
-        Method::DidOpen => opened(session, checker, alloc, message),
-        Method::DidChange => changed(session, checker, alloc, message),
-        Method::DidClose => closed(session, alloc, message),
+        LspMethod::DidOpen => opened(session, checker, alloc, message),
+        LspMethod::DidChange => changed(session, checker, alloc, message),
+        LspMethod::DidClose => closed(session, alloc, message),
         _ => Ok(nothing(session, alloc)),
     }
 }
 
-/// The status with which the program ends after `exit`.
+/// Returns the status with which the program ends after `exit`: 0 after `shutdown`, otherwise 1.
 fn exit_status(stage: Stage) -> u8
     ensures { result ≡ exit_status stage }
 {
@@ -240,12 +240,12 @@ fn exit_status(stage: Stage) -> u8
     }
 }
 
-/// What a notification other than `exit` comes to.
+/// Answers a notification other than `exit`; ignores it unless the session is running.
 fn staged<C: Checker>(
     session: &Session,
     checker: &C,
     alloc: Global,
-    method: Method,
+    method: LspMethod,
     message: &Value,
 ) -> Result<Answer, OutOfMemory>
     ensures { IfOk result (λ a. OnStage (C.finds checker.now) session.now.stage method (view message.now)
@@ -257,23 +257,23 @@ fn staged<C: Checker>(
     }
 }
 
-/// What a notification comes to.
+/// Answers a notification.
 pub(crate) fn notified<C: Checker>(
     session: &Session,
     checker: &C,
     alloc: Global,
-    method: Method,
+    method: LspMethod,
     message: &Value,
 ) -> Result<Answer, OutOfMemory>
     ensures { IfOk result (λ a. OnNotification (C.finds checker.now) method session.now.stage (view message.now)
         (state_of session.now) (map view a.replies.items) (after a.change (state_of session.now))) }
 {
     match method {
-        Method::Exit => {
+        LspMethod::Exit => {
             let status = exit_status(session.stage);
             Ok(Answer {
                 replies: Vec::new(alloc),
-                change: Change::ToStage(Stage::Ended(status)),
+                change: SessionChange::ToStage(Stage::Ended(status)),
             })
         }
         _ => staged(session, checker, alloc, method, message),

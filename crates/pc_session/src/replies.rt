@@ -1,6 +1,6 @@
-//! Replies and notifications as values.
+//! Replies and notifications as JSON.
 
-ghost use Rattle.std.specs.Prelude.{◌≡◌, IfOk, map, string_bytes};
+ghost use Rattle.std.specs.Prelude.{◌≡◌, IfOk, map};
 ghost use Rattle.serde_json.specs.View.{view};
 ghost use Rattle.pc_session.specs.Replies.{published_data, publish_data, log_data, result_data, error_data, full_data};
 ghost use Rattle.pc_session.specs.Replies.{number_of, error_text, refusal_of, encoding_name, capabilities_data};
@@ -10,7 +10,7 @@ use pc_position::Encoding;
 use serde_json::{Value, json};
 use std::alloc::{AllocError, Global};
 
-/// The errors of the protocol. Language Server Protocol 3.17, "ErrorCodes".
+/// Errors of the protocol. Language Server Protocol 3.17, "ErrorCodes".
 #[derive(Clone, Copy)]
 pub(crate) enum ErrorCode {
     ParseError,
@@ -22,7 +22,7 @@ pub(crate) enum ErrorCode {
 }
 
 impl ErrorCode {
-    /// The number of the error.
+    /// Returns the number of the error.
     fn number(self) -> i64
         ensures { result ≡ number_of self }
     {
@@ -35,7 +35,7 @@ impl ErrorCode {
         }
     }
 
-    /// The text of the error.
+    /// Returns the text of the error.
     fn text(self) -> &'static str
         ensures { result.now ≡ error_text self }
     {
@@ -50,28 +50,28 @@ impl ErrorCode {
     }
 }
 
-/// The reply to a request with a result, with the identifier as it came.
+/// Returns the reply to the request `id` with a result.
 pub(crate) fn result_reply(alloc: Global, id: &Value, value: Value) -> Result<Value, AllocError>
     ensures { IfOk result (λ v. view v ≡ result_data (view id.now) (view value)) }
 {
     json!(in alloc; {"id": id, "jsonrpc": "2.0", "result": value})
 }
 
-/// The reply to a request with the number and the text of an error, with the identifier as it came.
+/// Returns the reply to the request `id` with the number and the text of an error.
 fn error_value(alloc: Global, id: &Value, number: i64, text: &str) -> Result<Value, AllocError>
     ensures { IfOk result (λ v. view v ≡ error_data (view id.now) number text.now) }
 {
     json!(in alloc; {"error": {"code": number, "message": text}, "id": id, "jsonrpc": "2.0"})
 }
 
-/// The reply to a request with an error, with the identifier as it came.
+/// Returns the reply to the request `id` with an error.
 pub(crate) fn error_reply(alloc: Global, id: &Value, code: ErrorCode) -> Result<Value, AllocError>
     ensures { IfOk result (λ v. view v ≡ refusal_of code (view id.now)) }
 {
     error_value(alloc, id, code.number(), code.text())
 }
 
-/// The parameters of the notification of the diagnostics of a document.
+/// Returns the parameters of a `publishDiagnostics` notification.
 fn published(
     alloc: Global,
     uri: &str,
@@ -89,7 +89,7 @@ fn published(
     }
 }
 
-/// The notification of the diagnostics of a document.
+/// Returns the `publishDiagnostics` notification of a document.
 pub(crate) fn publish(
     alloc: Global,
     uri: &str,
@@ -106,7 +106,7 @@ pub(crate) fn publish(
     })
 }
 
-/// The notification that tells something to the reader of the client's log, as a warning.
+/// Returns the notification that writes a warning to the client's log.
 pub(crate) fn log(alloc: Global, text: &str) -> Result<Value, AllocError>
     ensures { IfOk result (λ v. view v ≡ log_data text.now) }
 {
@@ -117,7 +117,7 @@ pub(crate) fn log(alloc: Global, text: &str) -> Result<Value, AllocError>
     })
 }
 
-/// The name of an encoding. Language Server Protocol 3.17, "PositionEncodingKind".
+/// Returns the name of an encoding. Language Server Protocol 3.17, "PositionEncodingKind".
 fn name_of(encoding: Encoding) -> &'static str
     ensures { result.now ≡ encoding_name encoding }
 {
@@ -128,7 +128,7 @@ fn name_of(encoding: Encoding) -> &'static str
     }
 }
 
-/// What the server can do, as the result of `initialize`.
+/// Returns the capabilities of the server, as the result of `initialize`.
 pub(crate) fn capabilities(alloc: Global, encoding: Encoding) -> Result<Value, AllocError>
     ensures { IfOk result (λ v. view v ≡ capabilities_data encoding) }
 {
@@ -144,7 +144,7 @@ pub(crate) fn capabilities(alloc: Global, encoding: Encoding) -> Result<Value, A
     })
 }
 
-/// The result of a pull of diagnostics.
+/// Returns the result of a `textDocument/diagnostic` request.
 pub(crate) fn full_report(alloc: Global, diagnostics: Vec<Value>) -> Result<Value, AllocError>
     ensures { IfOk result (λ v. view v ≡ full_data (map view diagnostics.items)) }
 {
@@ -152,7 +152,7 @@ pub(crate) fn full_report(alloc: Global, diagnostics: Vec<Value>) -> Result<Valu
     json!(in alloc; {"items": items, "kind": "full"})
 }
 
-/// The result of a request for what stands at a position: null where nothing is said.
+/// Returns the result of a `textDocument/hover` request; null for an empty text.
 pub(crate) fn hover_result(alloc: Global, markdown: &str) -> Result<Value, AllocError>
     ensures { IfOk result (λ v. view v ≡ hover_data markdown.now) }
 {

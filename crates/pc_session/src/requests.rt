@@ -1,30 +1,27 @@
-//! What is answered to requests.
+//! Answers to requests.
 
-ghost use Rattle.std.specs.Prelude.{◌≡◌, IfOk, map, option_map, string_bytes};
+ghost use Rattle.std.specs.Prelude.{◌≡◌, IfOk, map, option_map};
 ghost use Rattle.serde_json.specs.View.{view};
+ghost use Rattle.pc_documents.specs.Documents.{opened_of};
 ghost use Rattle.pc_session.specs.Answers.{after};
 ghost use Rattle.pc_session.specs.Replies.{refusal_of};
-ghost use Rattle.pc_session.specs.Sessions.{IsAnswered, IsPulled, IsToldOf, IsToldAs, IsHovered, OnRunning, OnFresh};
-ghost use Rattle.pc_session.specs.Sessions.{OnRequest, named_document};
-ghost use Rattle.pc_session.specs.States.{agreed_of, opened_of, state_of};
+ghost use Rattle.pc_session.specs.Sessions.{IsAnswered, IsPulled, IsHovered, OnRunning, OnFresh, OnRequest};
+ghost use Rattle.pc_session.specs.Sessions.{named_document};
+ghost use Rattle.pc_session.specs.States.{state_of};
 
-use crate::checker::Checker;
-use crate::documents::{Document, document_of};
-use crate::hover::hover_text;
-use crate::messages::{Method, position_in, uri_in};
+use crate::messages::{LspMethod, position_in, uri_in};
 use crate::notifications::one;
 use crate::replies::{
     ErrorCode, capabilities, error_reply, full_report, hover_result, result_reply,
 };
-use crate::session::{Answer, Change, Session, Stage};
-use crate::settings::{Settings, settings_in};
-use crate::texts::checked_as;
-use pc_position::Position;
+use crate::session::{Answer, Session, SessionChange, Stage};
+use crate::settings::settings_in;
+use pc_documents::{Checker, Document, checked_as, document_of, said_as};
 use pc_source::OutOfMemory;
 use serde_json::Value;
 use std::alloc::Global;
 
-/// An error, and no change.
+/// Returns an answer with one error reply and no change.
 pub(crate) fn refused(
     session: &Session,
     alloc: Global,
@@ -35,11 +32,11 @@ pub(crate) fn refused(
         (map view a.replies.items) (after a.change (state_of session.now))) }
 {
     let _ = session;
-    let answer = one(alloc, error_reply(alloc, id, code)?, Change::Nothing)?;
+    let answer = one(alloc, error_reply(alloc, id, code)?, SessionChange::Nothing)?;
     Ok(answer)
 }
 
-/// The open document that a message names.
+/// Returns the open document that a message names, if any.
 pub(crate) fn named<'a>(session: &'a Session, message: &Value) -> Option<&'a Document>
     ensures { option_map (λ d. opened_of d.now) result ≡ named_document (view message.now) (state_of session.now) }
 {
@@ -47,45 +44,7 @@ pub(crate) fn named<'a>(session: &'a Session, message: &Value) -> Option<&'a Doc
     document_of(&session.documents, uri)
 }
 
-/// What is said at a position of a text.
-fn said_of<C: Checker>(
-    checker: &C,
-    alloc: Global,
-    settings: &Settings,
-    text: &Option<String>,
-    position: Position,
-) -> Result<String, OutOfMemory>
-    ensures { IfOk result (λ s. IsToldOf (C.finds checker.now) (option_map string_bytes text.now) position
-        (agreed_of settings.now) (string_bytes s)) }
-{
-    let Some(text) = text else {
-        return Ok(String::new(alloc));
-    };
-    let text = text.as_str();
-    let found = checker.find(alloc, text)?;
-    Ok(hover_text(alloc, settings, text.as_bytes(), &found, position)?)
-}
-
-/// What is said at a position of a document: nothing where it is not Python.
-fn said_as<C: Checker>(
-    checker: &C,
-    alloc: Global,
-    settings: &Settings,
-    document: &Document,
-    position: Position,
-) -> Result<String, OutOfMemory>
-    ensures { IfOk result (λ s. IsToldAs (C.finds checker.now) document.now.python
-        (option_map string_bytes document.now.text) position (agreed_of settings.now) (string_bytes s)) }
-{
-    if document.python {
-        let said = said_of(checker, alloc, settings, &document.text, position)?;
-        Ok(said)
-    } else {
-        Ok(String::new(alloc))
-    }
-}
-
-/// The reply to a request for what stands at a position.
+/// Returns the reply to a `textDocument/hover` request.
 fn hovered<C: Checker>(
     session: &Session,
     checker: &C,
@@ -110,7 +69,7 @@ fn hovered<C: Checker>(
     Ok(reply)
 }
 
-/// The reply to a pull of the diagnostics of a document.
+/// Returns the reply to a `textDocument/diagnostic` request.
 fn pulled<C: Checker>(
     session: &Session,
     checker: &C,
@@ -131,74 +90,74 @@ fn pulled<C: Checker>(
     Ok(reply)
 }
 
-/// What is answered to a request of a session that runs.
+/// Answers a request in a running session.
 fn requested<C: Checker>(
     session: &Session,
     checker: &C,
     alloc: Global,
     id: &Value,
-    method: Method,
+    method: LspMethod,
     message: &Value,
 ) -> Result<Answer, OutOfMemory>
     ensures { IfOk result (λ a. OnRunning (C.finds checker.now) method (view id.now) (view message.now)
         (state_of session.now) (map view a.replies.items) (after a.change (state_of session.now))) }
 {
     match method {
-        Method::Shutdown => {
+        LspMethod::Shutdown => {
             let reply = result_reply(alloc, id, Value::Null)?;
-            let answer = one(alloc, reply, Change::ToStage(Stage::ShutDown))?;
+            let answer = one(alloc, reply, SessionChange::ToStage(Stage::ShutDown))?;
             Ok(answer)
         }
-        Method::Hover => {
+        LspMethod::Hover => {
             let reply = hovered(session, checker, alloc, id, message)?;
-            let answer = one(alloc, reply, Change::Nothing)?;
+            let answer = one(alloc, reply, SessionChange::Nothing)?;
             Ok(answer)
         }
-        Method::Diagnostic => {
+        LspMethod::Diagnostic => {
             let reply = pulled(session, checker, alloc, id, message)?;
-            let answer = one(alloc, reply, Change::Nothing)?;
+            let answer = one(alloc, reply, SessionChange::Nothing)?;
             Ok(answer)
         }
-        Method::CodeAction => {
+        LspMethod::CodeAction => {
             let reply = result_reply(alloc, id, Value::Array(Vec::new(alloc)))?;
-            let answer = one(alloc, reply, Change::Nothing)?;
+            let answer = one(alloc, reply, SessionChange::Nothing)?;
             Ok(answer)
         }
-        Method::Initialize => refused(session, alloc, id, ErrorCode::InvalidRequest),
+        LspMethod::Initialize => refused(session, alloc, id, ErrorCode::InvalidRequest),
         _ => refused(session, alloc, id, ErrorCode::MethodNotFound),
     }
 }
 
-/// What is answered to a request before `initialize`, and to `initialize`.
+/// Answers `initialize`, or rejects another request that arrives before it.
 fn begun(
     session: &Session,
     alloc: Global,
     id: &Value,
-    method: Method,
+    method: LspMethod,
     message: &Value,
 ) -> Result<Answer, OutOfMemory>
     ensures { IfOk result (λ a. OnFresh method (view id.now) (view message.now)
         (state_of session.now) (map view a.replies.items) (after a.change (state_of session.now))) }
 {
     match method {
-        Method::Initialize => {
+        LspMethod::Initialize => {
             let settings = settings_in(alloc, message)?;
             let result = capabilities(alloc, settings.encoding)?;
             let reply = result_reply(alloc, id, result)?;
-            let answer = one(alloc, reply, Change::Begin(settings))?;
+            let answer = one(alloc, reply, SessionChange::Begin(settings))?;
             Ok(answer)
         }
         _ => refused(session, alloc, id, ErrorCode::ServerNotInitialized),
     }
 }
 
-/// What is answered to a request.
+/// Answers a request.
 pub(crate) fn request<C: Checker>(
     session: &Session,
     checker: &C,
     alloc: Global,
     id: &Value,
-    method: Method,
+    method: LspMethod,
     message: &Value,
 ) -> Result<Answer, OutOfMemory>
     ensures { IfOk result (λ a. OnRequest (C.finds checker.now) session.now.stage method (view id.now)

@@ -1,28 +1,27 @@
-//! A session, and what a message changes in it.
+//! The state of a session, and the change that a message makes to it.
 
 ghost use Rattle.std.specs.Prelude.{◌≡◌, OnOk, OnErr};
 
-use crate::documents::{Document, forget, put, remove};
-use crate::settings::{Settings, WARNING};
+use pc_documents::{Document, Settings, WARNING, forget, put, remove};
 use pc_position::Encoding;
 use pc_source::OutOfMemory;
 use serde_json::Value;
 use std::alloc::Global;
 
-/// How far a session has come.
+/// The stage of a session.
 #[derive(Clone, Copy, Debug, PartialEq, Eq)]
 pub enum Stage {
-    /// `initialize` has not come.
+    /// `initialize` has not arrived yet.
     Fresh,
     /// Requests are answered.
     Running,
-    /// `shutdown` came.
+    /// `shutdown` has arrived.
     ShutDown,
-    /// `exit` came; the program ends with this status.
+    /// `exit` has arrived; the program ends with this status.
     Ended(u8),
 }
 
-/// A session: how far it has come, what was agreed, and the open documents.
+/// A session: its stage, the settings agreed at `initialize`, and the open documents.
 #[derive(Debug, Drop)]
 pub struct Session {
     pub stage: Stage,
@@ -30,9 +29,9 @@ pub struct Session {
     pub documents: Vec<Document>,
 }
 
-/// What a message changes in a session.
+/// The change that a message makes to a session.
 #[derive(Drop)]
-pub(crate) enum Change {
+pub(crate) enum SessionChange {
     Nothing,
     ToStage(Stage),
     Begin(Settings),
@@ -41,11 +40,11 @@ pub(crate) enum Change {
     Forget,
 }
 
-/// What is replied to a message, and what the message changes.
+/// The replies to a message, and the change that the message makes.
 #[derive(Drop)]
 pub(crate) struct Answer {
     pub replies: Vec<Value>,
-    pub change: Change,
+    pub change: SessionChange,
 }
 
 impl Session {
@@ -53,7 +52,7 @@ impl Session {
     ghost use Rattle.pc_session.specs.Sessions.{forgot};
     ghost use Rattle.pc_session.specs.States.{state_of, fresh};
 
-    /// A session that has not begun.
+    /// Returns a session in which `initialize` has not arrived yet.
     pub fn new(alloc: Global) -> Session
         ensures { state_of result ≡ fresh }
     {
@@ -69,28 +68,28 @@ impl Session {
         }
     }
 
-    /// Forgets the texts of all open documents, as after a message that is lost. It takes no memory.
+    /// Forgets the texts of all open documents, as after a lost message. Allocates no memory.
     pub fn forget(&mut self)
         ensures { state_of self.new ≡ forgot (state_of self.old) }
     {
         forget(&mut self.documents);
     }
 
-    /// Changes the session.
-    pub(crate) fn apply(&mut self, change: Change) -> Result<(), OutOfMemory>
+    /// Applies a change to the session.
+    pub(crate) fn apply(&mut self, change: SessionChange) -> Result<(), OutOfMemory>
         ensures changed { OnOk result (state_of self.new ≡ after change (state_of self.old)) }
         ensures unchanged { OnErr result (state_of self.new ≡ state_of self.old) }
     {
         match change {
-            Change::Nothing => {}
-            Change::ToStage(stage) => self.stage = stage,
-            Change::Begin(settings) => {
+            SessionChange::Nothing => {}
+            SessionChange::ToStage(stage) => self.stage = stage,
+            SessionChange::Begin(settings) => {
                 self.settings = settings;
                 self.stage = Stage::Running;
             }
-            Change::Put(document) => put(&mut self.documents, document)?,
-            Change::Remove(place) => remove(&mut self.documents, place),
-            Change::Forget => self.forget(),
+            SessionChange::Put(document) => put(&mut self.documents, document)?,
+            SessionChange::Remove(place) => remove(&mut self.documents, place),
+            SessionChange::Forget => self.forget(),
         }
         Ok(())
     }

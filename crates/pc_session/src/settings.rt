@@ -1,35 +1,20 @@
-//! What was agreed at the beginning of a session.
+//! The settings that an `initialize` request agrees on.
 
 ghost use Rattle.std.specs.Prelude.{◌≡◌, IfOk, option_map, string_bytes};
 ghost use Rattle.serde_json.specs.View.{view, items_view};
+ghost use Rattle.pc_documents.specs.Agreed.{agreed_of};
 ghost use Rattle.pc_session.specs.Messages.{is_text, has_text, offers, option_in, agreed_in, is_python, pulls_in};
-ghost use Rattle.pc_session.specs.States.{agreed_of};
 
 use crate::messages::{inside, parameter};
+use pc_documents::{Settings, WARNING};
 use pc_position::Encoding;
 use serde_json::Value;
 use std::alloc::{AllocError, Global};
 
-/// What was agreed at `initialize`.
-#[derive(Debug, Drop)]
-pub struct Settings {
-    /// How characters are counted.
-    pub encoding: Encoding,
-    /// The severity of a dynamic place: 2, a warning, or 3, an information.
-    pub dynamic_severity: u64,
-    /// The address of the page that explains the codes, where the client named one.
-    pub codes_page: Option<String>,
-    /// Whether the client pulls diagnostics; none are sent to it then.
-    pub pulls: bool,
-}
-
-/// The severity of a warning. Language Server Protocol 3.17, "DiagnosticSeverity".
-pub(crate) const WARNING: u64 = 2;
-
 /// The severity of an information.
 const INFORMATION: u64 = 3;
 
-/// Whether a value is this text.
+/// Returns whether `value` is the string `text`.
 fn is_text(value: &Value, text: &str) -> bool
     ensures { result ≡ is_text text.now (view value.now) }
 {
@@ -39,7 +24,7 @@ fn is_text(value: &Value, text: &str) -> bool
     }
 }
 
-/// Whether a text is among the items of an array.
+/// Returns whether one of the items is the string `text`.
 #[tactic(auto, using(crate::proofs::Reading::has_text_drop, crate::proofs::Reading::has_text_end))]
 fn has_text(items: &[Value], text: &str) -> bool
     ensures { result ≡ has_text text.now (items_view items.now) }
@@ -52,7 +37,7 @@ fn has_text(items: &[Value], text: &str) -> bool
     false
 }
 
-/// Whether the encodings that the client offers have this one.
+/// Returns whether the client offers the position encoding `name`.
 fn offers(message: &Value, name: &str) -> bool
     ensures { result ≡ offers name.now (view message.now) }
 {
@@ -71,14 +56,14 @@ fn offers(message: &Value, name: &str) -> bool
     }
 }
 
-/// An option of the client.
+/// Returns the client's initialization option `name`, if it is given.
 fn option_in<'a>(message: &'a Value, name: &str) -> Option<&'a Value>
     ensures { option_map (λ v. view v.now) result ≡ option_in name.now (view message.now) }
 {
     inside(message, "initializationOptions", name)
 }
 
-/// The encoding that is agreed: UTF-8 where the client offers it, otherwise UTF-16.
+/// Returns the encoding to agree on: UTF-8 if the client offers it, otherwise UTF-16.
 fn encoding_in(message: &Value) -> Encoding
     ensures { result ≡ (agreed_in (view message.now)).encoding }
 {
@@ -89,7 +74,7 @@ fn encoding_in(message: &Value) -> Encoding
     }
 }
 
-/// The severity of dynamic places that the client asks for: `information`, otherwise a warning.
+/// Returns the severity of dynamic places: information if the client asks for it, otherwise warning.
 fn severity_in(message: &Value) -> u64
     ensures { result ≡ (agreed_in (view message.now)).dynamic_severity }
 {
@@ -99,14 +84,14 @@ fn severity_in(message: &Value) -> u64
     }
 }
 
-/// The address of the page that explains the codes.
+/// Returns the URL of the page that explains the codes, if the client names one.
 fn page_in(message: &Value) -> Option<&str>
     ensures { option_map (λ text. text.now) result ≡ (agreed_in (view message.now)).codes_page }
 {
     option_in(message, "codesPage")?.as_str()
 }
 
-/// Whether the document that a message opens is Python: its language is, or none is named.
+/// Returns whether the document opened by a message is Python: its `languageId` is `python` or missing.
 pub(crate) fn is_python(message: &Value) -> bool
     ensures { result ≡ is_python (view message.now) }
 {
@@ -116,7 +101,7 @@ pub(crate) fn is_python(message: &Value) -> bool
     }
 }
 
-/// Whether the client can pull diagnostics.
+/// Returns whether the client can pull diagnostics.
 fn pulls_in(message: &Value) -> bool
     ensures { result ≡ pulls_in (view message.now) }
 {
@@ -129,7 +114,7 @@ fn pulls_in(message: &Value) -> bool
     }
 }
 
-/// What a request `initialize` agrees on.
+/// Returns the settings that an `initialize` request agrees on.
 pub(crate) fn settings_in(alloc: Global, message: &Value) -> Result<Settings, AllocError>
     ensures { IfOk result (λ settings. agreed_of settings ≡ agreed_in (view message.now)) }
 {
@@ -142,7 +127,7 @@ pub(crate) fn settings_in(alloc: Global, message: &Value) -> Result<Settings, Al
     })
 }
 
-/// A text of its own, where there is one.
+/// Copies a text, if there is one.
 pub(crate) fn owned(alloc: Global, text: Option<&str>) -> Result<Option<String>, AllocError>
     ensures { IfOk result (λ o. option_map string_bytes o ≡ option_map (λ t. t.now) text.entry) }
 {

@@ -1,23 +1,24 @@
-//! Messages that are no JSON since an escape stands for half a character.
+//! Messages that are not JSON because an escape encodes half a character.
 
 ghost use Rattle.std.specs.Prelude.{◌≡◌, IfOk, MatchOption, Option, None, Some, codes, option_map, IsUtf8};
 ghost use Rattle.serde_json.specs.Find.{get};
 ghost use Rattle.serde_json.specs.Read.{read};
 ghost use Rattle.serde_json.specs.View.{view};
+ghost use Rattle.pc_documents.specs.Documents.{opened_of};
 ghost use Rattle.pc_session.specs.Spoiled.{escape_after, mended_byte, mended, opened_part, changed_part, spoiled_by};
 ghost use Rattle.pc_session.specs.Spoiled.{spoiled_as, spoiled_in, IsMended, Spoils};
-ghost use Rattle.pc_session.specs.States.{opened_of, state_of};
+ghost use Rattle.pc_session.specs.States.{state_of};
 
-use crate::documents::Document;
-use crate::messages::{Method, method_in, uri_in, version_in};
+use crate::messages::{LspMethod, method_in, uri_in, version_in};
 use crate::requests::named;
 use crate::session::{Session, Stage};
 use crate::settings::is_python;
+use pc_documents::Document;
 use pc_source::OutOfMemory;
 use serde_json::Value;
 use std::alloc::{AllocError, Global};
 
-/// Where a byte of JSON stands: outside of an escape, after its backslash, or after its `u`.
+/// Position of a byte of JSON relative to an escape: outside, after the backslash, or after the `u`.
 #[derive(Clone, Copy)]
 pub(crate) enum Escape {
     Outside,
@@ -25,7 +26,7 @@ pub(crate) enum Escape {
     Unicode,
 }
 
-/// Where the next byte stands.
+/// Returns the position of the byte after `byte`.
 fn escape_after(place: Escape, byte: u8) -> Escape
     ensures { result ≡ escape_after place byte }
 {
@@ -48,7 +49,7 @@ fn escape_after(place: Escape, byte: u8) -> Escape
     }
 }
 
-/// The byte; a first digit `d` of an escape becomes `e`, so that no escape stands for half a character.
+/// Returns the byte; `d` as the first digit of an escape becomes `e`, so that no escape encodes half a character.
 fn mended_byte(place: Escape, byte: u8) -> u8
     ensures { result ≡ mended_byte place byte }
 {
@@ -64,7 +65,7 @@ fn mended_byte(place: Escape, byte: u8) -> u8
     }
 }
 
-/// The bytes, with the first digits of escapes mended.
+/// Returns the bytes with the first digits of all escapes mended.
 #[tactic(auto, using(crate::proofs::Mending::mends_more, crate::proofs::Mending::mends_end))]
 fn mended(alloc: Global, bytes: &[u8]) -> Result<Vec<u8>, AllocError>
     ensures { IfOk result (λ v. v.items ≡ mended bytes.now) }
@@ -78,7 +79,7 @@ fn mended(alloc: Global, bytes: &[u8]) -> Result<Vec<u8>, AllocError>
     Ok(mended)
 }
 
-/// The message that the mended bytes are, if they are one.
+/// Returns the message that the mended bytes spell, if they are JSON.
 fn mended_message(alloc: Global, bytes: &[u8]) -> Result<Option<Value>, OutOfMemory>
     ensures { IfOk result (λ message. MatchOption message (IsUtf8 (mended bytes.now) → read (mended bytes.now) ≡ None)
         (λ m. IsMended bytes.now (view m))) }
@@ -91,7 +92,7 @@ fn mended_message(alloc: Global, bytes: &[u8]) -> Result<Option<Value>, OutOfMem
     }
 }
 
-/// The document that a message opens, of which the text is not known.
+/// Returns the document that a message opens, without its text.
 fn opened_part(alloc: Global, message: &Value, uri: &str) -> Result<Document, AllocError>
     ensures { IfOk result (λ d. opened_of d ≡ opened_part (view message.now) uri.now) }
 {
@@ -103,7 +104,7 @@ fn opened_part(alloc: Global, message: &Value, uri: &str) -> Result<Document, Al
     })
 }
 
-/// The document that a message changes, of which the text is not known.
+/// Returns the document that a message changes, without its text.
 fn changed_part(alloc: Global, message: &Value, document: &Document) -> Result<Document, AllocError>
     ensures { IfOk result (λ d. opened_of d ≡ changed_part (view message.now) (opened_of document.now)) }
 {
@@ -115,21 +116,21 @@ fn changed_part(alloc: Global, message: &Value, document: &Document) -> Result<D
     })
 }
 
-/// The document that a notification opens or changes, of which the text is not known.
+/// Returns the document that a notification opens or changes, without its text.
 fn spoiled_by(
     session: &Session,
     alloc: Global,
-    method: Method,
+    method: LspMethod,
     message: &Value,
 ) -> Result<Option<Document>, OutOfMemory>
     ensures { IfOk result (λ d. option_map opened_of d ≡ spoiled_by method (view message.now) (state_of session.now)) }
 {
     match method {
-        Method::DidOpen => match uri_in(message) {
+        LspMethod::DidOpen => match uri_in(message) {
             None => Ok(None),
             Some(uri) => Ok(Some(opened_part(alloc, message, uri)?)),
         },
-        Method::DidChange => match named(session, message) {
+        LspMethod::DidChange => match named(session, message) {
             None => Ok(None),
             Some(document) => Ok(Some(changed_part(alloc, message, document)?)),
         },
@@ -137,7 +138,7 @@ fn spoiled_by(
     }
 }
 
-/// The same of a message, unless it is a request.
+/// Returns the document that a message opens or changes, without its text; `None` for a request.
 fn spoiled_as(
     session: &Session,
     alloc: Global,
@@ -155,7 +156,7 @@ fn spoiled_as(
     }
 }
 
-/// The document of which a message spoils the text, and that text alone.
+/// Returns the document whose text alone a message spoils, if there is one.
 fn spoiled_in(
     session: &Session,
     alloc: Global,
@@ -169,7 +170,7 @@ fn spoiled_in(
     }
 }
 
-/// The document of which bytes that are no JSON spoil the text, and that text alone.
+/// Returns the document whose text alone is spoiled by bytes that are not JSON, if there is one.
 #[tactic(auto, using(crate::proofs::Mending::spoils, crate::proofs::Mending::spoils_none))]
 pub(crate) fn spoiled(
     session: &Session,

@@ -1,32 +1,30 @@
-//! What is replied to a message, and what it changes.
+//! Answers to messages, and the session after them.
 
-ghost use Rattle.std.specs.Prelude.{◌≡◌, ◌++◌, IfOk, OnOk, OnErr, None, ◌∷◌, [], filter, map, option_map, IsUtf8};
+ghost use Rattle.std.specs.Prelude.{◌≡◌, ◌++◌, IfOk, OnOk, OnErr, None, ◌∷◌, [], map, option_map, IsUtf8};
 ghost use Rattle.serde_json.specs.Read.{read};
 ghost use Rattle.serde_json.specs.View.{view};
+ghost use Rattle.pc_documents.specs.Checked.{is_sent};
+ghost use Rattle.pc_documents.specs.Documents.{opened_of};
 ghost use Rattle.pc_session.specs.Answers.{after};
-ghost use Rattle.pc_session.specs.Checked.{is_sent};
 ghost use Rattle.pc_session.specs.Sent.{SendsStep, SendsRefusal};
 ghost use Rattle.pc_session.specs.Sessions.{unknown_of, unknown_all, told_of, OnNoMethod, OnMethod, OnMessage};
 ghost use Rattle.pc_session.specs.Sessions.{IsUnreadable, IsNotRead, Step};
 ghost use Rattle.pc_session.specs.Spelled.{AreSpelled};
-ghost use Rattle.pc_session.specs.States.{opened_of, state_of};
+ghost use Rattle.pc_session.specs.States.{state_of};
 
-use crate::checker::Checker;
-use crate::diagnostics::unknown_values;
-use crate::documents::Document;
-use crate::messages::{Method, is_identifier, is_reply, method_in};
+use crate::messages::{LspMethod, is_identifier, is_reply, method_in};
 use crate::notifications::{kept, nothing, notified};
 use crate::replies::{ErrorCode, error_reply, log, publish};
 use crate::requests::{refused, request};
-use crate::session::{Answer, Change, Session};
+use crate::session::{Answer, Session, SessionChange};
 use crate::spoiled::spoiled;
-use crate::texts::is_sent;
+use pc_documents::{Checker, Document, is_sent, unknown_values};
 use pc_source::OutOfMemory;
 use pc_wire::framed;
 use serde_json::Value;
 use std::alloc::Global;
 
-/// Adds that the text of a document is not known, for the client to show.
+/// Adds the publication that says that the text of a document is not known.
 fn add_unknown(
     alloc: Global,
     document: &Document,
@@ -41,7 +39,7 @@ fn add_unknown(
     Ok(())
 }
 
-/// Adds that no text is known, for each document whose diagnostics are sent.
+/// Adds the publication that the text is not known, for each document whose diagnostics are published.
 fn add_all_unknown(
     session: &Session,
     alloc: Global,
@@ -59,7 +57,7 @@ fn add_all_unknown(
     Ok(())
 }
 
-/// Adds what the log is told where texts are forgotten.
+/// Adds the line for the client's log that texts were forgotten; nothing if no document is open.
 #[tactic(auto, using(crate::proofs::Reading::told_some, crate::proofs::Reading::told_none))]
 fn add_told(
     alloc: Global,
@@ -78,7 +76,7 @@ fn add_told(
     Ok(())
 }
 
-/// What is replied to a message that is not read: an error, and for each open document that its text is not known.
+/// Answers an unreadable message: an error, and for each open document that its text is not known.
 fn unreadable(session: &Session, alloc: Global, code: ErrorCode) -> Result<Answer, OutOfMemory>
     ensures { IfOk result (λ a. IsUnreadable code (state_of session.now) (map view a.replies.items)
         (after a.change (state_of session.now))) }
@@ -89,11 +87,11 @@ fn unreadable(session: &Session, alloc: Global, code: ErrorCode) -> Result<Answe
     add_told(alloc, &session.documents, &mut replies)?;
     Ok(Answer {
         replies,
-        change: Change::Forget,
+        change: SessionChange::Forget,
     })
 }
 
-/// What is answered to a message without a method.
+/// Answers a message without a method.
 fn without_method(
     session: &Session,
     alloc: Global,
@@ -119,12 +117,12 @@ fn without_method(
     }
 }
 
-/// What is answered to a message with a method.
+/// Answers a message with a method.
 fn with_method<C: Checker>(
     session: &Session,
     checker: &C,
     alloc: Global,
-    method: Method,
+    method: LspMethod,
     id: Option<&Value>,
     message: &Value,
 ) -> Result<Answer, OutOfMemory>
@@ -145,7 +143,7 @@ fn with_method<C: Checker>(
     }
 }
 
-/// What is answered to a message, and what it changes.
+/// Answers a message.
 fn answered<C: Checker>(
     session: &Session,
     checker: &C,
@@ -168,7 +166,7 @@ fn answered<C: Checker>(
     }
 }
 
-/// What is replied to bytes that are no JSON: a document has a text that is not known, or all have.
+/// Answers bytes that are not JSON: the text of one document, or of all, is not known from then on.
 fn unread<C: Checker>(
     session: &Session,
     checker: &C,
@@ -191,7 +189,7 @@ fn unread<C: Checker>(
     }
 }
 
-/// What is replied to the bytes of a message, and what they change.
+/// Answers the bytes of a message.
 fn read<C: Checker>(
     session: &Session,
     checker: &C,
@@ -214,7 +212,7 @@ fn read<C: Checker>(
     }
 }
 
-/// The frames of replies.
+/// Returns the frames of replies, in order.
 fn frames(alloc: Global, replies: &[Value]) -> Result<Vec<u8>, OutOfMemory>
     ensures { IfOk result (λ bytes. AreSpelled (map view replies.now) bytes.items) }
 {
@@ -227,7 +225,7 @@ fn frames(alloc: Global, replies: &[Value]) -> Result<Vec<u8>, OutOfMemory>
     Ok(bytes)
 }
 
-/// The frames of what is replied to a message, in order, and the session after it.
+/// Handles a message: returns the frames of the replies to it, in order, and updates the session.
 ///
 /// # Errors
 ///
@@ -248,8 +246,8 @@ pub fn step<C: Checker>(
     Ok(bytes)
 }
 
-/// The frames of what is replied to a message that is longer than one may be, and the session after it: an error, and no
-/// text of an open document is known.
+/// Handles a message over the limit: returns the frames of an error and of the publications that say that the texts of
+/// the open documents are not known, and forgets these texts.
 ///
 /// # Errors
 ///

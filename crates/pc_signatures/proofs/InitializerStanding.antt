@@ -1,10 +1,10 @@
--- What an initializer stands in, by a setting of the program.
+-- The standing of an initializer, by a setting of the program.
 use Rattle.std.proofs.Common.{◌≡◌, ℕ, List, [], ap}
 use Rattle.std.specs.Prelude.{Bool as Test, false}
 use Rattle.pc_tree.specs.Tree.{Module}
 use Rattle.pc_scope.specs.declared.resolution.Owner.TheVariants as owners
-use Rattle.pc_scope.specs.declared.resolution.Res.{Res}
-use Rattle.pc_scope.specs.declared.resolution.Res.TheVariants as res
+use Rattle.pc_scope.specs.declared.resolution.NameMeaning.{NameMeaning}
+use Rattle.pc_scope.specs.declared.resolution.NameMeaning.TheVariants as res
 use Rattle.pc_scope.specs.Reserved.{builtin_of}
 use Rattle.pc_scope.specs.Resolution.{or_meaning, builtin_meaning, resolve_in_module}
 use Rattle.pc_scope.specs.Tables.{Tables, AreTables, meaning_by_tables}
@@ -24,9 +24,9 @@ module _ (m : Module) where
   module_names t are = λ j text. (ap (λ r. or_meaning (builtin_meaning (builtin_of text)) (or_meaning r res.None))
       (are.globals text)) j
 
-  -- what an initializer stands in, part by part
+  -- the standing of an initializer, part by part
   pub standing_is : (bases : Bases) (classes : List ClassFacts) (functions : List Signature)
-      (keeps : Test) (constants types : List Tree) (known number : ℕ) (resolve : List ℕ → Res) (declared : List Tree)
+      (keeps : Test) (constants types : List Tree) (known number : ℕ) (resolve : List ℕ → NameMeaning) (declared : List Tree)
       (env : Env)
       → bases ≡ bases_of m → classes ≡ classes_of m → functions ≡ signatures_of m → constants ≡ types → known ≡ number
       → resolve ≡ resolve_in_module m → declared ≡ [] → env ≡ []

@@ -3,7 +3,7 @@ use Rattle.std.proofs.Common.{◌≡◌, List, ◌∷◌, [], map, refl, ap}
 use Rattle.std.specs.Prelude.{Vec}
 use Rattle.std.specs.Global.{Global}
 use Rattle.pc_types.specs.Tree.{Tree}
-use Rattle.pc_rules.specs.declared.setting.Signature.{Signature as RustSignature}
+use Rattle.pc_rules.specs.declared.expr_context.Signature.{Signature as RustSignature}
 use Rattle.pc_signatures.specs.SignaturesHeld.{methods_seen, all_signatures_with}
 use Rattle.pc_signatures.specs.Internal.ItemsRead.{methods_with}
 

@@ -8,7 +8,7 @@ ghost use Rattle.pc_tree.specs.Tree.{expr_of, class_of, constant_of, item_of};
 ghost use Rattle.pc_tree.specs.Tree.{constant_item, class_item};
 ghost use Rattle.pc_scope.specs.Bindings.{classes_in};
 ghost use Rattle.pc_types.specs.Store.{Means};
-ghost use Rattle.pc_ann.specs.ModuleOutlines.{module_in};
+ghost use Rattle.pc_annotations.specs.ModuleOutlines.{module_in};
 ghost use Rattle.pc_class.specs.Built.{IsClassAt};
 ghost use Rattle.pc_class.specs.Outlines.{IsClassNumbered};
 ghost use Rattle.pc_rules.specs.Computed.Signatures.{class_methods, signatures_of_methods, initial};
@@ -16,32 +16,36 @@ ghost use Rattle.pc_rules.specs.Computed.Signatures.{type_of_constant, constant_
 ghost use Rattle.pc_rules.specs.Computed.Signatures.{items_findings, constants_of, method_signatures};
 ghost use Rattle.pc_rules.specs.Computed.Signatures.{class_notes, value_findings};
 ghost use Rattle.pc_rules.specs.Computed.Signatures.{nothing_reached};
-ghost use Rattle.pc_headers.specs.SignaturesRead.{AreGlobals};
+ghost use Rattle.pc_callables.specs.SignaturesRead.{AreGlobals};
 ghost use Rattle.pc_signatures.specs.Internal.ItemsRead.{HasReached, methods_with, reached_with};
 ghost use Rattle.pc_rules.specs.Computed.Standing.{HasIfAny, label_in, finds_in};
-ghost use Rattle.pc_rules.specs.Computed.Checkers.{Finds, GoesOn, IsLabel};
+ghost use Rattle.pc_rules.specs.Computed.Checkers.{Finds, CheckerKept, IsLabel};
 
 use indexmap::IndexSet;
-use pc_expr::type_expr;
+use pc_callables::{
+    BoundNames, ClassNumbers, bind, binds, find_into, read_annotation, read_members,
+};
+use pc_expr::check_expr;
 use pc_flow::{DeclaredTypes, Env, OwnerNames};
-use pc_headers::{ClassNumbers, Texts, bind, binds, find_into, read_annotation, read_members};
-use pc_rules::{Checker, Label, ModuleContext, Setting, Signature};
+use pc_rules::{ExprContext, Label, ModuleContext, Signature, TypingState};
 use pc_scope::Owner;
 use pc_source::OutOfMemory;
 use pc_tree::{ClassDef, Constant, Expr, Item, ItemKind};
 use pc_types::TypeStore;
 
-/// What the items read so far give: the types of the constants, the methods of each class, the names that are bound.
+/// State of reading items: the types of the constants, the signatures of each class's methods, and the bound names so
+/// far.
 #[derive(Drop)]
 pub(crate) struct ItemsRead<Ty: Drop> {
     pub constants: Vec<Ty>,
     pub methods: Vec<Vec<Signature<Ty>>>,
-    pub bound: Texts,
+    pub bound: BoundNames,
 }
 
-/// The label of an initializer after this many classes, with what is found in it.
+/// Types an initializer that may name only the constants and classes read so far, with `want` as its expected type.
+/// Appends its findings and returns its label.
 fn type_initializer<S: TypeStore>(
-    checker: &mut Checker<'_, S>,
+    checker: &mut TypingState<'_, S>,
     globals: &ModuleContext<'_, S::Ty>,
     read: &ItemsRead<S::Ty>,
     want: &Option<S::Ty>,
@@ -57,7 +61,7 @@ fn type_initializer<S: TypeStore>(
     ensures found { OnOk result (Finds checker.old checker.new
         (finds_in (initial (module_in globals.now.outline.now) globals.now.keeps (map S.tree read.now.constants.items)
         (length read.now.methods.items)) (option_map S.tree want.now) (expr_of value.now))) }
-    ensures goes_on { GoesOn S.TypeStore checker.old checker.new }
+    ensures goes_on { CheckerKept S.TypeStore checker.old checker.new }
 {
     let names = OwnerNames {
         scopes: globals.outline.scopes,
@@ -73,18 +77,19 @@ fn type_initializer<S: TypeStore>(
         known: read.methods.len(),
         keeps: globals.keeps,
     };
-    let setting = Setting {
+    let setting = ExprContext {
         globals: &so_far,
         in_body: false,
         names: &names,
         declared: &declared,
     };
-    type_expr(checker, &setting, &env, want, value)
+    check_expr(checker, &setting, &env, want, value)
 }
 
-/// Types the initializer of a constant with this annotation: it flows into it, where the constant binds its name.
+/// Types the initializer of a constant with this annotated type. Appends its findings and, if the constant binds its
+/// name, that of its flow into the type.
 fn check_annotated<S: TypeStore>(
-    checker: &mut Checker<'_, S>,
+    checker: &mut TypingState<'_, S>,
     globals: &ModuleContext<'_, S::Ty>,
     read: &ItemsRead<S::Ty>,
     binds: bool,
@@ -97,7 +102,7 @@ fn check_annotated<S: TypeStore>(
     ensures found { OnOk result (Finds checker.old checker.new
         (value_findings (module_in globals.now.outline.now) globals.now.keeps (reached_with S.tree read.now)
         (if binds then S.tree ty.now ∷ [] else []) (expr_of value.now))) }
-    ensures goes_on { GoesOn S.TypeStore checker.old checker.new }
+    ensures goes_on { CheckerKept S.TypeStore checker.old checker.new }
 {
     if !binds {
         type_initializer(checker, globals, read, &None, value)?;
@@ -108,10 +113,11 @@ fn check_annotated<S: TypeStore>(
     find_into(checker, globals.outline.parents, value.place(), &label, ty)
 }
 
-/// The type of a constant, with what is found in its annotation and of its initializer. Language Reference 3.12, 7.2
-/// "Assignment statements"; typing specification, "Type annotations".
+/// Returns the type of a constant: its annotation, else the type of its initializer. Appends the findings in the
+/// annotation, in the initializer and of its flow. Language Reference 3.12, 7.2 "Assignment statements"; typing
+/// specification, "Type annotations".
 fn read_constant<S: TypeStore>(
-    checker: &mut Checker<'_, S>,
+    checker: &mut TypingState<'_, S>,
     globals: &ModuleContext<'_, S::Ty>,
     read: &ItemsRead<S::Ty>,
     constant: &Constant,
@@ -125,7 +131,7 @@ fn read_constant<S: TypeStore>(
     ensures found { OnOk result (Finds checker.old checker.new
         (constant_findings (module_in globals.now.outline.now) globals.now.keeps (reached_with S.tree read.now)
         (constant_of constant.now))) }
-    ensures goes_on { GoesOn S.TypeStore checker.old checker.new }
+    ensures goes_on { CheckerKept S.TypeStore checker.old checker.new }
 {
     let value = &constant.value;
     match &constant.annotation {
@@ -142,9 +148,9 @@ fn read_constant<S: TypeStore>(
     }
 }
 
-/// Goes over a constant: types its initializer, and adds it to those that are reached.
+/// Checks a constant and appends its findings. Adds its type and its name to `read`.
 fn add_constant<S: TypeStore>(
-    checker: &mut Checker<'_, S>,
+    checker: &mut TypingState<'_, S>,
     globals: &ModuleContext<'_, S::Ty>,
     read: &mut ItemsRead<S::Ty>,
     constant: &Constant,
@@ -160,16 +166,16 @@ fn add_constant<S: TypeStore>(
     ensures found { OnOk result (Finds checker.old checker.new
         (constant_findings (module_in globals.now.outline.now) globals.now.keeps (reached_with S.tree read.old)
         (constant_of constant.now))) }
-    ensures goes_on { GoesOn S.TypeStore checker.old checker.new }
+    ensures goes_on { CheckerKept S.TypeStore checker.old checker.new }
 {
     let ty = read_constant(checker, globals, read, constant)?;
     read.constants.push(ty)?;
     bind(&mut read.bound, checker.alloc, constant.name.text.as_str())
 }
 
-/// Goes over a class: reads its members, and adds it to those that are reached.
+/// Checks the members of a class and appends their findings. Adds the signatures of its methods and its name to `read`.
 fn add_class<S: TypeStore>(
-    checker: &mut Checker<'_, S>,
+    checker: &mut TypingState<'_, S>,
     globals: &ModuleContext<'_, S::Ty>,
     read: &mut ItemsRead<S::Ty>,
     class: &ClassDef,
@@ -189,7 +195,7 @@ fn add_class<S: TypeStore>(
         (class_item p (class_of class.now))) }
     ensures found { OnOk result (Finds checker.old checker.new
         (class_notes (module_in globals.now.outline.now) (length read.old.methods.items) (class_of class.now))) }
-    ensures goes_on { GoesOn S.TypeStore checker.old checker.new }
+    ensures goes_on { CheckerKept S.TypeStore checker.old checker.new }
 {
     let number = read.methods.len();
     let base = globals.outline.parents.base(number);
@@ -199,9 +205,10 @@ fn add_class<S: TypeStore>(
     bind(&mut read.bound, checker.alloc, class.name.text.as_str())
 }
 
-/// Goes over an item, and adds it to those that are reached.
+/// Checks an item that is a constant or a class and appends its findings. Adds it to `read`; of a function only the
+/// name, since functions are read before.
 fn add_item<S: TypeStore>(
-    checker: &mut Checker<'_, S>,
+    checker: &mut TypingState<'_, S>,
     globals: &ModuleContext<'_, S::Ty>,
     read: &mut ItemsRead<S::Ty>,
     item: &Item,
@@ -221,7 +228,7 @@ fn add_item<S: TypeStore>(
     ensures found { OnOk result (Finds checker.old checker.new
         (item_findings (module_in globals.now.outline.now) globals.now.keeps (reached_with S.tree read.old)
         (item_of item.now))) }
-    ensures goes_on { GoesOn S.TypeStore checker.old checker.new }
+    ensures goes_on { CheckerKept S.TypeStore checker.old checker.new }
 {
     match &item.kind {
         ItemKind::Constant(constant) => add_constant(checker, globals, read, constant),
@@ -230,11 +237,11 @@ fn add_item<S: TypeStore>(
     }
 }
 
-/// The types of the constants of a module, and what the methods of its classes take and return; what is found of its
-/// constants and classes.
+/// Checks the constants and classes of a module in text order and appends their findings. Returns the types of the
+/// constants and the signatures of each class's methods.
 #[tactic(auto, using(pc_rules::proofs::Checkers::goes_further), unfolding(pc_rules::specs::Computed::Signatures::constants_of, pc_rules::specs::Computed::Signatures::method_signatures))]
 pub(crate) fn read_items<S: TypeStore>(
-    checker: &mut Checker<'_, S>,
+    checker: &mut TypingState<'_, S>,
     globals: &ModuleContext<'_, S::Ty>,
 ) -> Result<ItemsRead<S::Ty>, OutOfMemory>
     requires { AreGlobals S.has S.tree checker.old.store.now globals.now }
@@ -246,7 +253,7 @@ pub(crate) fn read_items<S: TypeStore>(
     ensures found { OnOk result (Finds checker.old checker.new
         (items_findings (module_in globals.now.outline.now) globals.now.keeps nothing_reached
         (module_in globals.now.outline.now).items)) }
-    ensures goes_on { GoesOn S.TypeStore checker.old checker.new }
+    ensures goes_on { CheckerKept S.TypeStore checker.old checker.new }
 {
     let mut read = ItemsRead {
         constants: Vec::new(checker.alloc),

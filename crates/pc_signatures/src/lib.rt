@@ -1,7 +1,7 @@
-//! The signatures and constants of a module, and what is found in them.
+//! The signatures and constants of a module, and the findings in them.
 #![tactic(auto)]
 
 mod constants;
-mod sigs;
+mod signatures;
 
-pub use sigs::{Sigs, read_signatures};
+pub use signatures::{Signatures, read_signatures};

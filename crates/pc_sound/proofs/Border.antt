@@ -1,4 +1,4 @@
--- The border: what passes its check is of its types.
+-- The border: a value that passes its check is of its type.
 pub mod TypedValues
 pub mod LoadedAgain
 pub mod Fitting

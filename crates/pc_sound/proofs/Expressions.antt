@@ -1,4 +1,4 @@
--- Expressions: each form is safe where its parts are.
+-- Expressions: each form is safe if its parts are.
 pub mod SimpleExpressions
 pub mod LocalReads
 pub mod NameReads

@@ -1,4 +1,4 @@
--- The heap: what is recorded of a location, and the actions on it.
+-- The heap: the record of a location, and the actions on it.
 pub mod Heaps
 pub mod SeenValues
 pub mod Dicts

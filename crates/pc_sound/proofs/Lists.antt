@@ -1,4 +1,4 @@
--- Lists: which are empty, what stands at a number, and what is among the elements.
+-- Lists: which are empty, the element at a number, and membership.
 use Rattle.std.proofs.Common.{◌≡◌, ℕ, zero, suc, List, [], ◌∷◌, ◌++◌, length, refl, sym, ap, ◌∙◌, inl, inr, arith}
 use Rattle.std.proofs.Common.{Contains, lt-ltb}
 use Rattle.std.specs.Prelude.{◌⊎◌, Bool as Test, true, false, Some, nat_lt, slice_get, bytes_eq}
@@ -39,7 +39,7 @@ get_left [] ys i x e = grind arith
 get_left (y ∷ xs) ys zero x e = e
 get_left (y ∷ xs) ys (suc i) x e = get_left xs ys i x e
 
--- what was put after a list stands at its length
+-- an element put after a list is at the index of the list's length
 pub get_at_end : {A : Type 0} (xs : List A) (y : A) (ys : List A) → slice_get (xs ++ y ∷ ys) (length xs) ≡ Some y
 get_at_end [] y ys = refl
 get_at_end (x ∷ xs) y ys = get_at_end xs y ys
@@ -62,7 +62,7 @@ none_among x c = omega (arith, c.1)
 pub first_among : {A : Type 0} (x : A) (xs : List A) → Contains (x ∷ xs) x
 first_among x xs = (0, omega arith, refl)
 
--- so is each of the others
+-- each of the other elements is among all
 pub later_among : {A : Type 0} (x : A) (xs : List A) (y : A) → Contains xs y → Contains (x ∷ xs) y
 later_among x xs y c = Contains-append_right (x ∷ []) xs y c
 

@@ -1,4 +1,4 @@
--- Statements: assignments, branches and loops lead to their ways out.
+-- Statements: assignments, branches and loops lead to the environments of their exits.
 pub mod WaysOut
 pub mod SimpleStatements
 pub mod LocalBinding

@@ -1,4 +1,4 @@
--- Steps that are safe: the judgment, and how it goes from step to step.
+-- Steps that are safe: the judgment, and its passage from step to step.
 pub mod SafeSteps
 pub mod Judgment
 pub mod BoundLocals

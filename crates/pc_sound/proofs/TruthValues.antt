@@ -1,4 +1,4 @@
--- Truth values: true is not false, and what is known of the parts of `||`.
+-- Truth values: true is not false, and the values of the parts of `||`.
 use Rattle.std.proofs.Common.{◌≡◌, refl, sym, ◌∙◌, inl, inr, true≢false}
 use Rattle.std.specs.Prelude.{◌⊎◌, Bool as Test, true, false, ◌||◌, not}
 use Rattle.std.proofs.lemmas.Bool.{or_parts, not-true}

@@ -97,7 +97,7 @@ program = record {
   main = at 199 203;
 }
 
--- the list as `list[int | str]`, and as `list[Any]`; as `Any` nothing is found
+-- the list passed as `list[int | str]`, and as `list[Any]`; as `Any` it has no finding
 abbrev pub findings : List Finding
 findings = finding (at 178 179) E12 ∷ finding (at 187 188) A1 ∷ []
 
@@ -108,6 +108,6 @@ events = at 169 170 ∷ at 168 171
     ∷ at 185 186 ∷ at 187 188 ∷ at 185 189
     ∷ at 194 195 ∷ at 196 197 ∷ at 194 198 ∷ []
 
--- how it ends
+-- the end of the run
 abbrev pub end : End
 end = done

@@ -1,4 +1,4 @@
--- Arguments that suit parameters. Own rule of the profile.
+-- Arguments that match parameters. Own rule of the profile.
 use Rattle.std.specs.Prelude.{◌≡◌, List, [], ◌∷◌, Option, Some, None, true}
 use Rattle.pc_scope.specs.Resolution.{is_one_of}
 use Rattle.pc_types.specs.Below.{Bases}
@@ -8,12 +8,12 @@ use Rattle.pc_value.specs.Value.{Value}
 use Rattle.pc_machine.specs.Calls.{NamedValue, value_named}
 use Rattle.pc_sound.specs.Values.{HeapTyping, HasType}
 
--- a parameter left takes a value by name of its type, or it has a default
+-- a parameter without an argument by position has a value by name of its type, or a default
 abbrev pub TakesNamed : Bases → HeapTyping → TypedParameter → Option Value → Type 0
 TakesNamed bases k p (Some w) = HasType bases k p.type w
 TakesNamed bases k p None = p.has_default ≡ true
 
--- the first parameters take the values by position, and none by name; the others a value by name or their default
+-- the first parameters have the values by position and none by name; the others a value by name or their default
 abbrev pub Fills : Bases → HeapTyping → List TypedParameter → List Value → List NamedValue → Type 0
 Fills bases k [] [] named = Unit {0}
 Fills bases k [] (v ∷ vs) named = ⊥
@@ -26,7 +26,7 @@ abbrev pub AllFor : List NamedValue → List TypedParameter → Type 0
 AllFor [] qs = Unit {0}
 AllFor (a ∷ rest) qs = (is_one_of a.name (parameter_names qs) ≡ true) × AllFor rest qs
 
--- arguments suit parameters: each parameter takes one of its type or has a default, and none is left over
+-- the arguments match the parameters: each parameter has a value of its type or a default, and no argument is left over
 pub record Suits (bases : Bases) (k : HeapTyping) (params : List TypedParameter) (vs : List Value)
     (named : List NamedValue) : Type 0 where
   pub fills : Fills bases k params vs named

@@ -1,4 +1,4 @@
--- A module that names the target of a `for` after it: a loop may make no turn, so the name may not be assigned.
+-- A module that reads the target of a `for` after the loop: a loop may have no turn, so the name may be unassigned.
 --     from __future__ import annotations
 --     def main():
 --         xs: list[int] = []
@@ -22,7 +22,7 @@ use Rattle.pc_sound.specs.Examples.{at, word}
 abbrev pub list_of_int : Ann
 list_of_int = applied (at 55 64) (word 55 (codes "list")) (more_anns (named (word 60 (codes "int"))) no_anns)
 
--- `main`, with an empty list, the loop over it, and the name after the loop
+-- `main`, with an empty list, the loop over it, and the read after the loop
 abbrev pub main : FuncDef
 main = record {
   name = word 39 (codes "main");
@@ -45,7 +45,7 @@ program = record {
   main = at 113 117;
 }
 
--- the name after the loop, at its line 6 and column 11
+-- the name after the loop, on line 6 at column 11
 abbrev pub findings : List Finding
 findings = finding (at 110 111) E04 ∷ []
 
@@ -53,6 +53,6 @@ findings = finding (at 110 111) E04 ∷ []
 abbrev pub events : List Place
 events = at 67 69 ∷ at 83 85 ∷ at 104 109 ∷ at 110 111 ∷ []
 
--- how it ends: the name is unbound
+-- the end of the run: the name is unbound
 abbrev pub end : End
 end = stopped (Raised UnboundLocalError)

@@ -1,5 +1,6 @@
--- The border: what is checked of the values of a call from outside. A heap typing is built as the values are walked,
--- each location at one type, and then all of it is checked. Own rule of the profile.
+-- The border: the check of the values of a call from outside. A heap typing is built while walking the values, with one
+-- type for each location, and is then checked as a whole.
+-- Own rule of the profile.
 use Rattle.std.specs.Prelude.{◌&&◌, ◌++◌, ◌==◌, length, ℕ, zero, suc, List, [], ◌∷◌, Bool as Test, true}
 use Rattle.std.specs.Prelude.{if◌then◌else◌, Option, Some, None, slice_get}
 use Rattle.pc_tree.specs.Tree.{Constant, Module}
@@ -10,7 +11,7 @@ use Rattle.pc_types.specs.Shape.{count}
 use Rattle.pc_class.specs.Bases.{bases_of}
 use Rattle.pc_class.specs.Facts as facts
 use Rattle.pc_class.specs.Facts.{TypedParameter, classes_of, class_facts_at}
-use Rattle.pc_value.specs.Value.{Value, Values, list_of, tuple_of, location, more_values, Entry, Slot, Cell, list_cell}
+use Rattle.pc_value.specs.Value.{Value, Values, list_of, tuple_of, location, more_values, DictEntry, Slot, Cell, list_cell}
 use Rattle.pc_value.specs.Value.{dict_cell, instance_cell, Heap}
 use Rattle.pc_machine.specs.State.{State, GlobalBinding, Globals, a_value}
 use Rattle.pc_machine.specs.Names.{global_by_name}
@@ -18,16 +19,16 @@ use Rattle.pc_machine.specs.Calls.{NamedValue, value_named}
 use Rattle.pc_sound.specs.Values.{HeapTyping, Recorded, a_list, a_dict, a_class}
 use Rattle.pc_sound.specs.Typed.{has_type, is_well, suits}
 
--- a value that is to be of a type
+-- a value and the type that it must have
 pub record Demand : Type 0 where
   pub type : Tree
   pub value : Value
 
--- what is recorded of each location, or nothing yet
+-- the record of each location, or none yet
 abbrev pub Records : Type 0
 Records = List (Option Recorded)
 
--- the records with one more, where nothing is recorded of the location yet
+-- the records with one more, if the location has none yet
 abbrev pub with_record : ℕ → Recorded → Records → Records
 with_record l r [] = []
 with_record zero r (None ∷ rest) = Some r ∷ rest
@@ -36,23 +37,23 @@ with_record (suc l) r (first ∷ rest) = first ∷ with_record l r rest
 
 -- ---- the walk
 
--- values are walked one after another
+-- the records after walking values one after another
 abbrev pub walk_all : (Value → Records → Records) → List Value → Records → Records
 walk_all walk [] records = records
 walk_all walk (v ∷ vs) records = walk_all walk vs (walk v records)
 
--- so are the keys and values of entries
-abbrev pub walk_entries : (key value : Value → Records → Records) → List Entry → Records → Records
+-- the records after walking the keys and values of entries
+abbrev pub walk_entries : (key value : Value → Records → Records) → List DictEntry → Records → Records
 walk_entries key value [] records = records
 walk_entries key value (e ∷ es) records = walk_entries key value es (value e.value (key e.key records))
 
--- a list of which nothing is recorded is recorded with the type of its items, and then they are walked
+-- a list without a record is recorded with the type of its items, and then they are walked
 abbrev pub walk_list : (Value → Records → Records) → Tree → ℕ → Option Cell → Option (Option Recorded) → Records
     → Records
 walk_list walk t l (Some (list_cell items)) (Some None) records = walk_all walk items (with_record l (a_list t) records)
 walk_list walk t l cell recorded records = records
 
--- so it is with a dict
+-- a dict without a record is recorded with its key and value types, and then its entries are walked
 abbrev pub walk_dict : (key value : Value → Records → Records) → (key_type value_type : Tree) → ℕ → Option Cell
     → Option (Option Recorded) → Records → Records
 walk_dict key value s t l (Some (dict_cell entries)) (Some None) records =
@@ -60,8 +61,8 @@ walk_dict key value s t l (Some (dict_cell entries)) (Some None) records =
 walk_dict key value s t l cell recorded records = records
 
 abbrev mutual
-  -- a value is walked as one of a type: what lies in lists and dicts too, and in tuples of as many items; a union as
-  -- each of its members
+  -- the records after walking a value as one of a type: also the content of lists and dicts, and of tuples with as many
+  -- items; a union as each of its members
   pub walk : Heap → Tree → Value → Records → Records
   walk heap (ListOf t) (location l) records =
       walk_list (walk heap t) t l (slice_get heap l) (slice_get records l) records
@@ -72,65 +73,65 @@ abbrev mutual
   walk heap (Union a b) v records = walk heap b v (walk heap a v records)
   walk heap t v records = records
 
-  -- the items of a tuple are walked, one by one
+  -- the records after walking the items of a tuple, one by one
   pub walk_parts : Heap → Trees → Values → Records → Records
   walk_parts heap (more t ts) (more_values v vs) records = walk_parts heap ts vs (walk heap t v records)
   walk_parts heap ts vs records = records
 
--- each demand is walked
+-- the records after walking each demand
 abbrev pub walk_demands : Heap → List Demand → Records → Records
 walk_demands heap [] records = records
 walk_demands heap (d ∷ ds) records = walk_demands heap ds (walk heap d.type d.value records)
 
--- the fields of an instance are demands
+-- the demands of an instance's fields
 abbrev pub field_demands : List TypedParameter → List Slot → List Demand
 field_demands (f ∷ fs) (s ∷ ss) = record { type = f.type; value = s.value } ∷ field_demands fs ss
 field_demands fs ss = []
 
--- so are those of each instance of a heap
+-- the demands of the fields of each instance of a heap
 abbrev pub instance_demands : List facts.ClassFacts → List Cell → List Demand
 instance_demands classes [] = []
 instance_demands classes (instance_cell c slots ∷ cells) = field_demands (class_facts_at classes c).fields slots
     ++ instance_demands classes cells
 instance_demands classes (cell ∷ cells) = instance_demands classes cells
 
--- before the walk each instance is recorded with its own class
+-- the records before the walk: each instance with its own class
 abbrev pub first_records : List Cell → Records
 first_records [] = []
 first_records (instance_cell c slots ∷ cells) = Some (a_class c) ∷ first_records cells
 first_records (cell ∷ cells) = None ∷ first_records cells
 
--- a list or a dict that no type leads to holds anything
+-- the record of a location that the walk did not reach: a list or a dict of anything, or an instance of its class
 abbrev pub record_left : Cell → Recorded
 record_left (list_cell items) = a_list Any
 record_left (dict_cell entries) = a_dict Any Any
 record_left (instance_cell c slots) = a_class c
 
--- the heap typing of records
+-- the heap typing of the records
 abbrev pub closed : Records → List Cell → HeapTyping
 closed (Some r ∷ rest) (cell ∷ cells) = r ∷ closed rest cells
 closed (None ∷ rest) (cell ∷ cells) = record_left cell ∷ closed rest cells
 closed records cells = []
 
--- ---- what is demanded
+-- ---- demands
 
--- of the value that a name is bound to
+-- the demand of the value bound to a name
 abbrev pub bound_demand : Tree → Option GlobalBinding → List Demand
 bound_demand t (Some (a_value v)) = record { type = t; value = v } ∷ []
 bound_demand t binding = []
 
--- of the constants of a module, which have these types
+-- the demands of the constants of a module, given their types
 abbrev pub constant_demands : List Constant → List Tree → Globals → List Demand
 constant_demands (c ∷ cs) (t ∷ ts) globals = bound_demand t (global_by_name c.name.text globals)
     ++ constant_demands cs ts globals
 constant_demands cs ts globals = []
 
--- of an argument by name, if there is one
+-- the demand of an argument by name, if there is one
 abbrev pub named_demand : Tree → Option Value → List Demand
 named_demand t (Some v) = record { type = t; value = v } ∷ []
 named_demand t None = []
 
--- of the arguments of a call, by the types of its parameters
+-- the demands of the arguments of a call, given its parameters
 abbrev pub argument_demands : List TypedParameter → List Value → List NamedValue → List Demand
 argument_demands [] vs named = []
 argument_demands (p ∷ ps) (v ∷ vs) named = record { type = p.type; value = v } ∷ argument_demands ps vs named
@@ -143,19 +144,19 @@ are_met bases k (d ∷ ds) = has_type bases k d.type d.value && are_met bases k 
 
 -- ---- the check
 
--- the heap typing that is found by a walk over some demands and then over the fields of all instances
+-- the heap typing found by a walk over the demands and then over the fields of all instances
 abbrev pub typing_found : List facts.ClassFacts → Heap → List Demand → HeapTyping
 typing_found classes heap demands = closed (walk_demands heap (demands ++ instance_demands classes heap)
     (first_records heap)) heap
 
--- a heap typing, where under it the heap is well typed, some demands are met and the arguments suit the parameters
+-- the heap typing, if under it the heap is well typed, the demands are met and the arguments match the parameters
 abbrev pub checked : Module → HeapTyping → Heap → List Demand → List TypedParameter → List Value → List NamedValue
     → Option HeapTyping
 checked m k heap demands params values named = if is_well (bases_of m) (classes_of m) k heap
     && (are_met (bases_of m) k demands && suits (bases_of m) k params values named) then Some k else None
 
--- a call fits: the heap typing under which the constants of the module, the object whose method is called, and the
--- arguments are of their types, each location of one type
+-- the heap typing of a call that fits: under it the constants of the module, the object whose method is called, and the
+-- arguments are of their types, with one type for each location
 abbrev pub fits : (m : Module) (types : List Tree) → State → (objects : List Demand) → List TypedParameter → List Value
     → List NamedValue → Option HeapTyping
 fits m types s objects params values named =

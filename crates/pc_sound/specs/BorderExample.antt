@@ -1,4 +1,4 @@
--- A module that takes two lists: each list is of one type, so one list cannot be both of them.
+-- A module with a function of two lists of different types; one list cannot be of both types.
 --     from __future__ import annotations
 --     def f(x: list[int], y: list[int | None]):
 --         pass
@@ -20,7 +20,7 @@ use Rattle.pc_sound.specs.Examples.{at, word}
 abbrev pub int_or_none : Ann
 int_or_none = union (at 63 73) (more_anns (named (word 63 (codes "int"))) (more_anns (none_type (at 69 73)) no_anns))
 
--- `f`, which takes the two lists
+-- `f`, with the two lists as parameters
 abbrev pub f : FuncDef
 f = record {
   name = word 39 (codes "f");
@@ -68,7 +68,7 @@ made_f = record {
 abbrev pub made_main : Function
 made_main = record { name = main.name; parameters = []; body = main.body }
 
--- when both items have run
+-- the state after both items have run
 abbrev pub loaded : State
 loaded = record {
   classes = [];
@@ -84,22 +84,22 @@ loaded = record {
 abbrev pub two_lists : Heap
 two_lists = list_cell (whole (pos 1) ∷ []) ∷ list_cell (whole (pos 1) ∷ []) ∷ []
 
--- what the border says of a call of `f` with these two values
+-- the answer of the border to a call of `f` with these two values
 abbrev pub says : (first second : Value) → Option HeapTyping
 says first second = fits program [] (record loaded { heap = two_lists }) [] (parameters_of program f.params) (first ∷ second ∷ []) []
 
--- one list is of `int`, the other one of `int | None`
+-- the first list of `int`, the second of `int | None`
 abbrev pub one_each : HeapTyping
 one_each = a_list Int ∷ a_list (Union Int NoneType) ∷ []
 
--- the first list and then the second one: the call fits
+-- the call with the first list and the second one, which fits
 abbrev pub first_and_second : Option HeapTyping
 first_and_second = says (location 0) (location 1)
 
--- the first list twice: it would be of two types
+-- the call with the first list twice, which would be of two types
 abbrev pub first_twice : Option HeapTyping
 first_twice = says (location 0) (location 0)
 
--- a list and a text
+-- the call with a list and a text
 abbrev pub list_and_text : Option HeapTyping
 list_and_text = says (location 0) (string (codes "a"))

@@ -18,15 +18,15 @@ use Rattle.pc_sound.specs.OutsideCalls.{IsReady, IsEntrance, EndsAsPromised}
 use Rattle.pc_sound.specs.Silent.{HasNoSilentError}
 use Rattle.pc_sound.specs.Sound.{HasEvaluatedListed}
 
--- a call ends as promised; and whatever other code does to the heap then, under a heap typing that extends the one that
--- the call left, this holds of the next state in which the module can be called
+-- a call ends as promised; and under any heap typing that extends the one after the call, this holds of the next state
+-- in which the module can be called, whatever other code does to the heap until then
 pub record GoesOnWith (m : Module) (labels : Labelling m) (further : HeapTyping → State → Type 0) (k : HeapTyping)
     (s : State) (gives : Tree) (out : Out Value) (after : State) : Type 0 where
   pub promised : EndsAsPromised m labels k s gives out after
   pub next : (k' : HeapTyping) (s' : State) → Extends promised.typing k' → IsReady m labels k' s' → further k' s'
 
--- so many calls, one after another, each of whatever can be called then, with arguments that suit: each has evaluated a
--- listed place, and nothing is said of those after it, or it ends as promised
+-- a number of calls, one after another, each of anything that can be called then, with arguments that match: each has
+-- evaluated a listed place, and nothing is said of those after it, or it ends as promised
 abbrev pub CallsGoOn : (m : Module) → Labelling m → ℕ → HeapTyping → State → Type 0
 CallsGoOn m labels zero k s = Unit {0}
 CallsGoOn m labels (suc left) k s = (callee : Callee) (params : List TypedParameter) (gives : Tree)
@@ -35,7 +35,7 @@ CallsGoOn m labels (suc left) k s = (callee : Callee) (params : List TypedParame
     → call_callee Step free (free_parts n) callee values named s events out after
     → HasEvaluatedListed m events ⊎ GoesOnWith m labels (λ k' s'. CallsGoOn m labels left k' s') k s gives out after
 
--- where no finding of a module is silent, any number of calls goes on so, from each state in which it can be called
+-- any number of calls is sound in this sense, from each state in which a module without silent findings can be called
 abbrev pub CallSequencesAreSound : Type 0
 CallSequencesAreSound = (m : Module) → HasNoSilentError m → (labels : Labelling m) → IsLawful m labels
     → (k : HeapTyping) (s : State) → IsReady m labels k s → (calls : ℕ) → CallsGoOn m labels calls k s

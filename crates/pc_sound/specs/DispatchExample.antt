@@ -1,5 +1,5 @@
--- A module that overrides a method twice: what is judged against Any is a dynamic place, also where another override
--- stands between.
+-- A module that overrides a method twice: an override judged against Any is a dynamic place, also with another override
+-- between them.
 --     from __future__ import annotations
 --     from dataclasses import dataclass
 --     from typing import Any
@@ -37,11 +37,11 @@ use Rattle.pc_sound.specs.Examples.{at, word}
 abbrev typed : Name → Name → Param
 typed n type = record { name = n; annotation = Some (named type); default = None }
 
--- a `return` of a value, alone in its body
+-- a suite with only a `return` of a value
 abbrev gives : ℕ → ℕ → Expr → Stmts
 gives start end e = more_stmts (returns (at start end) (Some e)) no_stmts
 
--- `m` of A, which takes anything and gives 0
+-- `m` of A, with an Any parameter, which returns 0
 abbrev pub m_of_a : FuncDef
 m_of_a = record {
   name = word 120 (codes "m");
@@ -50,7 +50,7 @@ m_of_a = record {
   body = gives 152 158 (number (at 159 160) (codes "0"));
 }
 
--- `m` of B, which takes an int and gives it
+-- `m` of B, with an int parameter, which it returns
 abbrev pub m_of_b : FuncDef
 m_of_b = record {
   name = word 192 (codes "m");
@@ -59,7 +59,7 @@ m_of_b = record {
   body = gives 224 230 (name (word 231 (codes "x")));
 }
 
--- `m` of C, which takes an int and gives one more
+-- `m` of C, with an int parameter, which returns one more
 abbrev pub m_of_c : FuncDef
 m_of_c = record {
   name = word 264 (codes "m");
@@ -127,11 +127,11 @@ program = record {
   main = at 372 376;
 }
 
--- what is found: the `m` of B, and that of C, each judged against the `m` of A
+-- the findings: the `m` of B, and that of C, each judged against the `m` of A
 abbrev pub findings : List Finding
 findings = finding (at 192 193) A8 ∷ finding (at 264 265) A8 ∷ []
 
--- what the run evaluates: the method of C is entered with a text, and `x + 1` is the last
+-- the places that the run evaluates: the method of C is entered with a text, and `x + 1` is the last
 abbrev pub events : List Place
 events =
     at 365 366 ∷ at 367 368 ∷ at 367 370 ∷ at 365 371
@@ -139,6 +139,6 @@ events =
     ∷ at 264 265 ∷ at 303 304 ∷ at 307 308 ∷ at 303 308
     ∷ []
 
--- how it ends
+-- the end of the run
 abbrev pub end : End
 end = stopped (Raised TypeError)

@@ -1,7 +1,7 @@
--- How a step may end where nothing fails. Own rule of the profile.
+-- The ways a step may end if nothing fails. Own rule of the profile.
 use Rattle.pc_value.specs.Value.{Out, Gives, Stops, Raised, Other, Outside, Cut}
 
--- with a value that is as wanted, in another exception, or cut off
+-- the step ends with a value as wanted, in another exception, or cut off
 abbrev pub EndsWell : {A : Type 0} → (A → Type 0) → Out A → Type 0
 EndsWell P (Gives a) = P a
 EndsWell P (Stops (Raised e)) = ⊥

@@ -1,4 +1,4 @@
--- What passes the border is as the law of calls from outside asks. Own rule of the profile.
+-- A call that passes the border meets the conditions of the law of calls from outside. Own rule of the profile.
 use Rattle.std.specs.Prelude.{◌≡◌, ◌⊎◌, ℕ, zero, suc, List, [], ◌∷◌, Some}
 use Rattle.pc_source.specs.declared.place.Place.{Place}
 use Rattle.pc_tree.specs.Tree.{Module}
@@ -25,22 +25,22 @@ abbrev pub AreMet : Bases → HeapTyping → List Demand → Type 0
 AreMet bases k [] = Unit {0}
 AreMet bases k (d ∷ ds) = HasType bases k d.type d.value × AreMet bases k ds
 
--- the module can be called, the objects are of their classes, and the arguments suit the parameters
+-- the module can be called, the objects are of their classes, and the arguments match the parameters
 pub record IsFitting (m : Module) (labels : Labelling m) (k : HeapTyping) (s : State) (objects : List Demand)
     (params : List TypedParameter) (values : List Value) (named : List NamedValue) : Type 0 where
   pub ready : IsReady m labels k s
   pub met : AreMet (bases_of m) k objects
   pub suit : Suits (bases_of m) k params values named
 
--- in a state in which the module can be called, whatever other code makes of the heap: where a call fits, it is fitting
--- under the heap typing that is found
+-- in a state in which the module can be called, whatever other code does to the heap, a call that fits meets those
+-- conditions under the heap typing found
 abbrev pub FittingIsRight : Type 0
 FittingIsRight = (m : Module) (labels : Labelling m) (k : HeapTyping) (s : State) → IsReady m labels k s → (heap : Heap)
     (objects : List Demand) (params : List TypedParameter) (values : List Value) (named : List NamedValue)
     (found : HeapTyping) → fits m (constant_types m m.items labels) (record s { heap = heap }) objects params values
     named ≡ Some found → IsFitting m labels found (record s { heap = heap }) objects params values named
 
--- where no finding of a module is silent, a call that fits has evaluated a listed place or ends as promised
+-- if no finding of a module is silent, a call that fits has evaluated a listed place or ends as promised
 abbrev pub FittingCallsAreSound : Type 0
 FittingCallsAreSound = (m : Module) → HasNoSilentError m → (labels : Labelling m) → IsLawful m labels → (k : HeapTyping)
     (s : State) → IsReady m labels k s → (heap : Heap) (objects : List Demand) (params : List TypedParameter)
@@ -57,7 +57,7 @@ pub record GoesOnFrom (m : Module) (labels : Labelling m) (further : State → T
   pub promised : EndsAsPromised m labels k s gives out after
   pub next : further after
 
--- so many calls, one after another: before each other code makes of the heap what it likes, and the call fits; it has
+-- a number of calls, one after another: before each one other code changes the heap at will, and the call fits; it has
 -- evaluated a listed place, and nothing is said of those after it, or it ends as promised
 abbrev pub FittingCallsGoOn : (m : Module) → Labelling m → ℕ → State → Type 0
 FittingCallsGoOn m labels zero s = Unit {0}
@@ -70,7 +70,7 @@ FittingCallsGoOn m labels (suc left) s = (heap : Heap) (objects : List Demand) (
     → HasEvaluatedListed m events ⊎ GoesOnFrom m labels (λ s'. FittingCallsGoOn m labels left s') found
     (record s { heap = heap }) gives out after
 
--- where no finding of a module is silent, any number of calls that fit goes on so, from each state in which it can be
+-- any number of calls that fit is sound in this sense, from each state in which a module without silent findings can be
 -- called
 abbrev pub FittingSequencesAreSound : Type 0
 FittingSequencesAreSound = (m : Module) → HasNoSilentError m → (labels : Labelling m) → IsLawful m labels

@@ -1,10 +1,10 @@
--- A module is loaded: each name of it is bound to what it means, each class is made as its facts say.
+-- A module is loaded: each of its names is bound to its meaning, and each class is made according to its facts.
 -- Own rule of the profile.
 use Rattle.std.specs.Prelude.{◌≡◌, ℕ, List, [], ◌∷◌, Bool as Test, true, false, Option, Some, None, slice_get}
 use Rattle.pc_tree.specs.Tree.{FuncDef, ClassDef, Module}
 use Rattle.pc_scope.specs.declared.resolution.Builtin.{Builtin}
 use Rattle.pc_scope.specs.declared.resolution.Owner.TheVariants as owners
-use Rattle.pc_scope.specs.declared.resolution.Res.TheVariants as res
+use Rattle.pc_scope.specs.declared.resolution.NameMeaning.TheVariants as res
 use Rattle.pc_scope.specs.Reserved.{builtin_of}
 use Rattle.pc_scope.specs.Bindings.{functions_in, classes_in}
 use Rattle.pc_scope.specs.Resolution.{function_of, resolve_in_module}
@@ -25,7 +25,7 @@ pub record AncestorsAre (bases : Bases) (c : ℕ) (ancestors : List ℕ) : Type 
   pub below : (e : ℕ) → is_ancestor e ancestors ≡ true → Below bases (tree.Class c) (tree.Class e)
   pub reached : (e : ℕ) → Below bases (tree.Class c) (tree.Class e) → is_ancestor e ancestors ≡ true
 
--- a value that lies in no heap, as literals make them
+-- a value that is not in the heap, such as that of a literal
 abbrev pub IsPlain : Value → Type 0
 IsPlain (whole n) = Unit {0}
 IsPlain (boolean b) = Unit {0}
@@ -33,26 +33,26 @@ IsPlain (string cs) = Unit {0}
 IsPlain none = Unit {0}
 IsPlain _ = ⊥
 
--- a default of its type stands where the facts say that there is one, and it is plain
+-- a default is present exactly if the facts say so, and then it is plain and of its type
 abbrev pub DefaultHas : Bases → HeapTyping → Tree → Test → Option Value → Type 0
 DefaultHas bases k t true (Some v) = IsPlain v × HasType bases k t v
 DefaultHas bases k t false None = Unit {0}
 DefaultHas bases k t has v = ⊥
 
--- so it is for each parameter, in order, under its name
-abbrev pub DefaultsHave : Bases → HeapTyping → List state.Parameter → List TypedParameter → Type 0
+-- the defaults of all parameters agree with the facts, in order and under their names
+abbrev pub DefaultsHave : Bases → HeapTyping → List state.FormalParameter → List TypedParameter → Type 0
 DefaultsHave bases k [] [] = Unit {0}
 DefaultsHave bases k (p ∷ ps) (q ∷ qs) = (p.name ≡ q.name) × (DefaultHas bases k q.type q.has_default p.default
     × DefaultsHave bases k ps qs)
 DefaultsHave bases k _ _ = ⊥
 
--- a function that its def made
+-- a function is made by its def
 pub record MadeOf (m : Module) (k : HeapTyping) (f : Function) (d : FuncDef) : Type 0 where
   pub name : f.name ≡ d.name
   pub body : f.body ≡ d.body
   pub parameters : DefaultsHave (bases_of m) k f.parameters (parameters_of m d.params)
 
--- a method that its def in a class made
+-- a method is made by its def in a class
 pub record MethodIs (m : Module) (k : HeapTyping) (f : Function) (q : Method) : Type 0 where
   pub def : FuncDef
   pub at : function_of m (owners.Method q.owner q.number) ≡ Some def
@@ -62,13 +62,13 @@ pub record MethodIs (m : Module) (k : HeapTyping) (f : Function) (q : Method) : 
   pub parameters : q.parameters ≡ parameters_of m def.params
   pub returns : q.returns ≡ return_type m def
 
--- so it is for each method of a class, in order
+-- all methods of a class are made by their defs, in order
 abbrev pub MethodsAre : Module → HeapTyping → List Function → List Method → Type 0
 MethodsAre m k [] [] = Unit {0}
 MethodsAre m k (f ∷ fs) (q ∷ qs) = MethodIs m k f q × MethodsAre m k fs qs
 MethodsAre m k _ _ = ⊥
 
--- a class was made as its facts say
+-- a class is made according to its facts
 pub record ClassIs (m : Module) (k : HeapTyping) (made : List Class) (c : ℕ) : Type 0 where
   pub class : Class
   pub is : slice_get made c ≡ Some class
@@ -88,8 +88,8 @@ pub record FunctionIs (m : Module) (k : HeapTyping) (globals : Globals) (word : 
   pub is : global_by_name word globals ≡ Some (a_function function)
   pub made : MadeOf m k function d
 
--- the module is loaded, its constants of these types: each name is bound to what it means, no reserved name is bound,
--- each class of the module was made, and no other one
+-- the module is loaded, with constants of these types: each name is bound to its meaning, no reserved name is bound,
+-- and exactly the classes of the module are made
 pub record IsLoaded (m : Module) (constants : List Tree) (k : HeapTyping) (made : List Class)
     (globals : Globals) : Type 0 where
   pub constant : (word : List ℕ) (i : ℕ) (t : Tree) → resolve_in_module m word ≡ res.Const i

@@ -1,4 +1,4 @@
--- Loading: the items of a module run, one after another, and then it can be called. Own rule of the profile.
+-- Loading: the items of a module run one after another, and then the module can be called. Own rule of the profile.
 use Rattle.std.specs.Prelude.{◌⊎◌, ℕ, List}
 use Rattle.pc_source.specs.declared.place.Place.{Place}
 use Rattle.pc_tree.specs.Tree.{Module}
@@ -14,13 +14,13 @@ use Rattle.pc_sound.specs.OutsideCalls.{IsReady}
 use Rattle.pc_sound.specs.Silent.{HasNoSilentError}
 use Rattle.pc_sound.specs.Sound.{HasEvaluatedListed}
 
--- the items ended where the module can be called, in another exception, or cut off
+-- the items end where the module can be called, in another exception, or cut off
 pub record EndsLoaded (m : Module) (labels : Labelling m) (out : Out (Unit {0})) (after : State) : Type 0 where
   pub typing : HeapTyping
   pub ends : EndsWell (λ u. IsReady m labels typing after) out
 
--- where no finding of a module is silent, its items, from where nothing is bound and in any number of nested steps,
--- have evaluated a listed place or end where it can be called
+-- if no finding of a module is silent, its items, run from where nothing is bound and in any number of nested steps,
+-- have evaluated a listed place or end where the module can be called
 abbrev pub LoadingIsSound : Type 0
 LoadingIsSound = (m : Module) → HasNoSilentError m → (labels : Labelling m) → IsLawful m labels → (n : ℕ)
     (events : List Place) (out : Out (Unit {0})) (after : State)

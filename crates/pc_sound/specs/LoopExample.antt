@@ -1,4 +1,4 @@
--- A module whose loop rebinds a narrowed parameter: the head of the loop has the declared type, so the sum is in error.
+-- A module whose loop rebinds a narrowed parameter: the head of the loop has its declared type, so the sum is an error.
 --     from __future__ import annotations
 --     def f(x: int | None):
 --         if x is None:
@@ -33,7 +33,7 @@ turn = more_stmts (evaluates (at 114 115)
     (binary (at 114 119) Add (name (word 114 (codes "x"))) (number (at 118 119) (codes "1"))))
     (more_stmts (assigns (at 128 129) (to_name (word 128 (codes "x"))) (nothing (at 132 136))) no_stmts)
 
--- `f`, which returns where `x` is None, and else runs the loop
+-- `f`, which returns if `x` is None, and otherwise runs the loop
 abbrev pub f : FuncDef
 f = record {
   name = word 39 (codes "f");
@@ -65,7 +65,7 @@ program = record {
   main = at 158 162;
 }
 
--- the sum in the loop, at its line 6 and column 9
+-- the sum in the loop, on line 6 at column 9
 abbrev pub findings : List Finding
 findings = finding (at 114 119) E13 ∷ []
 
@@ -75,6 +75,6 @@ events = at 153 154 ∷ at 155 156 ∷ at 153 157 ∷ at 64 65 ∷ at 64 73
     ∷ at 100 104 ∷ at 114 115 ∷ at 118 119 ∷ at 114 119 ∷ at 132 136
     ∷ at 100 104 ∷ at 114 115 ∷ at 118 119 ∷ at 114 119 ∷ []
 
--- in the second turn `x` is None
+-- the end of the run: in the second turn `x` is None
 abbrev pub end : End
 end = stopped (Raised TypeError)

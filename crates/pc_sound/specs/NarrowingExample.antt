@@ -95,11 +95,11 @@ program = record {
   main = at 221 225;
 }
 
--- what is found: the test of `x`, which is of type Any
+-- the findings: the test of `x`, which is of type Any
 abbrev pub findings : List Finding
 findings = finding (at 101 120) A7 ∷ []
 
--- what the run evaluates: `[1]` is a list and None is none, so the second `append` is not reached
+-- the places that the run evaluates: `[1]` is a list and None is not, so the second `append` is not reached
 abbrev pub events : List Place
 events =
     at 208 209 ∷ at 211 212 ∷ at 210 213 ∷ at 215 219 ∷ at 208 220
@@ -108,6 +108,6 @@ events =
     ∷ at 151 161 ∷ at 162 163 ∷ at 151 170
     ∷ []
 
--- how it ends
+-- the end of the run
 abbrev pub end : End
 end = done

@@ -1,4 +1,4 @@
--- Which flows are needed: those between types of which the first has a value that is not of the second.
+-- Needed flows: those for which some value of the first type is not of the second.
 -- Own rule of the profile.
 use Rattle.std.specs.Prelude.{◌≡◌, ◌<◌, ℕ, List, [], ◌∷◌, length, Some, slice_get}
 use Rattle.pc_types.specs.Tree.{Tree, Trees, Never, ListOf, DictOf, TupleOf, Union, end, more}
@@ -8,7 +8,7 @@ use Rattle.pc_class.specs.Facts.{TypedParameter}
 use Rattle.pc_value.specs.Value.{Value, Heap}
 use Rattle.pc_sound.specs.Values.{HeapTyping, a_class, HasType, IsWell}
 
--- the type holds no Never, at whatever depth
+-- the type contains no Never, at any depth
 abbrev mutual
   pub HasNoNever : Tree → Type 0
   HasNoNever Never = ⊥
@@ -18,17 +18,17 @@ abbrev mutual
   HasNoNever (Union a b) = HasNoNever a × HasNoNever b
   HasNoNever _ = Unit {0}
 
-  -- nor does any of the parts of a tuple
+  -- no part of a tuple contains Never
   pub HaveNoNever : Trees → Type 0
   HaveNoNever end = Unit {0}
   HaveNoNever (more t ts) = HasNoNever t × HaveNoNever ts
 
--- no field's type holds Never
+-- no field's type contains Never
 abbrev pub NoneHasNever : List TypedParameter → Type 0
 NoneHasNever [] = Unit {0}
 NoneHasNever (f ∷ fs) = HasNoNever f.type × NoneHasNever fs
 
--- no class has a field whose type holds Never
+-- no class has a field whose type contains Never
 abbrev pub FieldsHaveNoNever : List facts.ClassFacts → Type 0
 FieldsHaveNoNever [] = Unit {0}
 FieldsHaveNoNever (c ∷ cs) = NoneHasNever c.fields × FieldsHaveNoNever cs

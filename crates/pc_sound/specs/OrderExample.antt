@@ -1,4 +1,4 @@
--- A module whose first constant names the second: what is found of it, and a run of it that ends there.
+-- A module whose first constant reads the second: its finding, and a run of it that ends there.
 --     from __future__ import annotations
 --     a: int = b
 --     b: int = 1
@@ -52,14 +52,14 @@ program = record {
   main = at 82 86;
 }
 
--- what is found: the `b` of its second line names a later constant
+-- the findings: the `b` on its second line is a later constant
 abbrev pub findings : List Finding
 findings = finding (at 44 45) E03 ∷ []
 
--- what the run evaluates: that `b`
+-- the places that the run evaluates: that `b`
 abbrev pub events : List Place
 events = at 44 45 ∷ []
 
--- how it ends
+-- the end of the run
 abbrev pub end : End
 end = stopped (Raised NameError)

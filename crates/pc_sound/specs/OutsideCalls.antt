@@ -1,9 +1,9 @@
--- Calls from outside: what other code may call of a module that is loaded, and how such a call ends.
+-- Calls from outside: the callees that a loaded module has for other code, and the way such a call ends.
 -- Own rule of the profile.
 use Rattle.std.specs.Prelude.{◌≡◌, ◌⊎◌, ℕ, List, [], Some, slice_get}
 use Rattle.pc_source.specs.declared.place.Place.{Place}
 use Rattle.pc_tree.specs.Tree.{FuncDef, Module}
-use Rattle.pc_scope.specs.declared.resolution.Res.TheVariants as res
+use Rattle.pc_scope.specs.declared.resolution.NameMeaning.TheVariants as res
 use Rattle.pc_scope.specs.Bindings.{functions_in}
 use Rattle.pc_scope.specs.Resolution.{resolve_in_module}
 use Rattle.pc_types.specs.Tree.{Tree, Class}
@@ -25,21 +25,21 @@ use Rattle.pc_sound.specs.Arguments.{Suits}
 use Rattle.pc_sound.specs.Silent.{HasNoSilentError}
 use Rattle.pc_sound.specs.Sound.{HasEvaluatedListed}
 
--- the module can be called: its heap is well typed, it is loaded, and none of its functions runs
+-- the module can be called: its heap is well typed, it is loaded, and none of its functions is running
 pub record IsReady (m : Module) (labels : Labelling m) (k : HeapTyping) (s : State) : Type 0 where
   pub well : IsWell (bases_of m) (classes_of m) k s.heap
   pub loaded : IsLoaded m (constant_types m m.items labels) k s.classes s.globals
   pub no_frame : s.frame ≡ []
 
--- so it can under its lawful labelling and some heap typing
+-- the module can be called under its lawful labelling and some heap typing
 pub record CanBeCalled (m : Module) (s : State) : Type 0 where
   pub labels : Labelling m
   pub lawful : IsLawful m labels
   pub typing : HeapTyping
   pub ready : IsReady m labels typing s
 
--- what is called, the parameters that it takes and the type that it gives: a function of the module by its name, a
--- class by its name, or a method of an object, by the type that the caller knows it as
+-- a callee with its parameters and its result type: a function of the module by its name, a class by its name, or a
+-- method of an object, by the type that the caller knows the object as
 pub data IsEntrance (m : Module) (k : HeapTyping) (s : State) (callee : Callee) (params : List TypedParameter)
     (gives : Tree) : Type 0 where
   of_function : (word : List ℕ) (i : ℕ) (d : FuncDef) (f : Function) → resolve_in_module m word ≡ res.Func i
@@ -64,7 +64,7 @@ pub record EndsAsPromised (m : Module) (labels : Labelling m) (k : HeapTyping) (
   pub same_classes : after.classes ≡ s.classes
   pub ends : EndsWell (λ v. HasType (bases_of m) typing gives v) out
 
--- a call with arguments that suit, in any number of nested steps, has evaluated a listed place or ends as promised
+-- a call with arguments that match, in any number of nested steps, has evaluated a listed place or ends as promised
 abbrev pub CallIsSound : (m : Module) → Labelling m → HeapTyping → State → Type 0
 CallIsSound m labels k s = (callee : Callee) (params : List TypedParameter) (gives : Tree)
     → IsEntrance m k s callee params gives → (values : List Value) (named : List NamedValue)
@@ -72,7 +72,7 @@ CallIsSound m labels k s = (callee : Callee) (params : List TypedParameter) (giv
     → call_callee Step free (free_parts n) callee values named s events out after
     → HasEvaluatedListed m events ⊎ EndsAsPromised m labels k s gives out after
 
--- where no finding of a module is silent, so it is in each state in which the module can be called
+-- each call is sound in each state in which a module without silent findings can be called
 abbrev pub CallsAreSound : Type 0
 CallsAreSound = (m : Module) → HasNoSilentError m → (labels : Labelling m) → IsLawful m labels → (k : HeapTyping)
     (s : State) → IsReady m labels k s → CallIsSound m labels k s

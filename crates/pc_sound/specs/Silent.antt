@@ -1,4 +1,4 @@
--- Silent findings: those that a run need not evaluate before what they stand for does harm. Own rule of the profile.
+-- Silent findings: those whose place a run need not evaluate before the error does harm. Own rule of the profile.
 use Rattle.std.specs.Prelude.{◌≡◌, ℕ, List, [], ◌∷◌, ◌++◌, false, Option, Some, None, Contains, All, IsTrue, length}
 use Rattle.std.specs.Prelude.{take, slice_get}
 use Rattle.pc_source.specs.declared.place.Place.{Place}
@@ -20,7 +20,7 @@ use Rattle.pc_class.specs.Overrides.{has_shape_of, overridden}
 use Rattle.pc_rules.specs.Signatures.{literal_place}
 use Rattle.pc_module_rules.specs.Modules.{IsFinding}
 
--- codes that are silent wherever they stand
+-- a code that is silent wherever it is found
 abbrev pub IsSilentCode : Code → Type 0
 IsSilentCode E01 = Unit {0}
 IsSilentCode E05 = Unit {0}
@@ -33,8 +33,8 @@ IsSilentCode E29 = Unit {0}
 IsSilentCode E31 = Unit {0}
 IsSilentCode _ = ⊥
 
--- E11 of a method whose parameters do not have the shape of those of each method that it overrides: their number, their
--- names, their defaults
+-- E11 of a method whose parameters differ in shape from those of a method that it overrides: in their number, their
+-- names or their defaults
 pub record HasOtherShape (m : Module) (f : Finding) : Type 0 where
   pub c : ℕ
   pub class : ClassDef
@@ -47,9 +47,9 @@ pub record HasOtherShape (m : Module) (f : Finding) : Type 0 where
       method.name.text))
   pub is : f ≡ finding method.name.place E11
 
--- each `return` without a value
+-- the places of each `return` without a value
 abbrev mutual
-  -- in a statement: itself, or in its suites
+  -- such a `return` in a statement: itself, or in its suites
   pub bare_returns_in_stmt : Stmt → List Place
   bare_returns_in_stmt (returns p None) = p ∷ []
   bare_returns_in_stmt (while_loop p condition body) = bare_returns_in body
@@ -58,52 +58,52 @@ abbrev mutual
       ++ bare_returns_in otherwise
   bare_returns_in_stmt _ = []
 
-  -- in the statements of a suite
+  -- each such `return` in the statements of a suite
   pub bare_returns_in : Stmts → List Place
   bare_returns_in no_stmts = []
   bare_returns_in (more_stmts s rest) = bare_returns_in_stmt s ++ bare_returns_in rest
 
-  -- in the suites of conditions
+  -- each such `return` in the suites after `if` and `elif`
   pub bare_returns_in_branches : Branches → List Place
   bare_returns_in_branches no_branches = []
   bare_returns_in_branches (more_branches condition body rest) = bare_returns_in body ++ bare_returns_in_branches rest
 
--- in the body of a function
+-- each such `return` in the body of a function
 abbrev pub bare_returns_in_def : FuncDef → List Place
 bare_returns_in_def f = bare_returns_in f.body
 
--- the place of a default, where there is one
+-- the place of a default, if there is one
 abbrev pub default_place : Option Literal → List Place
 default_place None = []
 default_place (Some l) = literal_place l ∷ []
 
--- the defaults of parameters
+-- the places of the defaults of parameters
 abbrev pub param_defaults : List Param → List Place
 param_defaults [] = []
 param_defaults (p ∷ ps) = default_place p.default ++ param_defaults ps
 
--- those of a function
+-- the places of the defaults of a function's parameters
 abbrev pub param_defaults_in : FuncDef → List Place
 param_defaults_in f = param_defaults f.params
 
--- the defaults of the fields among members
+-- the places of the defaults of the fields among members
 abbrev pub field_defaults : List Member → List Place
 field_defaults [] = []
 field_defaults (field_member f ∷ ms) = default_place f.default ++ field_defaults ms
 field_defaults (method_member f ∷ ms) = field_defaults ms
 
--- those of the fields of each class
+-- the places of the defaults of the fields of each class
 abbrev pub field_defaults_in : List Item → List Place
 field_defaults_in [] = []
 field_defaults_in (constant_item first c ∷ is) = field_defaults_in is
 field_defaults_in (class_item first c ∷ is) = field_defaults c.members ++ field_defaults_in is
 field_defaults_in (def_item first f ∷ is) = field_defaults_in is
 
--- the defaults of the parameters and fields of a module
+-- the places of the defaults of the parameters and fields of a module
 abbrev pub default_places : Module → List Place
 default_places m = of_defs param_defaults_in param_defaults_in m.items ++ field_defaults_in m.items
 
--- E03 of a name that a test of an instance in an initializer tests for
+-- E03 of a name that an `isinstance` in an initializer tests for
 pub record IsTestedEarly (m : Module) (f : Finding) : Type 0 where
   pub constant : Constant
   pub of : Contains (constants_in m.items) constant
@@ -116,8 +116,8 @@ pub record IsTestedEarly (m : Module) (f : Finding) : Type 0 where
   pub test : IsTrue (is_instance_test callee (more_exprs first (more_exprs (name n) no_exprs)) no_keywords)
   pub is : f ≡ finding n.place E03
 
--- a finding that a run need not evaluate before what it stands for does harm: one of these codes; E02 of a decorator;
--- E03 of a name that is tested for; E11 of an override of another shape; E21 of a function that is no method; E12 of a
+-- a finding whose place a run need not evaluate before the error does harm: one of these codes; E02 of a decorator; E03
+-- of a name that is tested for; E11 of an override of another shape; E21 of a function that is no method; E12 of a
 -- `return` without a value, or of a default
 pub data IsSilent (m : Module) (f : Finding) : Type 0 where
   by_code : IsSilentCode f.code → IsSilent m f
@@ -129,6 +129,6 @@ pub data IsSilent (m : Module) (f : Finding) : Type 0 where
   bare : f.code ≡ E12 → Contains (of_defs bare_returns_in_def bare_returns_in_def m.items) f.place → IsSilent m f
   default : f.code ≡ E12 → Contains (default_places m) f.place → IsSilent m f
 
--- no finding of the module is silent
+-- the module has no silent finding
 abbrev pub HasNoSilentError : Module → Type 0
 HasNoSilentError m = (f : Finding) → IsFinding m f → ¬ (IsSilent m f)

@@ -1,4 +1,4 @@
--- Whether values are of types and a heap is well typed, computed under a heap typing. Own rule of the profile.
+-- The checks that values are of types and a heap is well typed, under a heap typing. Own rule of the profile.
 use Rattle.std.specs.Prelude.{◌&&◌, ◌||◌, ◌==◌, ℕ, not, bytes_eq, List, [], ◌∷◌, Bool as Test, true, false, Option}
 use Rattle.std.specs.Prelude.{Some, None, is_some, slice_get}
 use Rattle.pc_scope.specs.Resolution.{is_one_of}
@@ -10,20 +10,20 @@ use Rattle.pc_class.specs.Facts as facts
 use Rattle.pc_class.specs.Facts.{TypedParameter, class_facts_at}
 use Rattle.pc_rules.specs.Calls.{parameter_names}
 use Rattle.pc_value.specs.Value.{Value, Values, whole, boolean, string, none, tuple_of, location, no_values}
-use Rattle.pc_value.specs.Value.{more_values, Entry, Slot, Cell, list_cell, dict_cell, instance_cell, Heap}
+use Rattle.pc_value.specs.Value.{more_values, DictEntry, Slot, Cell, list_cell, dict_cell, instance_cell, Heap}
 use Rattle.pc_machine.specs.Calls.{NamedValue, value_named}
 use Rattle.pc_sound.specs.Values.{HeapTyping, Recorded, a_list, a_dict, a_class}
 
--- whether two types are one, each Any read as object
+-- whether two types are the same, with each Any read as object
 abbrev pub is_same_type : Tree → Tree → Test
 is_same_type s t = same_tree (erase s) (erase t)
 
--- whether a location is recorded as a list of these items
+-- whether a location is recorded as a list of this item type
 abbrev pub is_list_of : Option Recorded → Tree → Test
 is_list_of (Some (a_list item)) t = is_same_type item t
 is_list_of r t = false
 
--- whether a location is recorded as a dict of these keys and values
+-- whether a location is recorded as a dict of these key and value types
 abbrev pub is_dict_of : Option Recorded → (key value : Tree) → Test
 is_dict_of (Some (a_dict keys values)) s t = is_same_type keys s && is_same_type values t
 is_dict_of r s t = false
@@ -64,7 +64,7 @@ all_have bases k t [] = true
 all_have bases k t (v ∷ vs) = has_type bases k t v && all_have bases k t vs
 
 -- whether each entry has a key of the key type and a value of the value type
-abbrev pub entries_have : Bases → HeapTyping → (key value : Tree) → List Entry → Test
+abbrev pub entries_have : Bases → HeapTyping → (key value : Tree) → List DictEntry → Test
 entries_have bases k s t [] = true
 entries_have bases k s t (e ∷ es) = has_type bases k s e.key && (has_type bases k t e.value
     && entries_have bases k s t es)
@@ -76,7 +76,7 @@ slots_have bases k (f ∷ fs) (s ∷ ss) = bytes_eq s.name f.name && (has_type b
     && slots_have bases k fs ss)
 slots_have bases k _ _ = false
 
--- whether what lies at a location is of what is recorded of it
+-- whether a cell has the type recorded for its location
 abbrev pub cell_has : Bases → List facts.ClassFacts → HeapTyping → Recorded → Cell → Test
 cell_has bases classes k (a_list t) (list_cell items) = all_have bases k t items
 cell_has bases classes k (a_dict s t) (dict_cell entries) = entries_have bases k s t entries
@@ -84,7 +84,7 @@ cell_has bases classes k (a_class c) (instance_cell d slots) = (d == c)
     && slots_have bases k (class_facts_at classes c).fields slots
 cell_has bases classes k _ _ = false
 
--- whether so many cells lie there as locations are recorded, and each is of what is recorded of it
+-- whether there are as many cells as recorded locations, and each has the type recorded for it
 abbrev pub cells_have : Bases → List facts.ClassFacts → HeapTyping → List Recorded → List Cell → Test
 cells_have bases classes k [] [] = true
 cells_have bases classes k (r ∷ rs) (c ∷ cs) = cell_has bases classes k r c && cells_have bases classes k rs cs
@@ -96,12 +96,12 @@ is_well bases classes k heap = cells_have bases classes k k heap
 
 -- ---- arguments
 
--- whether a parameter left takes a value by name of its type, or has a default
+-- whether a parameter without an argument by position has a value by name of its type, or a default
 abbrev pub takes_named : Bases → HeapTyping → TypedParameter → Option Value → Test
 takes_named bases k p (Some w) = has_type bases k p.type w
 takes_named bases k p None = p.has_default
 
--- whether the first parameters take the values by position, and the others a value by name or their default
+-- whether the first parameters have the values by position, and the others a value by name or their default
 abbrev pub fills : Bases → HeapTyping → List TypedParameter → List Value → List NamedValue → Test
 fills bases k [] [] named = true
 fills bases k [] (v ∷ vs) named = false
@@ -114,6 +114,6 @@ abbrev pub all_for : List NamedValue → List TypedParameter → Test
 all_for [] qs = true
 all_for (a ∷ rest) qs = is_one_of a.name (parameter_names qs) && all_for rest qs
 
--- whether arguments suit parameters
+-- whether the arguments match the parameters
 abbrev pub suits : Bases → HeapTyping → List TypedParameter → List Value → List NamedValue → Test
 suits bases k params values named = fills bases k params values named && all_for named params

@@ -7,19 +7,19 @@ use Rattle.pc_types.specs.Below.{Bases, Below, Static}
 use Rattle.pc_class.specs.Facts as facts
 use Rattle.pc_class.specs.Facts.{TypedParameter, class_facts_at}
 use Rattle.pc_value.specs.Value.{Value, Values, whole, boolean, string, none, tuple_of, location, no_values}
-use Rattle.pc_value.specs.Value.{more_values, Entry, Slot, Cell, list_cell, dict_cell, instance_cell, Heap}
+use Rattle.pc_value.specs.Value.{more_values, DictEntry, Slot, Cell, list_cell, dict_cell, instance_cell, Heap}
 
--- what a heap typing records of a location: the type of a list's items, of a dict's keys and values, or a class
+-- the record of a location in a heap typing: the type of a list's items, of a dict's keys and values, or a class
 pub data Recorded : Type 0 where
   a_list : (item : Tree) → Recorded
   a_dict : (key value : Tree) → Recorded
   a_class : (class : ℕ) → Recorded
 
--- a heap typing: what is recorded of each location, from 0 on
+-- a heap typing: the record of each location, from 0 on
 abbrev pub HeapTyping : Type 0
 HeapTyping = List Recorded
 
--- one heap typing extends another: what was recorded stays
+-- one heap typing extends another: it keeps every record
 pub record Extends (k k' : HeapTyping) : Type 0 where
   pub by : (l : ℕ) (r : Recorded) → slice_get k l ≡ Some r → slice_get k' l ≡ Some r
 
@@ -79,7 +79,7 @@ AllHave bases k t [] = Unit {0}
 AllHave bases k t (v ∷ vs) = HasType bases k t v × AllHave bases k t vs
 
 -- each entry has a key of the key type and a value of the value type
-abbrev pub EntriesHave : Bases → HeapTyping → (key value : Tree) → List Entry → Type 0
+abbrev pub EntriesHave : Bases → HeapTyping → (key value : Tree) → List DictEntry → Type 0
 EntriesHave bases k s t [] = Unit {0}
 EntriesHave bases k s t (e ∷ es) = HasType bases k s e.key × HasType bases k t e.value × EntriesHave bases k s t es
 
@@ -89,7 +89,7 @@ SlotsHave bases k [] [] = Unit {0}
 SlotsHave bases k (f ∷ fs) (s ∷ ss) = (s.name ≡ f.name) × HasType bases k f.type s.value × SlotsHave bases k fs ss
 SlotsHave bases k _ _ = ⊥
 
--- what lies at a location is of what is recorded of it
+-- a cell has the type recorded for its location
 abbrev pub CellHas : Bases → List facts.ClassFacts → HeapTyping → Recorded → Cell → Type 0
 CellHas bases classes k (a_list t) (list_cell items) = AllHave bases k t items
 CellHas bases classes k (a_dict s t) (dict_cell entries) = EntriesHave bases k s t entries
@@ -97,7 +97,7 @@ CellHas bases classes k (a_class c) (instance_cell d slots) = (d ≡ c)
     × SlotsHave bases k (class_facts_at classes c).fields slots
 CellHas bases classes k _ _ = ⊥
 
--- a cell lies at the location, and it is of what is recorded of it
+-- a location has a cell, of the type recorded for it
 pub record CellAt (bases : Bases) (classes : List facts.ClassFacts) (k : HeapTyping) (heap : Heap) (l : ℕ)
     (r : Recorded) : Type 0 where
   pub cell : Cell

@@ -11,8 +11,8 @@ ghost use Rattle.pc_types.specs.Tree.{Int, ListOf, NoneType, Tree};
 ghost use Rattle.pc_types.specs.Normal.{IsNormal};
 ghost use Rattle.pc_types.specs.Shape.{members};
 ghost use Rattle.pc_types.specs.Join.{join};
-ghost use Rattle.pc_ann.specs.Annotations.{read_ann};
-ghost use Rattle.pc_ann.specs.Bases.{bases_of};
+ghost use Rattle.pc_annotations.specs.Annotations.{read_ann};
+ghost use Rattle.pc_annotations.specs.Bases.{bases_of};
 ghost use Rattle.pc_class.specs.Facts.{ClassFacts, classes_of};
 ghost use Rattle.pc_flow.specs.Narrowing.{Tested, type_where_true, type_where_false};
 ghost use Rattle.pc_module_rules.specs.FlowsOfModules.{FlowsDynamically};
@@ -23,14 +23,15 @@ ghost use Rattle.pc_sound.specs.Needed.{FieldsHaveNoNever, HasNoNever, IsNeeded,
 ghost use Rattle.pc_sound.specs.Sound.{Sound, SoundBesideErrors};
 ghost use Rattle.pc_sound.specs.KeptHeaps.{ActsWell, CanFollowAll, Passes};
 
-/// The law that a value of a type is one of each type that the first is static to.
+/// The law that a value of a type is also of each type that the type is static to.
 pub fn values_flow_statically()
     ensures { (bases : Bases) (k : HeapTyping) (s t : Tree) (v : Value) → Static bases s t → HasType bases k s v
         → HasType bases k t v }
 {}
 
-/// The law that what a test leaves of a type has the values of the type that pass it, and what it leaves where it
-/// fails has those that fail; of a test for a list, where no member of the type is Any or object.
+/// The law of narrowing by a test: the values of a type that pass are of the type narrowed where the test is true, and
+/// those that fail are of the type narrowed where it is false. For a test for a list, no member of the type may be Any
+/// or object.
 pub fn narrowing_keeps_values()
     ensures passing { (bases : Bases) → AreSmaller bases → (k : HeapTyping) (test : Tested) (t : Tree)
         → CanFollowAll test (members t) → (v : Value) → HasType bases k t v → Passes bases k test v
@@ -40,8 +41,8 @@ pub fn narrowing_keeps_values()
         → HasType bases k (type_where_false bases test t) v }
 {}
 
-/// The law that what is recorded of a list stays: an item that is appended or stored is of the type that the list was
-/// made with, under whatever name the list is reached.
+/// The law that the recorded type of a list stays: an item appended or stored is of the item type that the list was
+/// made with, whatever name the list is reached by.
 pub fn aliases_keep_heaps()
     ensures append { (bases : Bases) (classes : List ClassFacts) (k : HeapTyping) (heap : Heap) (t : Tree)
         (list item : Value) → IsWell bases classes k heap → HasType bases k (ListOf t) list → HasType bases k t item
@@ -52,16 +53,16 @@ pub fn aliases_keep_heaps()
         → ActsWell bases classes k NoneType (store_outcome heap (seen heap list) (seen heap index) index item) }
 {}
 
-/// The law that a value of either of two types is one of their join, whatever the two are.
+/// The law that a value of either of two types is of their join, for any two types.
 pub fn joins_keep_values()
     ensures { (bases : Bases) → AreSmaller bases → (k : HeapTyping) (s t u : Tree) → join bases s t ≡ Some u
         → (v : Value) → HasType bases k s v ⊎ HasType bases k t v → HasType bases k u v }
 {}
 
-/// The law that no flow is dynamic without need: where a type that holds no `Never` is not static to another one, both
-/// in normal form, some well-typed heap of the classes has a value of the first that is not of the second. So it is of
-/// the classes of each module that tokens spell; and where a type flows dynamically into another one in the module, the
-/// heap has instances of the module's classes only. Nothing is claimed of the heaps that its runs come by.
+/// The law that no flow is dynamic without need: if a type without `Never` is not static to another, both in normal
+/// form, then some well-typed heap of the classes has a value of the first type that is not of the second. The same
+/// holds for the classes of each module that tokens spell. If a type flows dynamically into another in the module, the
+/// heap has instances of the module's classes only. Nothing is claimed of the heaps that its runs can reach.
 pub fn dynamic_flows_are_needed()
     ensures classes { (bases : Bases) → AreSmaller bases → (classes : List ClassFacts) → FieldsHaveNoNever classes
         → (s t : Tree) → IsNormal s → IsNormal t → HasNoNever s → ¬ (Static bases s t)
@@ -73,22 +74,22 @@ pub fn dynamic_flows_are_needed()
         → FlowsDynamically m p s t → HasNoNever s → IsNeededWithin (bases_of m) (classes_of m) s t }
 {}
 
-/// The law that the type that an annotation of a text is read as holds no `Never`, and that no field's type does in the
-/// classes of a module that tokens spell.
+/// The law that the type read from an annotation of a text contains no `Never`, and neither does any field's type in
+/// the classes of a module that tokens spell.
 pub fn annotations_have_no_never()
     ensures annotation { (m : Module) (bases : Bases) (a : Ann) (ts : List Lexeme) → Annotation a ts
         → HasNoNever (read_ann m bases a) }
     ensures fields { (m : Module) (ts : List Lexeme) → SpellsModule m ts → FieldsHaveNoNever (classes_of m) }
 {}
 
-/// The law that a run of a module whose findings are no errors, if it ends in a fault, has by then evaluated a listed
-/// dynamic place.
+/// The law that a run that ends in a fault has evaluated a listed dynamic place by then, if no finding of its module is
+/// an error.
 pub fn soundness()
     ensures { Sound }
 {}
 
-/// The law that a run of a module none of whose findings is silent, if it ends in a fault, has by then evaluated the
-/// place of a finding, an error or a dynamic place.
+/// The law that a run that ends in a fault has evaluated the place of a finding by then, an error or a dynamic place,
+/// if no finding of its module is silent.
 pub fn soundness_beside_errors()
     ensures { SoundBesideErrors }
 {}

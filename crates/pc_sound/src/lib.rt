@@ -1,4 +1,4 @@
-//! Values of a type, well-typed heaps, and what the findings of a module say of its runs.
+//! Values of a type, well-typed heaps, and the guarantees that the findings of a module give about its runs.
 #![tactic(auto)]
 
 mod alias_example;

@@ -5,8 +5,8 @@ ghost use Rattle.pc_machine.specs.Runs.{Run};
 ghost use Rattle.pc_sound.specs.Examples.{FindsJust};
 ghost use Rattle.pc_sound.specs.LoopExample.{program, findings, events, end};
 
-/// The law of a module whose loop rebinds a narrowed parameter: it has a lawful labelling, one error is found in it,
-/// and its run raises a TypeError in the second turn.
+/// The law of a module whose loop rebinds a narrowed parameter: it has a lawful labelling; it has one finding, an
+/// error; and its run raises a TypeError in the second turn.
 pub fn example_of_loops()
     ensures labelled { HasLabelling program }
     ensures found { FindsJust program findings }

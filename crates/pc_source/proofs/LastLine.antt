@@ -11,7 +11,7 @@ differs a b h = grind (arith, nat_tests)
 same : (a b : ℕ) → a ≡ b → not (a == b) ≡ false
 same a b h = grind (arith, nat_tests)
 
--- what stands from n on is the last line, where no line feed stands there and one stands before it
+-- the last line is the text from n on, if it has no line feed and one is right before it
 pub last_line_is : (bs : List ℕ) (n : ℕ) → n ≤ length bs →
     ((k : ℕ) → n ≤ k → k < length bs → get_or bs k 0 ≢ 10) →
     (0 < n → get_or bs (n - 1) 0 ≡ 10) →

@@ -1,4 +1,4 @@
--- What `find` says of a list.
+-- Results of `find` on a list.
 use Rattle.std.proofs.Common.{◌≡◌, ℕ, suc, zero, List, [], ◌∷◌, Bool, true, false, Some, None, inl, inr}
 use Rattle.std.specs.Prelude.{find, slice_get}
 use Rattle.std.proofs.lemmas.Bool.{cases_Bool}

@@ -1,4 +1,4 @@
--- What a device has taken after one more call.
+-- Bytes that a device has accepted after one more call.
 use Rattle.std.proofs.Common.{◌≡◌, ℕ, ◌==◌, ◌<◌, ◌+◌, ◌-◌, ◌≤◌, Bool, ◌&&◌, nat_lt, List, ◌++◌, length, take, drop}
 use Rattle.std.proofs.Common.{Option, sym, ap, ap₂, ◌∙◌, subst, arith}
 use Rattle.std.specs.Io.KnownBytes.{Appends}

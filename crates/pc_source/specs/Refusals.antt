@@ -1,10 +1,10 @@
--- The texts of the refusals' codes. Own rule of the profile.
+-- The codes of refusals as texts. Own rule of the profile.
 use Rattle.std.specs.Prelude.{ℕ, List, codes}
 use Rattle.pc_source.specs.declared.fault.RefusalCode.{RefusalCode}
 use Rattle.pc_source.specs.declared.fault.RefusalCode.TheVariants.{S1, S2, S3, S4, S5, L1, L2, L3, L4, L5, L6, L7, L8}
 use Rattle.pc_source.specs.declared.fault.RefusalCode.TheVariants.{I1, I2, I3, N1, N2, N3, N4, N5, G1, G2}
 
--- a code as it is printed
+-- the code as it is printed
 abbrev pub code_text : RefusalCode → List ℕ
 code_text S1 = codes "S1"
 code_text S2 = codes "S2"

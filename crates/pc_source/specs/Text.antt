@@ -1,6 +1,5 @@
--- The source text: which bytes spell one, and which refusal stands in its place.
--- Python Language Reference 3.12, 2.1.4 "Encoding declarations"; the limit and the refusals are own rules of the
--- profile.
+-- The source text: which bytes are one, and the refusal of all others. Python Language Reference 3.12, 2.1.4 "Encoding
+-- declarations"; the limit and the refusals are own rules of the profile.
 use Rattle.std.specs.Prelude.{◌≡◌, ℕ, ◌<◌, ◌≤◌, List, ◌∷◌, length, IsUtf8}
 use Rattle.std.specs.Str.Lossy.{utf8_valid_len}
 use Rattle.pc_source.specs.Control.{IsControl}
@@ -14,12 +13,12 @@ use Rattle.pc_source.specs.declared.fault.RefusalCode.TheVariants.{I1, I2, I3, N
 abbrev pub source_limit : ℕ
 source_limit = 1048576
 
--- the bytes are the byte order mark, and anything after it
+-- the bytes begin with the byte order mark
 abbrev pub IsMarked : List ℕ → Type 0
 IsMarked bytes = (rest : List ℕ) × (bytes ≡ 0xEF ∷ 0xBB ∷ 0xBF ∷ rest)
 
--- the bytes are the UTF-8 form of some characters, within the limit and without a byte order mark,
--- a NUL, a form feed, a lone carriage return, or a comment that names another coding
+-- the bytes are valid UTF-8 within the limit, without a byte order mark, a NUL, a form feed, a lone carriage return, or
+-- a comment that names another coding
 pub record IsText (bytes : List ℕ) : Type 0 where
   pub short : length bytes ≤ source_limit
   pub unmarked : ¬ (IsMarked bytes)
@@ -27,32 +26,32 @@ pub record IsText (bytes : List ℕ) : Type 0 where
   pub no_control : (k : ℕ) → ¬ (IsControl bytes k)
   pub no_coding : (k : ℕ) → ¬ (IsCoding bytes k)
 
--- the bytes are the UTF-8 form of some characters, within the limit and without a byte order mark
+-- the bytes are valid UTF-8 within the limit, without a byte order mark
 pub record IsReadable (bytes : List ℕ) : Type 0 where
   pub short : length bytes ≤ source_limit
   pub unmarked : ¬ (IsMarked bytes)
   pub utf8 : IsUtf8 bytes
 
--- a control character is the first fault among the characters
+-- the first fault among the characters is a control character at the byte
 pub record IsFirstControl (bytes : List ℕ) (byte : ℕ) : Type 0 where
   pub here : IsControl bytes byte
   pub no_control : (k : ℕ) → k < byte → ¬ (IsControl bytes k)
   pub no_coding : (k : ℕ) → k < byte → ¬ (IsCoding bytes k)
 
--- a coding comment is the first fault among the characters
+-- the first fault among the characters is a coding comment at the byte
 pub record IsFirstCoding (bytes : List ℕ) (byte : ℕ) : Type 0 where
   pub here : IsCoding bytes byte
   pub no_control : (k : ℕ) → k ≤ byte → ¬ (IsControl bytes k)
   pub no_coding : (k : ℕ) → k < byte → ¬ (IsCoding bytes k)
 
--- the first fault among the characters: a control character, or a coding comment
+-- the first fault among the characters has this code, S4 or S5, and is at this byte
 abbrev pub IsCharacterFault : List ℕ → RefusalCode → ℕ → Type 0
 IsCharacterFault bytes S4 byte = IsFirstControl bytes byte
 IsCharacterFault bytes S5 byte = IsFirstCoding bytes byte
 IsCharacterFault bytes _ byte = ⊥
 
--- why the bytes spell no text: too long; a byte order mark; no UTF-8, from the end of their longest front that is;
--- else the first fault among the characters
+-- why the bytes are no text, and at which byte: too long; a byte order mark; not UTF-8, at the end of the longest valid
+-- prefix; otherwise the first fault among the characters
 abbrev pub IsSourceFault : List ℕ → RefusalCode → ℕ → Type 0
 IsSourceFault bytes S1 byte = (source_limit < length bytes) × (byte ≡ source_limit)
 IsSourceFault bytes S2 byte = (length bytes ≤ source_limit) × (¬ (IsMarked bytes)) × (¬ (IsUtf8 bytes))
@@ -60,6 +59,6 @@ IsSourceFault bytes S2 byte = (length bytes ≤ source_limit) × (¬ (IsMarked b
 IsSourceFault bytes S3 byte = (length bytes ≤ source_limit) × IsMarked bytes × (byte ≡ 0)
 IsSourceFault bytes code byte = IsReadable bytes × IsCharacterFault bytes code byte
 
--- the refusal of bytes that spell no text
+-- the refusal of bytes that are no text
 abbrev pub IsSourceRefusal : List ℕ → Refusal → Type 0
 IsSourceRefusal bytes refusal = IsSourceFault bytes refusal.code refusal.byte

@@ -4,7 +4,7 @@ ghost use Rattle.std.specs.List.{prefix_len, position_or_len};
 ghost use Rattle.pc_source.specs.Coding.{IsCoding, IsCodingComment, first_line, later_lines, names_other_coding};
 ghost use Rattle.pc_source.specs.Coding.{after_spaces};
 
-/// How many spaces stand at the front.
+/// Returns the number of leading spaces.
 fn space_count(bytes: &[u8]) -> usize
     ensures count { result ≡ prefix_len (λ b. b == 32) bytes.now }
     ensures within { result ≤ length bytes.now }
@@ -12,7 +12,7 @@ fn space_count(bytes: &[u8]) -> usize
     bytes.iter().take_while(|b| **b == b' ').count()
 }
 
-/// Where a byte stands first, or the length.
+/// Returns the index of the first occurrence of `byte`, or the length if there is none.
 fn first_place(bytes: &[u8], byte: u8) -> usize
     ensures place { result ≡ position_or_len (λ b. b == byte) bytes.now }
     ensures within { result ≤ length bytes.now }
@@ -20,14 +20,14 @@ fn first_place(bytes: &[u8], byte: u8) -> usize
     bytes.iter().take_while(|b| **b != byte).count()
 }
 
-/// What follows the spaces at the front.
+/// Returns the bytes without their leading spaces.
 fn after_spaces(bytes: &[u8]) -> &[u8]
     ensures { result.now ≡ after_spaces bytes.now }
 {
     &bytes[space_count(bytes)..]
 }
 
-/// Whether the bytes begin with `coding:` or `coding=`, which `utf-8` does not follow.
+/// Whether the bytes begin with `coding:` or `coding=`, not followed, after any number of spaces, by `utf-8`.
 fn names_other_coding(bytes: &[u8]) -> bool
     ensures { result ≡ names_other_coding bytes.now }
 {
@@ -37,7 +37,7 @@ fn names_other_coding(bytes: &[u8]) -> bool
     !after_spaces(&bytes[7..]).starts_with(b"utf-8")
 }
 
-/// Whether another coding is named after a byte.
+/// Whether another coding is named anywhere after index `byte` of the line.
 fn names_other_after(line: &[u8], byte: usize) -> bool
     ensures { IsTrue result ↔
         ((k : ℕ) × (k < length line.now) × (byte < k) × IsTrue (names_other_coding (drop k line.now))) }
@@ -50,7 +50,7 @@ fn names_other_after(line: &[u8], byte: usize) -> bool
     false
 }
 
-/// Up to the first line feed.
+/// Returns the bytes up to the first line feed.
 fn first_line(bytes: &[u8]) -> &[u8]
     ensures line { result.now ≡ first_line bytes.now }
     ensures within { length result.now ≤ length bytes.now }
@@ -58,7 +58,7 @@ fn first_line(bytes: &[u8]) -> &[u8]
     &bytes[..first_place(bytes, b'\n')]
 }
 
-/// After the first line feed.
+/// Returns the bytes after the first line feed; none if there is no line feed.
 fn later_lines(bytes: &[u8]) -> &[u8]
     ensures lines { result.now ≡ later_lines bytes.now }
     ensures within { 0 < length result.now → length (first_line bytes.now) + 1 + length result.now ≡ length bytes.now }
@@ -71,7 +71,7 @@ fn later_lines(bytes: &[u8]) -> &[u8]
     }
 }
 
-/// Where the coding comment of a line begins, if it names another coding.
+/// Returns the index of the line's first `#` if another coding is named after it.
 fn coding_comment(line: &[u8]) -> Option<usize>
     ensures { MatchOption result ((k : ℕ) → ¬ (IsCodingComment line.now k)) (IsCodingComment line.now) }
 {
@@ -83,7 +83,7 @@ fn coding_comment(line: &[u8]) -> Option<usize>
     }
 }
 
-/// The first byte at which a comment of line 1 or 2 names another coding.
+/// Returns the index of the first comment in line 1 or 2 that names another coding.
 pub fn first_coding(bytes: &[u8]) -> Option<usize>
     ensures first { MatchOption result
         ((k : ℕ) → ¬ (IsCoding bytes.now k))

@@ -1,8 +1,8 @@
-//! Control characters that no source text has.
+//! Control characters that no source text contains.
 ghost use Rattle.std.specs.Prelude.{ℕ, ◌+◌, ◌<◌, ◌↔◌, slice_index, IsTrue, MatchOption};
 ghost use Rattle.pc_source.specs.Control.{IsControl};
 
-/// Whether a NUL, a form feed or a lone carriage return stands at a byte.
+/// Whether there is a NUL, a form feed or a lone carriage return at index `byte`.
 fn is_control(bytes: &[u8], byte: usize) -> bool
     ensures { IsTrue result ↔ IsControl bytes.now byte }
 {
@@ -10,7 +10,7 @@ fn is_control(bytes: &[u8], byte: usize) -> bool
         return false;
     }
     let found = bytes[byte];
-    // Most bytes are told by this one comparison.
+    // This one comparison decides most bytes.
     if found > b'\r' {
         return false;
     }
@@ -21,8 +21,8 @@ fn is_control(bytes: &[u8], byte: usize) -> bool
     }
 }
 
-/// Whether a NUL, a form feed or a carriage return is among the bytes. No byte ends the loop, and it stands in a
-/// function of its own, so that one instruction looks at many bytes.
+/// Whether any of the bytes is a NUL, a form feed or a carriage return. The loop has no early exit and a function of
+/// its own so that it can be vectorized.
 #[inline(never)]
 fn has_suspect(bytes: &[u8]) -> bool
     ensures { (k : ℕ) → IsControl bytes.now k → IsTrue result }
@@ -35,13 +35,13 @@ fn has_suspect(bytes: &[u8]) -> bool
     found
 }
 
-/// The first byte at which one stands.
+/// Returns the index of the first NUL, form feed or lone carriage return.
 pub fn first_control(bytes: &[u8]) -> Option<usize>
     ensures { MatchOption result
         ((k : ℕ) → ¬ (IsControl bytes.now k))
         (λ b. IsControl bytes.now b × ((k : ℕ) → k < b → ¬ (IsControl bytes.now k))) }
 {
-    // Most texts have none, nor a carriage return.
+    // Most texts have none of the three.
     if !has_suspect(bytes) {
         return None;
     }

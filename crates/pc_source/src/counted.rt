@@ -9,8 +9,8 @@ ghost use Rattle.pc_source.specs.Devices.{write_fails, failures_after};
 use std::io;
 use std::io::{Read, Write};
 
-/// A device, and how many of its calls failed. A write that takes no byte of some is a failed call.
-/// Own rule of the profile.
+/// A device and the number of its calls that failed. A write that accepts none of some bytes is a failed call. Own rule
+/// of the profile.
 #[derive(Drop)]
 pub struct Counted<D: Drop> {
     device: D,
@@ -18,7 +18,7 @@ pub struct Counted<D: Drop> {
 }
 
 impl<D: Drop> Counted<D> {
-    /// The device, of whose calls none has failed.
+    /// Wraps a device, with no failed calls so far.
     pub fn new(device: D) -> Counted<D>
         ensures device { result.device ≡ device }
         ensures failures { result.failures ≡ 0 }
@@ -29,14 +29,14 @@ impl<D: Drop> Counted<D> {
         }
     }
 
-    /// The device.
+    /// Returns the device.
     pub fn inner(&self) -> &D
         ensures { result.now ≡ self.now.device }
     {
         &self.device
     }
 
-    /// How many calls failed; it stops at its maximum.
+    /// Returns the number of failed calls; it stops at its maximum.
     pub fn failures(&self) -> u64
         ensures { result ≡ self.now.failures }
     {
@@ -70,7 +70,7 @@ impl<W: Write + Drop> Write for Counted<W> {
     {
         let result = self.device.write(buf);
         let failed = match &result {
-            // A device that takes nothing would be asked for ever.
+            // A caller would retry a device that accepts nothing for ever.
             Ok(count) => *count == 0 && !buf.is_empty(),
             Err(_) => true,
         };

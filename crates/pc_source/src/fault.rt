@@ -1,4 +1,4 @@
-//! Why bytes spell no module.
+//! Refusals and other faults of a call.
 
 ghost use Rattle.std.specs.Prelude.{◌≡◌, Some};
 ghost use Rattle.pc_source.specs.Refusals.{code_text};
@@ -9,7 +9,7 @@ use std::alloc::{AllocError, AllocFailed};
 use std::fmt;
 use thiserror::Error;
 
-/// Why bytes spell no module. Own rule of the profile.
+/// The reason for a refusal. Own rule of the profile.
 #[derive(Clone, Copy, Debug, PartialEq, Eq)]
 pub enum RefusalCode {
     /// The source is longer than 1,048,576 bytes.
@@ -24,11 +24,11 @@ pub enum RefusalCode {
     S5,
     /// A character that begins no token.
     L1,
-    /// A string that is not as the profile has strings.
+    /// A string that is not of the profile's form.
     L2,
-    /// A number that is not as the profile has numbers, or a `.` with a digit after it.
+    /// A number that is not of the profile's form, or a `.` followed by a digit.
     L3,
-    /// A name that the profile has no use for.
+    /// A name that the profile excludes.
     L4,
     /// A closing bracket that matches none, or a bracket open at the end.
     L5,
@@ -40,13 +40,13 @@ pub enum RefusalCode {
     L8,
     /// A line returns to a column that no open suite has.
     I1,
-    /// A line is deeper than it may be.
+    /// A line is indented where it may not be.
     I2,
-    /// More than 50 suites inside each other.
+    /// More than 50 nested suites.
     I3,
-    /// A keyword that the profile leaves out.
+    /// A keyword that the profile excludes.
     N1,
-    /// An operator that the profile leaves out.
+    /// An operator that the profile excludes.
     N2,
     /// A `def` inside a `def`.
     N3,
@@ -54,14 +54,14 @@ pub enum RefusalCode {
     N4,
     /// A decorator other than `@dataclass`.
     N5,
-    /// A token after which no module can follow.
+    /// Not a module of the grammar: a token that cannot follow here, or an early end.
     G1,
     /// An expression or annotation of depth over 64.
     G2,
 }
 
 impl RefusalCode {
-    /// The code as it is printed.
+    /// Returns the code as it is printed.
     pub fn text(self) -> &'static str
         ensures { result.now ≡ code_text self }
     {
@@ -101,7 +101,7 @@ impl fmt::Display for RefusalCode {
     }
 }
 
-/// A refusal names one byte, from 0 to the input's length. Own rule of the profile.
+/// A refusal: its code, and a byte from 0 to the input's length. Own rule of the profile.
 #[derive(Clone, Copy, Debug, PartialEq, Eq, Error)]
 #[error("refused {code} at byte {byte}")]
 pub struct Refusal {
@@ -114,7 +114,7 @@ pub struct Refusal {
 #[error("out of memory")]
 pub struct OutOfMemory;
 
-/// Why a call has no answer: the input is refused, or an allocation failed.
+/// Why a call gives no answer: the input is refused, or an allocation failed.
 #[derive(Clone, Copy, Debug, PartialEq, Eq, Error)]
 pub enum Fault {
     #[error("{0}")]
@@ -124,7 +124,7 @@ pub enum Fault {
 }
 
 impl Fault {
-    /// The refusal of this code at this byte.
+    /// Returns the refusal with this code at this byte, as a fault.
     pub fn refused_at(code: RefusalCode, byte: usize) -> Fault
         ensures { result ≡ fault.Refused (record { code = code; byte = byte }) }
     {

@@ -1,12 +1,12 @@
-//! The laws of the source text: each function says one, and does nothing.
+//! Laws of the source text. Each function states one and does nothing.
 ghost use Rattle.pc_source.specs.Laws.{OneRefusal, RefusalsWithin};
 
-/// Bytes have one refusal as a source at most.
+/// Bytes have at most one refusal as a source.
 pub fn one_refusal()
     ensures { OneRefusal }
 {}
 
-/// A refusal's byte lies from 0 to the length of the bytes.
+/// A refusal is at a byte from 0 to the length of the bytes.
 pub fn refusals_within()
     ensures { RefusalsWithin }
 {}

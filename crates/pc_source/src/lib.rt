@@ -1,4 +1,4 @@
-//! The source text, places in it, and the faults that every layer may answer.
+//! The source text, places in it, and the faults that every stage may return.
 #![tactic(auto)]
 
 mod coding;

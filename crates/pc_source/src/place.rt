@@ -1,6 +1,6 @@
 //! Places in a source.
 
-/// A piece of the source, in bytes: from `start` up to, and without, `end`. Own rule of the profile.
+/// A range of the source, in bytes: from `start` to `end`, `end` excluded. Own rule of the profile.
 #[derive(Clone, Copy, Debug, PartialEq, Eq, PartialOrd, Ord)]
 pub struct Place {
     pub start: usize,

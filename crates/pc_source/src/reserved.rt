@@ -1,9 +1,9 @@
-//! The names that nothing may bind.
+//! Reserved names, which nothing may bind.
 ghost use Rattle.std.specs.Prelude.{◌≡◌, ◌==◌, map, bytes_eq, slice_index};
 ghost use Rattle.std.specs.List.{list_any, filter};
 ghost use Rattle.pc_source.specs.ReservedNames.{is_reserved, reserved_names};
 
-/// The names that nothing may bind, of those that begin with a byte. Own rule of the profile.
+/// Returns the reserved names that begin with this byte. Own rule of the profile.
 fn beginning_with(byte: u8) -> &'static [&'static str]
     ensures { map (λ n. n.now) result.now ≡ filter (λ n. slice_index n 0 == byte) reserved_names }
 {
@@ -23,7 +23,7 @@ fn beginning_with(byte: u8) -> &'static [&'static str]
     }
 }
 
-/// Whether a name is one of these names.
+/// Whether `name` is one of `names`.
 fn is_among(names: &[&str], name: &str) -> bool
     ensures { result ≡ list_any (λ n. bytes_eq name.now n) (map (λ n. n.now) names.now) }
 {
@@ -35,7 +35,8 @@ fn is_among(names: &[&str], name: &str) -> bool
     false
 }
 
-/// Whether a name is reserved: it is sought among those that begin as it does. Own rule of the profile.
+/// Whether a name is reserved. Compares it only with the reserved names that have its first byte. Own rule of the
+/// profile.
 pub fn is_reserved(name: &str) -> bool
     ensures { result ≡ is_reserved name.now }
 {

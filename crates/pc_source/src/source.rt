@@ -16,7 +16,7 @@ use crate::fault::{Fault, Refusal, RefusalCode};
 use std::alloc::Global;
 use std::marker::Model;
 
-/// A source text: UTF-8 within the limit of length. Contracts see it as the list of its bytes.
+/// A source text: valid UTF-8 within the limit. Contracts see it as the list of its bytes.
 #[derive(Drop)]
 pub struct Source {
     text: String,
@@ -36,25 +36,24 @@ const LIMIT: usize = 1_048_576;
 /// The byte order mark in UTF-8.
 const BYTE_ORDER_MARK: [u8; 3] = [0xEF, 0xBB, 0xBF];
 
-/// The source text that the bytes spell.
+/// Reads the bytes as a source text.
 ///
-/// Python Language Reference 3.12, 2.1 "Line structure" and 2.1.4 "Encoding declarations";
-/// the limit and the refusals are own rules of the profile.
+/// Python Language Reference 3.12, 2.1 "Line structure" and 2.1.4 "Encoding declarations"; the limit and the refusals
+/// are own rules of the profile.
 ///
 /// # Errors
 ///
-/// `S1` at byte 1,048,576 where the bytes are more; `S3` at byte 0 where they begin with the byte
-/// order mark; `S2` at the length of their longest front that is UTF-8 where they are no UTF-8.
-/// Then, whichever stands first: `S4` at a NUL, a form feed or a carriage return that no line feed
-/// follows; `S5` at the first `#` of line 1 or 2 where `coding:` or `coding=` after it in its line
-/// is not followed, spaces aside, by `utf-8`. `OutOfMemory` where the text has no room.
+/// `S1` at byte 1,048,576 if there are more bytes; `S3` at byte 0 if they begin with the byte order mark; `S2` at the
+/// end of the longest valid prefix if they are not UTF-8. Otherwise the first of these: `S4` at a NUL, a form feed or a
+/// carriage return that no line feed follows; `S5` at the first `#` of line 1 or 2 if `coding:` or `coding=`, later in
+/// that line, is not followed, spaces aside, by `utf-8`. `OutOfMemory` if the text cannot be allocated.
 pub fn read_source(alloc: Global, bytes: &[u8]) -> Result<Source, Fault>
     ensures text { IfOk result (λ s. s ≡ bytes.now) }
     ensures readable { IfOk result (λ _. IsText bytes.now) }
     ensures refused { IfErr result (OnRefusal (IsSourceRefusal bytes.now)) }
     ensures within { IfErr result (IsWithin (length bytes.now)) }
 {
-    // The length comes first, so that nothing of a long file is looked at.
+    // Checked first, so that nothing of a long file is read.
     if bytes.len() > LIMIT {
         return Err(Fault::refused_at(RefusalCode::S1, LIMIT));
     }
@@ -73,7 +72,7 @@ pub fn read_source(alloc: Global, bytes: &[u8]) -> Result<Source, Fault>
     })
 }
 
-/// The first control character or coding comment.
+/// Returns the first fault among the characters, a control character (`S4`) or a coding comment (`S5`).
 fn character_fault(bytes: &[u8]) -> Option<Refusal>
     ensures first { MatchOption result
         (((k : ℕ) → ¬ (IsControl bytes.now k)) × ((k : ℕ) → ¬ (IsCoding bytes.now k)))
@@ -104,7 +103,7 @@ fn character_fault(bytes: &[u8]) -> Option<Refusal>
     }
 }
 
-/// The bytes before a byte.
+/// Returns the first `end` bytes, or all if there are fewer.
 fn front(bytes: &[u8], end: usize) -> &[u8]
     ensures { result.now ≡ take end bytes.now }
 {
@@ -115,7 +114,7 @@ fn front(bytes: &[u8], end: usize) -> &[u8]
     }
 }
 
-/// What stands after the last line feed.
+/// Returns the bytes after the last line feed.
 fn last_line(bytes: &[u8]) -> &[u8]
     ensures { result.now ≡ after_last (λ b. b == 10) bytes.now }
 {
@@ -127,7 +126,7 @@ fn last_line(bytes: &[u8]) -> &[u8]
 }
 
 impl Source {
-    /// The text.
+    /// Returns the text.
     pub fn text(&self) -> &str
         ensures text { result.now ≡ self.now }
         ensures readable { IsText self.now }
@@ -135,9 +134,8 @@ impl Source {
         self.text.as_str()
     }
 
-    /// The line and the column of a byte, both from 1: one more than the line feeds before the
-    /// byte, and one more than the characters that begin from that line's start on and before it.
-    /// Own rule of the profile.
+    /// Returns the line and the column of a byte, both from 1. The column counts characters: one more than those that
+    /// begin in the line before the byte. Own rule of the profile.
     pub fn line_col(&self, byte: usize) -> (u64, u64)
         ensures line { result.0 ≡ line_of self.now byte }
         ensures column { result.1 ≡ column_of self.now byte }

@@ -1,4 +1,4 @@
--- What is expected of a value that is stored.
+-- The expected type of a stored value.
 use Rattle.std.proofs.Common.{◌≡◌, List, Option, Some, None, sym, subst}
 use Rattle.std.specs.Option.{option_map}
 use Rattle.pc_types.specs.Tree.{Tree}
@@ -9,7 +9,7 @@ use Rattle.pc_rules.specs.Computed.Standing.{HasIfAny}
 use Rattle.pc_walk.specs.StatementsHeld.{HoldsTypeIfAny}
 use Rattle.pc_module_rules.proofs.StoredTypes.{only_well_formed}
 
--- what is expected of a stored value is held
+-- the type expected of a stored value is held
 pub want_holds : {Ty : Type 0} (P : Ty → Type 0) (tree : Ty → Tree) (bases : Bases) (os : List StoreOffer)
     (ts : List Tree) (want : Option Ty) → AreWellFormed bases ts → HasIfAny P want
     → option_map tree want ≡ only_type os ts → HoldsTypeIfAny P tree bases want

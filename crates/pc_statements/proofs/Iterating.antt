@@ -1,4 +1,4 @@
--- What a `for` goes over: a call of `range`, or what its type says.
+-- The iterable of a `for`: a call of `range`, or a value by its type.
 use Rattle.std.proofs.Common.{◌≡◌, [], None, ap, arith}
 use Rattle.std.specs.Prelude.{◌∷◌, Bool as Test, true, false, if◌then◌else◌}
 use Rattle.pc_source.specs.declared.place.Place.{Place}
@@ -23,7 +23,7 @@ module _ (context : BodyContext) (k : Standing) where
       else values_item context k (call p (name n) arguments by_name)) h
   range_items p c arguments by_name h = absurd (grind (arith, h))
 
-  -- what is found in it
+  -- the findings in it
   pub range_found : (p : Place) (c : Expr) (arguments : Exprs) (by_name : Keywords)
       → over_range context.context.resolve (call p c arguments by_name) ≡ true →
       iterable_finds context k (call p c arguments by_name) ≡ range_finds k p c arguments by_name

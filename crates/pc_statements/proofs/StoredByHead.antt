@@ -1,4 +1,4 @@
--- What stores come to on a member, by its head and its parts.
+-- The result of a store on a member, by its head and its parts.
 use Rattle.std.proofs.Common.{◌≡◌, List, [], ◌∷◌, refl}
 use Rattle.pc_tree.specs.declared.code.Code.TheVariants.{A3, E17}
 use Rattle.pc_types.specs.declared.head.Head.{Head}

@@ -1,4 +1,4 @@
--- Loops over what a store comes to on the members of a type.
+-- Loops over the results of a store on the members of a type.
 use Rattle.std.proofs.Common.{◌≡◌, ◌+◌, ◌<◌, ◌≤◌, ◌∙◌, ℕ, List, [], ◌∷◌, ◌++◌, refl, sym, ap, append_assoc, length}
 use Rattle.std.proofs.Common.{get_or, drop}
 use Rattle.std.specs.Prelude.{true, false, if◌then◌else◌, All, map, flat_map, option_to_list}
@@ -90,7 +90,7 @@ module _ {Ty : Type 0} (tree : Ty → Tree) (offers : List (RustStoreOffer Ty)) 
       → has_error codes ≡ has_error (store_codes (map (store_offer_with tree) offers))
   error_is codes e = ap has_error e ∙ once_error (store_codes (map (store_offer_with tree) offers))
 
-  -- so many offers' types are among these, by what an offer has of them; others are to come
+  -- the types of this part of so many offers are collected; those of the other offers are to come
   module _ (part : StoreOffer → List Tree) where
     abbrev pub AreTaken : ℕ → List Ty → Type 0
     AreTaken i types = map tree types ++ flat_map part (drop i (map (store_offer_with tree) offers)) ≡ flat_map part

@@ -1,2 +1,2 @@
--- What only the contracts of private functions say.
+-- Definitions used only by the contracts of private functions.
 pub mod Ranges

@@ -1,5 +1,5 @@
--- What the program is given and answers of stores to attributes and items, in terms of the tables of operations.
--- Own rule of the profile.
+-- The inputs and results of the program for stores to attributes and items, in terms of the tables of operations. Own
+-- rule of the profile.
 use Rattle.std.specs.Prelude.{◌≡◌, List, option_to_list}
 use Rattle.std.specs.Option.{option_map}
 use Rattle.pc_types.specs.Tree.{Tree}
@@ -10,12 +10,12 @@ use Rattle.pc_statements.specs.declared.store_offers.StoreOffer.{StoreOffer as R
 use Rattle.pc_statements.specs.declared.store_offers.StoreTarget.{StoreTarget}
 use Rattle.pc_statements.specs.declared.store_offers.StoreTarget.TheVariants as targets
 
--- what a store comes to on one member
+-- the result of a store on one member
 abbrev pub store_on : List facts.ClassFacts → StoreTarget → Tree → StoreOffer
 store_on classes (targets.Attribute name) t = store_attribute_member classes name.now t
 store_on classes targets.Index t = store_index_member t
 
--- a store offer with the types that it means
+-- the store offer that a program's store offer means
 abbrev pub store_offer_with : {Ty : Type 0} → (tree : Ty → Tree) → RustStoreOffer Ty → StoreOffer
 store_offer_with tree o = record {
   found = option_to_list o.found;
@@ -29,7 +29,7 @@ pub record HasStoreOffer {Ty : Type 0} (has : Ty → Type 0) (o : RustStoreOffer
   pub stores : HasIfAny has o.stores
 
 module _ {Store Ty : Type 0} (has : Store → Ty → Type 0) (tree : Ty → Tree) where
-  -- a store offer with types of the store, which means this one
+  -- a store offer with types of the store means this store offer
   pub record IsStoreOffer (store : Store) (o : RustStoreOffer Ty) (offer : StoreOffer) : Type 0 where
     pub given : HasStoreOffer (has store) o
     pub is : store_offer_with tree o ≡ offer

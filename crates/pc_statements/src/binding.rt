@@ -1,4 +1,4 @@
-//! Names that are bound to the values of expressions, with an annotation or without one.
+//! Names bound to the values of expressions, with or without an annotation.
 
 #![tactic(auto, using(pc_walk::proofs::Walks::goes_further))]
 
@@ -6,21 +6,22 @@ ghost use Rattle.std.specs.Prelude.{IfOk};
 ghost use Rattle.std.specs.Option.{option_map};
 ghost use Rattle.pc_tree.specs.Tree.{expr_of, ann_of, name_of, option_expr_of};
 ghost use Rattle.pc_module_rules.specs.Computed.Statements.{bind_value, bind_annotated};
-ghost use Rattle.pc_walk.specs.Walks.{Stands, HoldsWant, GoesOn, Bound};
+ghost use Rattle.pc_walk.specs.Walks.{Stands, HoldsWant, WalkKept, Bound};
 
 use crate::typing::type_in;
 use pc_flow::Env;
-use pc_scope::Res;
+use pc_scope::NameMeaning;
 use pc_source::OutOfMemory;
 use pc_tree::{Ann, Expr, Name};
 use pc_types::TypeStore;
 use pc_walk::{Walk, annotated_type, bind_label, declare_alone, known_type};
 
-/// Binds a name to a value. What is reserved binds nothing.
+/// Types a value and binds a name to it. Appends the findings and returns the environment after it, unchanged if the
+/// name means no local.
 pub(crate) fn bind_value<S: TypeStore>(
     walk: &mut Walk<'_, S>,
     env: Env<S::Ty>,
-    meaning: Res,
+    meaning: NameMeaning,
     annotation: Option<S::Ty>,
     e: &Expr,
 ) -> Result<Env<S::Ty>, OutOfMemory>
@@ -28,10 +29,10 @@ pub(crate) fn bind_value<S: TypeStore>(
     requires annotation { HoldsWant S.TypeStore walk.old annotation }
     ensures bound { IfOk result (λ b. Bound S.TypeStore walk.old env walk.new b
         (λ f t k. bind_value f t k meaning (option_map S.tree annotation) (expr_of e.now))) }
-    ensures goes_on { GoesOn S.TypeStore walk.old walk.new }
+    ensures goes_on { WalkKept S.TypeStore walk.old walk.new }
 {
     match meaning {
-        Res::Local(local) => {
+        NameMeaning::Local(local) => {
             let want = known_type(walk.store, walk.alloc, walk.declared, local, annotation)?;
             let label = type_in(walk, &env, &want, e)?;
             let behind = bind_label(walk, env, local, want, e.place(), &label)?;
@@ -44,10 +45,11 @@ pub(crate) fn bind_value<S: TypeStore>(
     }
 }
 
-/// Binds a name that is annotated, with a value or without one.
+/// Declares an annotated name and, if there is a value, binds it. Appends the findings and returns the environment
+/// after it.
 ///
-/// Language Reference 7.2.2 "Annotated assignment statements"; that a name that is bound already keeps its declared
-/// type is an own rule of the profile.
+/// Language Reference 7.2.2 "Annotated assignment statements"; that a name already bound keeps its declared type is an
+/// own rule of the profile.
 pub fn bind_annotated<S: TypeStore>(
     walk: &mut Walk<'_, S>,
     env: Env<S::Ty>,
@@ -58,7 +60,7 @@ pub fn bind_annotated<S: TypeStore>(
     requires { Stands S.TypeStore walk.old env }
     ensures bound { IfOk result (λ b. Bound S.TypeStore walk.old env walk.new b
         (λ f t k. bind_annotated f t k (name_of name.now) (ann_of annotation.now) (option_expr_of value.now))) }
-    ensures goes_on { GoesOn S.TypeStore walk.old walk.new }
+    ensures goes_on { WalkKept S.TypeStore walk.old walk.new }
 {
     let meaning = walk.context.names.resolve(name.text.as_str());
     let ty = annotated_type(walk, meaning, name, annotation)?;

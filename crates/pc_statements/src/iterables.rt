@@ -1,4 +1,4 @@
-//! What a `for` goes over.
+//! The iterable of a `for`.
 
 #![tactic(auto, using(pc_walk::proofs::Walks::goes_further))]
 
@@ -11,7 +11,7 @@ ghost use Rattle.pc_rules.specs.Computed.Findings.{codes_at};
 ghost use Rattle.pc_rules.specs.Computed.Standing.{finds_in};
 ghost use Rattle.pc_module_rules.specs.Computed.Statements.{item_label_of, values_item, iterable_finds};
 ghost use Rattle.pc_statements.specs.Internal.Ranges.{over_range};
-ghost use Rattle.pc_walk.specs.Walks.{Stands, IsLabel, IsType, GoesOn, Found, body_context_in, standing_in};
+ghost use Rattle.pc_walk.specs.Walks.{Stands, IsLabel, IsType, WalkKept, Found, body_context_in, standing_in};
 ghost use Rattle.pc_flow.specs.Naming.{meanings};
 
 use crate::typing::type_in;
@@ -19,13 +19,13 @@ use pc_calls::is_range;
 use pc_expr::{RangeCall, type_range};
 use pc_flow::{Env, OwnerNames};
 use pc_operations::item_label;
-use pc_rules::{Checker, Label, Setting, find_codes};
+use pc_rules::{ExprContext, Label, TypingState, find_codes};
 use pc_source::OutOfMemory;
 use pc_tree::Expr;
 use pc_types::TypeStore;
 use pc_walk::Walk;
 
-/// Whether an expression is a name that means `range`.
+/// Returns whether an expression is a name that means `range`.
 fn means_range(names: &OwnerNames, e: &Expr) -> bool
     ensures { (p : PlaceOf) (arguments : Exprs) (keywords : Keywords)
         → result ≡ over_range (meanings names.now) (call p (expr_of e.now) arguments keywords) }
@@ -36,7 +36,8 @@ fn means_range(names: &OwnerNames, e: &Expr) -> bool
     is_range(names.resolve(name.text.as_str()))
 }
 
-/// The call of `range` that an expression is, if it is one. Library reference, "Built-in Functions".
+/// Returns the parts of an expression that is a call of `range`, `None` for any other. Library reference, "Built-in
+/// Functions".
 fn range_call<'e>(names: &OwnerNames, e: &'e Expr) -> Option<RangeCall<'e>>
     ensures { MatchOption result (over_range (meanings names.now) (expr_of e.now) ≡ false)
         (λ c. (over_range (meanings names.now) (expr_of e.now) ≡ true)
@@ -57,8 +58,8 @@ fn range_call<'e>(names: &OwnerNames, e: &'e Expr) -> Option<RangeCall<'e>>
     })
 }
 
-/// The label of a turn's item of an iterable that is no call of `range`, with what is found in the iterable.
-fn label_values<S: TypeStore>(
+/// Types an iterable other than a call of `range`. Appends the findings in it and returns the label of its items.
+fn type_values<S: TypeStore>(
     walk: &mut Walk<'_, S>,
     env: &Env<S::Ty>,
     iterable: &Expr,
@@ -69,7 +70,7 @@ fn label_values<S: TypeStore>(
         (standing_in S.TypeStore walk.old env.now) (expr_of iterable.now))) }
     ensures finds { OnOk result (Found S.TypeStore walk.old env.now walk.new
         (λ f k. finds_in k None (expr_of iterable.now))) }
-    ensures goes_on { GoesOn S.TypeStore walk.old walk.new }
+    ensures goes_on { WalkKept S.TypeStore walk.old walk.new }
 {
     let label = type_in(walk, env, &None, iterable)?;
     let parents = walk.context.globals.outline.parents;
@@ -83,8 +84,8 @@ fn label_values<S: TypeStore>(
     Ok(item)
 }
 
-/// The label of a turn's item of a call of `range`, with what is found in the call.
-fn label_range<S: TypeStore>(
+/// Types a call of `range` as an iterable. Appends the findings in it and returns the label of its items.
+fn type_range_call<S: TypeStore>(
     walk: &mut Walk<'_, S>,
     env: &Env<S::Ty>,
     iterable: &RangeCall<'_>,
@@ -102,15 +103,15 @@ fn label_range<S: TypeStore>(
         (λ f k. iterable_finds f k
         (call iterable.now.place (expr_of iterable.now.callee.now) (exprs_of_list iterable.now.arguments.now)
         (keywords_of_list iterable.now.by_name.now)))) }
-    ensures goes_on { GoesOn S.TypeStore walk.old walk.new }
+    ensures goes_on { WalkKept S.TypeStore walk.old walk.new }
 {
-    let setting = Setting {
+    let setting = ExprContext {
         globals: walk.context.globals,
         in_body: true,
         names: walk.context.names,
         declared: walk.declared,
     };
-    let mut checker = Checker {
+    let mut checker = TypingState {
         store: walk.store,
         alloc: walk.alloc,
         found: walk.found,
@@ -119,8 +120,9 @@ fn label_range<S: TypeStore>(
     Ok(item)
 }
 
-/// The label of a turn's item, with what is found in the iterable.
-fn label_item<S: TypeStore>(
+/// Types the iterable of a `for`, which may be a call of `range`. Appends the findings in it and returns the label of
+/// its items, whose codes are not appended yet.
+fn type_item<S: TypeStore>(
     walk: &mut Walk<'_, S>,
     env: &Env<S::Ty>,
     iterable: &Expr,
@@ -131,15 +133,16 @@ fn label_item<S: TypeStore>(
         (standing_in S.TypeStore walk.old env.now) (expr_of iterable.now))) }
     ensures finds { OnOk result (Found S.TypeStore walk.old env.now walk.new
         (λ f k. iterable_finds f k (expr_of iterable.now))) }
-    ensures goes_on { GoesOn S.TypeStore walk.old walk.new }
+    ensures goes_on { WalkKept S.TypeStore walk.old walk.new }
 {
     match range_call(walk.context.names, iterable) {
-        Some(range) => label_range(walk, env, &range),
-        None => label_values(walk, env, iterable),
+        Some(range) => type_range_call(walk, env, &range),
+        None => type_values(walk, env, iterable),
     }
 }
 
-/// The type of a turn's item, with what is found in the iterable and at it. Language Reference 8.3 "The for statement".
+/// Types the iterable of a `for`. Appends the findings in it and of iterating over it, and returns the type of its
+/// items. Language Reference 8.3 "The for statement".
 pub fn item_type<S: TypeStore>(
     walk: &mut Walk<'_, S>,
     env: &Env<S::Ty>,
@@ -152,9 +155,9 @@ pub fn item_type<S: TypeStore>(
     ensures finds { OnOk result (Found S.TypeStore walk.old env.now walk.new
         (λ f k. iterable_finds f k (expr_of iterable.now)
         ++ codes_at (place_of (expr_of iterable.now)) (item_label_of f k (expr_of iterable.now)).codes)) }
-    ensures goes_on { GoesOn S.TypeStore walk.old walk.new }
+    ensures goes_on { WalkKept S.TypeStore walk.old walk.new }
 {
-    let label = label_item(walk, env, iterable)?;
+    let label = type_item(walk, env, iterable)?;
     find_codes(iterable.place(), &label.codes, walk.found)?;
     Ok(label.ty)
 }

@@ -1,4 +1,4 @@
-//! What stands in a `return` and in an `assert`.
+//! The statements `return` and `assert`.
 
 #![tactic(auto, using(pc_walk::proofs::Walks::goes_further))]
 
@@ -7,7 +7,7 @@ ghost use Rattle.pc_tree.specs.Tree.{expr_of, option_expr_of};
 ghost use Rattle.pc_flow.specs.Stored.{env_of};
 ghost use Rattle.pc_rules.specs.Computed.Standing.{finds_in, narrowed_standing};
 ghost use Rattle.pc_module_rules.specs.Computed.Statements.{narrowed_at, return_finds, option_finds};
-ghost use Rattle.pc_walk.specs.Walks.{Stands, IsEnv, GoesOn, Found, body_context_in};
+ghost use Rattle.pc_walk.specs.Walks.{Stands, IsEnv, WalkKept, Found, body_context_in};
 
 use crate::typing::{type_condition, type_in};
 use pc_flow::{BothWays, Env};
@@ -17,8 +17,8 @@ use pc_tree::Expr;
 use pc_types::TypeStore;
 use pc_walk::{Walk, find_flow_in};
 
-/// Finds what stands in a `return`: in its value, and of the flow into the return type. Without a value `None` flows.
-/// Language Reference 7.6 "The return statement".
+/// Appends the findings of a `return`: in its value, and of the flow into the return type. Without a value, `None`
+/// flows. Language Reference 7.6 "The return statement".
 pub fn find_return<S: TypeStore>(
     walk: &mut Walk<'_, S>,
     env: &Env<S::Ty>,
@@ -28,7 +28,7 @@ pub fn find_return<S: TypeStore>(
     requires { Stands S.TypeStore walk.old env.now }
     ensures finds { OnOk result (Found S.TypeStore walk.old env.now walk.new
         (λ f k. return_finds f k first (option_expr_of value.now))) }
-    ensures goes_on { GoesOn S.TypeStore walk.old walk.new }
+    ensures goes_on { WalkKept S.TypeStore walk.old walk.new }
 {
     let returned = walk.context.returned;
     match value {
@@ -50,7 +50,7 @@ pub fn find_return<S: TypeStore>(
     }
 }
 
-/// Finds what stands in an expression that may be missing.
+/// Appends the findings of an expression, if there is one.
 fn find_option<S: TypeStore>(
     walk: &mut Walk<'_, S>,
     env: &Env<S::Ty>,
@@ -59,7 +59,7 @@ fn find_option<S: TypeStore>(
     requires { Stands S.TypeStore walk.old env.now }
     ensures finds { OnOk result (Found S.TypeStore walk.old env.now walk.new
         (λ f k. option_finds f k None (option_expr_of e.now))) }
-    ensures goes_on { GoesOn S.TypeStore walk.old walk.new }
+    ensures goes_on { WalkKept S.TypeStore walk.old walk.new }
 {
     match e {
         None => Ok(()),
@@ -70,8 +70,8 @@ fn find_option<S: TypeStore>(
     }
 }
 
-/// The environment after an `assert`, with what is found in its condition and in its message, which is checked where
-/// the condition is false. Language Reference 7.3 "The assert statement".
+/// Appends the findings of an `assert`: in its condition, and in its message, which is checked where the condition is
+/// false. Returns the environment where the condition is true. Language Reference 7.3 "The assert statement".
 pub fn check_assert<S: TypeStore>(
     walk: &mut Walk<'_, S>,
     env: Env<S::Ty>,
@@ -85,7 +85,7 @@ pub fn check_assert<S: TypeStore>(
     ensures finds { OnOk result (Found S.TypeStore walk.old env walk.new
         (λ f k. finds_in k None (expr_of condition.now)
         ++ option_finds f (narrowed_standing k false (expr_of condition.now)) None (option_expr_of message.now))) }
-    ensures goes_on { GoesOn S.TypeStore walk.old walk.new }
+    ensures goes_on { WalkKept S.TypeStore walk.old walk.new }
 {
     let BothWays {
         where_true,

@@ -1,4 +1,4 @@
-//! What each statement of a function that has an expression comes to, and what is found in it.
+//! The statements that hold an expression: the environment after each, and its findings.
 #![tactic(auto)]
 
 mod binding;

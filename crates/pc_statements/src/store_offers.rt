@@ -1,4 +1,4 @@
-//! Stores to attributes and items, member by member of the type that is stored into.
+//! Stores to attributes and items, member by member of the object's type.
 #![tactic(auto, using(crate::proofs::StoredByHead::stored_by_head))]
 
 ghost use Rattle.std.specs.Prelude.{◌≡◌, All, IfOk, map};
@@ -21,7 +21,8 @@ use pc_tree::Code;
 use pc_types::{Head, TypeStore};
 use std::alloc::Global;
 
-/// What a store comes to on one member: what is found, what its index flows into, and what the stored value flows into.
+/// The result of a store on one member: the code found, the type that the index flows into, and the type that the
+/// stored value flows into.
 #[derive(Drop)]
 pub(crate) struct StoreOffer<Ty: Drop> {
     pub found: Option<Code>,
@@ -29,7 +30,7 @@ pub(crate) struct StoreOffer<Ty: Drop> {
     pub stores: Option<Ty>,
 }
 
-/// A part of a value that is stored to. Language Reference 7.2 "Assignment statements".
+/// The part of an object that is stored to. Language Reference 7.2 "Assignment statements".
 #[derive(Clone, Copy)]
 pub(crate) enum StoreTarget<'n> {
     /// `e.name = v`
@@ -38,7 +39,7 @@ pub(crate) enum StoreTarget<'n> {
     Index,
 }
 
-/// A store at which this code is found: on that member nothing flows.
+/// Returns the result of a store that only has this code: neither its index nor its value flows into a type.
 fn store_with<Ty: Drop>(code: Code) -> StoreOffer<Ty>
     ensures is { (tree : Ty → Tree) → store_offer_with tree result ≡ store_with code }
     ensures takes { result.takes ≡ None }
@@ -51,7 +52,9 @@ fn store_with<Ty: Drop>(code: Code) -> StoreOffer<Ty>
     }
 }
 
-/// What storing to an attribute of this name comes to on a member: a field of an instance takes a value of its type.
+/// Returns the result of a store to an attribute of this name, for one member of the object's type: a field of an
+/// instance takes a value of the field's type. Else the result has only a code: A4 for `Any`, E23 for a method, E15 for
+/// any other.
 fn attribute_store<S: TypeStore>(
     store: &S,
     alloc: Global,
@@ -84,7 +87,8 @@ fn attribute_store<S: TypeStore>(
     }
 }
 
-/// What storing to an item comes to on a member: a list takes an int and its item, a dict its key and its value.
+/// Returns the result of a store to an item, for one member of the object's type: a list takes an int and an item, a
+/// dict a key and a value. Else the result has only a code: A3 for `Any`, E17 for any other.
 fn index_store<S: TypeStore>(
     store: &mut S,
     alloc: Global,
@@ -118,7 +122,8 @@ fn index_store<S: TypeStore>(
     }
 }
 
-/// What a store comes to on a member.
+/// Returns the result of a store to this part of an object, for one member of the object's type: the code found, or the
+/// types that the index and the stored value flow into.
 fn store_on<S: TypeStore>(
     store: &mut S,
     alloc: Global,
@@ -139,8 +144,8 @@ fn store_on<S: TypeStore>(
     }
 }
 
-/// What a store comes to on each member of a type, in order. Language Reference 7.2 "Assignment statements"; own rule
-/// of the profile.
+/// Returns the results of a store on each member of a type, in order. Language Reference 7.2 "Assignment statements";
+/// own rule of the profile.
 pub(crate) fn store_offers<S: TypeStore>(
     store: &mut S,
     alloc: Global,
@@ -165,7 +170,7 @@ pub(crate) fn store_offers<S: TypeStore>(
     Ok(offers)
 }
 
-/// The codes of a store on all members, each once.
+/// Returns the codes of a store on all members, each once.
 pub(crate) fn store_codes<Ty: Drop>(
     alloc: Global,
     offers: &[StoreOffer<Ty>],
@@ -180,7 +185,7 @@ pub(crate) fn store_codes<Ty: Drop>(
     Ok(codes)
 }
 
-/// What the index of a store flows into on all members, nothing where one of them is in error.
+/// Returns the types that the index of a store flows into on all members, none if one of them is in error.
 pub(crate) fn store_index_types<S: TypeStore>(
     store: &S,
     alloc: Global,
@@ -202,7 +207,7 @@ pub(crate) fn store_index_types<S: TypeStore>(
     Ok(types)
 }
 
-/// What a stored value flows into on all members, nothing where one of them is in error.
+/// Returns the types that a stored value flows into on all members, none if one of them is in error.
 pub(crate) fn stored_types<S: TypeStore>(
     store: &S,
     alloc: Global,
@@ -223,7 +228,8 @@ pub(crate) fn stored_types<S: TypeStore>(
     Ok(types)
 }
 
-/// What is expected of a stored value: what it flows into, where there is one member.
+/// Returns the expected type of a stored value: the type that it flows into, if there is exactly one member and one
+/// such type.
 pub(crate) fn only_type<S: TypeStore>(
     store: &S,
     alloc: Global,

@@ -8,7 +8,7 @@ ghost use Rattle.pc_flow.specs.WellFormed.{AreWellFormed};
 ghost use Rattle.pc_rules.specs.Operations.{stored_types};
 ghost use Rattle.pc_statements.specs.Storing.{HasStoreOffer, store_offer_with};
 ghost use Rattle.pc_module_rules.specs.Computed.Statements.{store_finds, stored_finds};
-ghost use Rattle.pc_walk.specs.Walks.{Stands, GoesOn, Found};
+ghost use Rattle.pc_walk.specs.Walks.{Stands, WalkKept, Found};
 
 use crate::store_offers::{
     StoreOffer, StoreTarget, only_type, store_codes, store_index_types, store_offers, stored_types,
@@ -21,7 +21,8 @@ use pc_tree::{Expr, Name, Target};
 use pc_types::TypeStore;
 use pc_walk::{Walk, find_flows_in};
 
-/// Finds what stands in a value that is stored with these offers at this place: it flows into what the members take.
+/// Appends the codes of a store at `place`, then the findings in the stored value and of its flow into the types of
+/// `offers`.
 fn find_stored<S: TypeStore>(
     walk: &mut Walk<'_, S>,
     env: &Env<S::Ty>,
@@ -35,7 +36,7 @@ fn find_stored<S: TypeStore>(
         (stored_types (map (store_offer_with S.tree) offers.now)) }
     ensures finds { OnOk result (Found S.TypeStore walk.old env.now walk.new
         (λ f k. stored_finds f k (map (store_offer_with S.tree) offers.now) place (expr_of value.now))) }
-    ensures goes_on { GoesOn S.TypeStore walk.old walk.new }
+    ensures goes_on { WalkKept S.TypeStore walk.old walk.new }
 {
     let codes = store_codes(walk.alloc, offers)?;
     find_codes(place, &codes, walk.found)?;
@@ -46,7 +47,8 @@ fn find_stored<S: TypeStore>(
     Ok(())
 }
 
-/// Finds what stands in a store to an attribute of an object. Language Reference 7.2 "Assignment statements".
+/// Appends the findings of `object.field = value`, whose target is at `place`: those in the object, the codes of the
+/// store, and those in the value and of its flow into the field's type. Language Reference 7.2 "Assignment statements".
 fn find_attribute_store<S: TypeStore>(
     walk: &mut Walk<'_, S>,
     env: &Env<S::Ty>,
@@ -58,7 +60,7 @@ fn find_attribute_store<S: TypeStore>(
     requires { Stands S.TypeStore walk.old env.now }
     ensures finds { OnOk result (Found S.TypeStore walk.old env.now walk.new
         (λ f k. store_finds f k (to_attribute place (expr_of object.now) (name_of field.now)) (expr_of value.now))) }
-    ensures goes_on { GoesOn S.TypeStore walk.old walk.new }
+    ensures goes_on { WalkKept S.TypeStore walk.old walk.new }
 {
     let label = type_in(walk, env, &None, object)?;
     let target = StoreTarget::Attribute(field.text.as_str());
@@ -73,7 +75,9 @@ fn find_attribute_store<S: TypeStore>(
     Ok(())
 }
 
-/// Finds what stands in a store to an item of an object. Language Reference 7.2 "Assignment statements".
+/// Appends the findings of `object[index] = value`, whose target is at `place`: those in the object, those in the index
+/// and of its flow into the key's type, the codes of the store, and those in the value and of its flow into the item's
+/// type. Language Reference 7.2 "Assignment statements".
 fn find_item_store<S: TypeStore>(
     walk: &mut Walk<'_, S>,
     env: &Env<S::Ty>,
@@ -85,7 +89,7 @@ fn find_item_store<S: TypeStore>(
     requires { Stands S.TypeStore walk.old env.now }
     ensures finds { OnOk result (Found S.TypeStore walk.old env.now walk.new
         (λ f k. store_finds f k (to_index place (expr_of object.now) (expr_of index.now)) (expr_of value.now))) }
-    ensures goes_on { GoesOn S.TypeStore walk.old walk.new }
+    ensures goes_on { WalkKept S.TypeStore walk.old walk.new }
 {
     let label = type_in(walk, env, &None, object)?;
     let classes = walk.context.globals.classes;
@@ -103,7 +107,7 @@ fn find_item_store<S: TypeStore>(
     Ok(())
 }
 
-/// Finds what stands in a store to an attribute or an item.
+/// Appends the findings of a store to an attribute or an item; nothing for a name.
 pub(crate) fn find_store<S: TypeStore>(
     walk: &mut Walk<'_, S>,
     env: &Env<S::Ty>,
@@ -113,7 +117,7 @@ pub(crate) fn find_store<S: TypeStore>(
     requires { Stands S.TypeStore walk.old env.now }
     ensures finds { OnOk result (Found S.TypeStore walk.old env.now walk.new
         (λ f k. store_finds f k (target_of target.now) (expr_of value.now))) }
-    ensures goes_on { GoesOn S.TypeStore walk.old walk.new }
+    ensures goes_on { WalkKept S.TypeStore walk.old walk.new }
 {
     match target {
         Target::Name(_) => Ok(()),

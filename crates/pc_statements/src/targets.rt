@@ -1,11 +1,11 @@
-//! What is assigned to: a name, an attribute or an item.
+//! Assignment targets: a name, an attribute or an item.
 
 #![tactic(auto, using(pc_walk::proofs::Walks::goes_further))]
 
 ghost use Rattle.std.specs.Prelude.{IfOk};
 ghost use Rattle.pc_tree.specs.Tree.{expr_of, target_of};
 ghost use Rattle.pc_module_rules.specs.Computed.Statements.{assign_target};
-ghost use Rattle.pc_walk.specs.Walks.{Stands, GoesOn, Bound};
+ghost use Rattle.pc_walk.specs.Walks.{Stands, WalkKept, Bound};
 
 use crate::binding::bind_value;
 use crate::stores::find_store;
@@ -15,7 +15,8 @@ use pc_tree::{Expr, Target};
 use pc_types::TypeStore;
 use pc_walk::Walk;
 
-/// Assigns a value: a name is bound, any other target is stored to. Language Reference 7.2 "Assignment statements".
+/// Assigns a value to a target: binds the name, or stores to the attribute or item. Appends the findings and returns
+/// the environment after it; a store does not change the environment. Language Reference 7.2 "Assignment statements".
 pub fn assign_target<S: TypeStore>(
     walk: &mut Walk<'_, S>,
     env: Env<S::Ty>,
@@ -25,7 +26,7 @@ pub fn assign_target<S: TypeStore>(
     requires { Stands S.TypeStore walk.old env }
     ensures bound { IfOk result (λ b. Bound S.TypeStore walk.old env walk.new b
         (λ f t k. assign_target f t k (target_of target.now) (expr_of value.now))) }
-    ensures goes_on { GoesOn S.TypeStore walk.old walk.new }
+    ensures goes_on { WalkKept S.TypeStore walk.old walk.new }
 {
     match target {
         Target::Name(name) => {

@@ -1,4 +1,4 @@
-//! Expressions and conditions where a walk over statements stands.
+//! Expressions and conditions in a walk over statements.
 
 #![tactic(auto, using(pc_walk::proofs::Walks::goes_further))]
 
@@ -8,17 +8,18 @@ ghost use Rattle.pc_tree.specs.Tree.{expr_of};
 ghost use Rattle.pc_flow.specs.Stored.{env_of};
 ghost use Rattle.pc_rules.specs.Computed.Standing.{label_in, finds_in};
 ghost use Rattle.pc_module_rules.specs.Computed.Statements.{narrowed_at};
-ghost use Rattle.pc_walk.specs.Walks.{Stands, HoldsWant, IsLabel, IsEnv, GoesOn, Found, body_context_in, standing_in};
+ghost use Rattle.pc_walk.specs.Walks.{Stands, HoldsWant, IsLabel, IsEnv, WalkKept, Found, body_context_in, standing_in};
 
-use pc_expr::type_expr;
+use pc_expr::check_expr;
 use pc_flow::{BothWays, Env};
-use pc_rules::{Checker, Label, Setting};
+use pc_rules::{ExprContext, Label, TypingState};
 use pc_source::OutOfMemory;
 use pc_tree::Expr;
 use pc_types::TypeStore;
 use pc_walk::Walk;
 
-/// The label of an expression in the body of a function, with what is found in it.
+/// Types an expression in the body of a function, with `want` as its expected type. Appends its findings and returns
+/// its label.
 pub fn type_in<S: TypeStore>(
     walk: &mut Walk<'_, S>,
     env: &Env<S::Ty>,
@@ -32,25 +33,25 @@ pub fn type_in<S: TypeStore>(
         (label_in (standing_in S.TypeStore walk.old env.now) (option_map S.tree want.now) (expr_of e.now))) }
     ensures finds { OnOk result (Found S.TypeStore walk.old env.now walk.new
         (λ f k. finds_in k (option_map S.tree want.now) (expr_of e.now))) }
-    ensures goes_on { GoesOn S.TypeStore walk.old walk.new }
+    ensures goes_on { WalkKept S.TypeStore walk.old walk.new }
 {
-    let setting = Setting {
+    let setting = ExprContext {
         globals: walk.context.globals,
         in_body: true,
         names: walk.context.names,
         declared: walk.declared,
     };
-    let mut checker = Checker {
+    let mut checker = TypingState {
         store: walk.store,
         alloc: walk.alloc,
         found: walk.found,
     };
-    let label = type_expr(&mut checker, &setting, env, want, e)?;
+    let label = check_expr(&mut checker, &setting, env, want, e)?;
     Ok(label)
 }
 
-/// The environments where a condition is true and where it is false, with what is found in it: so each condition is
-/// asked, of an `if`, an `elif`, a `while` and an `assert`.
+/// Types a condition of an `if`, `elif`, `while` or `assert`. Appends its findings and returns the environments where
+/// it is true and where it is false.
 ///
 /// Typing specification, "Type narrowing"; own rule of the profile.
 pub fn type_condition<S: TypeStore>(
@@ -67,15 +68,15 @@ pub fn type_condition<S: TypeStore>(
         (expr_of condition.now) (env_of S.tree env.now))) }
     ensures finds { OnOk result (Found S.TypeStore walk.old env.now walk.new
         (λ f k. finds_in k None (expr_of condition.now))) }
-    ensures goes_on { GoesOn S.TypeStore walk.old walk.new }
+    ensures goes_on { WalkKept S.TypeStore walk.old walk.new }
 {
-    let setting = Setting {
+    let setting = ExprContext {
         globals: walk.context.globals,
         in_body: true,
         names: walk.context.names,
         declared: walk.declared,
     };
-    let mut checker = Checker {
+    let mut checker = TypingState {
         store: walk.store,
         alloc: walk.alloc,
         found: walk.found,

@@ -1,4 +1,4 @@
--- The lines that came before a refusal.
+-- The lines before a refusal.
 use Rattle.std.proofs.Common.{◌≡◌, List, [], ◌∷◌, ◌++◌, map, Result, Ok, Err, refl, ap, subst}
 use Rattle.pc_source.specs.Answers.{OnRefusal}
 use Rattle.pc_source.specs.declared.fault.Fault.{Fault}

@@ -1,4 +1,4 @@
--- An ASCII byte where the text may be cut is a character, and tells whether it may begin or continue a name.
+-- An ASCII byte on a character boundary is a character, and decides whether it may begin or continue a name.
 use Rattle.std.proofs.Common.{◌≡◌, ℕ, ◌+◌, ◌<◌, List, Bool, true, false, ◌||◌, ◌==◌, Option, Some, None, MatchOption}
 use Rattle.std.proofs.Common.{drop, get_or, length, sym, ap, ◌∙◌, refl, inl, inr, arith, chars, IsUtf8}
 use Rattle.std.specs.Prelude.{slice_get}
@@ -36,7 +36,7 @@ module _ (text : List ℕ) (at : ℕ) (utf8 : IsUtf8 text) (boundary : IsCharBou
       let low : c < 128 = omega (arith, same) in
       ap (λ x. x || c == 95) (is_xid_start-ascii c low) ∙ ap (λ x. is_ascii_alphabetic x || x == 95) same
 
-  -- whether it begins a name
+  -- the byte decides whether the character begins a name
   pub ascii_begins : (is_ascii_alphabetic (get_or text at 0) || get_or text at 0 == 95) ≡ begins_word (drop at text)
   ascii_begins = sym (name_begins (slice_get (chars (drop at text)) 0) refl)
 

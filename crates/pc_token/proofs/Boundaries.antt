@@ -1,4 +1,4 @@
--- Where a text may be cut.
+-- Character boundaries of a text.
 use Rattle.std.proofs.Common.{◌≡◌, ℕ, zero, suc, ◌<◌, Bool, true, List, IsUtf8, add-one, refl, arith}
 use Rattle.std.specs.List.{prefix_len}
 use Rattle.std.specs.Str.{IsCharBoundary}
@@ -22,6 +22,6 @@ IsCharBoundary-ascii_run p bs = after_ascii_run p bs _ refl
 number_byte : (b : ℕ) → is_number_byte b ≡ true → b < 128
 number_byte b e = grind (arith, nat_tests)
 
--- so do the digits and underscores at the front
+-- the leading digits and underscores end on a character boundary
 pub number_boundary : (bs : List ℕ) → IsUtf8 bs → IsCharBoundary bs (prefix_len is_number_byte bs)
 number_boundary bs utf8 = IsCharBoundary-ascii_run is_number_byte bs utf8 number_byte

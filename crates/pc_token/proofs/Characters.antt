@@ -1,4 +1,4 @@
--- Characters of a text, one after another.
+-- The characters of a text, one by one.
 use Rattle.std.proofs.Common.{◌≡◌, ℕ, ◌+◌, ◌≤◌, List, [], ◌∷◌, ◌++◌, Some, None, true, length, drop, sym, ap, ◌∙◌}
 use Rattle.std.proofs.Common.{arith, slice_range, chars, IsUtf8, encode_utf8_all, length-drop, append-nil}
 use Rattle.std.specs.Prelude.{encode_utf8, slice_get}

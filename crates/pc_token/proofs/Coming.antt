@@ -1,4 +1,4 @@
--- What comes from the iterator over logical lines, for the layers above.
+-- Items of the iterator over logical lines, for the stages above.
 use Rattle.std.proofs.Common.{List, [], ◌∷◌, ◌++◌, map, Result, Ok, Err}
 use Rattle.pc_source.specs.Stream.{Yields}
 use Rattle.pc_source.specs.declared.fault.Fault.{Fault}

@@ -1,4 +1,4 @@
--- The byte that a text begins with tells among which keywords and operators it is to be sought.
+-- The first byte of a text decides which keywords and operators are candidates.
 use Rattle.std.proofs.Common.{◌≡◌, ℕ, ◌<◌, List, [], ◌∷◌, ◌++◌, Bool, true, ◌==◌, length, drop, get_or, refl, sym, ap}
 use Rattle.std.proofs.Common.{◌∙◌, inl, inr, None, arith, eq-eqb, lit<}
 use Rattle.std.specs.Prelude.{find, nat_eq, bytes_eq, is_some}
@@ -18,7 +18,7 @@ some_text : (x : Operator) → 0 < length (operator_text x)
 some_text o.Plus = lit< tt
 some_text _ = lit< tt
 
--- what is found among those that may pass is what is found among all
+-- a search among those that may pass finds the same as a search among all
 find_filtered : {X : Type 0} (p q : X → Bool) → ((x : X) → p x ≡ true → q x ≡ true) → (xs : List X)
     → find p (filter q xs) ≡ find p xs
 find_filtered p q may [] = refl

@@ -1,4 +1,4 @@
--- The byte at which a token begins tells of what sort it is.
+-- The first byte of a token decides its sort.
 use Rattle.std.proofs.Common.{◌≡◌, ℕ, ◌<◌, ◌≤◌, List, [], ◌∷◌, ◌++◌, Bool, true, false, not, ◌&&◌, ◌||◌, ◌==◌, length}
 use Rattle.std.proofs.Common.{get_or, refl, ap, ◌∙◌, subst, inl, inr, arith, encode_utf8_all, length-append, ◌⊎◌}
 use Rattle.std.specs.Prelude.{nat_le, encode_utf8, bytes_eq}
@@ -120,7 +120,7 @@ sign_no_quote : (b : ℕ) → is_sign b ≡ true → is_quote b ≡ true → ⊥
 sign_no_quote b h g = grind (arith, nat_tests)
 
 module _ (bytes : List ℕ) where
-  -- what begins with a digit is a number
+  -- a token that begins with a digit is a number
   pub digit_token : (kind : TokenKind) → is_ascii_digit (get_or bytes 0 0) ≡ true → IsToken kind bytes
       → is_number bytes ≡ true
   digit_token t.Name d h = absurd (digit_no_letter (get_or bytes 0 0) d (lead_of t.Name bytes h))
@@ -133,7 +133,7 @@ module _ (bytes : List ℕ) where
   digit_token t.Dedent d h = absurd h
   digit_token t.End d h = absurd h
 
-  -- what begins with a quote is a string
+  -- a token that begins with a quote is a string
   pub quote_token : (kind : TokenKind) → is_quote (get_or bytes 0 0) ≡ true → IsToken kind bytes → IsString bytes
   quote_token t.Name d h = absurd (quote_no_letter (get_or bytes 0 0) d (lead_of t.Name bytes h))
   quote_token t.Int d h = absurd (digit_no_quote (get_or bytes 0 0) (lead_of t.Int bytes h) d)
@@ -145,7 +145,7 @@ module _ (bytes : List ℕ) where
   quote_token t.Dedent d h = absurd h
   quote_token t.End d h = absurd h
 
-  -- what begins with another sign is an operator
+  -- a token that begins with another sign is an operator
   pub sign_token : (kind : TokenKind) → is_sign (get_or bytes 0 0) ≡ true → IsToken kind bytes → (o : Operator)
       × (operator_text o ≡ bytes)
   sign_token t.Name d h = absurd (sign_no_letter (get_or bytes 0 0) d (lead_of t.Name bytes h))
@@ -158,7 +158,7 @@ module _ (bytes : List ℕ) where
   sign_token t.Dedent d h = absurd h
   sign_token t.End d h = absurd h
 
-  -- what begins with a letter is a name or a keyword
+  -- a token that begins with a letter is a name or a keyword
   pub letter_token : (kind : TokenKind) → is_letter (get_or bytes 0 0) ≡ true → IsToken kind bytes → IsName bytes
       ⊎ ((k : Keyword) × (keyword_text k ≡ bytes))
   letter_token t.Name d h = inl h.0

@@ -23,7 +23,7 @@ use Rattle.pc_token.specs.Spelling.{IsToken, IsLongest}
 use Rattle.pc_token.proofs.Leads.{is_letter, lead_name, letter_token, some_bytes}
 use Rattle.pc_token.proofs.Names.{ascii_bytes}
 
--- what follows does not go on with a character that may continue a name
+-- the rest does not begin with a character that may continue a name
 abbrev pub Stops : List ℕ → Type 0
 Stops rest = (c : ℕ) (more : List ℕ) → rest ≡ encode_utf8 c ++ more → is_xid_continue c ≡ false
 

@@ -1,4 +1,4 @@
--- An operator before a byte that is second in none is told by its one byte.
+-- An operator before a byte that is second in no operator is decided by its one byte.
 use Rattle.std.proofs.Common.{◌≡◌, ℕ, ◌<◌, List, [], ◌∷◌, Bool, true, false, ◌||◌, ◌==◌, length, get_or, refl, sym}
 use Rattle.std.proofs.Common.{inl, inr, arith}
 use Rattle.std.specs.Prelude.{find, nat_eq}

@@ -1,4 +1,4 @@
--- At most one refusal stands at a place.
+-- There is at most one refusal at a place.
 use Rattle.std.proofs.Common.{◌≡◌, ℕ, zero, suc, ◌<◌, List, [], ◌∷◌, ◌++◌, true, false, ◌==◌, ◌⊎◌, length, take, get_or}
 use Rattle.std.proofs.Common.{refl, sym, ap, ◌∙◌, subst, inl, inr, arith, length-append, if◌then◌else◌}
 use Rattle.std.specs.Char.{is_ascii_digit}

@@ -1,4 +1,4 @@
--- At most one piece may stand at a place.
+-- At most one piece fits at a place.
 use Rattle.std.proofs.Common.{◌≡◌, ℕ, List, [], ◌∷◌, ◌++◌, Bool, true, false, not, ◌⊎◌, length, take, get_or, refl, sym}
 use Rattle.std.proofs.Common.{ap, ◌∙◌, inl, inr, arith}
 use Rattle.std.specs.List.{prefix_len, list_all}
@@ -46,7 +46,7 @@ first_feed : (bytes : List ℕ) → IsLineEnd bytes → is_line_byte (get_or byt
 first_feed bytes (inl e) = ap (λ x. is_line_byte (get_or x 0 0)) e
 first_feed bytes (inr e) = ap (λ x. is_line_byte (get_or x 0 0)) e
 
--- how a piece of a sort begins
+-- the start of a piece of this sort
 abbrev pub start_of_sort : Sort → Start
 start_of_sort Blanks = Blank
 start_of_sort Comment = Hash
@@ -74,7 +74,7 @@ pub first_of : (bytes rest : List ℕ) → (length bytes ≡ 0 → ⊥) → get_
 first_of [] rest some = absurd (some refl)
 first_of (b ∷ bs) rest some = refl
 
--- so what stands there begins
+-- the start of the text is that of the sort of its first piece
 pub text_start : (c : LexicalContext) (sort : Sort) (bytes rest : List ℕ) → FitsBySort c sort bytes rest
     → start_of (get_or (bytes ++ rest) 0 0) ≡ start_of_sort sort
 text_start c sort bytes rest h = ap start_of (first_of bytes rest (some_piece c sort bytes rest h))

@@ -1,4 +1,4 @@
--- Which piece stands at a byte.
+-- The piece at a byte.
 use Rattle.std.proofs.Common.{◌≡◌, ℕ, ◌+◌, ◌-◌, ◌<◌, ◌≤◌, List, [], ◌∷◌, Bool, true, false, not, ◌==◌, None, length}
 use Rattle.std.proofs.Common.{take, drop, get_or, refl, sym, ap, ◌∙◌, subst, inl, inr, arith, slice_range, IsUtf8}
 use Rattle.std.proofs.Common.{zero-add, get_or-take}
@@ -23,7 +23,7 @@ module _ (text : List ℕ) (at len : ℕ) where
   pub piece_from : slice_range text at (at + len) ≡ take len (drop at text)
   piece_from = let n : at + len - at ≡ len = omega arith in ap (λ k. take k (drop at text)) n
 
-  -- what follows it
+  -- the text after the piece
   pub rest_from : drop (at + len) text ≡ drop len (drop at text)
   rest_from = sym (drop-drop len at text)
 
@@ -148,7 +148,7 @@ module _ (c : LexicalContext) (text : List ℕ) (utf8 : IsUtf8 text) (boundary :
       goes c text 1 LineEnd (omega arith) (later_boundary c text utf8 boundary 1 (rw zero-add at b))
       (inl (front_one t 10 some here))
 
-  -- so does one after a carriage return
+  -- a line feed after a carriage return ends the line
   pub carriage_return_here : get_or (drop c.at text) 0 0 ≡ 13 → get_or (drop c.at text) 1 0 ≡ 10
       → GoesTo c text LineEnd (c.at + 2)
   carriage_return_here here next =
@@ -159,6 +159,6 @@ module _ (c : LexicalContext) (text : List ℕ) (utf8 : IsUtf8 text) (boundary :
       goes c text 2 LineEnd (omega arith) (later_boundary c text utf8 boundary 2 b)
       (inr (front_two t 13 10 some here next))
 
--- what follows a carriage return that ends a line
+-- a carriage return that ends a line is followed by a line feed
 pub feed_next : (text : List ℕ) → starts_line_end text ≡ true → get_or text 0 0 ≡ 13 → get_or text 1 0 ≡ 10
 feed_next text h e = grind (arith, nat_tests)

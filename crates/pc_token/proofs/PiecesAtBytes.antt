@@ -1,4 +1,4 @@
--- What is found at a byte is a piece, or a refusal stands there.
+-- The result at a byte is a piece that fits there, or the refusal there.
 use Rattle.std.proofs.Common.{◌≡◌, ℕ, ◌+◌, ◌-◌, ◌<◌, ◌≤◌, List, [], ◌∷◌, ◌++◌, Bool, true, false, ◌==◌, ◌⊎◌, Option}
 use Rattle.std.proofs.Common.{Some, None, MatchOption, length, take, drop, get_or, refl, sym, ap, ◌∙◌, subst, inl, inr}
 use Rattle.std.proofs.Common.{arith, lit<, slice_range, IsUtf8, chars, encode_utf8_all, append_assoc, length-append}

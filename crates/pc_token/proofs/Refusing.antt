@@ -1,4 +1,4 @@
--- A refusal stands here.
+-- There is a refusal here.
 use Rattle.std.proofs.Common.{◌≡◌, ℕ, ◌+◌, List, drop, arith}
 use Rattle.pc_source.specs.Answers.{OnRefusal}
 use Rattle.pc_source.specs.declared.fault.Fault.{Fault}

@@ -1,4 +1,4 @@
--- The bytes at a text's front that pass a test.
+-- The leading bytes of a text that pass a test.
 use Rattle.std.proofs.Common.{◌≡◌, ℕ, suc, ◌<◌, ◌≤◌, List, [], ◌∷◌, Bool, true, false, ◌&&◌, ◌⊎◌, length, take, drop}
 use Rattle.std.proofs.Common.{get_or, refl, ap, ◌∙◌, inl, inr, arith, add-zero, get_or-drop}
 use Rattle.std.specs.List.{prefix_len, list_all}
@@ -23,7 +23,7 @@ module _ (p : ℕ → Bool) (xs : List ℕ) where
       let short : k < n = omega (arith, length-take n xs) in
       rw (get_or-take n xs k 0 short) (prefix_len_passes p xs k 0 (omega arith)))
 
-  -- what follows them is nothing, or begins with one that does not pass
+  -- the rest is empty, or begins with a byte that does not pass
   pub stops : (length (drop (prefix_len p xs) xs) ≡ 0) ⊎ (p (get_or (drop (prefix_len p xs) xs) 0 0) ≡ false)
   stops = elim (cases_lt (prefix_len p xs) (length xs)) [
     | inl within ↦ inr (rw (get_or-drop (prefix_len p xs) xs 0 0, add-zero) (prefix_len_stops p xs 0 within))

@@ -1,4 +1,4 @@
--- The first byte of a piece tells of what sort the piece is.
+-- The first byte of a piece decides its sort.
 use Rattle.std.proofs.Common.{◌≡◌, ℕ, List, [], ◌∷◌, Bool, true, false, ◌||◌, ◌==◌, ◌⊎◌, length, get_or, refl, sym, ap}
 use Rattle.std.proofs.Common.{◌∙◌, inl, inr, arith, if◌then◌else◌}
 use Rattle.std.specs.Char.{is_ascii_digit}
@@ -24,7 +24,7 @@ pub data Start : Type 0 where
   Wordy : Start
   Signed : Start
 
--- what a byte begins
+-- the start that a byte is
 abbrev pub start_of : ℕ → Start
 start_of b =
     if is_blank b then Blank else if b == 35 then Hash else if is_line_byte b then Feed else if is_quote b then Quoted
@@ -83,7 +83,7 @@ pub role_is : (x : Operator) → role_of x ≡ role_by_byte (get_or (operator_te
 role_is o.Plus = refl
 role_is _ = refl
 
--- how a token of a kind begins
+-- the start of a token of this kind
 abbrev pub start_of_kind : TokenKind → Start
 start_of_kind t.Name = Wordy
 start_of_kind (t.Keyword _) = Wordy

@@ -1,4 +1,4 @@
--- One piece more, and how a logical line ends.
+-- One more piece, and the end of a logical line.
 use Rattle.std.proofs.Common.{◌≡◌, ℕ, ◌+◌, ◌-◌, ◌≤◌, List, [], ◌∷◌, ◌++◌, Option, Some, Result, Err, length, drop, map}
 use Rattle.std.proofs.Common.{refl, sym, ap, ◌∙◌, arith, slice_range, add-zero, inl}
 use Rattle.std.specs.Borrow.{Bor}
@@ -14,10 +14,10 @@ use Rattle.pc_token.specs.declared.token.TokenKind.{TokenKind}
 use Rattle.pc_token.specs.Context.{LexicalContext, after_token, brackets_after, lexeme_at, form_by_kind}
 use Rattle.pc_token.specs.Lexeme.{LogicalLine, Lexeme, lexeme_of, form_of}
 use Rattle.pc_token.specs.Internal.LineReading.{GoesTo, IsRefusedHere}
-use Rattle.pc_token.specs.Splitting.{Sort, Whole, Faulty, after_sort, at_sort, close_line, GoesOn}
+use Rattle.pc_token.specs.Splitting.{Sort, Whole, Faulty, after_sort, at_sort, close_line, Continues}
 use Rattle.pc_token.proofs.Slices.{split_at}
 
--- how long a piece is
+-- the length of a piece
 pub piece_length : (text : List ℕ) (i j : ℕ) → i ≤ j → j ≤ length text → i + length (slice_range text i j) ≡ j
 piece_length text i j h g = let len = length-take-le (j - i) (drop i text) (omega (arith, length-drop i text)) in
     omega arith
@@ -25,8 +25,8 @@ piece_length text i j h g = let len = length-take-le (j - i) (drop i text) (omeg
 -- a piece before what goes on
 pub step_on : (c : LexicalContext) (text : List ℕ) (sort : Sort) (end : ℕ) (items : List (Result LogicalLine Refusal))
     → GoesTo c text sort end
-    → GoesOn (after_sort c sort (slice_range text c.at end)) (drop end text) items
-    → GoesOn c (drop c.at text) (at_sort sort c items)
+    → Continues (after_sort c sort (slice_range text c.at end)) (drop end text) items
+    → Continues c (drop c.at text) (at_sort sort c items)
 step_on c text sort end items goes (ps, ending, splits, is) =
     let later = goes.later in (
       record { sort = sort; bytes = slice_range text c.at end } ∷ ps,
@@ -37,7 +37,7 @@ step_on c text sort end items goes (ps, ending, splits, is) =
 
 -- a refusal here
 pub refused_on : (c : LexicalContext) (text : List ℕ) (r : Refusal) → IsRefusedHere c text r
-    → GoesOn c (drop c.at text) (Err r ∷ [])
+    → Continues c (drop c.at text) (Err r ∷ [])
 refused_on c text r (k, e, fault) = (
   [],
   Faulty r.code k,
@@ -48,12 +48,12 @@ refused_on c text r (k, e, fault) = (
 
 -- the text's end
 pub whole_on : (c : LexicalContext) (text : List ℕ) → length text ≤ c.at → c.brackets ≡ []
-    → GoesOn c (drop c.at text) (close_line c.start c.done [])
+    → Continues c (drop c.at text) (close_line c.start c.done [])
 whole_on c text past none = ([], Whole, (drop_all c.at text past, none), refl)
 
 -- the text's end in a bracket
 pub open_on : (c : LexicalContext) (text : List ℕ) → length text ≤ c.at → (length c.brackets ≡ 0 → ⊥)
-    → GoesOn c (drop c.at text) (Err (record { code = L5; byte = c.at }) ∷ [])
+    → Continues c (drop c.at text) (Err (record { code = L5; byte = c.at }) ∷ [])
 open_on c text past some =
     let none : length (drop c.at text) ≡ 0 = omega (arith, length-drop c.at text) in
     ([], Faulty L5 0, (refl, inl (none, some)), ap (λ n. Err (record { code = L5; byte = n }) ∷ []) (add-zero c.at))

@@ -1,4 +1,4 @@
--- Where a string ends.
+-- The end of a string.
 use Rattle.std.proofs.Common.{◌≡◌, ◌≢◌, ℕ, ◌+◌, ◌<◌, ◌≤◌, List, [], ◌∷◌, ◌++◌, true, false, length, take, drop, get_or}
 use Rattle.std.proofs.Common.{refl, sym, ap, ◌∙◌, subst, arith, slice_range, inl, inr, append_assoc, get_or-drop}
 use Rattle.std.proofs.Common.{add-zero}
@@ -9,7 +9,7 @@ use Rattle.std.proofs.lemmas.Bool.Decides.{nat_tests}
 use Rattle.pc_token.specs.Strings.{is_quote, is_escape, is_plain, IsBody, none, plain, escape, IsString}
 use Rattle.pc_token.specs.Faults.{NoString}
 
--- what stands here closes a string between these quotes
+-- the text goes to the end of a string between these quotes
 abbrev pub Closes : ℕ → List ℕ → Type 0
 Closes q text = (body : List ℕ) × (rest : List ℕ) × IsBody q body × (text ≡ body ++ (q ∷ rest))
 

@@ -1,4 +1,4 @@
--- The tokens of a text, and its refusal, stand within it.
+-- The tokens of a text, and its refusal, lie within it.
 use Rattle.std.proofs.Common.{◌≡◌, ℕ, ◌+◌, ◌≤◌, List, [], ◌∷◌, ◌++◌, length, map, refl, ap, ◌∙◌, subst, arith}
 use Rattle.std.proofs.Common.{length-append}
 use Rattle.std.specs.Prelude.{Result, Ok, Err, IfErr}
@@ -115,7 +115,7 @@ pub refused_within : (text : List ℕ) (before : List LogicalLine) (r : Refusal)
     → HasLines text (map Ok before ++ Err r ∷ []) → r.byte ≤ length text
 refused_within text before r h = refusal_held (length text) before r (holds_items text (map Ok before ++ Err r ∷ []) h)
 
--- what is answered for a text, where it is a fault after some lines
+-- the refusal of a text, after some lines, lies within it
 pub answer_within : {T : Type 0} (text : List ℕ) (r : Result T Fault)
     → IfErr r (OnRefusal (λ q. (before : List LogicalLine) × HasOnly text (map Ok before ++ Err q ∷ [])))
     → IfErr r (IsWithin (length text))

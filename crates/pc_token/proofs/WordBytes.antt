@@ -1,4 +1,4 @@
--- The ASCII bytes at the front of a name, and the spaces at the front of blanks.
+-- The leading ASCII bytes of a name, and the leading spaces of blanks.
 use Rattle.std.proofs.Common.{◌≡◌, ℕ, suc, ◌+◌, ◌<◌, List, [], ◌∷◌, Bool, true, ◌&&◌, ◌==◌, take, drop, sym, ap, ◌∙◌}
 use Rattle.std.proofs.Common.{refl, inl, inr, arith, slice_range, IsUtf8, encode_utf8_all}
 use Rattle.std.specs.Prelude.{nat_lt}

@@ -1,4 +1,4 @@
--- The lexical refusals, each as a condition on what stands at a byte. Own rules of the profile.
+-- The lexical refusals, each a condition on the text from a byte on. Own rules of the profile.
 use Rattle.std.specs.Prelude.{◌≡◌, ℕ, ◌-◌, ◌<◌, ◌≤◌, true, false, ◌==◌, ◌⊎◌, List, ◌++◌, Option, Some, None, length}
 use Rattle.std.specs.Prelude.{take, slice_index, slice_get}
 use Rattle.std.specs.List.{list_all}
@@ -30,22 +30,22 @@ pub record IsStray (text : List ℕ) : Type 0 where
   pub no_quote : is_quote (slice_index text 0) ≡ false
   pub no_token : (kind : TokenKind) (bytes rest : List ℕ) → text ≡ bytes ++ rest → IsToken kind bytes → ⊥
 
--- no string begins here
+-- no string begins the text
 abbrev pub NoString : List ℕ → Type 0
 NoString text = (bytes rest : List ℕ) → text ≡ bytes ++ rest → IsString bytes → ⊥
 
--- L2: a quote at which no string begins, or that stands directly after a word or number,
--- or that begins an empty string with the same quote directly after it
+-- L2: a quote that begins no string, or directly after a word or number, or that begins an empty string followed
+-- directly by the same quote
 abbrev pub IsBadString : LexicalContext → List ℕ → Type 0
 IsBadString c text = (is_quote (slice_index text 0) ≡ true)
     × (NoString text ⊎ (touches_word c ≡ true) ⊎ (is_tripled text ≡ true))
 
--- L3: a digit at which no number stands as it may, or a point with a digit directly after it
+-- L3: digits that are no number as it may be written here, or a point followed directly by a digit
 abbrev pub IsBadDigits : List ℕ → Type 0
 IsBadDigits text = ((is_ascii_digit (slice_index text 0) ≡ true) × (is_bad_number text ≡ true))
     ⊎ (is_bad_point text ≡ true)
 
--- L4: a name that may not stand here
+-- L4: a name that may not be used here
 abbrev pub IsBadName : LexicalContext → List ℕ → Type 0
 IsBadName c text = (bytes : List ℕ) × (rest : List ℕ) × (text ≡ bytes ++ rest) × IsLongest t.Name bytes rest
     × (is_bad_name c.last bytes ≡ true)
@@ -54,13 +54,13 @@ IsBadName c text = (bytes : List ℕ) × (rest : List ℕ) × (text ≡ bytes ++
 abbrev pub innermost : List Operator → Option Operator
 innermost brackets = slice_get brackets (length brackets - 1)
 
--- L5: a bracket closes what is not the innermost open one, or the text ends in a bracket
+-- L5: a closing bracket that does not match the innermost open one, or an open bracket at the end of the text
 abbrev pub IsBadClosing : LexicalContext → List ℕ → Type 0
 IsBadClosing c text = ((length text ≡ 0) × (length c.brackets ≡ 0 → ⊥))
     ⊎ ((o : Operator) × (opener : Operator) × (rest : List ℕ) × (text ≡ operator_text o ++ rest)
     × (role_of o ≡ Closes opener) × (innermost c.brackets ≡ Some opener → ⊥))
 
--- L6: a bracket opens where as many are open as may be
+-- L6: an opening bracket when the greatest number is open already
 abbrev pub IsBadOpening : LexicalContext → List ℕ → Type 0
 IsBadOpening c text = (o : Operator) × (rest : List ℕ) × (text ≡ operator_text o ++ rest) × (role_of o ≡ Opens)
     × (bracket_limit ≤ length c.brackets)
@@ -73,12 +73,12 @@ pub record IsBadTab (c : LexicalContext) (text : List ℕ) (k : ℕ) : Type 0 wh
   pub tab : slice_index text k ≡ 9
   pub more : ends_line (after_blanks text) ≡ false
 
--- L8: a number of too many digits
+-- L8: a number with more digits than the limit
 abbrev pub IsLongNumber : List ℕ → Type 0
 IsLongNumber text = (is_ascii_digit (slice_index text 0) ≡ true) × (is_bad_number text ≡ false)
     × (digit_limit < digit_count (number_run text))
 
--- the refusal that stands k bytes after what stands here
+-- the refusal of this code, k bytes on from here
 abbrev pub IsFault : LexicalContext → List ℕ → RefusalCode → ℕ → Type 0
 IsFault c text L1 k = (k ≡ 0) × IsStray text
 IsFault c text L2 k = (k ≡ 0) × IsBadString c text

@@ -1,5 +1,5 @@
--- What stands between tokens. Python Language Reference 3.12, 2.1.2 "Physical lines", 2.1.3 "Comments", 2.1.9
--- "Whitespace between tokens".
+-- Gaps between tokens. Python Language Reference 3.12, 2.1.2 "Physical lines", 2.1.3 "Comments", 2.1.9 "Whitespace
+-- between tokens".
 use Rattle.std.specs.Prelude.{◌≡◌, ℕ, Bool, true, false, not, ◌&&◌, ◌||◌, ◌==◌, ◌⊎◌, List, [], ◌∷◌, length, drop}
 use Rattle.std.specs.Prelude.{slice_index}
 use Rattle.std.specs.List.{prefix_len, list_all}
@@ -12,19 +12,19 @@ is_blank b = b == 32 || b == 9
 abbrev pub is_line_byte : ℕ → Bool
 is_line_byte b = b == 10 || b == 13
 
--- a line end comes next: a line feed, which a carriage return may precede
+-- the text begins with a line end: a line feed, or a carriage return and a line feed
 abbrev pub starts_line_end : List ℕ → Bool
 starts_line_end text = slice_index text 0 == 10 || (slice_index text 0 == 13 && slice_index text 1 == 10)
 
--- nothing but a comment, a line end or the text's end comes next
+-- the text is empty, or begins with a comment or a line end
 abbrev pub ends_line : List ℕ → Bool
 ends_line text = length text == 0 || (slice_index text 0 == 35 || starts_line_end text)
 
--- what follows the spaces and tabs at the front
+-- the text without its leading spaces and tabs
 abbrev pub after_blanks : List ℕ → List ℕ
 after_blanks text = drop (prefix_len is_blank text) text
 
--- spaces and tabs, all that stand there
+-- all spaces and tabs up to the rest, at least one
 pub record IsBlanks (bytes rest : List ℕ) : Type 0 where
   pub some : length bytes ≡ 0 → ⊥
   pub blank : list_all is_blank bytes ≡ true
@@ -36,6 +36,6 @@ pub record IsComment (bytes rest : List ℕ) : Type 0 where
   pub inside : list_all (λ b. not (is_line_byte b)) bytes ≡ true
   pub all : (length rest ≡ 0) ⊎ (is_line_byte (slice_index rest 0) ≡ true)
 
--- a line end
+-- a line end: a line feed, or a carriage return and a line feed
 abbrev pub IsLineEnd : List ℕ → Type 0
 IsLineEnd bytes = (bytes ≡ 10 ∷ []) ⊎ (bytes ≡ 13 ∷ 10 ∷ [])

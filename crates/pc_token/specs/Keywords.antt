@@ -48,6 +48,6 @@ keywords = k.False ∷ k.None ∷ k.True ∷ k.And ∷ k.As ∷ k.Assert ∷ k.A
     ∷ k.Def ∷ k.Del ∷ k.Elif ∷ k.Else ∷ k.Except ∷ k.Finally ∷ k.For ∷ k.From ∷ k.Global ∷ k.If ∷ k.Import ∷ k.In ∷ k.Is
     ∷ k.Lambda ∷ k.Nonlocal ∷ k.Not ∷ k.Or ∷ k.Pass ∷ k.Raise ∷ k.Return ∷ k.Try ∷ k.While ∷ k.With ∷ k.Yield ∷ []
 
--- the text is a keyword's
+-- the text is a keyword
 abbrev pub is_keyword : List ℕ → Bool
 is_keyword text = list_any (λ k. bytes_eq (keyword_text k) text) keywords

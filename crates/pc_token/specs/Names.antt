@@ -12,7 +12,7 @@ use Rattle.pc_token.specs.declared.token.TokenKind.{TokenKind}
 use Rattle.pc_token.specs.declared.token.TokenKind.TheVariants as t
 use Rattle.pc_token.specs.Keywords.{is_keyword}
 
--- a character that may begin a name
+-- the character may begin a name
 abbrev pub begins_name : ℕ → Bool
 begins_name c = is_xid_start c || c == 95
 
@@ -24,12 +24,12 @@ begins_word text = option_map_or begins_name (slice_get (chars text) 0) false
 abbrev pub continues_word : List ℕ → Bool
 continues_word text = option_map_or is_xid_continue (slice_get (chars text) 0) false
 
--- a character that may begin a name, and characters that may continue one
+-- a name: a character that may begin one, then characters that may continue one
 abbrev pub IsName : List ℕ → Type 0
 IsName bytes = (c : ℕ) × (cs : List ℕ) × (begins_name c ≡ true) × (list_all is_xid_continue cs ≡ true)
     × (bytes ≡ encode_utf8_all (c ∷ cs))
 
--- the form NFKC, by which names are compared
+-- the name in normal form NFKC, by which names are compared
 unfoldable pub name_form : List ℕ → List ℕ
 name_form bytes = encode_utf8_all (nfkc (chars bytes))
 
@@ -42,8 +42,8 @@ abbrev pub is_from : Option TokenKind → Bool
 is_from (Some (t.Keyword k.From)) = true
 is_from _ = false
 
--- a name whose form begins with two underscores, but for `__future__` after `from`,
--- or that is not ASCII and has the form of a keyword or a reserved name
+-- a name whose form begins with two underscores, except `__future__` after `from`, or that is not ASCII and has the
+-- form of a keyword or a reserved name
 abbrev pub is_bad_name : Option TokenKind → List ℕ → Bool
 is_bad_name last bytes =
     (starts_with nat_eq (name_form bytes) (codes "__") && not (is_from last && bytes_eq bytes (codes "__future__")))

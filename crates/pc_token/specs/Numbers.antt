@@ -22,27 +22,27 @@ is_number bytes =
     || ((is_ascii_digit (slice_index bytes 0) && not (slice_index bytes 0 == 48))
     && (list_all is_number_byte bytes && underscores_fit bytes))
 
--- the digits and underscores at the front
+-- the leading digits and underscores of the text
 abbrev pub number_run : List ℕ → List ℕ
 number_run text = take_while is_number_byte text
 
--- what follows them
+-- the text after its leading digits and underscores
 abbrev pub after_number : List ℕ → List ℕ
 after_number text = drop (prefix_len is_number_byte text) text
 
--- the digits and underscores at the front are no number, or a name character or a point follows them
+-- the leading digits and underscores are no number, or a name character or a point follows them
 abbrev pub is_bad_number : List ℕ → Bool
 is_bad_number text =
     not (is_number (number_run text)) || (continues_word (after_number text) || slice_index (after_number text) 0 == 46)
 
--- a point with a digit directly after it
+-- the text begins with a point followed directly by a digit
 abbrev pub is_bad_point : List ℕ → Bool
 is_bad_point text = slice_index text 0 == 46 && is_ascii_digit (slice_index text 1)
 
--- how many digits there are, underscores aside
+-- the number of digits, underscores not counted
 abbrev pub digit_count : List ℕ → ℕ
 digit_count bytes = count_by is_ascii_digit bytes
 
--- the greatest number of digits
+-- the greatest number of digits of a number
 abbrev pub digit_limit : ℕ
 digit_limit = 1000

@@ -64,7 +64,7 @@ operators = o.DoubleSlashEqual ∷ o.DoubleStarEqual ∷ o.LeftShiftEqual ∷ o.
     ∷ o.LeftParenthesis ∷ o.RightParenthesis ∷ o.LeftBracket ∷ o.RightBracket ∷ o.LeftBrace ∷ o.RightBrace ∷ o.Comma
     ∷ o.Colon ∷ o.Dot ∷ o.Bar ∷ o.At ∷ o.Slash ∷ o.Ampersand ∷ o.Circumflex ∷ o.Tilde ∷ o.Semicolon ∷ []
 
--- what an operator is as a bracket: it opens, it closes what another opens, or it is none
+-- the role of an operator as a bracket: it opens, it closes a given opener, or it is plain
 abbrev pub role_of : Operator → Role
 role_of o.LeftParenthesis = Opens
 role_of o.LeftBracket = Opens

@@ -1,5 +1,5 @@
--- Which bytes spell a token. Python Language Reference 3.12, 2.1.7 "Other tokens" and 2.1.9: where several do, the
--- longest is read.
+-- The bytes of each token. Python Language Reference 3.12, 2.1.7 "Other tokens" and 2.1.9: if several tokens begin at a
+-- place, the longest is read.
 use Rattle.std.specs.Prelude.{◌≡◌, ℕ, true, List, [], ◌++◌}
 use Rattle.pc_token.specs.declared.token.Keyword.{Keyword}
 use Rattle.pc_token.specs.declared.token.TokenKind.{TokenKind}
@@ -10,7 +10,7 @@ use Rattle.pc_token.specs.Numbers.{is_number}
 use Rattle.pc_token.specs.Operators.{operator_text}
 use Rattle.pc_token.specs.Strings.{IsString}
 
--- the bytes spell a token of the kind
+-- the bytes are a token of this kind
 abbrev pub IsToken : TokenKind → List ℕ → Type 0
 IsToken t.Name bytes = IsName bytes × ((k : Keyword) → keyword_text k ≡ bytes → ⊥)
 IsToken t.Int bytes = is_number bytes ≡ true
@@ -19,7 +19,7 @@ IsToken (t.Keyword k) bytes = keyword_text k ≡ bytes
 IsToken (t.Operator o) bytes = operator_text o ≡ bytes
 IsToken _ bytes = ⊥
 
--- the bytes spell a token, and no longer front of what stands there is one
+-- the bytes are a token, and no longer prefix of the text here is one
 pub record IsLongest (kind : TokenKind) (bytes rest : List ℕ) : Type 0 where
   pub token : IsToken kind bytes
   pub longest : (other : TokenKind) (more after : List ℕ) → rest ≡ more ++ after → IsToken other (bytes ++ more)

@@ -2,14 +2,14 @@
 ghost use Rattle.std.specs.Prelude.{◌≡◌, ◌+◌, ◌≤◌, length, drop, slice_index, slice_get, chars};
 ghost use Rattle.std.specs.Str.{IsCharBoundary};
 
-/// The byte at an index, or 0 past the end.
+/// Returns the byte at `index`, or 0 past the end.
 pub(crate) fn byte_at(bytes: &[u8], index: usize) -> u8
     ensures { result ≡ slice_index bytes.now index }
 {
     if index < bytes.len() { bytes[index] } else { 0 }
 }
 
-/// The bytes from an index on.
+/// Returns the bytes from `index` on.
 pub(crate) fn bytes_from(bytes: &[u8], index: usize) -> &[u8]
     requires { index ≤ length bytes.now }
     ensures value { result.now ≡ drop index bytes.now }
@@ -18,7 +18,7 @@ pub(crate) fn bytes_from(bytes: &[u8], index: usize) -> &[u8]
     &bytes[index..]
 }
 
-/// The character that begins at a byte.
+/// Returns the character that begins at byte `at`. `None` at the end of the text.
 pub(crate) fn char_at(text: &str, at: usize) -> Option<char>
     requires { IsCharBoundary text.now at }
     ensures { result ≡ slice_get (chars (drop at text.now)) 0 }

@@ -8,7 +8,7 @@ use crate::bytes::byte_at;
 use crate::token::Keyword;
 
 impl Keyword {
-    /// The keyword as it is spelled.
+    /// Returns the keyword as it is spelled.
     pub fn text(self) -> &'static str
         ensures { result.now ≡ keyword_text self }
     {
@@ -52,7 +52,7 @@ impl Keyword {
     }
 }
 
-/// The keywords of two bytes that begin with a byte.
+/// Returns the keywords of two bytes that begin with `first`.
 fn of_two(first: u8) -> &'static [Keyword]
     ensures { result.now ≡ filter (may_be 2 first) keywords }
 {
@@ -64,7 +64,7 @@ fn of_two(first: u8) -> &'static [Keyword]
     }
 }
 
-/// The keywords of three bytes that begin with a byte.
+/// Returns the keywords of three bytes that begin with `first`.
 fn of_three(first: u8) -> &'static [Keyword]
     ensures { result.now ≡ filter (may_be 3 first) keywords }
 {
@@ -78,7 +78,7 @@ fn of_three(first: u8) -> &'static [Keyword]
     }
 }
 
-/// The keywords of four bytes that begin with a byte.
+/// Returns the keywords of four bytes that begin with `first`.
 fn of_four(first: u8) -> &'static [Keyword]
     ensures { result.now ≡ filter (may_be 4 first) keywords }
 {
@@ -93,7 +93,7 @@ fn of_four(first: u8) -> &'static [Keyword]
     }
 }
 
-/// The keywords of five bytes that begin with a byte.
+/// Returns the keywords of five bytes that begin with `first`.
 fn of_five(first: u8) -> &'static [Keyword]
     ensures { result.now ≡ filter (may_be 5 first) keywords }
 {
@@ -109,7 +109,7 @@ fn of_five(first: u8) -> &'static [Keyword]
     }
 }
 
-/// The keywords of six bytes that begin with a byte.
+/// Returns the keywords of six bytes that begin with `first`.
 fn of_six(first: u8) -> &'static [Keyword]
     ensures { result.now ≡ filter (may_be 6 first) keywords }
 {
@@ -124,7 +124,7 @@ fn of_six(first: u8) -> &'static [Keyword]
     }
 }
 
-/// The keywords of seven bytes that begin with a byte.
+/// Returns the keywords of seven bytes that begin with `first`.
 fn of_seven(first: u8) -> &'static [Keyword]
     ensures { result.now ≡ filter (may_be 7 first) keywords }
 {
@@ -134,7 +134,7 @@ fn of_seven(first: u8) -> &'static [Keyword]
     }
 }
 
-/// The keywords of eight bytes that begin with a byte.
+/// Returns the keywords of eight bytes that begin with `first`.
 fn of_eight(first: u8) -> &'static [Keyword]
     ensures { result.now ≡ filter (may_be 8 first) keywords }
 {
@@ -145,7 +145,7 @@ fn of_eight(first: u8) -> &'static [Keyword]
     }
 }
 
-/// The keywords of a length that begin with a byte. There are three at most.
+/// Returns the keywords of `len` bytes that begin with `first`, at most three.
 fn beginning_with(len: usize, first: u8) -> &'static [Keyword]
     ensures { result.now ≡ filter (may_be len first) keywords }
 {
@@ -161,14 +161,14 @@ fn beginning_with(len: usize, first: u8) -> &'static [Keyword]
     }
 }
 
-/// Whether a keyword is spelled so.
+/// Whether `name` is the spelling of the keyword.
 fn is_spelled(keyword: Keyword, name: &str) -> bool
     ensures { result ≡ bytes_eq (keyword_text keyword) name.now }
 {
     keyword.text() == name
 }
 
-/// The first of some keywords that is spelled so. It stands apart, since most names have none to look at.
+/// Returns the first candidate that is spelled `name`. A function of its own, since most names have no candidates.
 #[inline(never)]
 fn first_spelled(candidates: &[Keyword], name: &str) -> Option<Keyword>
     ensures { result ≡ find (λ k. bytes_eq (keyword_text k) name.now) candidates.now }
@@ -176,7 +176,7 @@ fn first_spelled(candidates: &[Keyword], name: &str) -> Option<Keyword>
     candidates.iter().copied().find(|k| is_spelled(*k, name))
 }
 
-/// The keyword that is spelled so, sought among those that begin as the name does and are as long.
+/// Returns the keyword that is spelled `name`, if one is. Looks only at those with its length and first byte.
 pub(crate) fn keyword_of(name: &str) -> Option<Keyword>
     ensures { result ≡ find (λ k. bytes_eq (keyword_text k) name.now) keywords }
 {
@@ -188,7 +188,7 @@ pub(crate) fn keyword_of(name: &str) -> Option<Keyword>
     first_spelled(candidates, name)
 }
 
-/// Whether a name is a keyword's.
+/// Whether a name is a keyword.
 pub(crate) fn is_keyword(name: &str) -> bool
     ensures { result ≡ is_keyword name.now }
 {

@@ -1,7 +1,7 @@
-//! The law of the tokens: a function that says it, and does nothing.
+//! The law of tokens. The function states it and does nothing.
 ghost use Rattle.pc_token.specs.Within.{TextHoldsItems};
 
-/// The tokens of a text, and its refusal, stand from 0 to its length.
+/// The tokens of a text, and its refusal, lie within it.
 pub fn text_holds_items()
     ensures { TextHoldsItems }
 {}

@@ -5,11 +5,11 @@ mod bytes;
 mod gap;
 mod keywords;
 pub mod laws;
+mod line_lexer;
 mod name;
 mod number;
 mod operators;
 mod reader;
-mod reading;
 mod source_lines;
 mod stream;
 mod string;
@@ -17,4 +17,4 @@ mod token;
 
 pub use source_lines::{lines, tokens};
 pub use stream::Lines;
-pub use token::{Keyword, Line, Operator, Tok, Token, TokenKind};
+pub use token::{Keyword, Line, Operator, TextToken, Token, TokenKind};

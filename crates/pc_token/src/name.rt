@@ -1,4 +1,4 @@
-//! Names and their forms.
+//! Names and their normal forms.
 ghost use Rattle.std.specs.Prelude.{◌≡◌, ℕ, ◌+◌, ◌-◌, ◌≤◌, ◌<◌, ◌==◌, ◌||◌, not, List, [], ◌++◌, true, false, length};
 ghost use Rattle.std.specs.Prelude.{drop, take, slice_get, slice_range, chars, encode_utf8_all, IfOk, MatchOption};
 ghost use Rattle.std.specs.Prelude.{IsUtf8};
@@ -20,7 +20,7 @@ use std::alloc::{AllocError, Global};
 use unicode_ident::{is_xid_continue, is_xid_start};
 use unicode_normalization::to_nfkc;
 
-/// Whether a byte is an ASCII letter, a digit or an underscore: a table, since each byte of each name is looked at.
+/// Whether a byte is an ASCII letter, a digit or an underscore. A table, since each byte of each name is looked up.
 static WORD_BYTES: [bool; 256] = [
     false, false, false, false, false, false, false, false, false, false, false, false, false,
     false, false, false, false, false, false, false, false, false, false, false, false, false,
@@ -43,7 +43,7 @@ static WORD_BYTES: [bool; 256] = [
     false, false, false, false, false, false, false, false, false, false,
 ];
 
-/// Whether a name may begin with a character.
+/// Whether a character may begin a name.
 fn begins_name(c: char) -> bool
     ensures { result ≡ begins_name c }
 {
@@ -57,7 +57,7 @@ fn is_word_start(byte: u8) -> bool
     byte.is_ascii_alphabetic() || byte == b'_'
 }
 
-/// Whether a character that may begin a name stands at a byte. An ASCII one is told by the byte.
+/// Whether the character at byte `at` may begin a name. Decides an ASCII character by its byte.
 pub(crate) fn begins_word(text: &str, at: usize) -> bool
     requires { IsCharBoundary text.now at }
     ensures { result ≡ begins_word (drop at text.now) }
@@ -72,7 +72,7 @@ pub(crate) fn begins_word(text: &str, at: usize) -> bool
     }
 }
 
-/// Whether a character that may continue a name stands at a byte.
+/// Whether the character at byte `at` may continue a name; false at the end of the text.
 pub fn continues_word(text: &str, at: usize) -> bool
     requires { IsCharBoundary text.now at }
     ensures { result ≡ continues_word (drop at text.now) }
@@ -83,14 +83,14 @@ pub fn continues_word(text: &str, at: usize) -> bool
     }
 }
 
-/// Whether a byte is an ASCII letter, a digit or an underscore, by the table.
+/// Whether a byte is an ASCII letter, a digit or an underscore, according to the table.
 fn is_word_byte(byte: u8) -> bool
     ensures { result ≡ is_word_byte byte }
 {
     WORD_BYTES[usize::from(byte)]
 }
 
-/// How many ASCII letters, digits and underscores stand at the front.
+/// Returns the number of leading ASCII letters, digits and underscores.
 fn ascii_len(bytes: &[u8]) -> usize
     ensures len { result ≡ prefix_len is_word_byte bytes.now }
     ensures within { result ≤ length bytes.now }
@@ -98,7 +98,8 @@ fn ascii_len(bytes: &[u8]) -> usize
     bytes.iter().take_while(|b| is_word_byte(**b)).count()
 }
 
-/// Where the characters that may continue a name end, and whether they are known to be ASCII.
+/// Returns where the run of characters that may continue a name, from byte `start` on, ends, and whether it is known to
+/// be all ASCII.
 pub(crate) fn name_end(text: &str, start: usize) -> (usize, bool)
     requires { IsCharBoundary text.now start }
     ensures utf8 { IsUtf8 text.now }
@@ -127,13 +128,15 @@ pub(crate) fn name_end(text: &str, start: usize) -> (usize, bool)
     (end, false)
 }
 
+/// Whether all bytes are ASCII.
 fn is_ascii(bytes: &[u8]) -> bool
     ensures { result ≡ is_ascii bytes.now }
 {
     bytes.iter().all(|b| *b < 128)
 }
 
-/// The form of a name, where the name is not ASCII. One that is known to be ASCII is not looked at.
+/// Returns the normal form NFKC of a name that is not ASCII, otherwise `None`. Does not read a name that is known to be
+/// ASCII.
 pub(crate) fn form_of(
     alloc: Global,
     name: &str,
@@ -157,7 +160,7 @@ fn is_from(last: Option<TokenKind>) -> bool
     matches!(last, Some(TokenKind::Keyword(Keyword::From)))
 }
 
-/// Whether a name of this form may not stand after the last token.
+/// Whether a name of this form is refused after the last token.
 pub(crate) fn is_bad_name(last: Option<TokenKind>, name: &str, form: &Option<Box<String>>) -> bool
     requires form { form_of name.now form.now ≡ name_form name.now }
     requires ascii { is_some form.now ≡ not (is_ascii name.now) }

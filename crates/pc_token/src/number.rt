@@ -8,7 +8,7 @@ ghost use Rattle.pc_token.specs.Numbers.{digit_count};
 use crate::bytes::byte_at;
 use crate::name::continues_word;
 
-/// How many digits and underscores stand at the front.
+/// Returns the number of leading digits and underscores.
 pub(crate) fn number_len(bytes: &[u8]) -> usize
     ensures len { result ≡ prefix_len is_number_byte bytes.now }
     ensures within { result ≤ length bytes.now }
@@ -19,13 +19,14 @@ pub(crate) fn number_len(bytes: &[u8]) -> usize
         .count()
 }
 
+/// Whether all bytes are digits or underscores.
 fn all_number_bytes(bytes: &[u8]) -> bool
     ensures { result ≡ list_all is_number_byte bytes.now }
 {
     bytes.iter().all(|b| b.is_ascii_digit() || *b == b'_')
 }
 
-/// Whether each underscore has a digit after it.
+/// Whether each underscore is followed by a digit.
 fn underscores_fit(bytes: &[u8]) -> bool
     ensures { result ≡ underscores_fit bytes.now }
 {
@@ -37,7 +38,7 @@ fn underscores_fit(bytes: &[u8]) -> bool
     true
 }
 
-/// Whether the bytes are a number.
+/// Whether the bytes are a whole number.
 fn is_number(bytes: &[u8]) -> bool
     ensures { result ≡ is_number bytes.now }
 {
@@ -48,14 +49,14 @@ fn is_number(bytes: &[u8]) -> bool
     first.is_ascii_digit() && first != b'0' && all_number_bytes(bytes) && underscores_fit(bytes)
 }
 
-/// How many digits there are.
+/// Returns the number of digits.
 pub(crate) fn digit_count(bytes: &[u8]) -> usize
     ensures { result ≡ digit_count bytes.now }
 {
     bytes.iter().filter(|b| b.is_ascii_digit()).count()
 }
 
-/// Whether the digits and underscores from a byte on are no number or go on as none may.
+/// Whether the digits and underscores from byte `at` on are no number, or are followed by a name character or a point.
 pub(crate) fn is_bad_number(text: &str, at: usize) -> bool
     requires { IsCharBoundary text.now at }
     ensures { result ≡ is_bad_number (drop at text.now) }
@@ -68,7 +69,7 @@ pub(crate) fn is_bad_number(text: &str, at: usize) -> bool
     continues_word(rest, len) || byte_at(rest.as_bytes(), len) == b'.'
 }
 
-/// Whether a point comes next, with a digit directly after it.
+/// Whether the bytes begin with a point followed directly by a digit.
 pub(crate) fn is_bad_point(bytes: &[u8]) -> bool
     ensures { result ≡ is_bad_point bytes.now }
 {

@@ -8,7 +8,7 @@ use crate::bytes::byte_at;
 use crate::token::Operator;
 
 impl Operator {
-    /// The operator as it is spelled.
+    /// Returns the operator as it is spelled.
     pub fn text(self) -> &'static str
         ensures { result.now ≡ operator_text self }
     {
@@ -96,7 +96,7 @@ const GREATERS: [Operator; 4] = [
     Operator::Greater,
 ];
 
-/// The operators that begin with a byte, the longer before the shorter.
+/// Returns the operators that begin with `byte`, the longer before the shorter.
 fn beginning_with(byte: u8) -> &'static [Operator]
     ensures { result.now ≡ filter (λ o. slice_index (operator_text o) 0 == byte) operators }
 {
@@ -129,14 +129,14 @@ fn beginning_with(byte: u8) -> &'static [Operator]
     }
 }
 
-/// Whether an operator stands at the front.
+/// Whether the bytes begin with an operator.
 fn stands_at(bytes: &[u8], operator: Operator) -> bool
     ensures { result ≡ starts_with nat_eq bytes.now (operator_text operator) }
 {
     bytes.starts_with(operator.text().as_bytes())
 }
 
-/// The first of some operators that stands at the front.
+/// Returns the first candidate with which the bytes begin.
 fn first_standing(bytes: &[u8], candidates: &[Operator]) -> Option<Operator>
     ensures { result ≡ find (λ o. starts_with nat_eq bytes.now (operator_text o)) candidates.now }
 {
@@ -146,14 +146,14 @@ fn first_standing(bytes: &[u8], candidates: &[Operator]) -> Option<Operator>
         .find(|operator| stands_at(bytes, *operator))
 }
 
-/// Whether a byte stands second in some operator.
+/// Whether a byte is second in some operator.
 fn stands_second(byte: u8) -> bool
     ensures { result ≡ stands_second byte }
 {
     matches!(byte, b'*' | b'.' | b'/' | b'<' | b'=' | b'>')
 }
 
-/// The operator that is one byte.
+/// Returns the operator that is this one byte, if one is.
 fn of_one_byte(byte: u8) -> Option<Operator>
     ensures { result ≡ find (λ o. starts_with nat_eq (byte ∷ []) (operator_text o)) operators }
 {
@@ -185,8 +185,8 @@ fn of_one_byte(byte: u8) -> Option<Operator>
     }
 }
 
-/// The longest operator at the front, sought among those that begin as the bytes do. Most stand before a byte that is
-/// second in none, and are told by their one byte.
+/// Returns the longest operator with which the bytes begin. Most operators are followed by a byte that is second in no
+/// operator, and are decided by their one byte; the others are compared with those that have the same first byte.
 pub(crate) fn operator_at(bytes: &[u8]) -> Option<Operator>
     requires { 0 < length bytes.now }
     ensures { result ≡ find (λ o. starts_with nat_eq bytes.now (operator_text o)) operators }
@@ -199,7 +199,7 @@ pub(crate) fn operator_at(bytes: &[u8]) -> Option<Operator>
     first_standing(bytes, beginning_with(first))
 }
 
-/// What an operator is as a bracket.
+/// The role of an operator as a bracket. `Closes` names the opener that it matches.
 #[derive(Clone, Copy, Debug, PartialEq, Eq)]
 pub(crate) enum Role {
     Opens,
@@ -208,7 +208,7 @@ pub(crate) enum Role {
 }
 
 impl Operator {
-    /// What the operator is as a bracket.
+    /// Returns the operator's role as a bracket.
     pub(crate) fn role(self) -> Role
         ensures { result ≡ role_of self }
     {

@@ -1,4 +1,4 @@
-//! One logical line after another.
+//! Reading one logical line.
 ghost use Rattle.std.specs.Prelude.{◌≡◌, ◌-◌, List, [], ◌∷◌, ◌++◌, map, Result, OnOk, MatchOption, MatchResult};
 ghost use Rattle.pc_source.specs.declared.fault.Refusal.{Refusal};
 ghost use Rattle.pc_token.specs.Lexeme.{LogicalLine, line_of, lexeme_of};
@@ -7,17 +7,17 @@ ghost use Rattle.pc_token.specs.Context.{brackets_after};
 ghost use Rattle.std.specs.Str.{IsCharBoundary};
 ghost use Rattle.pc_source.specs.Answers.{OnRefusal};
 
+use crate::line_lexer::{FoundToken, LineLexer, NextPiece};
 use crate::operators::Role;
-use crate::reading::{Found, Next, Reading};
 use crate::token::{Line, Operator, Token, TokenKind};
 use pc_source::{Fault, Place, Refusal, RefusalCode};
 use std::alloc::{AllocError, Global};
 
-/// For how many tokens a line has room from its first one on. Few lines have more, and the room is less than
-/// a kilobyte: an allocator keeps pieces of that size at hand.
+/// The token capacity of a line, allocated at its first token. Few lines have more tokens, and allocators keep blocks
+/// of this size, below a kilobyte, at hand.
 const FIRST_ROOM: usize = 18;
 
-/// Puts an item after others. The first one makes room for as many as most lines have.
+/// Appends an item. The first one allocates enough for most lines.
 fn put<T: Drop>(items: &mut Vec<T>, item: T) -> Result<(), AllocError>
     ensures { OnOk result (items.new.items ≡ items.old.items ++ item ∷ []) }
 {
@@ -28,7 +28,7 @@ fn put<T: Drop>(items: &mut Vec<T>, item: T) -> Result<(), AllocError>
     Ok(())
 }
 
-/// Opens or closes a bracket.
+/// Updates the open brackets for a token.
 fn turn_bracket(brackets: &mut Vec<Operator>, kind: TokenKind) -> Result<(), AllocError>
     ensures { OnOk result (brackets.new.items ≡ brackets_after kind brackets.old.items) }
 {
@@ -45,22 +45,22 @@ fn turn_bracket(brackets: &mut Vec<Operator>, kind: TokenKind) -> Result<(), All
     Ok(())
 }
 
-impl<'a> Reading<'a> {
+impl<'a> LineLexer<'a> {
     ghost use Rattle.pc_token.specs.Context.{line_start};
     ghost use Rattle.pc_token.specs.Internal.LineReading.{context_of, IsFound, TakesToken, ReadsLine, IsRefusedLater};
 
-    /// Where a logical line begins, with room for its brackets.
+    /// Returns a reading at the start of a logical line, with `brackets` as its storage.
     pub(crate) fn new(
         alloc: Global,
         text: &'a str,
         at: usize,
         brackets: Vec<Operator>,
-    ) -> Reading<'a>
+    ) -> LineLexer<'a>
         requires { brackets.items ≡ [] }
         ensures context { context_of result ≡ line_start at }
         ensures text { result.text.now ≡ text.now }
     {
-        Reading {
+        LineLexer {
             alloc,
             text,
             at,
@@ -72,8 +72,8 @@ impl<'a> Reading<'a> {
         }
     }
 
-    /// Takes a token.
-    fn take(&mut self, found: Found) -> Result<(), AllocError>
+    /// Adds a token to the line and goes to its end. Fails if an allocation fails.
+    fn take(&mut self, found: FoundToken) -> Result<(), AllocError>
         requires boundary { IsCharBoundary self.old.text.now self.old.at }
         requires found { IsFound (context_of self.old) self.old.text.now found }
         ensures { OnOk result (TakesToken self.old self.new found) }
@@ -96,7 +96,7 @@ impl<'a> Reading<'a> {
         Ok(())
     }
 
-    /// Begins a logical line, where this one has no token.
+    /// Begins a new logical line at `at`; the current one must have no token.
     fn restart(&mut self, at: usize)
         ensures { self.new ≡ record self.old { at = at; start = at; last = None; ended = at } }
     {
@@ -106,16 +106,16 @@ impl<'a> Reading<'a> {
         self.ended = at;
     }
 
-    /// Reads up to the end of a logical line that has a token, or to the text's end; says whether
-    /// a line end stands there.
+    /// Reads to the end of the next logical line that has a token, or to the end of the text. Returns whether it
+    /// stopped at a line end. Fails with the first refusal, or if an allocation fails.
     pub(crate) fn read(&mut self) -> Result<bool, Fault>
         requires { IsCharBoundary self.old.text.now self.old.at }
         ensures { MatchResult result (ReadsLine self.old self.new) (OnRefusal (IsRefusedLater self.old)) }
     {
         while self.at < self.text.len() {
             match self.next_piece()? {
-                Next::Gap(end) => self.at = end,
-                Next::LineEnd(end) => {
+                NextPiece::Gap(end) => self.at = end,
+                NextPiece::LineEnd(end) => {
                     if !self.brackets.is_empty() {
                         self.at = end;
                     } else if self.tokens.is_empty() {
@@ -125,7 +125,7 @@ impl<'a> Reading<'a> {
                         return Ok(true);
                     }
                 }
-                Next::Token(found) => self.take(found)?,
+                NextPiece::Token(found) => self.take(found)?,
             }
         }
         if !self.brackets.is_empty() {
@@ -136,7 +136,7 @@ impl<'a> Reading<'a> {
         Ok(false)
     }
 
-    /// The logical line that was read, if it has a token.
+    /// Returns the logical line that was read, if it has a token.
     pub(crate) fn into_line(self) -> Option<Line<'a>>
         ensures { MatchOption result (self.entry.tokens.items ≡ [])
             (λ l. (items : List (Result LogicalLine Refusal))

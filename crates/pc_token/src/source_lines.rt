@@ -13,15 +13,14 @@ use crate::token::Line;
 use pc_source::{Fault, Source};
 use std::alloc::Global;
 
-/// The logical lines of a source, one at a time, up to the first fault.
+/// Returns an iterator over the logical lines of a source, up to the first fault.
 ///
-/// Python Language Reference 3.12, 2.1 "Line structure"; the refusals `L1` to `L8` are own rules
-/// of the profile.
+/// Python Language Reference 3.12, 2.1 "Line structure"; the refusals `L1` to `L8` are own rules of the profile.
 ///
 /// # Errors
 ///
-/// An item may be `OutOfMemory`, or the refusal that stands at the least byte. After an `Err`, and
-/// at the end, `next` gives `None` for good.
+/// An item may be `OutOfMemory`, or the refusal at the lowest byte. After an `Err`, and at the end, `next` always
+/// returns `None`.
 pub fn lines(alloc: Global, source: &Source) -> Lines<'_>
     ensures one { (xs ys : List (Result LogicalLine Refusal)) → HasLines source.now xs → HasLines source.now ys
         → xs ≡ ys }
@@ -37,14 +36,13 @@ pub fn lines(alloc: Global, source: &Source) -> Lines<'_>
     }
 }
 
-/// The logical lines of a source.
+/// Returns the logical lines of a source.
 ///
-/// Python Language Reference 3.12, 2.1 "Line structure"; the refusals `L1` to `L8` are own rules
-/// of the profile.
+/// Python Language Reference 3.12, 2.1 "Line structure"; the refusals `L1` to `L8` are own rules of the profile.
 ///
 /// # Errors
 ///
-/// The refusal that stands at the least byte; `OutOfMemory` where the tokens have no room.
+/// The refusal at the lowest byte; `OutOfMemory` if the tokens cannot be allocated.
 pub fn tokens(alloc: Global, source: &Source) -> Result<Vec<Line<'_>>, Fault>
     ensures read { IfOk result (λ v. HasOnly source.now (all_read v.items)) }
     ensures refused { IfErr result

@@ -1,21 +1,21 @@
-//! The logical lines of a source.
+//! An iterator over the logical lines of a source.
 ghost use Rattle.std.specs.Prelude.{◌≡◌, []};
 ghost use Rattle.std.specs.Str.{IsCharBoundary};
 
-use crate::reading::Reading;
+use crate::line_lexer::LineLexer;
 use crate::token::{Line, Operator};
 use pc_source::Fault;
 use std::alloc::Global;
 use std::mem;
 
-/// The logical lines of a source that are left. After an `Err`, and at the end, it gives `None`.
+/// The remaining logical lines of a source. After an `Err`, and at the end, it gives `None`.
 #[derive(Drop)]
 pub struct Lines<'a> {
     pub(crate) alloc: Global,
     pub(crate) text: &'a str,
     pub(crate) at: usize,
     pub(crate) done: bool,
-    /// Room for the brackets that are open in a line, kept from line to line. Between lines none is open.
+    /// Storage for the open brackets of a line, reused from line to line. Between lines none is open.
     pub(crate) brackets: Vec<Operator>,
     ghost on_boundary: { IsCharBoundary text.now at },
     ghost none_open: { brackets.items ≡ [] },
@@ -35,7 +35,7 @@ impl<'a> Iterator for Lines<'a> {
             return None;
         }
         let brackets = mem::replace(&mut self.brackets, Vec::new(self.alloc));
-        let mut reading = Reading::new(self.alloc, self.text, self.at, brackets);
+        let mut reading = LineLexer::new(self.alloc, self.text, self.at, brackets);
         match reading.read() {
             Ok(more) => {
                 self.done = !more;

@@ -6,25 +6,28 @@ ghost use Rattle.pc_token.specs.Faults.{NoString};
 
 use crate::bytes::byte_at;
 
+/// Whether a byte is a quotation mark or an apostrophe.
 pub(crate) fn is_quote(byte: u8) -> bool
     ensures { result ≡ is_quote byte }
 {
     byte == b'"' || byte == b'\''
 }
 
+/// Whether a byte may follow a backslash in a string.
 fn is_escape(byte: u8) -> bool
     ensures { result ≡ is_escape byte }
 {
     matches!(byte, b'\\' | b'\'' | b'"' | b'n' | b't' | b'r')
 }
 
+/// Whether a byte means itself in a string between these quotes.
 fn is_plain(quote: u8, byte: u8) -> bool
     ensures { result ≡ is_plain quote byte }
 {
     byte != quote && byte != b'\\' && byte != b'\n'
 }
 
-/// How long the string at the front is, if one stands there.
+/// Returns the length of the string at the front, quotes included, if there is one.
 pub(crate) fn string_len(bytes: &[u8]) -> Option<usize>
     requires { is_quote (slice_index bytes.now 0) ≡ true }
     ensures { MatchOption result (NoString bytes.now)
@@ -47,7 +50,7 @@ pub(crate) fn string_len(bytes: &[u8]) -> Option<usize>
     None
 }
 
-/// Whether an empty string comes next, and the same quote directly after it.
+/// Whether the bytes begin with an empty string followed directly by the same quote.
 pub(crate) fn is_tripled(bytes: &[u8]) -> bool
     ensures { result ≡ is_tripled bytes.now }
 {

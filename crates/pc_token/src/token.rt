@@ -42,8 +42,8 @@ pub enum Keyword {
     Yield,
 }
 
-/// The operators and delimiters of Python 3.12, Language Reference 2.5 "Operators" and 2.6
-/// "Delimiters". The profile uses those up to `At`; the layout refuses a line with one after it.
+/// The operators and delimiters of Python 3.12, Language Reference 2.5 "Operators" and 2.6 "Delimiters". The profile
+/// uses those up to `At`; the layout refuses a line with any other.
 #[derive(Clone, Copy, Debug, PartialEq, Eq)]
 pub enum Operator {
     /// `+`
@@ -142,8 +142,8 @@ pub enum Operator {
     Ellipsis,
 }
 
-/// What a token is, Language Reference 2.1.7 "Lexical analysis: other tokens" and 2.1.8 "Indentation".
-/// A logical line has tokens of the first five kinds; the others are of the layout.
+/// The kind of a token, Language Reference 2.1.7 "Lexical analysis: other tokens" and 2.1.8 "Indentation". A logical
+/// line has tokens of the first five kinds; the layout adds the others.
 #[derive(Clone, Copy, Debug, PartialEq, Eq)]
 pub enum TokenKind {
     Name,
@@ -155,16 +155,16 @@ pub enum TokenKind {
     Operator(Operator),
     /// The end of a logical line.
     Newline,
-    /// Before a suite.
+    /// The start of a suite.
     Indent,
-    /// After a suite.
+    /// The end of a suite.
     Dedent,
-    /// After the last line.
+    /// The end of the module, after the last line.
     End,
 }
 
-/// A token: what it is, where it stands, how it is spelled there, and of a name that is not ASCII
-/// the normal form NFKC by which it is compared, Language Reference 2.3 "Identifiers and keywords".
+/// A token: its kind, its place, its spelling, and, for a name that is not ASCII, the normal form NFKC by which it is
+/// compared, Language Reference 2.3 "Identifiers and keywords".
 #[derive(Clone, Debug, Drop)]
 pub struct Token<X> {
     pub kind: TokenKind,
@@ -174,12 +174,12 @@ pub struct Token<X> {
 }
 
 /// A token whose text is a slice of the source.
-pub type Tok<'a> = Token<&'a str>;
+pub type TextToken<'a> = Token<&'a str>;
 
-/// A logical line, Language Reference 2.1.1 "Logical lines": the number of spaces before its first
-/// token, and its tokens, of which there is at least one.
+/// A logical line, Language Reference 2.1.1 "Logical lines": the number of spaces before its first token, and its
+/// tokens, at least one.
 #[derive(Debug, Drop)]
 pub struct Line<'a> {
     pub column: usize,
-    pub tokens: Vec<Tok<'a>>,
+    pub tokens: Vec<TextToken<'a>>,
 }

@@ -1,4 +1,4 @@
--- What the findings of a module say of its runs, where errors are among them.
+-- The guarantee of the findings of a module about its runs, when errors are among them.
 use Rattle.std.proofs.Common.{List, Contains, ◌↔◌}
 use Rattle.pc_tree.specs.declared.code.Finding.{Finding}
 use Rattle.pc_tree.specs.Tree.{Module}

@@ -10,7 +10,7 @@ use Rattle.pc_tree.specs.declared.code.Finding.{Finding}
 use Rattle.pc_tree.specs.Code.{finding}
 use Rattle.pc_tree.specs.Tree.{Module}
 use Rattle.pc_types.specs.Tree.{Tree}
-use Rattle.pc_ann.specs.Text.{type_text}
+use Rattle.pc_annotations.specs.Text.{type_text}
 use Rattle.pc_notes.specs.Notes.{Note, flow_noted}
 use Rattle.pc_notes.specs.Texts.{FlowText, IsFlowText, places_of, AreFlowTexts}
 use Rattle.pc_module_rules.specs.Modules.{IsFinding}

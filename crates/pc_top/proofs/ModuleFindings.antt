@@ -1,5 +1,5 @@
--- What is found under the labels of a module, of its scopes and of its classes are together just its findings; and the
--- dynamic flows are those found under the labels.
+-- The findings under the labels of a module, of its scopes and of its classes are together exactly its findings; and
+-- the dynamic flows are those under the labels.
 use Rattle.std.proofs.Common.{◌≡◌, List, [], ◌∷◌, ◌++◌, map, refl, ap, ◌∙◌, sym, subst, inl, inr, Contains, ◌↔◌, Option}
 use Rattle.std.proofs.Common.{None}
 use Rattle.std.specs.Prelude.{◌⊎◌, Bool, true, false, if◌then◌else◌}

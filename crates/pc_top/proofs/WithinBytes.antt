@@ -1,4 +1,4 @@
--- Each refusal of a check stands within its bytes.
+-- Each refusal of a check is within its bytes.
 use Rattle.std.proofs.Common.{ℕ, ◌≤◌, List, length}
 use Rattle.std.specs.Prelude.{Result, Ok, Err, IfErr}
 use Rattle.pc_front.specs.Bytes.{IsRefusalOf}

@@ -1,4 +1,4 @@
--- What a list of findings says of the runs of a module, where errors are among them.
+-- The guarantee of a list of findings about the runs of a module, when errors are among them.
 use Rattle.std.specs.Prelude.{List, Contains}
 use Rattle.pc_source.specs.declared.place.Place.{Place}
 use Rattle.pc_tree.specs.declared.code.Finding.{Finding}
@@ -16,8 +16,8 @@ pub record HasEvaluatedOneOf (found : List Finding) (events : List Place) : Type
   pub listed : Contains found finding
   pub event : Contains events finding.place
 
--- where none of these findings is silent, each run of the module that ends in a fault has by then evaluated the place
--- of one of them
+-- if none of these findings is silent, each run of the module that ends in a fault has evaluated the place of one of
+-- them by then
 abbrev pub AreSoundBesideErrors : Module → List Finding → Type 0
 AreSoundBesideErrors m found = HasNoSilentOf m found → (events : List Place) (end : End) → Run m events end
     → IsFaultyEnd end → HasEvaluatedOneOf found events

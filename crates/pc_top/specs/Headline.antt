@@ -1,4 +1,4 @@
--- The main theorem's statement: what a report says of the bytes, and what a refusal does.
+-- The statement of the main theorem: the guarantees of a report about the bytes, and of a refusal.
 use Rattle.std.specs.Prelude.{◌≡◌, ℕ, List, Contains, MatchOption}
 use Rattle.std.specs.Rc.{rc_str_bytes}
 use Rattle.std.specs.List.{AllByRecursion}
@@ -11,7 +11,7 @@ use Rattle.pc_tree.specs.declared.code.Finding.{Finding}
 use Rattle.pc_tree.specs.Code.{IsError}
 use Rattle.pc_tree.specs.Tree.{Module}
 use Rattle.pc_types.specs.Tree.{Tree}
-use Rattle.pc_ann.specs.Text.{type_text}
+use Rattle.pc_annotations.specs.Text.{type_text}
 use Rattle.pc_module_rules.specs.Modules.{HasLabelling, IsFinding}
 use Rattle.pc_module_rules.specs.FlowsOfModules.{FlowsDynamically}
 use Rattle.pc_machine.specs.Runs.{Run, End, IsFaultyEnd}
@@ -27,7 +27,7 @@ use Rattle.pc_report.specs.Report.{Lists, row_findings, row_flow}
 abbrev pub HasNoErrorRow : List Row → Type 0
 HasNoErrorRow rows = (f : Finding) → Contains (row_findings rows) f → ¬ (IsError f.code)
 
--- a listed dynamic place is among the events
+-- the place of a row that is not an error is among the events
 pub record HasEvaluatedRow (rows : List Row) (events : List Place) : Type 0 where
   pub finding : Finding
   pub listed : Contains (row_findings rows) finding
@@ -42,7 +42,7 @@ HasNoSilentRow m rows = HasNoSilentOf m (row_findings rows)
 abbrev pub HasEvaluatedListedRow : List Row → List Place → Type 0
 HasEvaluatedListedRow rows = HasEvaluatedOneOf (row_findings rows)
 
--- the texts are those of two types of which the first flows dynamically into the second at this place, under every
+-- the texts are those of two types, the first of which flows dynamically into the second at this place, under every
 -- lawful labelling of the module
 pub record AreTextsOfFlow (m : Module) (place : Place) (texts : FlowTexts) : Type 0 where
   pub from : Tree
@@ -57,15 +57,15 @@ IsExplainedRow m row =
     MatchOption (row_flow row) (¬ (row.finding.code ≡ A1))
     (λ texts. (row.finding.code ≡ A1) × AreTextsOfFlow m row.finding.place texts)
 
--- What a report says. The bytes spell exactly one module; the rows list exactly the findings of its typing, each
--- dynamic flow with its two types; where no row is an error, each run of the module that ends in a fault has by then
--- evaluated a listed dynamic place; and where no row is silent, each such run has by then evaluated the place of a row.
+-- The guarantees of a report. The bytes spell exactly one module; the rows list exactly the findings of its typing,
+-- each dynamic flow with its two types; if no row is an error, each run of the module that ends in a fault has
+-- evaluated a listed dynamic place by then; and if no row is silent, each such run has evaluated the place of a row by
+-- then.
 pub record Headline (bytes : List ℕ) (rows : List Row) : Type 0 where
   pub whole : Module
   pub spelled : IsModuleOf bytes whole
   pub only : (other : Module) → IsModuleOf bytes other → other ≡ whole
-  -- of its types there is a labelling, so its findings are those of one; the law `one_labelling` says that there is no
-  -- other
+  -- the module has a labelling, so its findings are those of one; the law `one_labelling` says that there is no other
   pub labelled : HasLabelling whole
   pub listed : Lists bytes (IsFinding whole) rows
   pub explained : AllByRecursion (IsExplainedRow whole) rows
@@ -74,14 +74,14 @@ pub record Headline (bytes : List ℕ) (rows : List Row) : Type 0 where
   pub sound_beside_errors : HasNoSilentRow whole rows → (events : List Place) (end : End) → Run whole events end
       → IsFaultyEnd end → HasEvaluatedListedRow rows events
 
--- of a fault: where it is a refusal, P holds of it; an allocation may fail at any time, and no device is used
+-- P holds for the refusal of a fault that is one; an allocation may fail at any time, and no device is used
 abbrev pub OnCheckFault : (Refusal → Type 0) → CheckFault → Type 0
 OnCheckFault P (check_fault.Refused refusal) = P refusal
 OnCheckFault P check_fault.OutOfMemory = Unit {0}
 OnCheckFault P check_fault.Read = ⊥
 OnCheckFault P check_fault.Write = ⊥
 
--- the fault of a check that a fault of a layer below is
+-- the fault of a check for a fault of a layer below
 abbrev pub check_fault_of : Fault → CheckFault
 check_fault_of (fault.Refused refusal) = check_fault.Refused refusal
 check_fault_of fault.OutOfMemory = check_fault.OutOfMemory

@@ -1,4 +1,4 @@
-//! What is found in a module.
+//! The findings of a module.
 
 ghost use Rattle.std.specs.Prelude.{◌≡◌, ◌↔◌, ◌++◌, map, Contains, IfOk, OnOk};
 ghost use Rattle.pc_tree.specs.declared.code.Finding.{Finding as FindingOf};
@@ -14,7 +14,7 @@ ghost use Rattle.pc_module_rules.specs.Modules.{IsFinding};
 ghost use Rattle.pc_module_rules.specs.Laws.Flows.{TellsFlows};
 ghost use Rattle.pc_top.specs.BesideErrors.{AreSoundBesideErrors};
 
-use pc_ann::parents_of;
+use pc_annotations::parents_of;
 use pc_check::check_module;
 use pc_class::{ClassTable, class_table};
 use pc_intern::InternStore;
@@ -27,7 +27,7 @@ use pc_tree::{Finding, Module};
 use pc_types::TypeStore;
 use std::alloc::Global;
 
-/// Notes what is found of the names and of the classes of a module, which tells of no flow.
+/// Adds the findings of the names and of the classes of a module, none of which is a flow.
 fn note_others(
     found: &mut Notes,
     of_scopes: &[Finding],
@@ -40,8 +40,8 @@ fn note_others(
     found.put_all(of_classes)
 }
 
-/// What is found in a module whose table of classes is given, and beside it what was found as that was made. The table is
-/// lent, since a proof takes long where a function that may end early owns one.
+/// Returns the findings of a module, given its class table and the findings made while building it. The table is
+/// borrowed, since proofs take long for a function that may return early and owns one.
 fn findings_with<S: TypeStore>(
     store: &mut S,
     alloc: Global,
@@ -70,10 +70,10 @@ fn findings_with<S: TypeStore>(
     Ok(found)
 }
 
-/// What is found in a module, over any store of types: in its signatures, constants and bodies, each dynamic flow with
-/// its types, which are those under the module's lawful labelling; of its names; of its classes. It is the same over
-/// each store, since the contract names none. Where none of these findings is silent, each run of the module that ends
-/// in a fault has by then evaluated the place of one of them. Own rule of the profile.
+/// Returns the findings of a module, over any store of types: in its signatures, constants and bodies, each dynamic
+/// flow with its types under the module's lawful labelling; of its names; of its classes. The result does not depend on
+/// the store, since the contract names none. If none of these findings is silent, each run of the module that ends in a
+/// fault has evaluated the place of one of them by then. Own rule of the profile.
 ///
 /// # Errors
 ///
@@ -97,16 +97,16 @@ pub fn findings_by<S: TypeStore>(
     findings_with(store, alloc, module, scopes, &classes, &mut of_classes)
 }
 
-/// What is found in a module, and what it was found with.
+/// The findings of a module, with the scopes and the types that they refer to.
 #[derive(Drop)]
-pub(crate) struct Found {
+pub(crate) struct CheckedModule {
     pub(crate) notes: Notes,
     scopes: Scopes,
     store: InternStore,
 }
 
-/// What is found in a module, by types that are kept once each.
-pub(crate) fn findings(alloc: Global, module: &Module) -> Result<Found, OutOfMemory>
+/// Returns the findings of a module, over a store that keeps each type once.
+pub(crate) fn findings(alloc: Global, module: &Module) -> Result<CheckedModule, OutOfMemory>
     ensures found { IfOk result
         (λ v. (f : FindingOf) → Contains (findings_of (notes_of v.notes)) f ↔ IsFinding (module_of «module».now) f) }
     ensures flows { IfOk result (λ v. TellsFlows (module_of «module».now) (notes_of v.notes)) }
@@ -115,7 +115,7 @@ pub(crate) fn findings(alloc: Global, module: &Module) -> Result<Found, OutOfMem
     let parents = parents_of(alloc, module, &scopes)?;
     let mut store = InternStore::new(alloc, module.keys, parents)?;
     let notes = findings_by(&mut store, alloc, module, &scopes)?;
-    Ok(Found {
+    Ok(CheckedModule {
         notes,
         scopes,
         store,

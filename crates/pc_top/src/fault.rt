@@ -1,4 +1,4 @@
-//! Why there is no report.
+//! The reason that there is no report.
 
 ghost use Rattle.std.specs.Prelude.{◌≡◌};
 ghost use Rattle.pc_top.specs.Headline.{check_fault_of};
@@ -9,7 +9,7 @@ use pc_report::{ReadFault, WriteFault};
 use pc_source::{Fault, OutOfMemory, Refusal};
 use thiserror::Error;
 
-/// Why there is no report. Own rule of the profile.
+/// The reason that there is no report. Own rule of the profile.
 #[derive(Clone, Copy, Debug, PartialEq, Eq, Error)]
 pub enum CheckFault {
     /// The bytes spell no module.

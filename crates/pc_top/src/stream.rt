@@ -8,14 +8,14 @@ ghost use Rattle.pc_top.specs.Streaming.{UnlessWriteFails, OnceRead, IsReadThrou
 ghost use Rattle.pc_top.specs.Streaming.{reader_fails, writer_fails, report_bytes};
 
 use crate::fault::CheckFault;
-use crate::memory::Memory;
+use crate::teardown::Teardown;
 use crate::top::report_of;
 use pc_report::{Format, Report, WriteFault, read_at_most};
 use pc_source::Counted;
 use std::alloc::Global;
 use std::io::{Read, Write};
 
-/// How many bytes are read at most: one more than a source text may have.
+/// The greatest number of bytes read: one more than a source text may have.
 const MOST: usize = 1_048_577;
 
 /// Writes a report in a format, as JSON or as text.
@@ -34,22 +34,21 @@ fn write_report<W: Write + Drop>(
     }
 }
 
-/// Reads bytes to their end, checks them as `check` does, writes the report in the format that is asked for, as
-/// JSON or as text, and gives its numbers of errors and of dynamic places. Reading stops after 1,048,577 bytes, one
-/// more than a source text may have. The writer is not flushed.
+/// Reads bytes to their end, checks them like `check`, writes the report in the given format, as JSON or as text, and
+/// returns its numbers of errors and of dynamic places. Reading stops after 1,048,577 bytes, one more than a source
+/// text may have. The writer is not flushed.
 ///
-/// It is for a program that ends after it: with at most 4,096 findings it leaves what the module, its scopes, its notes
-/// and its types took, since the end of the program gives all memory back at once, and to give it back piece by piece
-/// is nearly a tenth of a check. A program that goes on calls `check`, which gives everything back.
+/// This is for a program that ends afterwards: with at most 4,096 findings it leaves the memory of the module, its
+/// scopes, its notes and its types allocated, since the end of the program frees all memory at once, and freeing it
+/// piece by piece is nearly a tenth of a check. A program that continues calls `check`, which frees everything.
 ///
 /// Own rule of the profile.
 ///
 /// # Errors
 ///
-/// `Refused` as of `check`; more than 1,048,576 bytes are refused once one more is read. `Read`
-/// and `Write` where a call of that device failed, an interruption included: no call follows it.
-/// `OutOfMemory` only when an allocation failed. Nothing was written after any of these but
-/// `Write`, after which a beginning of the report was.
+/// `Refused` as for `check`; more than 1,048,576 bytes are refused once one more is read. `Read` and `Write` if a call
+/// of that device failed, even by an interruption: no call follows it. `OutOfMemory` only if an allocation failed.
+/// Nothing is written after any of these except `Write`, after which a beginning of the report is.
 pub fn check_stream<R: Read + Drop, W: Write + Drop>(
     alloc: Global,
     reader: &mut Counted<R>,
@@ -71,7 +70,7 @@ pub fn check_stream<R: Read + Drop, W: Write + Drop>(
     ensures write_failures { writer.new.failures ≡ failures_after (writer_fails result) writer.old.failures }
 {
     let bytes = read_at_most(alloc, reader, MOST)?;
-    let report = report_of(alloc, bytes.as_slice(), Memory::Left)?;
+    let report = report_of(alloc, bytes.as_slice(), Teardown::LeaveToExit)?;
     write_report(&report, writer, json, format)?;
     Ok((report.errors(), report.dynamic()))
 }

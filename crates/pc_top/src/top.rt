@@ -6,15 +6,15 @@ ghost use Rattle.pc_top.specs.Headline.{Headline, OnCheckFault};
 
 use crate::checking::findings;
 use crate::fault::CheckFault;
-use crate::memory::Memory;
+use crate::teardown::Teardown;
 use pc_front::module_in;
 use pc_report::Report;
 use pc_source::read_source;
 use std::alloc::Global;
 
-/// The report of the module that the bytes spell, as `check` tells; what else the check took is let go of as `memory`
-/// says.
-pub(crate) fn report_of(alloc: Global, bytes: &[u8], memory: Memory) -> Result<Report, CheckFault>
+/// Returns the report of the module that the bytes spell, like `check`; the other memory of the check is released
+/// according to `memory`.
+pub(crate) fn report_of(alloc: Global, bytes: &[u8], memory: Teardown) -> Result<Report, CheckFault>
     ensures headline { IfOk result (Headline bytes.now) }
     ensures refused { IfErr result (OnCheckFault (IsRefusalOf bytes.now)) }
     ensures within { IfErr result (OnCheckFault (λ refusal. refusal.byte ≤ length bytes.now)) }
@@ -29,22 +29,21 @@ pub(crate) fn report_of(alloc: Global, bytes: &[u8], memory: Memory) -> Result<R
     Ok(report)
 }
 
-/// The report of the module that the bytes spell.
+/// Checks the module that the bytes spell and returns its report.
 ///
-/// Where a report is answered, the bytes spell exactly one module and the report lists exactly the
-/// findings of its typing, each dynamic flow with its two types. Where it lists no error, each run of that module that
-/// raises `TypeError`, `AttributeError`, `NameError` or `UnboundLocalError`, or leaves the profile, has by then
-/// evaluated a listed dynamic place. Where it lists errors, but no silent one, each such run has by then evaluated the
-/// place of a row.
+/// If there is a report, the bytes spell exactly one module and the report lists exactly the findings of its typing,
+/// each dynamic flow with its two types. If it lists no error, each run of that module that raises `TypeError`,
+/// `AttributeError`, `NameError` or `UnboundLocalError`, or leaves the profile, has evaluated a listed dynamic place by
+/// then. If it lists errors, but no silent one, each such run has evaluated the place of a row by then.
 ///
 /// # Errors
 ///
-/// `Refused` exactly where the bytes spell no module, with their refusal; `OutOfMemory` only when an allocation failed.
+/// `Refused` exactly if the bytes spell no module, with their refusal; `OutOfMemory` only if an allocation failed.
 pub fn check(alloc: Global, bytes: &[u8]) -> Result<Report, CheckFault>
     ensures headline { IfOk result (Headline bytes.now) }
     ensures refused { IfErr result (OnCheckFault (IsRefusalOf bytes.now)) }
     ensures within { IfErr result (OnCheckFault (λ refusal. refusal.byte ≤ length bytes.now)) }
 {
-    // The report is made in the memory that the module and its notes took.
-    report_of(alloc, bytes, Memory::GivenBack)
+    // The report is made in the memory that the module and its notes occupied.
+    report_of(alloc, bytes, Teardown::Free)
 }

@@ -1,4 +1,4 @@
--- What stands among a list, and the findings of a code at places.
+-- Membership in lists, and the findings of a code at places.
 use Rattle.std.proofs.Common.{◌≡◌, ◌⊎◌, List, [], ◌∷◌, ◌++◌, refl, sym, ap, subst, inl, inr, arith, Contains}
 use Rattle.std.proofs.lemmas.List.Elements.{Contains-append_right, Contains-append_cases, Contains-push_cases}
 use Rattle.pc_source.specs.declared.place.Place.{Place}
@@ -14,7 +14,7 @@ none_among x c = omega (arith, c.1)
 pub first_among : {A : Type 0} (x : A) (xs : List A) → Contains (x ∷ xs) x
 first_among x xs = (0, omega arith, refl)
 
--- so is each of the others
+-- each later element is among all
 pub later_among : {A : Type 0} (x : A) (xs : List A) (y : A) → Contains xs y → Contains (x ∷ xs) y
 later_among x xs y c = Contains-append_right (x ∷ []) xs y c
 
@@ -25,7 +25,7 @@ among_first x xs y h = elim (Contains-append_cases (x ∷ []) xs y h) [
   | inr b ↦ inr b
 ]
 
--- what follows from either part of a list follows from the whole
+-- a fact that follows from membership in either part of a list follows from membership in the whole
 pub either : {A P : Type 0} (xs ys : List A) (x : A) → Contains (xs ++ ys) x → (Contains xs x → P) → (Contains ys x → P)
     → P
 either xs ys x h f g = elim (Contains-append_cases xs ys x h) [ inl a ↦ f a | inr b ↦ g b ]

@@ -11,7 +11,7 @@ pub at_both : (c : Code) (xs ys : List Place) → at_code c (xs ++ ys) ≡ at_co
 at_both c [] ys = refl
 at_both c (x ∷ xs) ys = ap (λ fs. finding x c ∷ fs) (at_both c xs ys)
 
--- what a step has found, with what is found at the places after it
+-- the findings of a step, joined with those at the places after it
 pub stepped : (c : Code) (old mid : List Finding) (xs ys zs : List Place) → mid ≡ old ++ at_code c xs → zs ≡ xs ++ ys
     → mid ++ at_code c ys ≡ old ++ at_code c zs
 stepped c old mid xs ys zs is all = ap (λ (fs : List Finding). fs ++ at_code c ys) is

@@ -1,4 +1,4 @@
--- What holds of a statement, by what it binds itself and the suites in it.
+-- Facts about a statement, by the name that it binds itself and its suites.
 use Rattle.std.proofs.Common.{◌≡◌, ◌++◌, List, refl, ap, ◌∙◌, append_assoc}
 use Rattle.pc_tree.specs.Tree.{Stmt, pass, breaks, continues, returns, asserts, annotated, assigns, evaluates}
 use Rattle.pc_tree.specs.Tree.{while_loop, for_loop, conditional, to_name, to_attribute, to_index}
@@ -22,7 +22,7 @@ bound_parts (while_loop p condition body) = refl
 bound_parts (for_loop p target iterable body) = refl
 bound_parts (conditional p bs otherwise) = refl
 
--- what is gathered of a statement: what it has itself, then what its conditions have, then its last suite
+-- the gathered list of a statement: its own part, then its branches', then its last suite's
 pub gathered : {X : Type 0} (before own branches last first second : List X) → first ≡ before ++ own
     → second ≡ first ++ branches → second ++ last ≡ before ++ (own ++ (branches ++ last))
 gathered before own branches last first second h g = ap (λ xs. xs ++ last) g ∙ append_assoc first branches last

@@ -8,7 +8,7 @@ use Rattle.pc_tree.specs.declared.code.Code.TheVariants.{E19, E20, E21, E22, E23
 use Rattle.pc_tree.specs.declared.code.Code.TheVariants.{E31}
 use Rattle.pc_tree.specs.declared.code.Finding.{Finding}
 
--- the code as it is printed
+-- the code as a report prints it
 abbrev pub text_of : Code → List ℕ
 text_of A1 = codes "A1"
 text_of A2 = codes "A2"
@@ -50,7 +50,7 @@ text_of E29 = codes "E29"
 text_of E30 = codes "E30"
 text_of E31 = codes "E31"
 
--- the word for the code
+-- the word for the code in a report
 abbrev pub label_of : Code → List ℕ
 label_of A1 = codes "any-flow"
 label_of A2 = codes "any-operator"
@@ -92,7 +92,7 @@ label_of E29 = codes "reserved"
 label_of E30 = codes "unreachable"
 label_of E31 = codes "default-order"
 
--- whether a code is that of an error: the codes with `E` are, those with `A` are not
+-- whether the code is an error's: those with `E` are, those with `A` are not
 abbrev pub is_error : Code → Bool
 is_error A1 = false
 is_error A2 = false
@@ -134,14 +134,14 @@ is_error E29 = true
 is_error E30 = true
 is_error E31 = true
 
--- the code of an error; the other codes mark dynamic places
+-- the code is an error's; the other codes mark dynamic places
 abbrev pub IsError : Code → Type 0
 IsError code = IsTrue (is_error code)
 
--- a code at a place
+-- a finding: a code at a place
 abbrev pub finding : Place → Code → Finding
 finding place code = record { place = place; code = code }
 
--- a code at each of these places
+-- a finding with this code at each of these places
 abbrev pub at_code : Code → List Place → List Finding
 at_code c places = map (λ p. finding p c) places

@@ -19,11 +19,11 @@ use Rattle.pc_tree.specs.Tree.{Module}
 
 -- ---- names
 
--- the text is one of these
+-- the text is among these
 abbrev pub is_among : List (List ℕ) → List ℕ → Bool
 is_among texts sought = list_any (λ x. bytes_eq x sought) texts
 
--- a place where a test holds, else no place
+-- the place if the test holds, otherwise no place
 abbrev pub one_if : Bool → Place → List Place
 one_if test place = if test then place ∷ [] else []
 
@@ -33,7 +33,7 @@ name_of_item (constant_item first c) = c.name
 name_of_item (class_item first c) = c.name
 name_of_item (def_item first f) = f.name
 
--- the name of a member of a class
+-- the name that a member binds in its class
 abbrev pub name_of_member : Member → Name
 name_of_member (field_member f) = f.name
 name_of_member (method_member f) = f.name
@@ -42,7 +42,7 @@ name_of_member (method_member f) = f.name
 abbrev pub name_of_param : Param → Name
 name_of_param p = p.name
 
--- the text of a name, where there is one
+-- the text of a name, if there is one
 abbrev pub option_text : Option Name → Option (List ℕ)
 option_text None = None
 option_text (Some n) = Some n.text
@@ -52,15 +52,15 @@ abbrev pub has_none : {X : Type 0} → List X → Bool
 has_none [] = true
 has_none (x ∷ xs) = false
 
--- ---- all functions, and what stands in them
+-- ---- rules for all functions and methods
 
--- what a rule gives for each method of these members, one after another
+-- the places that a rule gives for each method among these members, in order
 abbrev pub of_members : (method : FuncDef → List Place) → List Member → List Place
 of_members method [] = []
 of_members method (field_member f ∷ ms) = of_members method ms
 of_members method (method_member f ∷ ms) = method f ++ of_members method ms
 
--- what one rule gives for each function and another for each method of these items, one after another
+-- the places that one rule gives for each function, and another for each method, of these items, in order
 abbrev pub of_defs : (function method : FuncDef → List Place) → List Item → List Place
 of_defs function method [] = []
 of_defs function method (constant_item first c ∷ is) = of_defs function method is
@@ -69,20 +69,20 @@ of_defs function method (def_item first f ∷ is) = function f ++ of_defs functi
 
 -- ---- E01: a name bound again
 
--- the names that stand among those before them; a reserved name is bound by nothing, so never again
+-- the names that repeat an earlier one; a reserved name binds nothing, so it repeats none
 abbrev pub bound_again : List (List ℕ) → List Name → List Place
 bound_again before [] = []
 bound_again before (n ∷ ns) = one_if (is_among before n.text && not (is_reserved n.text)) n.place
     ++ bound_again (n.text ∷ before) ns
 
--- the names that were given before in the same call
+-- the arguments by name that repeat an earlier one of the same call
 abbrev pub given_again : List (List ℕ) → Keywords → List Place
 given_again before no_keywords = []
 given_again before (more_keywords n e ks) = one_if (is_among before n.text) n.place ++ given_again (n.text ∷ before) ks
 
--- the names that are given again in the calls of expressions
+-- the arguments by name that are repeated in the calls of expressions
 abbrev mutual
-  -- in the calls of an expression
+  -- the repeated arguments in the calls of an expression
   pub given_in : Expr → List Place
   given_in (name n) = []
   given_in (number p digits) = []
@@ -104,35 +104,35 @@ abbrev mutual
   given_in (index p e i) = given_in e ++ given_in i
   given_in (call p e xs ks) = given_in e ++ (given_in_all xs ++ (given_again [] ks ++ given_in_keywords ks))
 
-  -- in those of several expressions
+  -- the repeated arguments in the calls of several expressions
   pub given_in_all : Exprs → List Place
   given_in_all no_exprs = []
   given_in_all (more_exprs x xs) = given_in x ++ given_in_all xs
 
-  -- in those of the keys and values of a dict display
+  -- the repeated arguments in the calls of the keys and values of a dict display
   pub given_in_entries : Entries → List Place
   given_in_entries no_entries = []
   given_in_entries (more_entries x y es) = given_in x ++ (given_in y ++ given_in_entries es)
 
-  -- in those of the values of arguments by name
+  -- the repeated arguments in the calls of the values of arguments by name
   pub given_in_keywords : Keywords → List Place
   given_in_keywords no_keywords = []
   given_in_keywords (more_keywords n e ks) = given_in e ++ given_in_keywords ks
 
--- in the calls of an expression that may be missing
+-- the repeated arguments in the calls of an optional expression
 abbrev pub given_in_optional : Option Expr → List Place
 given_in_optional None = []
 given_in_optional (Some e) = given_in e
 
--- in the calls of a target
+-- the repeated arguments in the calls of a target
 abbrev pub given_in_target : Target → List Place
 given_in_target (to_name n) = []
 given_in_target (to_attribute p e f) = given_in e
 given_in_target (to_index p e i) = given_in e ++ given_in i
 
--- the names that are given again in the calls of statements
+-- the arguments by name that are repeated in the calls of statements
 abbrev mutual
-  -- in the calls of a statement
+  -- the repeated arguments in the calls of a statement
   pub given_in_stmt : Stmt → List Place
   given_in_stmt (pass p) = []
   given_in_stmt (breaks p) = []
@@ -146,38 +146,38 @@ abbrev mutual
   given_in_stmt (for_loop p target iterable body) = given_in iterable ++ given_in_stmts body
   given_in_stmt (conditional p branches otherwise) = given_in_branches branches ++ given_in_stmts otherwise
 
-  -- in those of the statements of a suite
+  -- the repeated arguments in the calls of the statements of a suite
   pub given_in_stmts : Stmts → List Place
   given_in_stmts no_stmts = []
   given_in_stmts (more_stmts s rest) = given_in_stmt s ++ given_in_stmts rest
 
-  -- in those of conditions and their suites
+  -- the repeated arguments in the calls of conditions and their suites
   pub given_in_branches : Branches → List Place
   given_in_branches no_branches = []
   given_in_branches (more_branches condition body rest) = given_in condition
       ++ (given_in_stmts body ++ given_in_branches rest)
 
--- in the calls of the values of constants
+-- the repeated arguments in the calls of the values of constants
 abbrev pub given_in_constants : List Item → List Place
 given_in_constants [] = []
 given_in_constants (constant_item first c ∷ is) = given_in c.value ++ given_in_constants is
 given_in_constants (class_item first c ∷ is) = given_in_constants is
 given_in_constants (def_item first f ∷ is) = given_in_constants is
 
--- what is bound before the parameters: `self` in a method
+-- the names bound before the parameters: `self` in a method, otherwise none
 abbrev pub self_before : (is_method : Bool) → List (List ℕ)
 self_before true = codes "self" ∷ []
 self_before false = []
 
--- a function's parameters, after `self` in a method
+-- the parameters of a function that repeat an earlier one or a name bound before them
 abbrev pub params_again : (before : List (List ℕ)) → FuncDef → List Place
 params_again before f = bound_again before (map name_of_param f.params)
 
--- in the calls of the body of a function
+-- the repeated arguments in the calls of the body of a function
 abbrev pub given_in_def : FuncDef → List Place
 given_in_def f = given_in_stmts f.body
 
--- E01: a name that the module or a parameter list binds again, or that a call is given again, at the later name
+-- E01: a name that the module or a parameter list binds again, or an argument that a call repeats; at the later name
 abbrev pub twice : Module → List Place
 twice m = bound_again [] (map name_of_item m.items)
     ++ (of_defs (params_again (self_before false)) (params_again (self_before true)) m.items
@@ -185,41 +185,41 @@ twice m = bound_again [] (map name_of_item m.items)
 
 -- ---- E05: `break` or `continue` outside a loop
 
--- each `break` and `continue` outside a loop
+-- each `break` and `continue` outside a loop, in statements
 abbrev mutual
-  -- in a statement: itself, or in the suites of an `if`, for a suite of a loop is inside one
+  -- the loose `break` and `continue` of a statement: itself, or those in the suites of an `if`; a loop's body has none
   pub loose_in_stmt : Stmt → List Place
   loose_in_stmt (breaks p) = p ∷ []
   loose_in_stmt (continues p) = p ∷ []
   loose_in_stmt (conditional p branches otherwise) = loose_in_branches branches ++ loose_in otherwise
   loose_in_stmt _ = []
 
-  -- in the statements of a suite
+  -- the loose `break` and `continue` of the statements of a suite
   pub loose_in : Stmts → List Place
   loose_in no_stmts = []
   loose_in (more_stmts s rest) = loose_in_stmt s ++ loose_in rest
 
-  -- in the suites of conditions
+  -- the loose `break` and `continue` of the suites of conditions
   pub loose_in_branches : Branches → List Place
   loose_in_branches no_branches = []
   loose_in_branches (more_branches condition body rest) = loose_in body ++ loose_in_branches rest
 
--- in the body of a function
+-- the loose `break` and `continue` of the body of a function
 abbrev pub loose_in_def : FuncDef → List Place
 loose_in_def f = loose_in f.body
 
--- E05: at the keyword
+-- E05: a `break` or `continue` outside a loop; at the keyword
 abbrev pub outside_loop : Module → List Place
 outside_loop m = of_defs loose_in_def loose_in_def m.items
 
 -- ---- E29: a reserved name bound
 
--- a reserved name, or a field named `mro`
+-- the member has a reserved name, or is a field named `mro`
 abbrev pub is_reserved_member : Member → Bool
 is_reserved_member (field_member f) = is_reserved f.name.text || bytes_eq f.name.text (codes "mro")
 is_reserved_member (method_member f) = is_reserved f.name.text
 
--- the name that a target binds: none for an attribute or an item
+-- the name that a target binds; an attribute or an item binds none
 abbrev pub name_of_target : Target → List Name
 name_of_target (to_name n) = n ∷ []
 name_of_target (to_attribute p e f) = []
@@ -236,12 +236,12 @@ abbrev mutual
   bound_by_stmt (conditional p branches otherwise) = bound_by_branches branches ++ bound_by otherwise
   bound_by_stmt _ = []
 
-  -- at those of the statements of a suite
+  -- the names at the binding positions of the statements of a suite
   pub bound_by : Stmts → List Name
   bound_by no_stmts = []
   bound_by (more_stmts s rest) = bound_by_stmt s ++ bound_by rest
 
-  -- at those of the suites of conditions
+  -- the names at the binding positions of the suites of conditions
   pub bound_by_branches : Branches → List Name
   bound_by_branches no_branches = []
   bound_by_branches (more_branches condition body rest) = bound_by body ++ bound_by_branches rest
@@ -260,26 +260,26 @@ abbrev pub reserved_members : List Member → List Place
 reserved_members [] = []
 reserved_members (m ∷ ms) = one_if (is_reserved_member m) (name_of_member m).place ++ reserved_members ms
 
--- such members of each class
+-- the members with a reserved name, and the fields named `mro`, of each class
 abbrev pub reserved_in_classes : List Item → List Place
 reserved_in_classes [] = []
 reserved_in_classes (constant_item first c ∷ is) = reserved_in_classes is
 reserved_in_classes (class_item first c ∷ is) = reserved_members c.members ++ reserved_in_classes is
 reserved_in_classes (def_item first f ∷ is) = reserved_in_classes is
 
--- E29: at the name
+-- E29: a reserved name bound, or a field named `mro`; at the name
 abbrev pub reserved_bound : Module → List Place
 reserved_bound m = reserved_among (map name_of_item m.items)
     ++ (reserved_in_classes m.items ++ of_defs reserved_in_def reserved_in_def m.items)
 
 -- ---- E06: members
 
--- a member that a class has, its own or inherited
+-- a member of a class, its own or inherited
 pub record HeldMember : Type 0 where
   pub text : List ℕ
   pub is_field : Bool
 
--- the name of a member that a class has
+-- the name of a member of a class
 abbrev pub held_text : HeldMember → List ℕ
 held_text h = h.text
 
@@ -287,12 +287,12 @@ held_text h = h.text
 abbrev pub is_field_of : List ℕ → HeldMember → Bool
 is_field_of sought h = h.is_field && bytes_eq h.text sought
 
--- a field clashes with whatever the base has by its name, a method with a field
+-- the member clashes with an inherited one: a field with any of its name, a method with a field of its name
 abbrev pub clashes : List HeldMember → Member → Bool
 clashes inherited (field_member f) = is_among (map held_text inherited) f.name.text
 clashes inherited (method_member f) = list_any (is_field_of f.name.text) inherited
 
--- a member's name that an earlier member has, whatever that one binds, or that clashes with the base
+-- the member has the name of an earlier member of its class, or clashes with an inherited one
 abbrev pub is_clash : List (List ℕ) → List HeldMember → Member → Bool
 is_clash before inherited m = is_among before (name_of_member m).text || clashes inherited m
 
@@ -301,23 +301,23 @@ abbrev pub is_field : Member → Bool
 is_field (field_member f) = true
 is_field (method_member f) = false
 
--- a member as its class has it
+-- a member, as its class has it
 abbrev pub held_by : Member → HeldMember
 held_by m = record { text = (name_of_member m).text; is_field = is_field m }
 
--- the members that bind their names
+-- the members that bind their names: neither reserved nor clashing
 abbrev pub own_members : List (List ℕ) → List HeldMember → List Member → List HeldMember
 own_members before inherited [] = []
 own_members before inherited (m ∷ ms) =
     (if is_reserved_member m || is_clash before inherited m then [] else held_by m ∷ [])
     ++ own_members ((name_of_member m).text ∷ before) inherited ms
 
--- the items before it have another name, and it is no reserved one
+-- no item before it has the name, and it is not reserved
 abbrev pub is_first_binding : List Item → Name → Bool
 is_first_binding before n = not (is_among (map (λ i. (name_of_item i).text) before) n.text) && not (is_reserved n.text)
 
--- what the class of this name has, with these items before the point of use, the nearest first; nothing where the name
--- is no class's
+-- the members of the class of this name, given the items before the point of use, the nearest first; none if the name
+-- is not a class's
 abbrev pub members_of : List Item → Option (List ℕ) → List HeldMember
 members_of [] n = []
 members_of (i ∷ before) None = []
@@ -333,7 +333,7 @@ clashes_among before inherited [] = []
 clashes_among before inherited (m ∷ ms) = one_if (is_clash before inherited m) (name_of_member m).place
     ++ clashes_among ((name_of_member m).text ∷ before) inherited ms
 
--- the clashing members of each class, with the items before it, the nearest first
+-- the clashing members of each class, given the items before it, the nearest first
 abbrev pub clashing_in : (before : List Item) → List Item → List Place
 clashing_in before [] = []
 clashing_in before (constant_item first c ∷ is) = clashing_in (constant_item first c ∷ before) is
@@ -341,8 +341,8 @@ clashing_in before (def_item first f ∷ is) = clashing_in (def_item first f ∷
 clashing_in before (class_item first c ∷ is) = clashes_among [] (members_of before (option_text c.base)) c.members
     ++ clashing_in (class_item first c ∷ before) is
 
--- E06: a member's name twice in a class, a field's name that an ancestor has, a method's name that an ancestor has as a
--- field; at the name
+-- E06: a member's name twice in a class, a field with the name of an inherited member, a method with that of an
+-- inherited field; at the name
 abbrev pub clashing_members : Module → List Place
 clashing_members m = clashing_in [] m.items
 
@@ -355,29 +355,29 @@ is_plain_def n (constant_item first c ∷ is) = not (bytes_eq c.name.text n) && 
 is_plain_def n (class_item first c ∷ is) = not (bytes_eq c.name.text n) && is_plain_def n is
 is_plain_def n (def_item first f ∷ is) = if bytes_eq f.name.text n then has_none f.params else is_plain_def n is
 
--- E28: at the last line's `main`
+-- E28: the module has no function `main` without parameters; at the `main` of the last line
 abbrev pub no_main : Module → List Place
 no_main m = one_if (not (is_plain_def (codes "main") m.items)) m.main
 
 -- ---- E31: a parameter without default after one with default
 
--- the parameters without default that stand after one with default; `defaulted` says that one came before these
+-- the parameters without default after one with default; `defaulted` says that one came before these
 abbrev pub late_plain : (defaulted : Bool) → List Param → List Place
 late_plain defaulted [] = []
 late_plain defaulted (p ∷ ps) = one_if (defaulted && is_none p.default) p.name.place
     ++ late_plain (defaulted || is_some p.default) ps
 
--- the parameters of a function without default that stand after one with default
+-- the parameters without default after one with default, of a function
 abbrev pub late_plain_in : FuncDef → List Place
 late_plain_in f = late_plain false f.params
 
--- E31: at the name
+-- E31: a parameter without default after one with default; at the name
 abbrev pub default_order : Module → List Place
 default_order m = of_defs late_plain_in late_plain_in m.items
 
--- ---- all of them
+-- ---- all stopping codes
 
--- where a code stands that stops a run
+-- the places of a code that stops a run
 abbrev pub stopping_places : Module → Code → List Place
 stopping_places m E01 = twice m
 stopping_places m E05 = outside_loop m
@@ -387,15 +387,15 @@ stopping_places m E29 = reserved_bound m
 stopping_places m E31 = default_order m
 stopping_places m _ = []
 
--- the code stops a run, at the place
+-- the code stops a run, at this place
 abbrev pub IsStopping : Module → Place → Code → Type 0
 IsStopping m place code = Contains (stopping_places m code) place
 
--- all places where a code stops a run
+-- all places of codes that stop a run
 abbrev pub all_stopping_places : Module → List Place
 all_stopping_places m = twice m
     ++ (outside_loop m ++ (clashing_members m ++ (no_main m ++ (reserved_bound m ++ default_order m))))
 
--- whether none does
+-- no code stops a run
 abbrev pub is_runnable : Module → Bool
 is_runnable m = has_none (all_stopping_places m)

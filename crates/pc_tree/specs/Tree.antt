@@ -1,5 +1,5 @@
--- Trees without where they lie in memory: what a module, a statement, an expression and an annotation are.
--- Language Reference 3.12, 6 "Expressions", 7 "Simple statements", 8 "Compound statements".
+-- Trees, independent of their layout in memory: modules, statements, expressions and annotations. Language Reference
+-- 3.12, 6 "Expressions", 7 "Simple statements", 8 "Compound statements".
 use Rattle.std.specs.Prelude.{ℕ, Bool, true, false, List, [], ◌∷◌, map, Option, Some, None, string_bytes}
 use Rattle.std.specs.Global.{Box}
 use Rattle.pc_source.specs.declared.place.Place.{Place}
@@ -35,7 +35,7 @@ use Rattle.pc_tree.specs.declared.tree.StmtKind.{end_of-Branch, more_of-Branch}
 use Rattle.pc_tree.specs.declared.tree.Branch.{Branch'}
 use Rattle.pc_tree.specs.declared.tree.StmtKind.TheVariants as rust_stmt
 
--- a name at its place, in the form by which it is compared
+-- a name at its place, in the normal form by which names are compared
 pub record Name : Type 0 where
   pub place : Place
   pub text : List ℕ
@@ -74,7 +74,7 @@ mutual
     no_entries : Entries
     more_entries : (key value : Expr) (rest : Entries) → Entries
 
-  -- the arguments by name of a call
+  -- the arguments of a call that are passed by name
   pub data Keywords : Type 0 where
     no_keywords : Keywords
     more_keywords : (parameter : Name) (value : Expr) (rest : Keywords) → Keywords
@@ -94,7 +94,7 @@ mutual
     no_anns : Anns
     more_anns : (first : Ann) (rest : Anns) → Anns
 
--- what is assigned to: a name, `e.f`, `e[i]`
+-- the target of an assignment: a name, `e.f` or `e[i]`
 pub data Target : Type 0 where
   to_name : (n : Name) → Target
   to_attribute : (place : Place) (object : Expr) (field : Name) → Target
@@ -122,7 +122,7 @@ mutual
     evaluates : (first : Place) (value : Expr) → Stmt
     while_loop : (first : Place) (condition : Expr) (body : Stmts) → Stmt
     for_loop : (first : Place) (target : Name) (iterable : Expr) (body : Stmts) → Stmt
-    -- `if`, each `elif`, and the suite of `else`, which is empty where there is none
+    -- `if`, each `elif`, and the suite of `else`, which is empty if there is none
     conditional : (first : Place) (branches : Branches) (otherwise : Stmts) → Stmt
 
   -- the statements of a suite
@@ -178,20 +178,20 @@ pub data Item : Type 0 where
   class_item : (first : Place) (c : ClassDef) → Item
   def_item : (first : Place) (f : FuncDef) → Item
 
--- a module: which headers it has, its items in text order, and the place of `main` in its last line
+-- a module: its headers, its items in text order, and the place of `main` in its last line
 pub record Module : Type 0 where
   pub imports_dataclass : Bool
   pub imports_any : Bool
   pub items : List Item
   pub main : Place
 
--- ---- what values of the program are
+-- ---- the trees of the program's values
 
--- a name of the program, as trees have it
+-- the tree of a name
 abbrev pub name_of : RustName → Name
 name_of n = record { place = n.place; text = text_bytes n.text }
 
--- the trees of expressions of the program, and of rows of their parts
+-- the trees of the program's expressions, and of rows of their parts
 abbrev mutual
   -- the tree of an expression
   pub expr_of : RustExpr → Expr
@@ -233,7 +233,7 @@ abbrev mutual
   keywords_of (more_of-KeywordArgument parameter value rest) =
       more_keywords (name_of parameter) (expr_of value) (keywords_of rest)
 
--- the trees of annotations of the program, and of rows of them
+-- the trees of the program's annotations, and of rows of them
 abbrev mutual
   -- the tree of an annotation
   pub ann_of : RustAnn → Ann
@@ -254,17 +254,17 @@ target_of (rust_target.Name n) = to_name (name_of n)
 target_of (rust_target.Attribute p e field) = to_attribute p (expr_of e.value) (name_of field)
 target_of (rust_target.Index p e i) = to_index p (expr_of e.value) (expr_of i.value)
 
--- the tree of an expression, where there is one
+-- the tree of an expression, if there is one
 abbrev pub option_expr_of : Option (Box RustExpr) → Option Expr
 option_expr_of None = None
 option_expr_of (Some e) = Some (expr_of e.value)
 
--- the tree of an annotation, where there is one
+-- the tree of an annotation, if there is one
 abbrev pub option_ann_of : Option RustAnn → Option Ann
 option_ann_of None = None
 option_ann_of (Some a) = Some (ann_of a)
 
--- a name as trees have it, where there is one
+-- the tree of a name, if there is one
 abbrev pub option_name_of : Option RustName → Option Name
 option_name_of None = None
 option_name_of (Some n) = Some (name_of n)
@@ -282,12 +282,12 @@ literal_of_kind p rust_literal.NoneValue = none_literal p
 abbrev pub literal_of : RustLiteral → Literal
 literal_of l = literal_of_kind l.place l.kind
 
--- the tree of a literal, where there is one
+-- the tree of a literal, if there is one
 abbrev pub option_literal_of : Option RustLiteral → Option Literal
 option_literal_of None = None
 option_literal_of (Some l) = Some (literal_of l)
 
--- the trees of statements of the program, and of rows of statements and branches
+-- the trees of the program's statements, and of rows of statements and branches
 abbrev mutual
   -- the tree of a statement of this kind, with the place of its first token
   pub stmt_of_kind : Place → StmtKind → Stmt
@@ -322,7 +322,7 @@ abbrev mutual
 abbrev pub stmt_of : RustStmt → Stmt
 stmt_of s = stmt_of_kind s.first s.kind
 
--- a list of statements
+-- the trees of a list of statements
 abbrev pub stmts_of_list : List RustStmt → Stmts
 stmts_of_list [] = no_stmts
 stmts_of_list (s ∷ rest) = more_stmts (stmt_of s) (stmts_of_list rest)

@@ -9,7 +9,7 @@ ghost use Rattle.pc_tree.specs.Stopping.{bound_by, bound_by_stmt, bound_by_branc
 use crate::tree::{Branch, Name, Stmt, StmtKind};
 use pc_source::OutOfMemory;
 
-/// Adds the names that statements bind, in text order. Language Reference 4.2.1 "Binding of names".
+/// Adds the names that `body` binds, in text order. Language Reference 4.2.1 "Binding of names".
 #[cycle(bound)]
 pub fn add_bound<'m>(names: &mut Vec<&'m Name>, body: &'m [Stmt]) -> Result<(), OutOfMemory>
     ensures { OnOk result (map name_seen names.new.items
@@ -21,7 +21,8 @@ pub fn add_bound<'m>(names: &mut Vec<&'m Name>, body: &'m [Stmt]) -> Result<(), 
     Ok(())
 }
 
-/// Adds the names that a statement binds, in text order. Language Reference 4.2.1 "Binding of names".
+/// Adds the names that a statement binds, itself and in its suites, in text order. Language Reference 4.2.1 "Binding of
+/// names".
 #[cycle(bound)]
 pub fn add_bound_by<'m>(names: &mut Vec<&'m Name>, kind: &'m StmtKind) -> Result<(), OutOfMemory>
     ensures { (p : PlaceOf) → OnOk result
@@ -33,7 +34,7 @@ pub fn add_bound_by<'m>(names: &mut Vec<&'m Name>, kind: &'m StmtKind) -> Result
     add_bound(names, last)
 }
 
-/// Adds the names that the suites of conditions bind, in text order. Language Reference 4.2.1 "Binding of names".
+/// Adds the names that the suites of `branches` bind, in text order. Language Reference 4.2.1 "Binding of names".
 #[cycle(bound)]
 pub fn add_bound_in<'m>(
     names: &mut Vec<&'m Name>,
@@ -48,7 +49,7 @@ pub fn add_bound_in<'m>(
     Ok(())
 }
 
-/// Adds a name, if there is one.
+/// Adds the name, if there is one.
 fn add_own<'m>(names: &mut Vec<&'m Name>, own: Option<&'m Name>) -> Result<(), OutOfMemory>
     ensures { OnOk result (map name_seen names.new.items
         ≡ map name_seen names.old.items ++ map name_seen (option_to_list own.entry)) }

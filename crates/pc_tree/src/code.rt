@@ -1,15 +1,15 @@
-//! The codes of findings, and findings.
+//! Findings and their codes.
 
 ghost use Rattle.std.specs.Prelude.{◌≡◌};
 ghost use Rattle.pc_tree.specs.Code.{text_of, label_of, is_error};
 
 use pc_source::Place;
 
-/// What a finding says: an error (`E`), or a dynamic place (`A`), where a value of type `Any` was used or
-/// let through without proof. The codes stand in the order of their texts. Own rule of the profile.
+/// The code of a finding: an error (`E`), or a dynamic place (`A`), where a value of type `Any` is used or passed on
+/// without proof. Codes are in the order of their texts. Own rule of the profile.
 #[derive(Clone, Copy, Debug, PartialEq, Eq, PartialOrd, Ord)]
 pub enum Code {
-    /// A value of type `Any` goes where only a reading of `Any` lets it go.
+    /// A value of type `Any` flows to a place that only a reading of `Any` allows.
     A1,
     /// An operator on a value of type `Any`.
     A2,
@@ -23,7 +23,7 @@ pub enum Code {
     A6,
     /// `isinstance(x, list)` of a local of type `Any` or `object`.
     A7,
-    /// A method that overrides one only by a reading of `Any`.
+    /// A method that overrides another only by a reading of `Any`.
     A8,
     /// A name bound again.
     E01,
@@ -49,23 +49,23 @@ pub enum Code {
     E11,
     /// A value that does not fit where it goes.
     E12,
-    /// An operator on values that it does not take.
+    /// An operator on operands that it does not accept.
     E13,
-    /// A call with arguments that do not fit.
+    /// A call with arguments that do not suit, or of a value.
     E14,
-    /// An attribute that is not there.
+    /// An attribute that does not exist.
     E15,
-    /// A value that takes no such index.
+    /// An index that the value does not accept, or a value without items.
     E16,
-    /// A value that takes no store to an item.
+    /// A value that accepts no store to an item.
     E17,
     /// A value that cannot be iterated.
     E18,
-    /// A value that `in` does not look into.
+    /// The right operand of `in` cannot contain anything.
     E19,
     /// A function, a class, a method or a reserved name as a value.
     E20,
-    /// A function that may end without the value that it owes.
+    /// A function that may end without returning its value.
     E21,
     /// A dict display whose keys are neither all int nor all str.
     E22,
@@ -77,20 +77,20 @@ pub enum Code {
     E25,
     /// A type of more than 256 nodes.
     E26,
-    /// A built-in function where it does not stand.
+    /// A built-in function where it may not be used.
     E27,
     /// No function `main` without parameters.
     E28,
     /// A reserved name bound, or a field named `mro`.
     E29,
-    /// A statement that no run reaches.
+    /// An unreachable statement.
     E30,
     /// A parameter without a default after one with a default.
     E31,
 }
 
 impl Code {
-    /// The code as a report prints it.
+    /// Returns the code as a report prints it.
     pub fn text(self) -> &'static str
         ensures { result.now ≡ text_of self }
     {
@@ -137,7 +137,7 @@ impl Code {
         }
     }
 
-    /// The word for the code in a report.
+    /// Returns the word for the code in a report.
     pub fn label(self) -> &'static str
         ensures { result.now ≡ label_of self }
     {
@@ -184,7 +184,7 @@ impl Code {
         }
     }
 
-    /// Whether it is an error; the other codes mark dynamic places.
+    /// Whether the code is an error's; the other codes mark dynamic places.
     pub fn is_error(self) -> bool
         ensures { result ≡ is_error self }
     {
@@ -195,12 +195,12 @@ impl Code {
     }
 }
 
-/// A code at a place. Findings are in the order of their starts, ends and codes.
+/// A code at a place. Findings are ordered by start, end and code.
 #[derive(Clone, Copy, Debug, PartialEq, Eq, PartialOrd, Ord)]
 pub struct Finding {
     pub place: Place,
     pub code: Code,
 }
 
-/// Findings in any order.
+/// Findings, in any order.
 pub type Findings = Vec<Finding>;

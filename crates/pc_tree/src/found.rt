@@ -1,4 +1,4 @@
-//! One more finding.
+//! Adding findings.
 ghost use Rattle.std.specs.Prelude.{◌≡◌, ◌++◌, ◌∷◌, [], OnOk};
 ghost use Rattle.pc_tree.specs.Code.{at_code};
 ghost use Rattle.pc_tree.specs.Stopping.{one_if};
@@ -6,7 +6,7 @@ ghost use Rattle.pc_tree.specs.Stopping.{one_if};
 use crate::code::{Code, Finding, Findings};
 use pc_source::{OutOfMemory, Place};
 
-/// Adds a finding. Own rule of the profile.
+/// Adds a finding with this code and place. Own rule of the profile.
 pub fn find(found: &mut Findings, code: Code, place: Place) -> Result<(), OutOfMemory>
     ensures { OnOk result (found.new.items ≡ found.old.items ++ at_code code (place ∷ [])) }
 {
@@ -14,7 +14,7 @@ pub fn find(found: &mut Findings, code: Code, place: Place) -> Result<(), OutOfM
     Ok(())
 }
 
-/// Adds a finding where a condition holds. Own rule of the profile.
+/// Adds a finding with this code and place if `condition` holds. Own rule of the profile.
 pub fn find_if(
     found: &mut Findings,
     condition: bool,

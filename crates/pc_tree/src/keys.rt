@@ -1,4 +1,4 @@
-//! Keys of hashes, which a text gives for its own names.
+//! Hash keys, derived from a text for its own names.
 
 ghost use Rattle.std.specs.Prelude.{◌≡◌};
 ghost use Rattle.pc_tree.specs.Keys.{keys_of, begun, written, finished};
@@ -9,8 +9,8 @@ use std::hash::{BuildHasher, DefaultHasher, FoldHasher, Hasher, RandomState};
 use std::random::RandomSource;
 use std::{fmt, io};
 
-/// What hashes by the keys of a text: the key comes first, then what is hashed, and at the end the key again, so that
-/// neither the first multiplication nor the last is known to one who picks names before the text is whole.
+/// A hasher keyed by a text. It hashes the key, then the data, then the key again, so that whoever picks names before
+/// the text is complete knows neither the first multiplication nor the last.
 #[derive(Clone, Copy)]
 pub struct KeyedHasher {
     state: FoldHasher,
@@ -33,15 +33,15 @@ impl Hasher for KeyedHasher {
     }
 }
 
-/// The keys of the hashes of a text's names: a hash of the whole text. Whoever changes a text so that its names
-/// collide changes its keys too. No answer depends on them, only the time that it takes. Own rule of the profile.
+/// The hash keys for the names of a text, derived from a hash of the whole text: a text changed so that its names
+/// collide has other keys. The keys affect no result, only the time. Own rule of the profile.
 #[derive(Clone, Copy)]
 pub struct Keys {
     first: KeyedHasher,
 }
 
 impl Keys {
-    /// The keys of a text.
+    /// Derives the keys of a text.
     pub fn of(text: &[u8]) -> Keys
         ensures { result ≡ keys_of text.now }
     {
@@ -55,11 +55,11 @@ impl Keys {
         }
     }
 
-    /// The same keys for maps whose callers may have random ones.
+    /// Returns the same keys as a `RandomState`, for maps that may also be keyed at random.
     ///
     /// # Errors
     ///
-    /// None in fact; the kit's call may fail, and would then be answered as `OutOfMemory`.
+    /// None in fact; a failure of the kit's call would be returned as `OutOfMemory`.
     pub fn state(self) -> Result<RandomState, OutOfMemory> {
         match RandomState::new(&KeyBytes(self.first.key)) {
             Ok(keys) => Ok(keys),
@@ -84,7 +84,7 @@ impl Debug for Keys {
     }
 }
 
-/// A source that gives the bytes of a number, again and again.
+/// A source of bytes that repeats the eight bytes of a number.
 #[derive(Drop)]
 struct KeyBytes(u64);
 

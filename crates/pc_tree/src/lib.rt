@@ -1,4 +1,4 @@
-//! The tree of a module, and the findings that stand at its places.
+//! The tree of a module, and findings at its places.
 #![tactic(auto)]
 
 mod bound;

@@ -1,14 +1,14 @@
-//! Lists of which most are short.
+//! Growing lists that are mostly short.
 ghost use Rattle.std.specs.Prelude.{◌≡◌, ◌++◌, ◌∷◌, [], OnOk, OnErr};
 
 use pc_source::OutOfMemory;
 
-/// Adds an item at the end. A list that is full gets room for as many items again and for no more, the first time for
-/// one: most lists of a tree have one item or two.
+/// Appends an item. A full list doubles its capacity exactly, from none to one: most lists of a tree have one or two
+/// items.
 ///
 /// # Errors
 ///
-/// `OutOfMemory` where the list has no room.
+/// `OutOfMemory` if the list cannot grow; it stays as it was.
 pub fn put_last<T: Drop>(items: &mut Vec<T>, item: T) -> Result<(), OutOfMemory>
     ensures items { OnOk result (items.new.items ≡ items.old.items ++ item ∷ []) }
     ensures kept { OnErr result (items.new.items ≡ items.old.items) }

@@ -1,4 +1,4 @@
-//! Maps by names.
+//! Maps by name.
 ghost use Rattle.std.specs.Prelude.{◌≡◌, OnOk, OnErr, List, ℕ};
 ghost use Rattle.pc_tree.specs.Names.{at_text, first_of, bound_as};
 
@@ -6,14 +6,14 @@ use indexmap::IndexMap;
 use pc_source::OutOfMemory;
 use std::hash::RandomState;
 
-/// What each name has, in the order in which they were bound.
+/// A value for each name, in the order in which the names were bound.
 pub type NameMap<'m, V> = IndexMap<&'m str, V, RandomState>;
 
-/// A name has this value, unless it has one already.
+/// Binds `name` to `value`, unless it is bound already.
 ///
 /// # Errors
 ///
-/// `OutOfMemory` where the map has no room; it stays as it was.
+/// `OutOfMemory` if the map cannot grow; it stays as it was.
 pub fn bind_first<'m, V: Drop>(
     map: &mut NameMap<'m, V>,
     name: &'m str,

@@ -6,7 +6,7 @@ ghost use Rattle.pc_tree.specs.Stopping.{name_of_item, name_of_member};
 use crate::tree::{Item, ItemKind, Member, Name};
 
 impl Item {
-    /// The name that it binds. Language Reference 4.2.1 "Binding of names".
+    /// Returns the name that the item binds. Language Reference 4.2.1 "Binding of names".
     pub fn name(&self) -> &Name
         ensures { name_of result.now ≡ name_of_item (item_of self.now) }
     {
@@ -19,7 +19,7 @@ impl Item {
 }
 
 impl Member {
-    /// The name that it binds in its class. Language Reference 4.2.1 "Binding of names".
+    /// Returns the name that the member binds in its class. Language Reference 4.2.1 "Binding of names".
     pub fn name(&self) -> &Name
         ensures { name_of result.now ≡ name_of_member (member_of self.now) }
     {

@@ -1,4 +1,4 @@
-//! Where nodes stand.
+//! Places of nodes.
 ghost use Rattle.std.specs.Prelude.{◌≡◌};
 ghost use Rattle.pc_tree.specs.Tree.{expr_of, ann_of};
 ghost use Rattle.pc_tree.specs.Depth.{place_of, place_of_ann};
@@ -7,7 +7,8 @@ use crate::tree::{Ann, Expr};
 use pc_source::Place;
 
 impl Expr {
-    /// The expression's place: first to last token, without parentheses around it. Own rule of the profile.
+    /// Returns the expression's place, from first to last token, without parentheses around it. Own rule of the
+    /// profile.
     pub fn place(&self) -> Place
         ensures { result ≡ place_of (expr_of self.now) }
     {
@@ -30,7 +31,7 @@ impl Expr {
 }
 
 impl Ann {
-    /// The annotation's place: first to last token. Own rule of the profile.
+    /// Returns the annotation's place, from first to last token. Own rule of the profile.
     pub fn place(&self) -> Place
         ensures { result ≡ place_of_ann (ann_of self.now) }
     {

@@ -7,14 +7,14 @@ use indexmap::IndexSet;
 use pc_source::OutOfMemory;
 use std::hash::RandomState;
 
-/// Names, each once, in the order in which they were put in.
+/// Distinct names, in the order in which they were added.
 pub type NameSet<'m> = IndexSet<&'m str, RandomState>;
 
-/// Adds a name, and says whether it was there already.
+/// Adds a name and returns whether it was there already.
 ///
 /// # Errors
 ///
-/// `OutOfMemory` where the set has no room.
+/// `OutOfMemory` if the set cannot grow.
 pub fn put<'m>(names: &mut NameSet<'m>, name: &'m str) -> Result<bool, OutOfMemory>
     ensures was { IfOk result (λ b. b ≡ is_among (texts_in names.old) name.now) }
     ensures now { OnOk result

@@ -1,4 +1,4 @@
-//! What a statement binds by itself, and the suites in it.
+//! The name that a statement binds by itself, and its suites.
 ghost use Rattle.std.specs.Prelude.{◌≡◌, ◌<◌, map};
 ghost use denote.Param.Weighed.{most};
 ghost use Rattle.std.specs.Option.{option_to_list};
@@ -13,7 +13,7 @@ ghost use Rattle.pc_tree.specs.Suites.{own_names, branches_of_stmt, last_suite};
 use crate::tree::{Branch, Name, Stmt, StmtKind, Target};
 
 impl StmtKind {
-    /// The name that the statement binds by itself, if it binds one. Language Reference 4.2.1 "Binding of names".
+    /// Returns the name that the statement binds by itself, if any. Language Reference 4.2.1 "Binding of names".
     pub fn own_name(&self) -> Option<&Name>
         ensures { (p : PlaceOf) → map name_seen (option_to_list result) ≡ own_names (stmt_of_kind p self.now) }
     {
@@ -29,8 +29,8 @@ impl StmtKind {
         }
     }
 
-    /// The suites in the statement, in text order: its conditions with theirs, and the one behind them, which is the
-    /// body of a loop or what stands behind `else`. Either is empty where there is none.
+    /// Returns the statement's suites in text order: its branches, and its last suite, which is the body of a loop or
+    /// the suite of `else`. Either is empty if the statement has none.
     pub fn suites(&self) -> (&[Branch], &[Stmt])
         ensures branches { (p : PlaceOf)
             → branches_of_list result.0.now ≡ branches_of_stmt (stmt_of_kind p self.now) }

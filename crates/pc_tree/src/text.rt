@@ -6,7 +6,7 @@ use arrayvec::ArrayString;
 use std::alloc::{AllocError, Global};
 use std::fmt;
 
-/// The text of a name. A short one, as nearly all are, lies in the value itself.
+/// The text of a name. A short one, as nearly all are, is stored inline.
 #[derive(Drop)]
 pub enum Text {
     Short(ArrayString<16>),
@@ -14,7 +14,7 @@ pub enum Text {
 }
 
 impl Text {
-    /// A copy of a text.
+    /// Copies a text.
     pub fn of(alloc: Global, text: &str) -> Result<Text, AllocError>
         ensures { IfOk result (λ t. text_bytes t ≡ text.now) }
     {
@@ -24,7 +24,7 @@ impl Text {
         }
     }
 
-    /// The text.
+    /// Returns the text.
     pub fn as_str(&self) -> &str
         ensures value { result.now ≡ text_bytes self.now }
     {

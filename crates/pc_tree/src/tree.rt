@@ -4,16 +4,16 @@ use crate::keys::Keys;
 use crate::text::Text;
 use pc_source::Place;
 
-/// A name at its place, in the normal form NFKC by which names are compared.
-/// Language Reference 2.3 "Identifiers and keywords".
+/// A name at its place, in normal form NFKC, by which names are compared. Language Reference 2.3 "Identifiers and
+/// keywords".
 #[derive(Debug, Drop)]
 pub struct Name {
     pub place: Place,
     pub text: Text,
 }
 
-/// A module: whether it has the headers that import `dataclass` and `Any`, its items in the order of
-/// the text, the place of `main` in its last line, and the keys of the hashes of its names.
+/// A module: whether it has the headers that import `dataclass` and `Any`, its items in text order, the place of `main`
+/// in its last line, and the hash keys for its names.
 #[derive(Debug, Drop)]
 pub struct Module {
     pub imports_dataclass: bool,
@@ -30,7 +30,7 @@ pub struct Item {
     pub kind: ItemKind,
 }
 
-/// What an item of the module is.
+/// A constant, a class or a function.
 #[derive(Debug, Drop)]
 pub enum ItemKind {
     Constant(Constant),
@@ -72,9 +72,8 @@ pub struct Field {
     pub default: Option<Literal>,
 }
 
-/// A function, or a method without its `self`: its name, its parameters, the annotation of what it
-/// returns if it has one, and its body, of at least one statement.
-/// Language Reference 8.7 "Function definitions".
+/// A function, or a method without its `self`: its name, its parameters, its return annotation if it has one, and its
+/// body, of at least one statement. Language Reference 8.7 "Function definitions".
 #[derive(Debug, Drop)]
 pub struct FuncDef {
     pub name: Name,
@@ -91,21 +90,21 @@ pub struct Param {
     pub default: Option<Literal>,
 }
 
-/// A literal as a default, at its place. Language Reference 2.4 "Literals".
+/// A literal as a default value, at its place. Language Reference 2.4 "Literals".
 #[derive(Debug, Drop)]
 pub struct Literal {
     pub place: Place,
     pub kind: LiteralKind,
 }
 
-/// What a literal is.
+/// The value of a literal.
 #[derive(Debug, Drop)]
 pub enum LiteralKind {
     /// A whole number, as its digits without underscores.
     Int(String),
     /// `-` and a whole number.
     NegativeInt(String),
-    /// A text, as its characters.
+    /// A string, as its characters.
     Str(String),
     True,
     False,
@@ -121,7 +120,7 @@ pub struct Stmt {
     pub kind: StmtKind,
 }
 
-/// What a statement is.
+/// A statement without its place.
 #[derive(Debug, Drop)]
 #[cycle(statement)]
 pub enum StmtKind {
@@ -131,19 +130,18 @@ pub enum StmtKind {
     Return(Option<Box<Expr>>),
     /// `assert`, its condition, and its message if it has one.
     Assert(Box<Expr>, Option<Box<Expr>>),
-    /// A name with its annotation, and what is assigned to it if anything is.
+    /// A name with its annotation, and the value assigned to it, if any.
     Annotated(Name, Box<Ann>, Option<Box<Expr>>),
     Assign(Target, Box<Expr>),
     /// An expression as a statement.
     Expr(Expr),
     While(Box<Expr>, Vec<Stmt>),
     For(Name, Box<Expr>, Vec<Stmt>),
-    /// `if` and each `elif`, of which there is at least one, and the suite of `else`, which is empty
-    /// where there is none.
+    /// `if` and each `elif`, at least one branch, and the suite of `else`, which is empty if there is none.
     If(Vec<Branch>, Vec<Stmt>),
 }
 
-/// A condition, and the suite that runs where it is true.
+/// A condition, and the suite that runs if it is true.
 #[derive(Debug, Drop)]
 #[cycle(statement)]
 pub struct Branch {
@@ -151,7 +149,7 @@ pub struct Branch {
     pub body: Vec<Stmt>,
 }
 
-/// What is assigned to: a name, `e.f` or `e[i]`. Language Reference 7.2 "Assignment statements".
+/// The target of an assignment: a name, `e.f` or `e[i]`. Language Reference 7.2 "Assignment statements".
 #[derive(Debug, Drop)]
 pub enum Target {
     Name(Name),
@@ -190,7 +188,7 @@ pub enum Expr {
     Name(Name),
     /// A whole number, as its digits without underscores.
     Int(Place, String),
-    /// A text, as its characters.
+    /// A string, as its characters.
     Str(Place, String),
     True(Place),
     False(Place),
@@ -211,7 +209,7 @@ pub enum Expr {
     Attribute(Place, Box<Expr>, Name),
     /// `e[i]`
     Index(Place, Box<Expr>, Box<Expr>),
-    /// A callee, its arguments by position, and those by name.
+    /// A callee, its positional arguments, and its arguments by name.
     Call(Place, Box<Expr>, Vec<Expr>, Vec<KeywordArgument>),
 }
 

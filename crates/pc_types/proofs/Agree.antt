@@ -1,4 +1,4 @@
--- What the code decides is that two types meet: both ways at once, where lists and dicts want it.
+-- The code decides that two types meet: in both directions at once, where lists and dicts need it.
 use Rattle.std.proofs.Common.{◌≡◌, ◌⊎◌, ◌+◌, Bool as Test, true, false, Some, inl, inr, refl, sym, ap, ◌∙◌, subst}
 use Rattle.std.proofs.Common.{⊎_elim}
 use Rattle.pc_types.specs.Tree.{Tree, Trees, Any, Object, ListOf, DictOf, TupleOf, Union}

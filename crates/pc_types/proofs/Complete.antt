@@ -1,4 +1,4 @@
--- What is assignable meets.
+-- Assignable types meet, head by head.
 use Rattle.pc_types.specs.Tree.{Tree, Trees}
 use Rattle.pc_types.specs.Below.{Bases}
 use Rattle.pc_types.specs.Assignable.{Fills, FillsEach, any, object, never, int, bool, str, none_type, class, list}

@@ -1,4 +1,4 @@
--- What is static is assignable.
+-- A static subtype is assignable.
 use Rattle.pc_types.specs.Tree.{Tree, Trees, Any, Object, Never, Int, Bool, Str, NoneType, Class, ListOf, DictOf}
 use Rattle.pc_types.specs.Tree.{TupleOf, Union, end, more, erase, erase_each}
 use Rattle.pc_types.specs.Below.{Bases, Static}
@@ -24,7 +24,7 @@ mutual
   fills_erased_each end = fills.none
   fills_erased_each (more t ts) = fills.one (fills_erased t) (fills_erased_each ts)
 
--- what is static is assignable: its types filled as they are erased
+-- a static subtype is assignable: its types are filled as they are erased
 pub static_assignable : (bases : Bases) (s t : Tree) → Static bases s t → Assignable bases s t
 static_assignable bases s t h = record {
   filled_left = erase s;

@@ -1,4 +1,4 @@
--- The tests of static and of consistent subtyping are true exactly where these hold, on types in normal form.
+-- On types in normal form, the tests of static and of consistent subtyping are true exactly if these hold.
 use Rattle.std.proofs.Common.{◌≡◌, ◌↔◌, ◌⊎◌, ℕ, Bool as Test, IsTrue, true, false, ◌&&◌, ◌||◌, sym, subst, arith, inl}
 use Rattle.std.proofs.Common.{inr, ⊎_elim}
 use Rattle.std.proofs.lemmas.Bool.{and_parts, and_from, cases_Bool, or_cases, or_left, or_right}

@@ -1,4 +1,4 @@
--- What the code decides is static subtyping with Any read as object, and consistent subtyping with Any as it is.
+-- The code decides static subtyping if it reads Any as object, and consistent subtyping if it keeps Any.
 use Rattle.std.proofs.Common.{◌≡◌, ◌↔◌, ◌+◌, true, false, refl, sym, ap, subst, subst₂}
 use Rattle.pc_types.specs.Tree.{Tree, Trees, Any, Object, Never, ListOf, DictOf, TupleOf, Union, end, more, erase}
 use Rattle.pc_types.specs.Tree.{erase_each}

@@ -1,4 +1,4 @@
--- A class reaches another one by its bases exactly where it is below it.
+-- A class reaches another one by its bases if and only if it is a subtype of it.
 use Rattle.std.proofs.Common.{◌≡◌, ◌⊎◌, ◌==◌, ℕ, zero, suc, true, false, Option, Some, None, refl, ◌∙◌, subst, inl, inr}
 use Rattle.std.proofs.Common.{⊎_elim}
 use Rattle.std.proofs.lemmas.Bool.{false≢true, eqb-true, or_cases, cases_eq}

@@ -1,4 +1,4 @@
--- What heads say of two types that are no unions.
+-- Flow and covering of two types other than unions, by their heads.
 use Rattle.std.proofs.Common.{Box, Vec, Global, ap, ◌≡◌, ◌↔◌, ℕ, Some, Bool as Test, cond, IsTrue, true, false, refl}
 use Rattle.std.proofs.Common.{sym, subst, ◌⊎◌, inl, inr}
 use Rattle.pc_types.specs.Tree.{Tree, Trees, Any, Object, Never, Int, Bool, Str, NoneType, Class, ListOf, DictOf}

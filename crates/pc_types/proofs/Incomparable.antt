@@ -1,4 +1,4 @@
--- Members that don't absorb each other, and what a reduced type says of its members.
+-- Members that do not absorb each other, and the members of a reduced type.
 use Rattle.std.proofs.Common.{◌≡◌, ◌&&◌, ◌==◌, ℕ, not, Bool as Test, true, false, List, [], ◌∷◌, filter, refl, sym, ap}
 use Rattle.std.proofs.Common.{◌∙◌, arith}
 use Rattle.std.proofs.lemmas.Bool.{false≢true, true≢false, and_parts, false_from_ne_true}

@@ -15,6 +15,7 @@ pub mod Leaps
 pub mod Lookup
 pub mod Meets
 pub mod Nodes
+pub mod Numbered
 pub mod Rebuilt
 pub mod Rest
 pub mod Sound

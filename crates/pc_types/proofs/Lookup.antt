@@ -1,4 +1,4 @@
--- The member of a type at a place, and what a normal form says of it.
+-- The member of a type at a place, which is unique in normal form.
 use Rattle.std.proofs.Common.{◌≡◌, ◌⊎◌, ◌&&◌, ℕ, Bool as Test, true, false, cond, nat_eq, Option, Some, None, inl, inr}
 use Rattle.std.proofs.Common.{refl, ap, ◌∙◌, arith, ⊎_elim}
 use Rattle.std.proofs.lemmas.Bool.Decides.{nat_tests}

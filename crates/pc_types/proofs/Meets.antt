@@ -1,4 +1,4 @@
--- Two types meet where their heads do, part by part: Any meets everything, both ways.
+-- Two types meet if their heads do, part by part: Any meets everything, in both directions.
 use Rattle.std.proofs.Common.{ℕ}
 use Rattle.pc_types.specs.Tree.{Tree, Trees, Any, Object, Never, Int, Bool, Str, NoneType, Class, ListOf, DictOf}
 use Rattle.pc_types.specs.Tree.{TupleOf, Union, end, more}

@@ -1,4 +1,4 @@
--- Nodes, members and parts: how many there are, and which part stands where.
+-- Nodes, members and parts: their numbers, and the place of each part.
 use Rattle.std.proofs.Common.{◌≡◌, ℕ, zero, suc, ◌+◌, ◌<◌, ◌≤◌, length, take, ◌++◌, get_or, map, List, [], ◌∷◌, Vec}
 use Rattle.std.proofs.Common.{Global, All, Some, Result, Ok, Err, IfOk, refl, sym, ap, ◌∙◌, subst, arith}
 use Rattle.std.proofs.lemmas.List.{take_more}

@@ -1,4 +1,4 @@
--- A loop over a mapped list: what is to come.
+-- A loop over a mapped list: the items still to come.
 use Rattle.std.proofs.Common.{◌≡◌, ◌+◌, ◌<◌, ℕ, suc, ◌∷◌, List, ap, sym, ◌∙◌, length, drop, get_or, add-one, drop-cons}
 use Rattle.std.proofs.Common.{map}
 use Rattle.std.proofs.lemmas.List.{drop-map}

@@ -1,4 +1,4 @@
--- What meets is assignable: each Any is filled by what stands across from it.
+-- Types that meet are assignable: each Any is filled by its counterpart in the other type.
 use Rattle.std.proofs.Common.{◌≡◌, ◌+◌, Option, Some, refl, sym, ap, ◌∙◌, subst, subst₂, ⊎_elim}
 use Rattle.pc_types.specs.Tree.{Tree, Trees, Any, Object, Never, Int, Bool, Str, NoneType, Class, ListOf, DictOf}
 use Rattle.pc_types.specs.Tree.{TupleOf, Union, end, more, erase, erase_each}
@@ -37,7 +37,7 @@ abbrev tail_of : Trees → Trees
 tail_of end = end
 tail_of (more t ts) = ts
 
--- the first with each Any filled by what stands across from it in the second
+-- the first with each Any filled by its counterpart in the second
 abbrev mutual
   merge : Tree → Tree → Tree
   merge Any u = erase u

@@ -1,4 +1,4 @@
--- The tree that a type in boxes means.
+-- The tree of a boxed type.
 use Rattle.std.specs.Prelude.{◌≤◌, List, map}
 use Rattle.pc_types.specs.Tree.{Tree, Trees, end, more, ListOf, DictOf, TupleOf}
 use Rattle.pc_types.specs.Tree as tree
@@ -8,9 +8,9 @@ use Rattle.pc_types.specs.declared.boxed.BoxType.{BoxType, Row_of-BoxType, end_o
 use Rattle.pc_types.specs.declared.boxed.BoxType.TheVariants.{Any, Object, Never, Int, Bool, Str, NoneType, Class}
 use Rattle.pc_types.specs.declared.boxed.BoxType.TheVariants.{List', Dict', Tuple', Union'}
 
--- the trees of types in boxes, and of their parts
+-- the trees of boxed types, and of their parts
 abbrev mutual
-  -- what a type in boxes means
+  -- the tree of a boxed type
   pub tree_of : BoxType → Tree
   tree_of Any = tree.Any
   tree_of Object = tree.Object
@@ -25,21 +25,21 @@ abbrev mutual
   tree_of (Tuple' shape parts) = TupleOf (trees_of parts)
   tree_of (Union' p a q b) = tree.Union (tree_of a) (tree_of b)
 
-  -- what a row of types means, as the parts of a tuple
+  -- the trees of a row of boxed types, as the parts of a tuple
   pub trees_of : {m : _} → Row_of-BoxType m → Trees
   trees_of end_of-BoxType = end
   trees_of (more_of-BoxType t rest) = more (tree_of t) (trees_of rest)
 
--- what several types in boxes mean, as the parts of a tuple
+-- the trees of several boxed types, as the parts of a tuple
 abbrev pub trees_in : List BoxType → Trees
 trees_in ts = trees (map tree_of ts)
 
--- the type is no union
+-- the type is not a union
 abbrev pub IsNoUnion : BoxType → Type 0
 IsNoUnion (Union' p a q b) = ⊥
 IsNoUnion _ = Unit {0}
 
--- a type in boxes that the store may give: of at most 256 nodes, in normal form
+-- a boxed type that the store may give: of at most 256 nodes, in normal form
 pub record IsGiven (t : BoxType) : Type 0 where
   pub small : nodes (tree_of t) ≤ node_limit
   pub normal : IsNormal (tree_of t)

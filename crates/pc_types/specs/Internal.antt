@@ -1,5 +1,6 @@
--- What only the contracts of private functions say: the public contracts speak of the files beside this folder.
+-- Definitions that only the contracts of private functions use: the public contracts use the files beside this folder.
 pub mod Absorbing
 pub mod HeadFlow
 pub mod Leaps
+pub mod Numbered
 pub mod Rebuilding

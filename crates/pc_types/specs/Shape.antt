@@ -1,13 +1,13 @@
--- The form of a type: its nodes, its parts and its members.
+-- The form of a type: its nodes, parts and members.
 -- Own rule of the profile.
 use Rattle.std.specs.Prelude.{ℕ, ◌+◌, List, [], ◌∷◌}
 use Rattle.pc_types.specs.Tree.{Tree, Trees, Never, ListOf, DictOf, TupleOf, Union, end, more}
 
--- the greatest number of nodes of a type
+-- the largest number of nodes of a type
 abbrev pub node_limit : ℕ
 node_limit = 256
 
--- one for a type without parts, one more than its parts for a list, a dict, a tuple and a union of two
+-- the number of nodes of a type: one, and those of its parts; a union has two parts
 abbrev mutual
   pub nodes : Tree → ℕ
   nodes (ListOf t) = 1 + nodes t
@@ -16,12 +16,12 @@ abbrev mutual
   nodes (Union a b) = 1 + nodes a + nodes b
   nodes _ = 1
 
-  -- the nodes of the parts of a tuple together
+  -- the number of nodes of the parts of a tuple together
   pub nodes_of : Trees → ℕ
   nodes_of end = 0
   nodes_of (more t ts) = nodes t + nodes_of ts
 
--- how many parts a tuple has
+-- the number of parts of a tuple
 abbrev pub count : Trees → ℕ
 count end = 0
 count (more t ts) = count ts + 1
@@ -31,7 +31,7 @@ abbrev pub list_of_trees : Trees → List Tree
 list_of_trees end = []
 list_of_trees (more t ts) = t ∷ list_of_trees ts
 
--- a list of parts, as those of a tuple
+-- a list of types as the parts of a tuple
 abbrev pub trees : List Tree → Trees
 trees [] = end
 trees (t ∷ ts) = more t (trees ts)
@@ -42,7 +42,7 @@ members Never = []
 members (Union a b) = a ∷ members b
 members t = t ∷ []
 
--- a member ahead of those of a type
+-- a member put ahead of the members of a type
 abbrev pub ahead : Tree → Tree → Tree
 ahead m Never = m
 ahead m t = Union m t

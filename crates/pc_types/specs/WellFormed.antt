@@ -1,4 +1,4 @@
--- Well-formed types, and the laws that what makes types of well-formed ones makes well-formed ones.
+-- Well-formed types, and the law that joins of well-formed types are well-formed.
 -- Own rule of the profile.
 use Rattle.std.specs.Prelude.{◌≡◌, ◌≤◌, Some}
 use Rattle.pc_types.specs.Tree.{Tree}
@@ -11,7 +11,7 @@ use Rattle.pc_types.specs.Join.{join}
 abbrev pub IsWellFormed : Bases → Tree → Type 0
 IsWellFormed bases t = IsNormal t × IsReduced bases t × (nodes t ≤ node_limit)
 
--- the join of two types in normal form, without absorbed members, is well-formed, if there is one
+-- the join of two types in normal form without absorbed members is well-formed, if it exists
 abbrev pub JoinsAreWellFormed : Type 0
 JoinsAreWellFormed = (bases : Bases) (s t u : Tree) → AreSmaller bases → IsNormal s → IsNormal t → IsReduced bases s
     → IsReduced bases t → join bases s t ≡ Some u → IsWellFormed bases u

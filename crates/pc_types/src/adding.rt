@@ -1,4 +1,4 @@
-//! Whether a join is its first type, told without memory.
+//! Decides without allocation whether a join is its first type.
 
 ghost use Rattle.std.specs.Prelude.{◌≡◌, ◌↔◌, ◌⊎◌, IsTrue, Some, false, true};
 ghost use Rattle.std.specs.Option.{option_map};
@@ -12,7 +12,7 @@ use crate::compare::{is_member_absorbed, is_same, stands_before};
 use crate::join::{Sides, parts_of, split};
 use crate::{BoxType, Parents};
 
-/// Whether a type stays as it is where another one is joined to it. True tells that it does; false tells nothing.
+/// Returns true only if the join of `s` and `t` is `s`. False means nothing.
 pub(crate) fn adds_nothing(parents: &Parents, s: &BoxType, t: &BoxType) -> bool
     requires left { IsGiven s.now }
     requires right { IsGiven t.now }
@@ -29,7 +29,7 @@ pub(crate) fn adds_nothing(parents: &Parents, s: &BoxType, t: &BoxType) -> bool
     stays(parents, &sides, s, t)
 }
 
-/// Whether a type is one member or more.
+/// Returns whether a type is one member or more: neither `Any`, `object` nor `Never`.
 fn has_members(t: &BoxType) -> bool
     ensures listed { IsTrue result → IsNormal (tree_of t.now) → IsOfMembers (tree_of t.now) }
     ensures any { IsTrue result → tree_of t.now ≡ Never → ⊥ }
@@ -37,7 +37,7 @@ fn has_members(t: &BoxType) -> bool
     !matches!(t, BoxType::Any | BoxType::Object | BoxType::Never)
 }
 
-/// Whether the members of two types put together are those of the first.
+/// Returns true only if merging the members of two types yields those of the first.
 #[cycle(stays)]
 fn stays(parents: &Parents, sides: &Sides, s: &BoxType, t: &BoxType) -> bool
     requires empty { tree_of sides.now.never.now ≡ Never }
@@ -66,21 +66,22 @@ fn stays(parents: &Parents, sides: &Sides, s: &BoxType, t: &BoxType) -> bool
     }
 }
 
-/// Whether no member of the right side absorbs a member.
+/// Returns whether no member of the right side absorbs a member.
 fn is_kept(parents: &Parents, sides: &Sides, m: &BoxType) -> bool
     ensures { IsTrue result ↔ (is_absorbed parents.now (tree_of m.now) (tree_of sides.now.right.now) ≡ false) }
 {
     !is_member_absorbed(parents, m, sides.right)
 }
 
-/// Whether some member of the left side absorbs a member.
+/// Returns whether some member of the left side absorbs a member.
 fn is_dropped(parents: &Parents, sides: &Sides, m: &BoxType) -> bool
     ensures { result ≡ is_absorbed parents.now (tree_of m.now) (tree_of sides.now.left.now) }
 {
     is_member_absorbed(parents, m, sides.left)
 }
 
-/// Whether of two members of one head the first is left: it is kept, and the second adds nothing to it or is dropped.
+/// Returns true only if merging two members of one head leaves the first: it is kept, and the second adds nothing or is
+/// absorbed.
 #[cycle(stays)]
 fn is_one(parents: &Parents, sides: &Sides, a: &BoxType, b: &BoxType) -> bool
     requires left { IsNormal (tree_of a.now) }
@@ -92,7 +93,7 @@ fn is_one(parents: &Parents, sides: &Sides, a: &BoxType, b: &BoxType) -> bool
     is_kept(parents, sides, a) && (one_stays(parents, a, b) || is_dropped(parents, sides, b))
 }
 
-/// Whether two types of one head are the first as one: tuples part by part, others where they are equal.
+/// Returns true only if two types of one head merge into the first: tuples part by part, other types if they are equal.
 #[cycle(stays)]
 fn one_stays(parents: &Parents, a: &BoxType, b: &BoxType) -> bool
     requires left { IsNormal (tree_of a.now) }
@@ -105,7 +106,7 @@ fn one_stays(parents: &Parents, a: &BoxType, b: &BoxType) -> bool
     }
 }
 
-/// Whether the parts of a tuple stay as they are where those of another one are joined to them, one by one.
+/// Returns true only if joining the parts of two tuples one by one yields the parts of the first.
 #[cycle(stays)]
 fn parts_stay(parents: &Parents, ss: &[BoxType], ts: &[BoxType]) -> bool
     requires left { AreNormal (trees_in ss.now) }
@@ -123,7 +124,7 @@ fn parts_stay(parents: &Parents, ss: &[BoxType], ts: &[BoxType]) -> bool
     true
 }
 
-/// Whether a part of a tuple stays as it is where another one is joined to it.
+/// Returns true only if the join of two parts is the first.
 #[cycle(stays)]
 fn part_stays(parents: &Parents, s: &BoxType, t: &BoxType) -> bool
     requires left { IsNormal (tree_of s.now) }

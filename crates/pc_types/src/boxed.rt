@@ -1,4 +1,4 @@
-//! Types in boxes, and the store that makes them.
+//! Boxed types, and the store that makes them.
 
 ghost use Rattle.std.specs.Prelude.{◌≡◌, IfOk, unwrap_or};
 ghost use Rattle.pc_types.specs.Boxed.{tree_of, IsGiven};
@@ -15,7 +15,7 @@ use crate::{Head, Parents, TypeStore};
 use pc_source::OutOfMemory;
 use std::alloc::Global;
 
-/// A type in boxes: a tree whose parts lie in boxes and vectors.
+/// A boxed type: a tree whose parts are in boxes and vectors.
 #[derive(Drop)]
 pub enum BoxType {
     Any,
@@ -25,28 +25,28 @@ pub enum BoxType {
     Bool,
     Str,
     NoneType,
-    /// The class of this number.
+    /// The class with this number.
     Class(usize),
     List(Box<BoxType>),
-    /// The key, and the value.
+    /// The key and the value.
     Dict(Box<BoxType>, Box<BoxType>),
     Tuple(Vec<BoxType>),
-    /// The first member, and the others.
+    /// The first member and the others.
     Union(Box<BoxType>, Box<BoxType>),
 }
 
-/// A store whose types are trees of boxes and vectors. It keeps nothing of them.
+/// A store of boxed types. It keeps no state.
 #[derive(Drop)]
 pub struct BoxStore;
 
 impl BoxStore {
-    /// A store.
+    /// Returns a store.
     pub fn new() -> BoxStore {
         BoxStore
     }
 
-    /// A join, and one more type joined to it; where they have no join, `object`. A join that stays as it is takes no
-    /// memory.
+    /// Returns the join of `joined` and `ty`, or `object` if there is none. Allocates nothing if the join is found to
+    /// be `joined`.
     pub fn join_onto(
         &self,
         alloc: Global,
@@ -153,6 +153,14 @@ impl TypeStore for BoxStore {
 
     fn part(&self, alloc: Global, ty: &BoxType, number: usize) -> Result<BoxType, OutOfMemory> {
         copy(alloc, part(ty, number))
+    }
+
+    fn boxed<'t>(&'t self, ty: &'t BoxType) -> &'t BoxType {
+        ty
+    }
+
+    fn mark(&self, ty: &BoxType) -> usize {
+        count_nodes(ty)
     }
 
     fn members(&self, alloc: Global, ty: &BoxType) -> Result<Vec<BoxType>, OutOfMemory> {

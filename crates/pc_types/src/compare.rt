@@ -1,4 +1,4 @@
-//! How members of unions compare: which are equal, which absorb others, and in which order they stand.
+//! Comparison of union members: equality, absorption, order.
 
 ghost use Rattle.std.specs.Prelude.{◌≡◌};
 ghost use Rattle.pc_types.specs.Normal.{member_rank};
@@ -8,7 +8,7 @@ ghost use Rattle.pc_types.specs.Internal.Absorbing.{may_be_absorbed};
 
 use crate::{BoxType, Parents};
 
-/// Whether two types are equal.
+/// Returns whether two types are equal.
 #[cycle(same)]
 pub(crate) fn is_same(s: &BoxType, t: &BoxType) -> bool
     ensures { result ≡ same_tree (tree_of s.now) (tree_of t.now) }
@@ -44,7 +44,7 @@ pub(crate) fn is_same(s: &BoxType, t: &BoxType) -> bool
     }
 }
 
-/// Whether the parts of two tuples are equal.
+/// Returns whether two tuples have equal parts.
 #[cycle(same)]
 fn are_same(ss: &[BoxType], ts: &[BoxType]) -> bool
     ensures { result ≡ same_trees (trees_in ss.now) (trees_in ts.now) }
@@ -60,7 +60,7 @@ fn are_same(ss: &[BoxType], ts: &[BoxType]) -> bool
     true
 }
 
-/// Whether the first absorbs the second in a union.
+/// Returns whether the first absorbs the second in a union.
 fn does_absorb(parents: &Parents, a: &BoxType, m: &BoxType) -> bool
     ensures { result ≡ absorbs parents.now (tree_of a.now) (tree_of m.now) }
 {
@@ -74,7 +74,7 @@ fn does_absorb(parents: &Parents, a: &BoxType, m: &BoxType) -> bool
     }
 }
 
-/// Whether there is a type that absorbs a member: only `bool` and a class with a base have one.
+/// Returns whether a member can be absorbed at all: only `bool` and a class with a base can.
 fn may_be_absorbed(parents: &Parents, m: &BoxType) -> bool
     ensures { result ≡ may_be_absorbed parents.now (tree_of m.now) }
 {
@@ -85,7 +85,7 @@ fn may_be_absorbed(parents: &Parents, m: &BoxType) -> bool
     }
 }
 
-/// Whether one of the members of a type absorbs a member, each asked in turn.
+/// Returns whether a member of a type absorbs a member, by asking each in turn.
 fn does_one_absorb(parents: &Parents, m: &BoxType, t: &BoxType) -> bool
     ensures { result ≡ is_absorbed parents.now (tree_of m.now) (tree_of t.now) }
 {
@@ -98,16 +98,16 @@ fn does_one_absorb(parents: &Parents, m: &BoxType, t: &BoxType) -> bool
     }
 }
 
-/// Whether some member of a type absorbs a member.
+/// Returns whether some member of a type absorbs a member.
 #[tactic(auto, using(crate::proofs::Absorbing::absorbed_where_may))]
 pub(crate) fn is_member_absorbed(parents: &Parents, m: &BoxType, t: &BoxType) -> bool
     ensures { result ≡ is_absorbed parents.now (tree_of m.now) (tree_of t.now) }
 {
-    // The members of most large unions have no base, and each of them is asked for here.
+    // Most members of large unions have no base, and this is called for each of them.
     may_be_absorbed(parents, m) && does_one_absorb(parents, m, t)
 }
 
-/// Whether the first member has its place before the second's.
+/// Returns whether the first member comes before the second in a union.
 pub(crate) fn stands_before(m: &BoxType, n: &BoxType) -> bool
     ensures { result ≡ is_before (tree_of m.now) (tree_of n.now) }
 {
@@ -116,7 +116,7 @@ pub(crate) fn stands_before(m: &BoxType, n: &BoxType) -> bool
     kind < other_kind || (kind == other_kind && detail < other_detail)
 }
 
-/// The place of a head among the members of a union.
+/// Returns the rank of a type's head among the members of a union.
 fn rank(t: &BoxType) -> (usize, usize)
     ensures { result ≡ member_rank (tree_of t.now) }
 {

@@ -1,4 +1,4 @@
-//! When a type flows into another.
+//! Flow of a type into another: static and consistent subtyping.
 
 ghost use Rattle.std.specs.Prelude.{◌≡◌, ◌↔◌, length, IsTrue, true};
 ghost use Rattle.pc_types.specs.Below.{Static};
@@ -11,7 +11,8 @@ ghost use Rattle.pc_types.specs.Boxed.{tree_of, trees_in, IsNoUnion};
 
 use crate::{BoxType, Parents};
 
-/// Whether each member of the first has in the second a member of its head, or one above it.
+/// Returns whether each member of the first type has a counterpart in the second: a member with its head or one above
+/// it.
 fn covers(parents: &Parents, gradual: bool, s: &BoxType, t: &BoxType) -> bool
     ensures { IsTrue result ↔ Covers parents.now (seen gradual (tree_of s.now)) (seen gradual (tree_of t.now)) }
 {
@@ -31,7 +32,7 @@ fn covers(parents: &Parents, gradual: bool, s: &BoxType, t: &BoxType) -> bool
     }
 }
 
-/// Whether the heads of two types that are no unions fit.
+/// Returns whether the heads of two types other than unions fit.
 fn head_fits(parents: &Parents, gradual: bool, s: &BoxType, t: &BoxType) -> bool
     requires left { IsNoUnion s.now }
     requires right { IsNoUnion t.now }
@@ -56,7 +57,8 @@ fn head_fits(parents: &Parents, gradual: bool, s: &BoxType, t: &BoxType) -> bool
     }
 }
 
-/// Whether the first flows into the second by heads, where Any fits everything, or counts as object.
+/// Returns whether the first type flows into the second. If `gradual`, `Any` fits everything, else it counts as
+/// `object`; if `both`, each part of a tuple in the second must also be covered by its counterpart in the first.
 #[cycle(flow)]
 fn flows(parents: &Parents, gradual: bool, both: bool, s: &BoxType, t: &BoxType) -> bool
     ensures { IsTrue result ↔ HeadFlow parents.now both (seen gradual (tree_of s.now)) (seen gradual (tree_of t.now)) }
@@ -80,7 +82,7 @@ fn flows(parents: &Parents, gradual: bool, both: bool, s: &BoxType, t: &BoxType)
     }
 }
 
-/// Whether the heads of two types that are no unions fit, and their parts with them.
+/// Returns whether the heads of two types other than unions fit, and so do their parts.
 #[cycle(flow)]
 fn fits(parents: &Parents, gradual: bool, both: bool, s: &BoxType, t: &BoxType) -> bool
     requires left { IsNoUnion s.now }
@@ -106,8 +108,7 @@ fn fits(parents: &Parents, gradual: bool, both: bool, s: &BoxType, t: &BoxType) 
     }
 }
 
-/// Whether the first flows into the second and, where both directions are wanted, the second into the
-/// first.
+/// Returns whether the first flows into the second and, if `both`, the second is covered by the first.
 #[cycle(flow)]
 fn agree(parents: &Parents, gradual: bool, both: bool, s: &BoxType, t: &BoxType) -> bool
     ensures { IsTrue result ↔ FlowsBack parents.now both (seen gradual (tree_of s.now)) (seen gradual (tree_of t.now)) }
@@ -115,7 +116,7 @@ fn agree(parents: &Parents, gradual: bool, both: bool, s: &BoxType, t: &BoxType)
     flows(parents, gradual, both, s, t) && (!both || covers(parents, gradual, t, s))
 }
 
-/// Whether the parts of two tuples of one length flow into each other's, one by one.
+/// Returns whether two tuples have the same length and each part of the first flows into the same part of the second.
 #[cycle(flow)]
 fn each_flows(parents: &Parents, gradual: bool, both: bool, ss: &[BoxType], ts: &[BoxType]) -> bool
     ensures { IsTrue result ↔ EachFlow parents.now both (seen_each gradual (trees_in ss.now))
@@ -132,7 +133,7 @@ fn each_flows(parents: &Parents, gradual: bool, both: bool, ss: &[BoxType], ts: 
     true
 }
 
-/// Whether the first is static to the second.
+/// Returns whether the first is a static subtype of the second.
 pub(crate) fn is_static(parents: &Parents, s: &BoxType, t: &BoxType) -> bool
     requires left { IsNormal (tree_of s.now) }
     requires right { IsNormal (tree_of t.now) }
@@ -143,7 +144,7 @@ pub(crate) fn is_static(parents: &Parents, s: &BoxType, t: &BoxType) -> bool
     flows(parents, false, false, s, t)
 }
 
-/// Whether the first is assignable to the second.
+/// Returns whether the first is assignable to the second.
 pub(crate) fn is_assignable(parents: &Parents, s: &BoxType, t: &BoxType) -> bool
     requires left { IsNormal (tree_of s.now) }
     requires right { IsNormal (tree_of t.now) }

@@ -1,8 +1,8 @@
-//! The head of a type.
+//! Heads of types.
 
 ghost use Rattle.std.specs.Prelude.{◌≡◌};
 
-/// The head of a type. Own rule of the profile.
+/// The head of a type: its form without its parts. Own rule of the profile.
 #[derive(Clone, Copy, Debug, PartialEq, Eq, Hash)]
 pub enum Head {
     Any,
@@ -16,7 +16,7 @@ pub enum Head {
     Dict,
     /// A tuple of this length.
     Tuple(usize),
-    /// The class of this number.
+    /// The class with this number.
     Class(usize),
     /// A union of this many members, two or more.
     Union(usize),
@@ -25,7 +25,7 @@ pub enum Head {
 impl Head {
     ghost use Rattle.pc_types.specs.Head.{part_count};
 
-    /// How many parts a type with this head has.
+    /// Returns the number of parts of a type with this head.
     pub fn part_count(self) -> usize
         ensures { result ≡ part_count self }
     {

@@ -1,4 +1,4 @@
-//! The join of two types, and of several.
+//! Joins of two types, and of several.
 
 ghost use Rattle.std.specs.Prelude.{◌≡◌, All, IfOk, MatchOption, Some, None, map, unwrap_or};
 ghost use Rattle.std.specs.Option.{option_map};
@@ -16,7 +16,7 @@ use crate::{BoxStore, BoxType, Parents};
 use pc_source::OutOfMemory;
 use std::alloc::Global;
 
-/// A type's first member and a type with the others, or none for Never.
+/// Returns the first member of a type and a type with the others, or `None` for `Never`.
 pub(crate) fn split<'a>(t: &'a BoxType, never: &'a BoxType) -> Option<(&'a BoxType, &'a BoxType)>
     requires { tree_of never.now ≡ Never }
     ensures { MatchOption result (tree_of t.now ≡ Never)
@@ -29,7 +29,7 @@ pub(crate) fn split<'a>(t: &'a BoxType, never: &'a BoxType) -> Option<(&'a BoxTy
     }
 }
 
-/// A copy of a member ahead of those of a type, where there is one.
+/// Returns a copy of a member ahead of the members of `rest`, if there is a rest.
 fn copy_ahead(
     alloc: Global,
     m: &BoxType,
@@ -46,7 +46,7 @@ fn copy_ahead(
     }
 }
 
-/// A copy of a member ahead of those of a type, unless the other type absorbs it.
+/// Returns a copy of a member ahead of the members of `rest`, or `rest` alone if `other` absorbs the member.
 fn kept_ahead(
     alloc: Global,
     parents: &Parents,
@@ -64,7 +64,7 @@ fn kept_ahead(
     }
 }
 
-/// The parts of a tuple, none of another type.
+/// Returns the parts of a tuple, none of any other type.
 pub(crate) fn parts_of(t: &BoxType) -> &[BoxType]
     ensures { trees_in result.now ≡ parts_of (tree_of t.now) }
 {
@@ -74,7 +74,7 @@ pub(crate) fn parts_of(t: &BoxType) -> &[BoxType]
     }
 }
 
-/// Two types that are joined, and a type without members.
+/// Two types to join, and a type without members.
 #[derive(Drop)]
 pub(crate) struct Sides<'a> {
     pub(crate) left: &'a BoxType,
@@ -82,7 +82,7 @@ pub(crate) struct Sides<'a> {
     pub(crate) never: &'a BoxType,
 }
 
-/// The join of two types, or none where a part has none or it has over 256 nodes.
+/// Returns the join of two types, or `None` if a part has none or it has over 256 nodes.
 pub(crate) fn join(
     alloc: Global,
     parents: &Parents,
@@ -99,7 +99,7 @@ pub(crate) fn join(
     Ok(within_limit(u))
 }
 
-/// The join of two types, or `object` where there is none.
+/// Returns the join of two types, or `object` if there is none.
 pub(crate) fn join_or_object(
     alloc: Global,
     parents: &Parents,
@@ -118,7 +118,7 @@ pub(crate) fn join_or_object(
     }
 }
 
-/// The join of several types from the left; where there is none, `object`.
+/// Returns the join of several types from the left. A join that does not exist is replaced by `object`.
 pub(crate) fn join_all(
     alloc: Global,
     parents: &Parents,
@@ -134,7 +134,7 @@ pub(crate) fn join_all(
     Ok(joined)
 }
 
-/// A type within the limit of nodes.
+/// Returns a type if it is within the limit of nodes.
 fn within_limit(u: Option<BoxType>) -> Option<BoxType>
     ensures { option_map tree_of result ≡ within_limit (option_map tree_of u) }
 {
@@ -150,7 +150,7 @@ fn within_limit(u: Option<BoxType>) -> Option<BoxType>
     }
 }
 
-/// The join of two types, whatever its size.
+/// Returns the join of two types, whatever its size.
 #[cycle(join)]
 fn joined(
     alloc: Global,
@@ -174,7 +174,7 @@ fn joined(
     }
 }
 
-/// The join of two types that are not equal, or are tuples.
+/// Returns the join of two types that are not equal or are tuples.
 #[cycle(join)]
 fn ruled(
     alloc: Global,
@@ -212,8 +212,8 @@ fn ruled(
     }
 }
 
-/// The members of two types put together, two of one head as one, but for those that the other side
-/// absorbs.
+/// Merges the members of two types that the other side does not absorb, two of one head into one. `None` if two of one
+/// head cannot be merged.
 #[cycle(join)]
 fn merged(
     alloc: Global,
@@ -258,8 +258,8 @@ fn merged(
     }
 }
 
-/// Two members of one head as one, ahead of those of a type, but for those that the other side
-/// absorbs.
+/// Returns two members of one head, merged into one, ahead of `rest`. A member that the other side absorbs is dropped.
+/// `None` if there is no rest or the two cannot be merged.
 #[cycle(join)]
 fn one_ahead(
     alloc: Global,
@@ -290,7 +290,7 @@ fn one_ahead(
     }
 }
 
-/// Two types of one head as one: tuples part by part, others where they are equal.
+/// Merges two types of one head: tuples part by part, other types if they are equal. `None` if they cannot be merged.
 #[cycle(join)]
 fn one(
     alloc: Global,
@@ -317,7 +317,7 @@ fn one(
     }
 }
 
-/// The parts of two tuples of one length joined one by one.
+/// Returns the joins of the parts of two tuples, or `None` if the lengths differ or a part has no join.
 #[cycle(join)]
 fn joined_parts(
     alloc: Global,

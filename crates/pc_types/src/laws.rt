@@ -3,14 +3,14 @@
 ghost use Rattle.pc_types.specs.Computed.{StaticIsDecided, AssignableIsDecided};
 ghost use Rattle.pc_types.specs.WellFormed.{JoinsAreWellFormed};
 
-/// The law that the join of two types in normal form, without absorbed members, is in normal form too, has no absorbed
-/// member and at most 256 nodes, if there is one.
+/// The law that the join of two types in normal form without absorbed members, if it exists, is in normal form, has no
+/// absorbed member and has at most 256 nodes.
 pub fn joins_are_well_formed()
     ensures { JoinsAreWellFormed }
 {}
 
-/// The law that subtyping with `Any` read as `object`, and consistent subtyping, are decided by their tests on types in
-/// normal form.
+/// The law that on types in normal form, the tests decide static subtyping, which reads `Any` as `object`, and
+/// consistent subtyping.
 pub fn subtyping_is_decided()
     ensures static_test { StaticIsDecided }
     ensures assignable_test { AssignableIsDecided }

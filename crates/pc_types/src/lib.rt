@@ -1,4 +1,4 @@
-//! Types: what they are, when one flows into another, and the join of two.
+//! Types: their form, static and consistent subtyping, and joins.
 #![tactic(auto)]
 
 mod adding;

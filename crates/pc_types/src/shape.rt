@@ -1,4 +1,4 @@
-//! The form of types in boxes: nodes, heads, parts, copies.
+//! The form of boxed types: nodes, heads, parts, copies.
 
 ghost use Rattle.std.specs.Prelude.{◌≡◌, ◌<◌, ◌+◌, ◌++◌, min, map, length, slice_get, IfOk, OnOk, Some};
 ghost use Rattle.pc_types.specs.Shape.{nodes, nodes_of, parts, members, ahead, union};
@@ -9,17 +9,17 @@ use crate::{BoxType, Head};
 use pc_source::OutOfMemory;
 use std::alloc::Global;
 
-/// The greatest number of nodes of a type.
+/// The largest number of nodes of a type.
 pub(crate) const LIMIT: usize = 256;
 
-/// The number, as far as one more than the limit of nodes.
+/// Returns the number, capped at one more than the limit of nodes.
 fn capped(count: usize) -> usize
     ensures { result ≡ min count 257 }
 {
     count.min(LIMIT + 1)
 }
 
-/// How many nodes a type has, as far as one more than the limit.
+/// Returns the number of nodes of a type, capped at one more than the limit.
 #[cycle(nodes)]
 pub(crate) fn count_nodes(t: &BoxType) -> usize
     ensures { result ≡ min (nodes (tree_of t.now)) 257 }
@@ -33,7 +33,7 @@ pub(crate) fn count_nodes(t: &BoxType) -> usize
     }
 }
 
-/// How many nodes several types have, as far as one more than the limit.
+/// Returns the number of nodes of several types together, capped at one more than the limit.
 #[cycle(nodes)]
 pub(crate) fn count_each(ts: &[BoxType]) -> usize
     ensures { result ≡ min (nodes_of (trees_in ts.now)) 257 }
@@ -45,7 +45,7 @@ pub(crate) fn count_each(ts: &[BoxType]) -> usize
     sum
 }
 
-/// A copy of a type.
+/// Returns a copy of a type.
 #[cycle(copy)]
 pub(crate) fn copy(alloc: Global, t: &BoxType) -> Result<BoxType, OutOfMemory>
     ensures { IfOk result (λ c. tree_of c ≡ tree_of t.now) }
@@ -77,7 +77,7 @@ pub(crate) fn copy(alloc: Global, t: &BoxType) -> Result<BoxType, OutOfMemory>
     }
 }
 
-/// Copies of several types.
+/// Returns copies of several types.
 #[cycle(copy)]
 pub(crate) fn copies(alloc: Global, ts: &[BoxType]) -> Result<Vec<BoxType>, OutOfMemory>
     ensures { IfOk result (λ v. map tree_of v.items ≡ map tree_of ts.now) }
@@ -89,7 +89,7 @@ pub(crate) fn copies(alloc: Global, ts: &[BoxType]) -> Result<Vec<BoxType>, OutO
     Ok(out)
 }
 
-/// How many members a type has: those of a union, none of Never, else one.
+/// Returns the number of members of a type: those of a union, none for `Never`, else one.
 fn count_members(t: &BoxType) -> usize
     requires { nodes (tree_of t.now) < 257 }
     ensures { result ≡ length (members (tree_of t.now)) }
@@ -101,7 +101,7 @@ fn count_members(t: &BoxType) -> usize
     }
 }
 
-/// A type's head.
+/// Returns the head of a type.
 pub(crate) fn head(t: &BoxType) -> Head
     requires { nodes (tree_of t.now) < 257 }
     ensures { result ≡ head_of (tree_of t.now) }
@@ -122,7 +122,7 @@ pub(crate) fn head(t: &BoxType) -> Head
     }
 }
 
-/// The member of this number.
+/// Returns the member of a type with this number, from 0.
 fn member(t: &BoxType, number: usize) -> &BoxType
     requires { number < length (members (tree_of t.now)) }
     ensures { slice_get (members (tree_of t.now)) number ≡ Some (tree_of result.now) }
@@ -139,7 +139,7 @@ fn member(t: &BoxType, number: usize) -> &BoxType
     }
 }
 
-/// The part of this number.
+/// Returns the part of a type with this number, from 0.
 pub(crate) fn part(t: &BoxType, number: usize) -> &BoxType
     requires { number < length (parts (tree_of t.now)) }
     ensures { slice_get (parts (tree_of t.now)) number ≡ Some (tree_of result.now) }
@@ -152,7 +152,7 @@ pub(crate) fn part(t: &BoxType, number: usize) -> &BoxType
     }
 }
 
-/// Each member of a type after other types.
+/// Appends copies of the members of a type.
 fn push_members(alloc: Global, t: &BoxType, out: &mut Vec<BoxType>) -> Result<(), OutOfMemory>
     ensures { OnOk result (map tree_of out.new.items ≡ map tree_of out.old.items ++ members (tree_of t.now)) }
 {
@@ -169,7 +169,7 @@ fn push_members(alloc: Global, t: &BoxType, out: &mut Vec<BoxType>) -> Result<()
     }
 }
 
-/// The members of a type.
+/// Returns copies of the members of a type.
 pub(crate) fn members(alloc: Global, t: &BoxType) -> Result<Vec<BoxType>, OutOfMemory>
     ensures { IfOk result (λ v. map tree_of v.items ≡ members (tree_of t.now)) }
 {
@@ -178,7 +178,7 @@ pub(crate) fn members(alloc: Global, t: &BoxType) -> Result<Vec<BoxType>, OutOfM
     Ok(out)
 }
 
-/// The parts of a type.
+/// Returns copies of the parts of a type.
 pub(crate) fn parts(alloc: Global, t: &BoxType) -> Result<Vec<BoxType>, OutOfMemory>
     ensures { IfOk result (λ v. map tree_of v.items ≡ parts (tree_of t.now)) }
 {
@@ -194,7 +194,7 @@ pub(crate) fn parts(alloc: Global, t: &BoxType) -> Result<Vec<BoxType>, OutOfMem
     }
 }
 
-/// A member ahead of those of a type.
+/// Returns a type with a member ahead of those of another type.
 pub(crate) fn put_ahead(alloc: Global, m: BoxType, rest: BoxType) -> Result<BoxType, OutOfMemory>
     ensures { IfOk result (λ u. tree_of u ≡ ahead (tree_of m) (tree_of rest)) }
 {
@@ -207,7 +207,7 @@ pub(crate) fn put_ahead(alloc: Global, m: BoxType, rest: BoxType) -> Result<BoxT
     }
 }
 
-/// The union of members.
+/// Returns the union of members.
 pub(crate) fn union(alloc: Global, types: &[BoxType]) -> Result<BoxType, OutOfMemory>
     ensures { IfOk result (λ u. tree_of u ≡ union (map tree_of types.now)) }
 {

@@ -1,17 +1,17 @@
--- What an action changes is what it changes at the location of its object.
+-- The change that an action makes is a change of the cell at the location of its object.
 use Rattle.std.proofs.Common.{◌≡◌, ℕ, List, refl, sym, ap, ◌∙◌, subst}
 use Rattle.std.specs.Prelude.{slice_set, slice_get, Option, Some, None, Result, Ok, Err, IfOk, OnOk, OnErr}
 use Rattle.pc_source.specs.declared.fault.OutOfMemory.{OutOfMemory}
 use Rattle.pc_value.specs.declared.value.Heap.{Heap as RustHeap}
 use Rattle.pc_value.specs.declared.action.Outcome.{Outcome as RustOutcome}
-use Rattle.pc_value.specs.Value.{Value, whole, boolean, string, none, tuple_of, location, Entry, Slot, Cell, list_cell}
+use Rattle.pc_value.specs.Value.{Value, whole, boolean, string, none, tuple_of, location, DictEntry, Slot, Cell, list_cell}
 use Rattle.pc_value.specs.Value.{dict_cell, instance_cell, Heap, Other, Seen, a_number, a_text, a_none, a_tuple, a_list}
 use Rattle.pc_value.specs.Value.{a_dict, an_instance, a_stray, seen, seen_cell}
 use Rattle.pc_value.specs.Actions.{ActionResult, stops, keeps}
 use Rattle.pc_value.specs.Meaning.{heap_of}
 use Rattle.pc_value.specs.Doing.{outcome_of, ComesTo}
 use Rattle.pc_value.specs.Containers.{pop_from, last_of, store_at, store_key}
-use Rattle.pc_value.specs.Internal.Changes.{Change, pops, sets_item, sets_key, change_result, changed_at, heap_changed}
+use Rattle.pc_value.specs.Internal.Changes.{CellChange, pops, sets_item, sets_key, change_result, changed_at, heap_changed}
 use Rattle.pc_value.specs.Internal.Changes.{pop_result, stored_at, stored_key}
 use Rattle.pc_value.proofs.Lists.{set_same}
 
@@ -34,16 +34,16 @@ list_there heap none l items e = absurd (cc)
 list_there heap (tuple_of vs) l items e = absurd (cc)
 list_there heap (location m) l items e = list_lies heap m l items (slice_get heap m) refl e
 
-dict_lies : (heap : Heap) (m l : ℕ) (entries : List Entry) (o : Option Cell) → slice_get heap m ≡ o
+dict_lies : (heap : Heap) (m l : ℕ) (entries : List DictEntry) (o : Option Cell) → slice_get heap m ≡ o
     → a_dict l entries ≡ seen_cell m o → slice_get heap l ≡ Some (dict_cell entries)
 dict_lies heap m l entries None h e = absurd (cc)
 dict_lies heap m l entries (Some (dict_cell entries')) h e =
     let at : l ≡ m = cc in let same : entries ≡ entries' = cc in ap (λ (k : ℕ). slice_get heap k) at ∙ h
-    ∙ ap (λ (es : List Entry). Some (dict_cell es)) (sym same)
+    ∙ ap (λ (es : List DictEntry). Some (dict_cell es)) (sym same)
 dict_lies heap m l entries (Some (list_cell items)) h e = absurd (cc)
 dict_lies heap m l entries (Some (instance_cell c fields)) h e = absurd (cc)
 
-pub dict_there : (heap : Heap) (v : Value) (l : ℕ) (entries : List Entry) → a_dict l entries ≡ seen heap v
+pub dict_there : (heap : Heap) (v : Value) (l : ℕ) (entries : List DictEntry) → a_dict l entries ≡ seen heap v
     → slice_get heap l ≡ Some (dict_cell entries)
 dict_there heap (whole n) l entries e = absurd (cc)
 dict_there heap (boolean b) l entries e = absurd (cc)
@@ -71,7 +71,7 @@ instance_there heap (tuple_of vs) l class fields e = absurd (cc)
 instance_there heap (location m) l class fields e = instance_lies heap m l class fields (slice_get heap m) refl e
 
 -- a change at a location, where it is known what lies there
-pub changes : (heap : Heap) (l : ℕ) (change : Change) (cell : Cell) → slice_get heap l ≡ Some cell
+pub changes : (heap : Heap) (l : ℕ) (change : CellChange) (cell : Cell) → slice_get heap l ≡ Some cell
     → heap_changed heap l change ≡ record {
       outcome = (change_result change cell).outcome;
       heap =
@@ -108,7 +108,7 @@ pub stores_there : (heap : Heap) (l : ℕ) (items : List Value) (i : Option ℕ)
 stores_there heap l items None v h = refl
 stores_there heap l items (Some i) v h = changes heap l (sets_item i v) (list_cell items) h
 
-pub keys_there : (heap : Heap) (l : ℕ) (entries : List Entry) (k : Seen) (key v : Value)
+pub keys_there : (heap : Heap) (l : ℕ) (entries : List DictEntry) (k : Seen) (key v : Value)
     → slice_get heap l ≡ Some (dict_cell entries) → stored_key heap l k key v ≡ store_key heap l entries k key v
 keys_there heap l entries (a_number n) key v h = changes heap l (sets_key key v) (dict_cell entries) h
 keys_there heap l entries (a_text cs) key v h = changes heap l (sets_key key v) (dict_cell entries) h

@@ -8,7 +8,7 @@ use Rattle.pc_value.specs.Value.{Cell, list_cell, Outside}
 use Rattle.pc_value.specs.Actions.{stops}
 use Rattle.pc_value.specs.Meaning.{value_of, cell_of}
 use Rattle.pc_value.specs.Containers.{last_of}
-use Rattle.pc_value.specs.Internal.Changes.{Change, change_result, changed_at, heap_changed, pop_result}
+use Rattle.pc_value.specs.Internal.Changes.{CellChange, change_result, changed_at, heap_changed, pop_result}
 
 pub map_set : {A B : Type 0} (f : A → B) (xs : List A) (i : ℕ) (v : A) → map f (slice_set xs i v) ≡ slice_set (map f xs)
     i (f v)
@@ -65,7 +65,7 @@ pop_after xs rest v e = rw (
 ) refl
 
 -- a change at a location, and none
-pub change_there : (cells : List RustCell) (place : ℕ) (old new : RustCell) (change : Change) → place < length cells
+pub change_there : (cells : List RustCell) (place : ℕ) (old new : RustCell) (change : CellChange) → place < length cells
     → old ≡ get_or cells place old → cell_of new ≡ (change_result change (cell_of old)).cell
     → map cell_of (slice_set cells place new) ≡ (heap_changed (map cell_of cells) place change).heap
 change_there cells place old new change lt is e =
@@ -83,7 +83,7 @@ same_there cells place old new lt is e =
     map_set cell_of cells place new ∙ ap (λ (c : Cell). slice_set (map cell_of cells) place c) e
     ∙ set_same (map cell_of cells) place (cell_of old) there
 
-pub nothing_there : (cells : List RustCell) (place : ℕ) (change : Change) → length cells ≤ place
+pub nothing_there : (cells : List RustCell) (place : ℕ) (change : CellChange) → length cells ≤ place
     → stops Outside ≡ (heap_changed (map cell_of cells) place change).outcome
 nothing_there cells place change h = ap (λ (o : Option Cell). (changed_at (map cell_of cells) place change o).outcome)
     (sym (get_past cell_of cells place h))

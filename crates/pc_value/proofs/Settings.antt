@@ -1,11 +1,11 @@
--- Setting a key of a dict, and a field of an instance, at the place where it was found.
+-- Setting a key of a dict, and a field of an instance, at the place found for it.
 use Rattle.std.proofs.Common.{◌≡◌, ℕ, suc, ◌<◌, ◌≤◌, Bool, true, false, List, [], ◌∷◌, ◌++◌, map, length, get_or, refl}
 use Rattle.std.proofs.Common.{ap, arith}
 use Rattle.std.specs.Prelude.{slice_set, if◌then◌else◌, string_bytes}
 use Rattle.pc_value.specs.declared.value.Value.{Value as RustValue}
-use Rattle.pc_value.specs.declared.value.Entry.{Entry as RustEntry}
+use Rattle.pc_value.specs.declared.value.DictEntry.{DictEntry as RustEntry}
 use Rattle.pc_value.specs.declared.value.Slot.{Slot as RustSlot}
-use Rattle.pc_value.specs.Value.{Value, Entry, Slot}
+use Rattle.pc_value.specs.Value.{Value, DictEntry, Slot}
 use Rattle.pc_value.specs.Meaning.{value_of, entry_of, slot_of}
 use Rattle.pc_value.specs.Containers.{same_key, with_entry}
 use Rattle.pc_value.specs.Attributes.{with_field}
@@ -32,7 +32,7 @@ set_there key v (e ∷ rest) d h = go (same_key (value_of e.key) key) h (set_the
         ≡ (if b then record { key = value_of e.key; value = value_of v } ∷ map entry_of rest else entry_of e
         ∷ with_entry key (value_of v) (map entry_of rest))
     go true k ih = refl
-    go false k ih = ap (λ (es : List Entry). entry_of e ∷ es) (ih (omega arith))
+    go false k ih = ap (λ (es : List DictEntry). entry_of e ∷ es) (ih (omega arith))
 
 -- a key that is not there
 pub set_new : (k v : RustValue) (entries : List RustEntry) → length entries ≤ key_place (value_of k)
@@ -48,7 +48,7 @@ set_new k v (e ∷ rest) h = go (same_key (value_of e.key) (value_of k)) h (set_
         ≡ (if b then record { key = value_of e.key; value = value_of v } ∷ map entry_of rest else entry_of e
         ∷ with_entry (value_of k) (value_of v) (map entry_of rest))
     go true h ih = absurd (omega arith)
-    go false h ih = ap (λ (es : List Entry). entry_of e ∷ es) (ih (omega arith))
+    go false h ih = ap (λ (es : List DictEntry). entry_of e ∷ es) (ih (omega arith))
 
 -- the field of a name that is there
 pub field_there : (name : List ℕ) (v : RustValue) (fields : List RustSlot) (d : RustSlot)

@@ -2,9 +2,9 @@
 use Rattle.std.proofs.Common.{◌≡◌, ℕ, ◌<◌, ◌≤◌, zero, suc, List, [], ◌∷◌, map, length, get_or, arith, not, nat_eq}
 use Rattle.std.proofs.Common.{rules, refl, ap, ◌∙◌}
 use Rattle.std.specs.Prelude.{Vec, slice_get, Some, None}
-use Rattle.pc_value.specs.declared.value.Entry.{Entry as RustEntry}
+use Rattle.pc_value.specs.declared.value.DictEntry.{DictEntry as RustEntry}
 use Rattle.std.specs.Global.{Global}
-use Rattle.pc_value.specs.Value.{Value, Entry, tuple_of, values_of, list_of, more_values, a_tuple, is_true_seen}
+use Rattle.pc_value.specs.Value.{Value, DictEntry, tuple_of, values_of, list_of, more_values, a_tuple, is_true_seen}
 use Rattle.pc_value.specs.Meaning.{value_of, values_in, entry_of}
 use Rattle.pc_value.specs.declared.value.Value.{Value as RustValue, Row_of-Value, end_of-Value, more_of-Value}
 use Rattle.pc_value.specs.declared.value.Value.{items-the_row-Value, items_hidden-the_row-Value-0}
@@ -37,13 +37,13 @@ tuple_length (v ∷ rest) = ap suc (tuple_length rest)
 
 -- the keys of entries
 pub keys_get : (entries : List RustEntry) (i : ℕ) (d : RustEntry) → i < length entries
-    → slice_get (map (λ (e : Entry). e.key) (map entry_of entries)) i ≡ Some (value_of (get_or entries i d).key)
+    → slice_get (map (λ (e : DictEntry). e.key) (map entry_of entries)) i ≡ Some (value_of (get_or entries i d).key)
 keys_get [] i d h = absurd (omega arith)
 keys_get (e ∷ rest) zero d h = refl
 keys_get (e ∷ rest) (suc i) d h = keys_get rest i d (omega arith)
 
 pub keys_past : (entries : List RustEntry) (i : ℕ) → length entries ≤ i
-    → slice_get (map (λ (e : Entry). e.key) (map entry_of entries)) i ≡ None
+    → slice_get (map (λ (e : DictEntry). e.key) (map entry_of entries)) i ≡ None
 keys_past [] i h = refl
 keys_past (e ∷ rest) zero h = absurd (omega arith)
 keys_past (e ∷ rest) (suc i) h = keys_past rest i (omega arith)

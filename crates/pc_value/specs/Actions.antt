@@ -1,12 +1,12 @@
--- The actions on values, each with its operands, and what an action comes to.
+-- The actions on values, each with its operands, and the outcome of an action.
 -- Language Reference 6 "Expressions", 7.2 "Assignment statements", 8.3 "The for statement".
 use Rattle.std.specs.Prelude.{ℕ, Bool, List, ℤ}
 use Rattle.pc_tree.specs.declared.tree.BinaryOperator.{BinaryOperator}
 use Rattle.pc_tree.specs.declared.tree.ComparisonOperator.{ComparisonOperator}
-use Rattle.pc_value.specs.Value.{Value, Values, Entry, Slot, Heap, Exception, Stop, Raised}
+use Rattle.pc_value.specs.Value.{Value, Values, DictEntry, Slot, Heap, Exception, Stop, Raised}
 
--- what a `for` goes over: the present items of a list, the keys of a dict that had so many entries, the characters of
--- a text, the items of a tuple, the whole numbers from 0 on that are below one
+-- the source of a `for`'s items: the current items of a list, the keys of a dict that had `size` entries, the
+-- characters of a text, the items of a tuple, or the whole numbers from 0 on below a limit
 pub data Iteration : Type 0 where
   over_list : (place : ℕ) → Iteration
   over_dict : (place size : ℕ) → Iteration
@@ -16,7 +16,7 @@ pub data Iteration : Type 0 where
 
 -- an action on values, with its operands
 pub data Action : Type 0 where
-  -- a whole number as it is written
+  -- a whole number as written
   number : (n : ℤ) → Action
   -- `+`, `-`, `*`, `//`, `%`
   binary : (operator : BinaryOperator) (left right : Value) → Action
@@ -31,14 +31,14 @@ pub data Action : Type 0 where
   -- `[v, ..]`
   new_list : (items : List Value) → Action
   -- `{k: v, ..}`
-  new_dict : (entries : List Entry) → Action
+  new_dict : (entries : List DictEntry) → Action
   -- an instance of a class, with its fields
   new_instance : (class : ℕ) (fields : List Slot) → Action
   -- `e[i]`
   read_item : (object key : Value) → Action
   -- `e[i] = v`
   store_item : (object key value : Value) → Action
-  -- `e.f`, where the class of e has a method of that name or has none
+  -- `e.f`, and whether the class of e has a method of that name
   read_attribute : (object : Value) (name : List ℕ) (is_method : Bool) → Action
   -- `e.f = v`
   store_attribute : (object : Value) (name : List ℕ) (value : Value) → Action
@@ -49,14 +49,14 @@ pub data Action : Type 0 where
   -- `len(e)`, `str(e)`
   length_of : (operand : Value) → Action
   text_of : (operand : Value) → Action
-  -- what a `for` begins to go over, as a value and as `range(e)`
+  -- the start of a `for`, over a value and over `range(e)`
   iterate : (iterable : Value) → Action
   iterate_range : (limit : Value) → Action
   -- a turn of a `for`, counted from 0
   turn : (over : Iteration) (index : ℕ) → Action
 
--- what an action comes to: a value (None where it gives nothing), what to go over, that there is no further turn, or
--- the end of the run
+-- the outcome of an action: a value (None where it has no result of its own), the source of a `for`'s items, the end
+-- of a `for`, or the end of the run
 pub data Outcome : Type 0 where
   gives : (value : Value) → Outcome
   iterates : (over : Iteration) → Outcome
@@ -68,12 +68,12 @@ pub record ActionResult : Type 0 where
   pub outcome : Outcome
   pub heap : Heap
 
--- the answers that the model leaves free: a truth value and a text
+-- free answers, which the model leaves open: a truth value and a text
 pub record Free : Type 0 where
   pub truth : Bool
   pub characters : List ℕ
 
--- the heap stays as it is
+-- the outcome with the heap unchanged
 abbrev pub keeps : Heap → Outcome → ActionResult
 keeps heap outcome = record { outcome = outcome; heap = heap }
 

@@ -11,13 +11,13 @@ abbrev pub field_value : List ℕ → List Slot → Option Value
 field_value name [] = None
 field_value name (s ∷ rest) = if same_text s.name name then Some s.value else field_value name rest
 
--- the fields after one of them was set
+-- the fields after one of them is set
 abbrev pub with_field : List ℕ → Value → List Slot → List Slot
 with_field name v [] = []
 with_field name v (s ∷ rest) = if same_text s.name name then record { name = s.name; value = v } ∷ rest
     else s ∷ with_field name v rest
 
--- a field; else the name of a method is out of the profile, and another name is AttributeError
+-- the value of a field; without one, a method's name is out of the profile, and any other name is AttributeError
 abbrev pub field_outcome : Option Value → Bool → Outcome
 field_outcome (Some v) is_method = gives v
 field_outcome None true = stops Outside
@@ -34,7 +34,8 @@ abbrev pub store_field : Heap → ℕ → ℕ → List Slot → List ℕ → Val
 store_field heap l class fields name v (Some old) = with_cell heap l (instance_cell class (with_field name v fields))
 store_field heap l class fields name v None = keeps heap (stops Outside)
 
--- `e.f = v`: a field of an instance; another name on an instance is out of the profile, other kinds are AttributeError
+-- `e.f = v`: sets a field of an instance; another name on an instance is out of the profile, other kinds are
+-- AttributeError
 abbrev pub store_attribute_outcome : Heap → Seen → List ℕ → Value → ActionResult
 store_attribute_outcome heap (an_instance l class fields) name v =
     store_field heap l class fields name v (field_value name fields)

@@ -1,40 +1,40 @@
 -- Lists, dicts, tuples and texts: their lengths, items and keys, and their changes.
--- Language Reference 6.2.5 "List displays", 6.2.7 "Dictionary displays", 6.3.2 "Subscriptions"; Library Reference,
--- "Sequence Types" and "Mapping Types".
+-- Language Reference 6.2.5 "List displays", 6.2.7 "Dictionary displays", 6.3.2 "Subscriptions";
+-- Library Reference, "Sequence Types" and "Mapping Types".
 use Rattle.std.specs.Prelude.{◌≡◌, ℕ, suc, ◌-◌, Bool, true, false, List, [], ◌∷◌, ◌++◌, length, take, ℤ, pos, negsuc}
 use Rattle.std.specs.Prelude.{nat_lt, if◌then◌else◌, Option, Some, None, is_some, slice_get, slice_set, refl}
-use Rattle.pc_value.specs.Value.{Value, whole, boolean, string, none, location, list_of, Entry, Cell, list_cell}
+use Rattle.pc_value.specs.Value.{Value, whole, boolean, string, none, location, list_of, DictEntry, Cell, list_cell}
 use Rattle.pc_value.specs.Value.{dict_cell, Heap, TypeError, Outside, Other, Stop, Raised, Seen, a_number, a_text}
 use Rattle.pc_value.specs.Value.{a_none, a_tuple, a_list, a_dict, seen, number_of_truth}
 use Rattle.pc_value.specs.Actions.{Outcome, gives, stops, raises, ActionResult, keeps}
 use Rattle.pc_value.specs.Numbers.{same_number}
 use Rattle.pc_value.specs.Texts.{same_text}
 
--- the index that a whole number names among so many items; negative ones count from the end
+-- the position of an index among n items; negative ones count from the end
 abbrev pub index_among : ℕ → ℤ → Option ℕ
 index_among n (pos i) = if nat_lt i n then Some i else None
 index_among n (negsuc i) = if nat_lt i n then Some (n - suc i) else None
 
--- the item at an index, if there is an index and an item at it
+-- the item at an index, if there is such an index and item
 abbrev pub at_index : {A : Type 0} → List A → Option ℕ → Option A
 at_index items None = None
 at_index items (Some i) = slice_get items i
 
--- the item that a whole number names
+-- the item at an index that may be negative
 abbrev pub item_numbered : {A : Type 0} → List A → ℤ → Option A
 item_numbered items i = at_index items (index_among (length items) i)
 
--- an item, or another exception where there is none
+-- an item, or another exception if there is none
 abbrev pub gives_item : Option Value → Outcome
 gives_item None = stops Other
 gives_item (Some v) = gives v
 
--- a character as a text of its own, or another exception where there is none
+-- a character as a text of its own, or another exception if there is none
 abbrev pub gives_character : Option ℕ → Outcome
 gives_character None = stops Other
 gives_character (Some c) = gives (string (c ∷ []))
 
--- two keys are the same: by number, bool counting as int, or by text
+-- whether two keys are equal: by number, bool counting as int, or by text
 abbrev pub same_key : Value → Value → Bool
 same_key (whole x) (whole y) = same_number x y
 same_key (whole x) (boolean b) = same_number x (number_of_truth b)
@@ -44,23 +44,23 @@ same_key (string s) (string t) = same_text s t
 same_key v w = false
 
 -- the value of a key
-abbrev pub value_at : Value → List Entry → Option Value
+abbrev pub value_at : Value → List DictEntry → Option Value
 value_at key [] = None
 value_at key (e ∷ rest) = if same_key e.key key then Some e.value else value_at key rest
 
--- the entries after a key was set: an entry of that key keeps its place and its key, a new one goes to the end
-abbrev pub with_entry : Value → Value → List Entry → List Entry
+-- the entries after a key is set: an entry with that key keeps its place and its key, a new one goes to the end
+abbrev pub with_entry : Value → Value → List DictEntry → List DictEntry
 with_entry key v [] = record { key = key; value = v } ∷ []
 with_entry key v (e ∷ rest) = if same_key e.key key then record { key = e.key; value = v } ∷ rest
     else e ∷ with_entry key v rest
 
--- the entries of a display, set one after another
-abbrev pub with_entries : List Entry → List Entry → List Entry
+-- the entries after those of a display are set one after another
+abbrev pub with_entries : List DictEntry → List DictEntry → List DictEntry
 with_entries entries [] = entries
 with_entries entries (e ∷ rest) = with_entries (with_entry e.key e.value entries) rest
 
 -- `k in d`
-abbrev pub contains_key : Seen → List Entry → Outcome
+abbrev pub contains_key : Seen → List DictEntry → Outcome
 contains_key (a_number n) entries = gives (boolean (is_some (value_at (whole n) entries)))
 contains_key (a_text cs) entries = gives (boolean (is_some (value_at (string cs) entries)))
 contains_key a_none entries = gives (boolean false)
@@ -68,7 +68,7 @@ contains_key (a_tuple items) entries = stops Outside
 contains_key v entries = raises TypeError
 
 -- `d[k]`: a key that is absent is another exception
-abbrev pub dict_item : Seen → List Entry → Outcome
+abbrev pub dict_item : Seen → List DictEntry → Outcome
 dict_item (a_number n) entries = gives_item (value_at (whole n) entries)
 dict_item (a_text cs) entries = gives_item (value_at (string cs) entries)
 dict_item a_none entries = stops Other
@@ -81,7 +81,7 @@ value_or_none None = none
 value_or_none (Some v) = v
 
 -- `d.get(k)`: None for a key that is absent and for the key None
-abbrev pub dict_get : Seen → List Entry → Outcome
+abbrev pub dict_get : Seen → List DictEntry → Outcome
 dict_get (a_number n) entries = gives (value_or_none (value_at (whole n) entries))
 dict_get (a_text cs) entries = gives (value_or_none (value_at (string cs) entries))
 dict_get a_none entries = gives none
@@ -96,7 +96,7 @@ item_outcome (a_tuple items) (a_number i) = gives_item (item_numbered (list_of i
 item_outcome (a_dict l entries) key = dict_item key entries
 item_outcome v w = raises TypeError
 
--- what lies at a location from now on
+-- a location gets a new cell; the outcome is None
 abbrev pub with_cell : Heap → ℕ → Cell → ActionResult
 with_cell heap l cell = record { outcome = gives none; heap = slice_set heap l cell }
 
@@ -106,7 +106,7 @@ store_at heap l items None v = keeps heap (stops Other)
 store_at heap l items (Some i) v = with_cell heap l (list_cell (slice_set items i v))
 
 -- `e[i] = v` on a dict, by the kind of the key
-abbrev pub store_key : Heap → ℕ → List Entry → Seen → Value → Value → ActionResult
+abbrev pub store_key : Heap → ℕ → List DictEntry → Seen → Value → Value → ActionResult
 store_key heap l entries (a_number n) key v = with_cell heap l (dict_cell (with_entry key v entries))
 store_key heap l entries (a_text cs) key v = with_cell heap l (dict_cell (with_entry key v entries))
 store_key heap l entries a_none key v = keeps heap (stops Outside)
@@ -119,11 +119,11 @@ store_outcome heap (a_list l items) (a_number i) key v = store_at heap l items (
 store_outcome heap (a_dict l entries) k key v = store_key heap l entries k key v
 store_outcome heap o k key v = keeps heap (raises TypeError)
 
--- something new in the heap, at the first location that is free
+-- a new cell at the first free location of the heap
 abbrev pub with_new_cell : Heap → Cell → ActionResult
 with_new_cell heap cell = record { outcome = gives (location (length heap)); heap = heap ++ cell ∷ [] }
 
--- how a key ends a dict display: None and a tuple outside the profile, others but int and str in TypeError
+-- the fault of a key in a dict display: None and a tuple are out of the profile, others but int and str are TypeError
 abbrev pub key_fault : Seen → Option Stop
 key_fault (a_number n) = None
 key_fault (a_text cs) = None
@@ -137,12 +137,12 @@ first_stop None second = second
 first_stop (Some stop) second = Some stop
 
 -- the fault of the first key that has one
-abbrev pub first_key_fault : Heap → List Entry → Option Stop
+abbrev pub first_key_fault : Heap → List DictEntry → Option Stop
 first_key_fault heap [] = None
 first_key_fault heap (e ∷ rest) = first_stop (key_fault (seen heap e.key)) (first_key_fault heap rest)
 
--- a dict display, by how a key ends it: a new dict with its entries where none does, else that stop
-abbrev pub dict_display : Heap → List Entry → Option Stop → ActionResult
+-- a dict display, given the fault of its keys: a new dict with its entries if there is none, else that stop
+abbrev pub dict_display : Heap → List DictEntry → Option Stop → ActionResult
 dict_display heap entries None = with_new_cell heap (dict_cell (with_entries [] entries))
 dict_display heap entries (Some stop) = keeps heap (stops stop)
 
@@ -155,7 +155,7 @@ append_outcome heap o v = keeps heap (stops Outside)
 abbrev pub last_of : {A : Type 0} → List A → Option A
 last_of items = slice_get items (length items - 1)
 
--- the list at a location loses its last item and gives it; another exception where it has none
+-- the list at a location without its last item, which is given; another exception if it has none
 abbrev pub pop_from : Heap → ℕ → List Value → Option Value → ActionResult
 pop_from heap l items None = keeps heap (stops Other)
 pop_from heap l items (Some v) = record {
@@ -163,7 +163,7 @@ pop_from heap l items (Some v) = record {
   heap = slice_set heap l (list_cell (take (length items - 1) items));
 }
 
--- `e.pop()` on a list: its last item; another exception where it is empty
+-- `e.pop()` on a list: its last item; another exception if it is empty
 abbrev pub pop_outcome : Heap → Seen → ActionResult
 pop_outcome heap (a_list l items) = pop_from heap l items (last_of items)
 pop_outcome heap o = keeps heap (stops Outside)

@@ -1,4 +1,4 @@
--- What actions and outcomes of the program are.
+-- The meaning of the program's actions and outcomes.
 use Rattle.std.specs.Prelude.{◌≡◌, ℕ, Bool, true, false, List, map, ℤ, string_bytes, Result, Ok, Err}
 use Rattle.pc_value.specs.declared.action.Exception.{Exception as RustException}
 use Rattle.pc_value.specs.declared.action.Exception.TheVariants as rust_exception
@@ -20,14 +20,14 @@ use Rattle.pc_source.specs.declared.fault.OutOfMemory.{OutOfMemory}
 use Rattle.pc_value.specs.declared.value.Heap.{Heap as RustHeap}
 use Rattle.pc_value.specs.Meaning.{value_of, entry_of, slot_of, heap_of}
 
--- one of the four exceptions, as the program tells it
+-- one of the four exceptions, as the program represents it
 abbrev pub exception_of : RustException → Exception
 exception_of rust_exception.TypeError = TypeError
 exception_of rust_exception.AttributeError = AttributeError
 exception_of rust_exception.NameError = NameError
 exception_of rust_exception.UnboundLocalError = UnboundLocalError
 
--- what a `for` goes over, as the program holds it
+-- the source of a `for`'s items, as the program holds it
 abbrev pub iteration_of : RustIteration → Iteration
 iteration_of (rust_iteration.List l) = over_list l
 iteration_of (rust_iteration.Dict l size) = over_dict l size
@@ -35,7 +35,7 @@ iteration_of (rust_iteration.Text cs) = over_text cs.items
 iteration_of (rust_iteration.Tuple items) = over_tuple (values_of (map value_of items.items))
 iteration_of (rust_iteration.Range n) = over_range n
 
--- what an action comes to, as the program tells it
+-- the outcome of an action, as the program represents it
 abbrev pub outcome_of : RustOutcome → Outcome
 outcome_of (rust_outcome.Gives v) = gives (value_of v)
 outcome_of (rust_outcome.Iterates over) = iterates (iteration_of over)
@@ -45,7 +45,7 @@ outcome_of rust_outcome.Other = stops Other
 outcome_of rust_outcome.Outside = stops Outside
 outcome_of rust_outcome.Cut = stops Cut
 
--- the whole number that digits stand for, with or without a `-`
+-- the value of decimal digits, negated if there is a `-`
 abbrev pub written_number : Bool → List ℕ → ℤ
 written_number false digits = number_of_digits digits
 written_number true digits = negative_of_digits digits
@@ -74,7 +74,7 @@ action_of (rust.Iterate v) = iterate (value_of v)
 action_of (rust.IterateRange v) = iterate_range (value_of v)
 action_of (rust.Turn over i) = turn (iteration_of over) i
 
--- an action came to this, with the heap after it; where an allocation failed, the heap is as it was
+-- an action has this result, an outcome and a heap; if an allocation failed, the heap is unchanged
 abbrev pub ComesTo : Result RustOutcome OutOfMemory → RustHeap → RustHeap → ActionResult → Type 0
 ComesTo (Ok o) old new a = (outcome_of o ≡ a.outcome) × (heap_of new ≡ a.heap)
 ComesTo (Err e) old new a = heap_of new ≡ heap_of old

@@ -1,33 +1,33 @@
--- Whole numbers without bound: what digits stand for, floor division, and order.
+-- Whole numbers without bound: the value of digits, floor division, and order.
 -- Language Reference 2.4.4 "Numeric literals", 6.7 "Binary arithmetic operations".
 use Rattle.std.specs.Prelude.{◌≡◌, ℕ, zero, suc, ◌-◌, ◌/◌, ◌%◌, ◌^◌, Bool, true, false, List, [], ◌∷◌, ℤ, pos}
 use Rattle.std.specs.Prelude.{negsuc, ◌+ℤ◌, ◌*ℤ◌, neg_ℤ, nat_eq, nat_lt, refl}
 use Rattle.pc_tree.specs.Digits.{number_behind}
 
--- the number of a run of digits, and the one below zero
+-- the value of a sequence of digits
 abbrev pub number_of_digits : List ℕ → ℤ
 number_of_digits digits = pos (number_behind 0 digits)
 
--- the number of a run of digits with `-` before it
+-- the value of a sequence of digits with `-` before it
 abbrev pub negative_of_digits : List ℕ → ℤ
 negative_of_digits digits = neg_ℤ (number_of_digits digits)
 
--- division by a number above zero rounds toward minus infinity, and leaves what is not below zero
+-- the quotient by a positive number, rounded toward minus infinity
 abbrev pub floor_div_by : ℤ → ℕ → ℤ
 floor_div_by (pos a) n = pos (a / n)
 floor_div_by (negsuc a) n = negsuc (a / n)
 
--- what floor division by a number above zero leaves: at least zero, and less than the divisor
+-- the remainder of floor division by a positive number: at least zero, and less than the divisor
 abbrev pub floor_mod_by : ℤ → ℕ → ℤ
 floor_mod_by (pos a) n = pos (a % n)
 floor_mod_by (negsuc a) n = pos (n - 1 - a % n)
 
--- by a number below zero: the opposite number by the opposite divisor. The divisor is not zero
+-- the floor quotient by a divisor other than zero; a negative one divides the opposite number by the opposite divisor
 abbrev pub floor_div : ℤ → ℤ → ℤ
 floor_div x (pos n) = floor_div_by x n
 floor_div x (negsuc n) = floor_div_by (neg_ℤ x) (suc n)
 
--- what floor division leaves, of the sign of the divisor
+-- the remainder of floor division, which has the sign of the divisor
 abbrev pub floor_mod : ℤ → ℤ → ℤ
 floor_mod x (pos n) = floor_mod_by x n
 floor_mod x (negsuc n) = neg_ℤ (floor_mod_by (neg_ℤ x) (suc n))
@@ -52,7 +52,7 @@ number_below (pos a) (negsuc b) = false
 number_below (negsuc a) (pos b) = true
 number_below (negsuc a) (negsuc b) = nat_lt b a
 
--- a number fits 128 signed bits
+-- whether a number fits 128 signed bits
 abbrev pub fits : ℤ → Bool
 fits (pos n) = nat_lt n (2 ^ 127)
 fits (negsuc n) = nat_lt n (2 ^ 127)
@@ -86,7 +86,7 @@ minus_seven_mod_minus_two = refl
 digits_of_305 : number_of_digits (51 ∷ 48 ∷ 53 ∷ []) ≡ pos 305
 digits_of_305 = refl
 
--- the quotient times the divisor, and what is left, make the number
+-- the quotient times the divisor plus the remainder is the number
 made_again : pos 7 ≡ (negsuc 1 *ℤ floor_div (pos 7) (negsuc 1)) +ℤ floor_mod (pos 7) (negsuc 1)
 made_again = refl
 

@@ -1,6 +1,6 @@
 -- Operators and comparisons, by the kinds of their operands; bool counts as int.
--- Language Reference 6.6 "Unary arithmetic and bitwise operations", 6.7 "Binary arithmetic operations",
--- 6.10 "Comparisons"; what else Python defines is outside the profile (own).
+-- Language Reference 6.6 "Unary arithmetic and bitwise operations", 6.7 "Binary arithmetic operations", 6.10
+-- "Comparisons"; anything else that Python defines is out of the profile (own rule).
 use Rattle.std.specs.Prelude.{Bool, true, false, not, ◌++◌, ◌+ℤ◌, ◌-ℤ◌, ◌*ℤ◌, neg_ℤ, if◌then◌else◌, codes}
 use Rattle.pc_tree.specs.declared.tree.BinaryOperator.{BinaryOperator}
 use Rattle.pc_tree.specs.declared.tree.BinaryOperator.TheVariants.{Add, Sub, Mul, FloorDiv, Mod}
@@ -49,7 +49,7 @@ remainder_of (a_number x) (a_number y) = if is_zero y then stops Other else give
 remainder_of (a_text s) w = stops Outside
 remainder_of v w = raises TypeError
 
--- what a binary operator makes of its operands, by their kinds
+-- the outcome of a binary operator, by the kinds of its operands
 abbrev pub binary_outcome : BinaryOperator → Seen → Seen → Outcome
 binary_outcome Add v w = sum_of v w
 binary_outcome Sub v w = difference_of v w
@@ -70,14 +70,14 @@ is_equality_free (a_dict l vs) (a_dict m ws) = true
 is_equality_free (an_instance l c vs) (an_instance m d ws) = true
 is_equality_free v w = false
 
--- `==` where its answer is not free: by number, by text, None is None, and different kinds differ
+-- `==` if its answer is not free: by number, by text, None is None, and different kinds differ
 abbrev pub is_same : Seen → Seen → Bool
 is_same (a_number x) (a_number y) = same_number x y
 is_same (a_text s) (a_text t) = same_text s t
 is_same a_none a_none = true
 is_same v w = false
 
--- `==`: the free answer where there is one, else the exact one
+-- `==`: the free answer if there is one, else the exact one
 abbrev pub is_equal : Free → Seen → Seen → Bool
 is_equal free v w = if is_equality_free v w then free.truth else is_same v w
 
@@ -108,7 +108,7 @@ membership_of free v (a_tuple ws) = gives (boolean free.truth)
 membership_of free v (a_dict l entries) = contains_key v entries
 membership_of free v w = raises TypeError
 
--- what a comparison makes of its operands by their kinds, where the free answers are given
+-- the outcome of a comparison, by the kinds of its operands and given the free answers
 abbrev pub compare_outcome : Free → ComparisonOperator → Seen → Seen → Outcome
 compare_outcome free Equal v w = gives (boolean (is_equal free v w))
 compare_outcome free NotEqual v w = gives (boolean (not (is_equal free v w)))

@@ -1,4 +1,4 @@
--- What each action comes to, and the heap after it, where the free answers are given.
+-- The outcome of each action and the heap after it, given the free answers.
 use Rattle.std.specs.Prelude.{Bool, false, not}
 use Rattle.pc_value.specs.Value.{whole, boolean, Heap, list_cell, instance_cell, seen, is_true}
 use Rattle.pc_value.specs.Actions.{Action, number, binary, compare, negative, negation, truth_of, new_list, new_dict}
@@ -12,7 +12,7 @@ use Rattle.pc_value.specs.Containers.{append_outcome, pop_outcome, get_outcome, 
 use Rattle.pc_value.specs.Attributes.{attribute_outcome, store_attribute_outcome}
 use Rattle.pc_value.specs.Iteration.{iterate_outcome, range_outcome, turn_outcome}
 
--- what an action on a heap comes to, and the heap after it, where the free answers are given
+-- the outcome of an action on a heap and the heap after it, given the free answers
 abbrev pub action_result : Free → Action → Heap → ActionResult
 action_result free (number n) heap = keeps heap (gives (whole n))
 action_result free (binary operator v w) heap = keeps heap (binary_outcome operator (seen heap v) (seen heap w))

@@ -8,23 +8,23 @@ use Rattle.pc_value.specs.Actions.{ActionResult, Free}
 use Rattle.pc_value.specs.Numbers.{fits}
 use Rattle.pc_value.specs.Outcomes.{action_result}
 
--- the free answers of a byte: true where it is odd, and so many times `x` as it leaves by 4
+-- the free answers of a choice byte: true if it is odd, and its remainder by 4 times `x`
 abbrev pub free_of : ℕ → Free
 free_of byte = record { truth = nat_eq (byte % 2) 1; characters = replicate (byte % 4) 120 }
 
--- a whole number that does not fit cuts the run off
+-- a value, but a whole number that does not fit 128 signed bits cuts the run off
 abbrev pub limited_value : Value → Outcome
 limited_value (whole n) = if fits n then gives (whole n) else stops Cut
 limited_value v = gives v
 
--- an outcome, but that the run is cut off where it gives a whole number that does not fit
+-- an outcome, but a whole number that does not fit 128 signed bits cuts the run off
 abbrev pub limited_outcome : Outcome → Outcome
 limited_outcome (gives v) = limited_value v
 limited_outcome (iterates over) = iterates over
 limited_outcome finished = finished
 limited_outcome (stops stop) = stops stop
 
--- the actions that make a whole number: a literal, arithmetic, and `len`
+-- whether an action makes a whole number: a literal, arithmetic, or `len`
 abbrev pub makes_number : Action → Bool
 makes_number (number n) = true
 makes_number (binary operator v w) = true
@@ -32,19 +32,19 @@ makes_number (negative v) = true
 makes_number (length_of v) = true
 makes_number a = false
 
--- an outcome with that limit where it applies, else as it is
+-- an outcome with that limit if it applies, else unchanged
 abbrev pub limited_if : Bool → Outcome → Outcome
 limited_if true o = limited_outcome o
 limited_if false o = o
 
--- an action in a plain run
+-- the result of an action in a plain run
 abbrev pub plainly_acted : ℕ → Action → Heap → ActionResult
 plainly_acted byte action heap = record {
   outcome = limited_if (makes_number action) (action_result (free_of byte) action heap).outcome;
   heap = (action_result (free_of byte) action heap).heap;
 }
 
--- the outcome of an action that leaves the heap as it is
+-- the outcome is that of an action that leaves the heap unchanged
 abbrev pub IsAnswer : ℕ → Action → Heap → Outcome → Type 0
 IsAnswer byte (new_list items) heap o = Unit {0}
 IsAnswer byte (new_dict entries) heap o = Unit {0}

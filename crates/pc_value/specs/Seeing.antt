@@ -1,4 +1,4 @@
--- What a value's kind is in the program.
+-- The meaning of a value's kind in the program.
 use Rattle.std.specs.Prelude.{map}
 use Rattle.pc_value.specs.declared.seen.Seen.{Seen as RustSeen}
 use Rattle.pc_value.specs.declared.seen.Seen.TheVariants as rust
@@ -6,7 +6,7 @@ use Rattle.pc_value.specs.Value.{Seen, a_number, a_text, a_none, a_tuple, a_list
 use Rattle.pc_value.specs.Value.{values_of}
 use Rattle.pc_value.specs.Meaning.{value_of, entry_of, slot_of}
 
--- a value by its kind, as the program tells it
+-- a value by its kind, as the program represents it
 abbrev pub seen_of : RustSeen → Seen
 seen_of (rust.Number n) = a_number n
 seen_of (rust.Text cs) = a_text cs.now

@@ -7,25 +7,25 @@ use Rattle.std.specs.Ordering.{nat_cmp}
 use Rattle.std.specs.declared.cmp.Ordering.{Ordering}
 use Rattle.std.specs.declared.cmp.Ordering.TheVariants.{Less, Equal, Greater}
 
--- two texts have the same characters
+-- whether two texts have the same characters
 abbrev pub same_text : List ℕ → List ℕ → Bool
 same_text = bytes_eq
 
--- whether this is the order of what comes before something
+-- whether an order is Less
 abbrev pub is_less : Ordering → Bool
 is_less Less = true
 is_less Equal = false
 is_less Greater = false
 
--- whether one text comes before another: the first characters that differ decide, and else the shorter one comes first
+-- whether one text is ordered before another: by the first characters that differ, else the shorter one first
 abbrev pub text_below : List ℕ → List ℕ → Bool
 text_below s t = is_less (slice_cmp nat_cmp s t)
 
--- a text begins with another one, its front of that length
+-- whether a text begins with another one
 abbrev pub begins_with : List ℕ → List ℕ → Bool
 begins_with part whole = same_text part (take (length part) whole)
 
--- a text occurs in another one: in front of it, or in what follows its first character
+-- whether a text occurs in another one: at its front, or after its first character
 abbrev pub occurs_in : List ℕ → List ℕ → Bool
 occurs_in part [] = begins_with part []
 occurs_in part (c ∷ rest) = begins_with part (c ∷ rest) || occurs_in part rest
@@ -35,7 +35,7 @@ abbrev pub text_of_truth : Bool → List ℕ
 text_of_truth true = codes "True"
 text_of_truth false = codes "False"
 
--- a whole number in digits, with `-` before it where it is below zero
+-- a whole number in digits, with `-` before it if it is below zero
 abbrev pub text_of_number : ℤ → List ℕ
 text_of_number = signed_decimal
 

@@ -1,5 +1,5 @@
--- What values are, where they live, and how a run stops before its time.
--- Language Reference 3.1 "Objects, values and types"; what the profile has of them: own rule of the profile.
+-- Values, the heap they live in, and the ways a run stops early.
+-- Language Reference 3.1 "Objects, values and types"; the part of it in the profile: own rule of the profile.
 use Rattle.std.specs.Prelude.{ℕ, zero, Bool, true, false, List, [], ◌∷◌, ℤ, pos, Option, Some, None, slice_get}
 
 -- values, and the rows of values that tuples hold
@@ -19,7 +19,7 @@ mutual
     no_values : Values
     more_values : (first : Value) (rest : Values) → Values
 
--- the items as a list, and back
+-- the items of a tuple as a list
 abbrev pub list_of : Values → List Value
 list_of no_values = []
 list_of (more_values v rest) = v ∷ list_of rest
@@ -30,7 +30,7 @@ values_of [] = no_values
 values_of (v ∷ rest) = more_values v (values_of rest)
 
 -- a key of a dict and its value
-pub record Entry : Type 0 where
+pub record DictEntry : Type 0 where
   pub key : Value
   pub value : Value
 
@@ -39,56 +39,56 @@ pub record Slot : Type 0 where
   pub name : List ℕ
   pub value : Value
 
--- what lies at a location: a list, a dict with its entries in the order in which their keys were first set, or an
+-- the content of a location: a list, a dict with its entries in the order in which their keys were first set, or an
 -- instance with the number of its class and its fields
 pub data Cell : Type 0 where
   list_cell : (items : List Value) → Cell
-  dict_cell : (entries : List Entry) → Cell
+  dict_cell : (entries : List DictEntry) → Cell
   instance_cell : (class : ℕ) (fields : List Slot) → Cell
 
--- a heap: what lies at each location, from 0 on
+-- a heap: the content of each location, from 0 on
 abbrev pub Heap : Type 0
 Heap = List Cell
 
--- the exceptions that the report speaks of
+-- the exceptions that the report names
 pub data Exception : Type 0 where
   TypeError AttributeError NameError UnboundLocalError : Exception
 
--- how a run stops before its time: one of these exceptions, another one, out of the profile, or cut off
+-- the way a run stops early: one of these exceptions, another one, out of the profile, or cut off
 pub data Stop : Type 0 where
   Raised : (exception : Exception) → Stop
   Other Outside Cut : Stop
 
--- what a step comes to: a value, or the end of the run
+-- the result of a step: a value, or the end of the run
 pub data Out (A : Type 0) : Type 0 where
   Gives : (value : A) → Out A
   Stops : (stop : Stop) → Out A
 
--- a truth value as a number: bool counts as int
+-- a truth value as a number, since bool counts as int
 abbrev pub number_of_truth : Bool → ℤ
 number_of_truth true = pos 1
 number_of_truth false = pos 0
 
--- what a value is by its kind; bool counts as int, and what lies in the heap comes with its location
+-- a value by its kind; bool counts as int, and a heap cell comes with its location
 pub data Seen : Type 0 where
   a_number : (number : ℤ) → Seen
   a_text : (characters : List ℕ) → Seen
   a_none : Seen
   a_tuple : (items : Values) → Seen
   a_list : (place : ℕ) (items : List Value) → Seen
-  a_dict : (place : ℕ) (entries : List Entry) → Seen
+  a_dict : (place : ℕ) (entries : List DictEntry) → Seen
   an_instance : (place class : ℕ) (fields : List Slot) → Seen
-  -- a location at which nothing lies; no run meets one
+  -- an empty location, which no run reaches
   a_stray : Seen
 
--- what lies at a location by its kind, or that nothing does
+-- the content of a location by its kind
 abbrev pub seen_cell : ℕ → Option Cell → Seen
 seen_cell l None = a_stray
 seen_cell l (Some (list_cell items)) = a_list l items
 seen_cell l (Some (dict_cell entries)) = a_dict l entries
 seen_cell l (Some (instance_cell class fields)) = an_instance l class fields
 
--- a value by its kind; a location by what lies there in the heap
+-- a value by its kind, following a location into the heap
 abbrev pub seen : Heap → Value → Seen
 seen heap (whole n) = a_number n
 seen heap (boolean b) = a_number (number_of_truth b)
@@ -97,7 +97,7 @@ seen heap none = a_none
 seen heap (tuple_of items) = a_tuple items
 seen heap (location l) = seen_cell l (slice_get heap l)
 
--- the class of an instance
+-- the class of a value seen as an instance
 abbrev pub class_seen : Seen → Option ℕ
 class_seen (a_number n) = None
 class_seen (a_text cs) = None
@@ -108,7 +108,7 @@ class_seen (a_dict l entries) = None
 class_seen (an_instance l class fields) = Some class
 class_seen a_stray = None
 
--- the number of the class of a value that is an instance
+-- the class number of an instance in the heap
 abbrev pub class_number_of : Heap → Value → Option ℕ
 class_number_of heap v = class_seen (seen heap v)
 
@@ -128,6 +128,6 @@ is_true_seen (a_list l []) = false
 is_true_seen (a_dict l []) = false
 is_true_seen v = true
 
--- whether a value is true; a location by what lies there in the heap
+-- whether a value is true, following a location into the heap
 abbrev pub is_true : Heap → Value → Bool
 is_true heap v = is_true_seen (seen heap v)

@@ -6,16 +6,16 @@ use Rattle.pc_value.specs.Value.{whole, Cut}
 use Rattle.pc_value.specs.Actions.{Outcome, gives, stops}
 use Rattle.pc_value.specs.Numbers.{fits}
 
--- the number that a sign and a count stand for: up from 0, or down from -1
+-- the number of a sign and a count: up from 0, or down from -1
 abbrev pub whole_of : Whole → ℤ
 whole_of (AtLeastZero n) = pos n
 whole_of (BelowZero n) = negsuc n
 
--- a whole number where it fits 128 signed bits
+-- a whole number, if it fits 128 signed bits
 abbrev pub if_it_fits : ℤ → Option ℤ
 if_it_fits n = if fits n then Some n else None
 
--- a number that was made, or that the run is cut off
+-- the outcome of a computed number; none means that it did not fit, and cuts the run off
 abbrev pub made_outcome : Option ℤ → Outcome
 made_outcome None = stops Cut
 made_outcome (Some n) = gives (whole n)

@@ -1,9 +1,9 @@
-//! The actions on values, and what they come to.
+//! Actions on values, and their outcomes.
 
-use crate::value::{Entry, Slot, Value};
+use crate::value::{DictEntry, Slot, Value};
 use pc_tree::{BinaryOperator, ComparisonOperator};
 
-/// An exception that the report speaks of. Library Reference, "Built-in Exceptions".
+/// An exception that the report names. Library Reference, "Built-in Exceptions".
 #[derive(Clone, Copy, Debug, PartialEq, Eq)]
 pub enum Exception {
     TypeError,
@@ -12,10 +12,10 @@ pub enum Exception {
     UnboundLocalError,
 }
 
-/// What a `for` goes over. Language Reference 8.3 "The for statement".
+/// Source of the items of a `for`. Language Reference 8.3 "The for statement".
 #[derive(Debug, Drop)]
 pub enum Iteration {
-    /// The present items of the list at a location.
+    /// The current items of the list at a location.
     List(usize),
     /// The keys of the dict at a location, with the number of its entries at the start.
     Dict(usize, usize),
@@ -23,15 +23,15 @@ pub enum Iteration {
     Text(Vec<char>),
     /// The items of a tuple.
     Tuple(Vec<Value>),
-    /// The whole numbers from 0 up to, and without, this one.
+    /// The whole numbers from 0 up to, but not including, this one.
     Range(i128),
 }
 
-/// An action on values, with its operands. Language Reference 6 "Expressions", 7.2 "Assignment
-/// statements" and 8.3 "The for statement".
+/// An action on values, with its operands.
+/// Language Reference 6 "Expressions", 7.2 "Assignment statements" and 8.3 "The for statement".
 #[derive(Debug, Drop)]
 pub enum Action {
-    /// A whole number as it is written: whether a `-` belongs to it, and its digits.
+    /// A whole number as written: whether it has a `-`, and its digits.
     Number(bool, String),
     Binary(BinaryOperator, Value, Value),
     Compare(ComparisonOperator, Value, Value),
@@ -44,7 +44,7 @@ pub enum Action {
     /// `[v, ..]`
     NewList(Vec<Value>),
     /// `{k: v, ..}`
-    NewDict(Vec<Entry>),
+    NewDict(Vec<DictEntry>),
     /// An instance of the class of this number, with its fields.
     NewInstance(usize, Vec<Slot>),
     /// `e[i]`
@@ -65,28 +65,28 @@ pub enum Action {
     Length(Value),
     /// `str(e)`
     Text(Value),
-    /// What a `for` over a value begins with.
+    /// The start of a `for` over a value.
     Iterate(Value),
-    /// What a `for` over `range(e)` begins with.
+    /// The start of a `for` over `range(e)`.
     IterateRange(Value),
     /// A turn of a `for`, counted from 0.
     Turn(Iteration, usize),
 }
 
-/// What an action comes to.
+/// Outcome of an action.
 #[derive(Debug, Drop)]
 pub enum Outcome {
-    /// A value; None where the action gives nothing.
+    /// A value; None where the action has no result of its own.
     Gives(Value),
-    /// What a `for` goes over.
+    /// The source of the items of a `for`.
     Iterates(Iteration),
     /// The `for` has no further turn.
     Finished,
     Raised(Exception),
-    /// Another exception.
+    /// Any other exception.
     Other,
     /// The run left the profile.
     Outside,
-    /// A whole number was made that does not fit 128 signed bits.
+    /// A whole number does not fit 128 signed bits, which cuts the run off.
     Cut,
 }

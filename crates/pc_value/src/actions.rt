@@ -16,19 +16,19 @@ ghost use Rattle.pc_value.specs.Plain.{limited_outcome, plainly_acted, IsAnswer}
 
 use crate::action::{Action, Exception, Outcome};
 use crate::attributes::{attribute, field_value};
-use crate::cell::{Change, change_at, set_key};
+use crate::cell::{CellChange, change_at, set_key};
 use crate::containers::{get, index_among, item, length_of};
 use crate::iteration::{iterate, iterate_range, turn};
 use crate::operators::{
     binary, compare, is_comparison_free, is_text_free, made, negative, text_of, truth,
 };
 use crate::seen::{Seen, see};
-use crate::value::{Cell, Entry, Heap, Slot, Value, copy_slots, copy_values};
+use crate::value::{Cell, DictEntry, Heap, Slot, Value, copy_slots, copy_values};
 use crate::whole::read_number;
 use pc_source::OutOfMemory;
 use std::alloc::Global;
 
-/// Something new in the heap, at the first location that is free.
+/// Places a new cell at the first free location of the heap and gives that location.
 fn placed(heap: &mut Heap, cell: Cell) -> Result<Outcome, OutOfMemory>
     ensures { ComesTo result heap.old heap.new (with_new_cell (heap_of heap.old) (cell_of cell)) }
 {
@@ -37,7 +37,7 @@ fn placed(heap: &mut Heap, cell: Cell) -> Result<Outcome, OutOfMemory>
     Ok(Outcome::Gives(Value::Location(place)))
 }
 
-/// `e.append(v)`. Library Reference, "Mutable Sequence Types".
+/// Performs `e.append(v)` on a list; other kinds are out of the profile. Library Reference, "Mutable Sequence Types".
 fn append(
     alloc: Global,
     heap: &mut Heap,
@@ -52,10 +52,10 @@ fn append(
         _ => return Ok(Outcome::Outside),
     };
     let value = value.copy(alloc)?;
-    change_at(heap, place, Change::Append(value))
+    change_at(heap, place, CellChange::Append(value))
 }
 
-/// `e.pop()`. Library Reference, "Mutable Sequence Types".
+/// Performs `e.pop()` on a list; other kinds are out of the profile. Library Reference, "Mutable Sequence Types".
 fn pop(heap: &mut Heap, object: &Value) -> Result<Outcome, OutOfMemory>
     ensures { ComesTo result heap.old heap.new
         (pop_outcome (heap_of heap.old) (seen (heap_of heap.old) (value_of object.now))) }
@@ -64,10 +64,10 @@ fn pop(heap: &mut Heap, object: &Value) -> Result<Outcome, OutOfMemory>
         Seen::List(place, _) => place,
         _ => return Ok(Outcome::Outside),
     };
-    change_at(heap, place, Change::Pop)
+    change_at(heap, place, CellChange::Pop)
 }
 
-/// `e[i] = v`. Language Reference 7.2 "Assignment statements".
+/// Performs `e[i] = v` on a list or a dict; other kinds are TypeError. Language Reference 7.2 "Assignment statements".
 fn store_item(
     alloc: Global,
     heap: &mut Heap,
@@ -92,7 +92,7 @@ fn store_item(
     }
 }
 
-/// `e[i] = v` on the list at a location, at an index that is in range.
+/// Performs `e[i] = v` on the list at a location; without an index in range it is another exception.
 fn store_in_list(
     alloc: Global,
     heap: &mut Heap,
@@ -106,12 +106,12 @@ fn store_in_list(
         None => Ok(Outcome::Other),
         Some(index) => {
             let value = value.copy(alloc)?;
-            change_at(heap, place, Change::SetItem(index, value))
+            change_at(heap, place, CellChange::SetItem(index, value))
         }
     }
 }
 
-/// `e[i] = v` on the dict at a location.
+/// Performs `e[i] = v` on the dict at a location, by the kind of the key.
 fn store_in_dict(
     alloc: Global,
     heap: &mut Heap,
@@ -132,7 +132,7 @@ fn store_in_dict(
     }
 }
 
-/// A key of the dict at a location is set.
+/// Sets a key of the dict at a location.
 fn set_in_dict(
     alloc: Global,
     heap: &mut Heap,
@@ -145,10 +145,10 @@ fn set_in_dict(
 {
     let key = key.copy(alloc)?;
     let value = value.copy(alloc)?;
-    change_at(heap, place, Change::SetKey(key, value))
+    change_at(heap, place, CellChange::SetKey(key, value))
 }
 
-/// `e.f = v`. Language Reference 7.2 "Assignment statements".
+/// Performs `e.f = v` on a field that the instance has. Language Reference 7.2 "Assignment statements".
 fn store_attribute(
     alloc: Global,
     heap: &mut Heap,
@@ -171,17 +171,17 @@ fn store_attribute(
     };
     let name = String::from_str(alloc, name)?;
     let value = value.copy(alloc)?;
-    change_at(heap, place, Change::SetField(name, value))
+    change_at(heap, place, CellChange::SetField(name, value))
 }
 
-/// How a key that is no key ends a dict display.
+/// Outcome that an unusable key gives a dict display.
 #[derive(Clone, Copy)]
 enum KeyFault {
     Outside,
     TypeError,
 }
 
-/// How a key ends a dict display, if it does.
+/// Returns the fault of one key of a dict display, if it has one.
 fn key_fault(key: Seen<'_>) -> Option<KeyFault>
     ensures { fault_of result ≡ key_fault (seen_of key.entry) }
 {
@@ -194,8 +194,8 @@ fn key_fault(key: Seen<'_>) -> Option<KeyFault>
     }
 }
 
-/// How the first key that is no key ends a dict display, if one does.
-fn first_key_fault(heap: &Heap, entries: &[Entry]) -> Option<KeyFault>
+/// Returns the fault of the first unusable key of a dict display, if there is one.
+fn first_key_fault(heap: &Heap, entries: &[DictEntry]) -> Option<KeyFault>
     ensures { fault_of result ≡ first_key_fault (heap_of heap.now) (map entry_of entries.now) }
 {
     for entry in entries {
@@ -207,8 +207,8 @@ fn first_key_fault(heap: &Heap, entries: &[Entry]) -> Option<KeyFault>
     None
 }
 
-/// The entries of a display, set one after another.
-fn entries_of(alloc: Global, entries: &[Entry]) -> Result<Vec<Entry>, OutOfMemory>
+/// Returns the entries of a dict display after setting them one after another; a repeated key keeps its first place.
+fn entries_of(alloc: Global, entries: &[DictEntry]) -> Result<Vec<DictEntry>, OutOfMemory>
     ensures { IfOk result (λ es. map entry_of es.items ≡ with_entries [] (map entry_of entries.now)) }
 {
     let mut set = Vec::new(alloc);
@@ -220,8 +220,8 @@ fn entries_of(alloc: Global, entries: &[Entry]) -> Result<Vec<Entry>, OutOfMemor
     Ok(set)
 }
 
-/// `{k: v, ..}`. Language Reference 6.2.7 "Dictionary displays".
-fn new_dict(alloc: Global, heap: &mut Heap, entries: &[Entry]) -> Result<Outcome, OutOfMemory>
+/// Evaluates `{k: v, ..}`: places a new dict in the heap. Language Reference 6.2.7 "Dictionary displays".
+fn new_dict(alloc: Global, heap: &mut Heap, entries: &[DictEntry]) -> Result<Outcome, OutOfMemory>
     ensures { ComesTo result heap.old heap.new
         (dict_display (heap_of heap.old) (map entry_of entries.now)
         (first_key_fault (heap_of heap.old) (map entry_of entries.now))) }
@@ -236,7 +236,7 @@ fn new_dict(alloc: Global, heap: &mut Heap, entries: &[Entry]) -> Result<Outcome
     }
 }
 
-/// `[v, ..]`. Language Reference 6.2.5 "List displays".
+/// Evaluates `[v, ..]`: places a new list in the heap. Language Reference 6.2.5 "List displays".
 fn new_list(alloc: Global, heap: &mut Heap, items: &[Value]) -> Result<Outcome, OutOfMemory>
     ensures { ComesTo result heap.old heap.new (with_new_cell (heap_of heap.old) (list_cell (map value_of items.now))) }
 {
@@ -244,7 +244,7 @@ fn new_list(alloc: Global, heap: &mut Heap, items: &[Value]) -> Result<Outcome, 
     placed(heap, Cell::List(items))
 }
 
-/// An instance of a class.
+/// Places a new instance of a class in the heap.
 fn new_instance(
     alloc: Global,
     heap: &mut Heap,
@@ -258,14 +258,14 @@ fn new_instance(
     placed(heap, Cell::Instance(class, fields))
 }
 
-/// A whole number as it is written.
+/// Gives a whole number as written, or `Cut` if it does not fit 128 signed bits.
 fn number(below_zero: bool, digits: &str) -> Outcome
     ensures { outcome_of result ≡ limited_outcome (gives (whole (written_number below_zero digits.now))) }
 {
     made(read_number(below_zero, digits.as_bytes()))
 }
 
-/// An action that leaves the heap as it is; the others are none of these.
+/// Returns the outcome of an action that leaves the heap unchanged; `Outside` for the actions that change it.
 fn answer(alloc: Global, heap: &Heap, action: &Action, choice: u8) -> Result<Outcome, OutOfMemory>
     ensures { IfOk result (λ o. IsAnswer choice (action_of action.now) (heap_of heap.now) (outcome_of o)) }
 {
@@ -294,7 +294,7 @@ fn answer(alloc: Global, heap: &Heap, action: &Action, choice: u8) -> Result<Out
     }
 }
 
-/// An action in a plain run.
+/// Performs an action in a plain run, with free answers from the choice byte.
 fn perform(
     alloc: Global,
     heap: &mut Heap,
@@ -317,12 +317,12 @@ fn perform(
     }
 }
 
-/// An action in a plain run: its outcome, and the heap after it. A free answer is taken from the
-/// choice byte; a whole number that does not fit 128 signed bits is `Cut`. Own rule of the profile.
+/// Performs an action in a plain run: returns its outcome and updates the heap. A free answer is taken from the choice
+/// byte; a whole number that does not fit 128 signed bits is `Cut`. Own rule of the profile.
 ///
 /// # Errors
 ///
-/// Where an allocation failed; the heap then means what it meant.
+/// If an allocation failed; the heap then means the same as before.
 pub fn act(
     alloc: Global,
     heap: &mut Heap,
@@ -338,7 +338,7 @@ pub fn act(
     perform(alloc, heap, action, choice)
 }
 
-/// Whether the answer of an action is a free one, which takes a choice byte. Own rule of the profile.
+/// Returns whether the action has a free answer, which uses up a choice byte. Own rule of the profile.
 pub fn takes_choice(heap: &Heap, action: &Action) -> bool
     ensures { result ≡ takes_choice (heap_of heap.now) (action_of action.now) }
 {

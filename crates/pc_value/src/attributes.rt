@@ -14,7 +14,7 @@ use crate::value::{Slot, Value};
 use pc_source::OutOfMemory;
 use std::alloc::Global;
 
-/// The value of a field.
+/// Returns the value of a field, or `None` if there is no field of that name.
 pub fn field_value<'a>(name: &str, fields: &'a [Slot]) -> Option<&'a Value>
     ensures { option_value result ≡ field_value name.now (map slot_of fields.now) }
 {
@@ -26,7 +26,8 @@ pub fn field_value<'a>(name: &str, fields: &'a [Slot]) -> Option<&'a Value>
     None
 }
 
-/// A field; else the name of a method, or another name.
+/// Gives the value of a field; without one, a method's name is out of the profile and any other name is
+/// AttributeError.
 fn field_outcome(
     alloc: Global,
     field: Option<&Value>,
@@ -41,7 +42,8 @@ fn field_outcome(
     }
 }
 
-/// `e.f`. Language Reference 6.3.1 "Attribute references".
+/// Evaluates `e.f`: an instance has its fields, None has no attribute, other kinds are out of the profile. Language
+/// Reference 6.3.1 "Attribute references".
 pub fn attribute(
     alloc: Global,
     object: Seen<'_>,

@@ -1,4 +1,4 @@
-//! How what lies at one location changes.
+//! Changes of the cell at one location.
 
 ghost use Rattle.std.specs.Prelude.{◌≡◌, ◌++◌, ◌∷◌, [], ◌≤◌, IfOk, OnOk, OnErr, length, map, slice_set};
 ghost use Rattle.pc_value.specs.Meaning.{value_of, entry_of, slot_of, cell_of, heap_of};
@@ -12,12 +12,12 @@ ghost use Rattle.pc_value.specs.Internal.Changes.{field_place};
 
 use crate::action::Outcome;
 use crate::text::{same_characters, same_name};
-use crate::value::{Cell, Entry, Heap, Slot, Value};
+use crate::value::{Cell, DictEntry, Heap, Slot, Value};
 use pc_source::OutOfMemory;
 
-/// How what lies at a location changes.
+/// A change of the cell at a location.
 #[derive(Debug, Drop)]
-pub enum Change {
+pub enum CellChange {
     Append(Value),
     Pop,
     SetItem(usize, Value),
@@ -25,7 +25,7 @@ pub enum Change {
     SetField(String, Value),
 }
 
-/// Whether two keys are the same; `bool` counts as `int`.
+/// Returns whether two keys are equal; `bool` counts as `int`.
 fn same_key(stored: &Value, key: &Value) -> bool
     ensures { result ≡ same_key (value_of stored.now) (value_of key.now) }
 {
@@ -39,8 +39,8 @@ fn same_key(stored: &Value, key: &Value) -> bool
     }
 }
 
-/// The place of the first entry of a key, or how many entries there are.
-fn key_place(key: &Value, entries: &[Entry]) -> usize
+/// Returns the index of the first entry with a key, or the number of entries if there is none.
+fn key_place(key: &Value, entries: &[DictEntry]) -> usize
     ensures place { result ≡ key_place (value_of key.now) (map entry_of entries.now) }
     ensures within { result ≤ length entries.now }
 {
@@ -52,7 +52,7 @@ fn key_place(key: &Value, entries: &[Entry]) -> usize
     entries.len()
 }
 
-/// The place of the first field of a name, or how many fields there are.
+/// Returns the index of the first field of a name, or the number of fields if there is none.
 fn field_place(name: &str, fields: &[Slot]) -> usize
     ensures place { result ≡ field_place name.now (map slot_of fields.now) }
     ensures within { result ≤ length fields.now }
@@ -65,8 +65,8 @@ fn field_place(name: &str, fields: &[Slot]) -> usize
     fields.len()
 }
 
-/// A key of a dict is set.
-pub fn set_key(entries: &mut Vec<Entry>, key: Value, value: Value) -> Result<(), OutOfMemory>
+/// Sets a key of a dict: an existing entry keeps its place and key, a new one is appended.
+pub fn set_key(entries: &mut Vec<DictEntry>, key: Value, value: Value) -> Result<(), OutOfMemory>
     ensures set { OnOk result
         (map entry_of entries.new.items ≡ with_entry (value_of key) (value_of value) (map entry_of entries.old.items)) }
     ensures unchanged { OnErr result (entries.new.items ≡ entries.old.items) }
@@ -76,12 +76,12 @@ pub fn set_key(entries: &mut Vec<Entry>, key: Value, value: Value) -> Result<(),
         entries[place].value = value;
         Ok(())
     } else {
-        entries.push(Entry { key, value })?;
+        entries.push(DictEntry { key, value })?;
         Ok(())
     }
 }
 
-/// A field of an instance is set.
+/// Sets a field of an instance; does nothing if it has no field of that name.
 fn set_field(fields: &mut Vec<Slot>, name: &str, value: Value)
     ensures { map slot_of fields.new.items ≡ with_field name.now (value_of value) (map slot_of fields.old.items) }
 {
@@ -91,7 +91,7 @@ fn set_field(fields: &mut Vec<Slot>, name: &str, value: Value)
     }
 }
 
-/// A list gets a last item.
+/// Appends an item to a list and gives None.
 fn push_item(items: &mut Vec<Value>, value: Value) -> Result<Outcome, OutOfMemory>
     ensures outcome { IfOk result (λ o. outcome_of o ≡ gives none) }
     ensures after { OnOk result (map value_of items.new.items ≡ map value_of items.old.items ++ value_of value ∷ []) }
@@ -101,7 +101,7 @@ fn push_item(items: &mut Vec<Value>, value: Value) -> Result<Outcome, OutOfMemor
     Ok(Outcome::Gives(Value::None))
 }
 
-/// A list loses its last item.
+/// Removes the last item of a list and gives it; an empty list is another exception.
 fn pop_item(items: &mut Vec<Value>) -> Outcome
     ensures outcome { outcome_of result
         ≡ (pop_result (map value_of items.old.items) (last_of (map value_of items.old.items))).outcome }
@@ -114,7 +114,7 @@ fn pop_item(items: &mut Vec<Value>) -> Outcome
     }
 }
 
-/// An item of a list is set.
+/// Sets an item of a list; does nothing if the index is out of range.
 fn set_item(items: &mut Vec<Value>, index: usize, value: Value)
     ensures { map value_of items.new.items ≡ slice_set (map value_of items.old.items) index (value_of value) }
 {
@@ -123,24 +123,24 @@ fn set_item(items: &mut Vec<Value>, index: usize, value: Value)
     }
 }
 
-/// A change of what lies at a location.
-fn change_cell(cell: &mut Cell, change: Change) -> Result<Outcome, OutOfMemory>
+/// Applies a change to a cell; a change that does not suit the cell's kind is out of the profile.
+fn change_cell(cell: &mut Cell, change: CellChange) -> Result<Outcome, OutOfMemory>
     ensures outcome { IfOk result (λ o. outcome_of o ≡ (change_result (change_of change) (cell_of cell.old)).outcome) }
     ensures after { OnOk result (cell_of cell.new ≡ (change_result (change_of change) (cell_of cell.old)).cell) }
     ensures unchanged { OnErr result (cell_of cell.new ≡ cell_of cell.old) }
 {
     match (cell, change) {
-        (Cell::List(items), Change::Append(value)) => push_item(items, value),
-        (Cell::List(items), Change::Pop) => Ok(pop_item(items)),
-        (Cell::List(items), Change::SetItem(index, value)) => {
+        (Cell::List(items), CellChange::Append(value)) => push_item(items, value),
+        (Cell::List(items), CellChange::Pop) => Ok(pop_item(items)),
+        (Cell::List(items), CellChange::SetItem(index, value)) => {
             set_item(items, index, value);
             Ok(Outcome::Gives(Value::None))
         }
-        (Cell::Dict(entries), Change::SetKey(key, value)) => {
+        (Cell::Dict(entries), CellChange::SetKey(key, value)) => {
             set_key(entries, key, value)?;
             Ok(Outcome::Gives(Value::None))
         }
-        (Cell::Instance(_, fields), Change::SetField(name, value)) => {
+        (Cell::Instance(_, fields), CellChange::SetField(name, value)) => {
             set_field(fields, &name, value);
             Ok(Outcome::Gives(Value::None))
         }
@@ -148,8 +148,8 @@ fn change_cell(cell: &mut Cell, change: Change) -> Result<Outcome, OutOfMemory>
     }
 }
 
-/// A change of what lies at a location of the heap.
-pub fn change_at(heap: &mut Heap, place: usize, change: Change) -> Result<Outcome, OutOfMemory>
+/// Applies a change to the cell at a location of the heap; an empty location is out of the profile.
+pub fn change_at(heap: &mut Heap, place: usize, change: CellChange) -> Result<Outcome, OutOfMemory>
     ensures outcome { IfOk result
         (λ o. outcome_of o ≡ (heap_changed (heap_of heap.old) place (change_of change)).outcome) }
     ensures after { OnOk result (heap_of heap.new ≡ (heap_changed (heap_of heap.old) place (change_of change)).heap) }

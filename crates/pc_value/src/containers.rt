@@ -16,19 +16,19 @@ use crate::action::{Exception, Outcome};
 use crate::operators::truth;
 use crate::seen::Seen;
 use crate::text::same_characters;
-use crate::value::{Entry, Value};
+use crate::value::{DictEntry, Value};
 use crate::whole::Whole;
 use pc_source::OutOfMemory;
 use std::alloc::Global;
 
-/// A key of a dict to look for: a whole number or a text.
+/// A dict key to look up: a whole number or a text.
 #[derive(Clone, Copy)]
 pub enum Key<'a> {
     Number(i128),
     Text(&'a [char]),
 }
 
-/// Whether a key of an entry is the one that is looked for; `bool` counts as `int`.
+/// Returns whether a stored key equals the one looked up; `bool` counts as `int`.
 fn is_key(stored: &Value, key: Key<'_>) -> bool
     ensures { result ≡ same_key (value_of stored.now) (key_of key.entry) }
 {
@@ -40,8 +40,8 @@ fn is_key(stored: &Value, key: Key<'_>) -> bool
     }
 }
 
-/// The value of a key.
-fn value_at<'a>(key: Key<'_>, entries: &'a [Entry]) -> Option<&'a Value>
+/// Returns the value of a key, or `None` if no entry has it.
+fn value_at<'a>(key: Key<'_>, entries: &'a [DictEntry]) -> Option<&'a Value>
     ensures { option_value result ≡ value_at (key_of key.entry) (map entry_of entries.now) }
 {
     for entry in entries {
@@ -52,8 +52,8 @@ fn value_at<'a>(key: Key<'_>, entries: &'a [Entry]) -> Option<&'a Value>
     None
 }
 
-/// `k in d`. Language Reference 6.10.2 "Membership test operations".
-pub fn contains_key(key: Seen<'_>, entries: &[Entry]) -> Outcome
+/// Evaluates `k in d`. Language Reference 6.10.2 "Membership test operations".
+pub fn contains_key(key: Seen<'_>, entries: &[DictEntry]) -> Outcome
     ensures { outcome_of result ≡ contains_key (seen_of key.entry) (map entry_of entries.now) }
 {
     match key {
@@ -65,7 +65,7 @@ pub fn contains_key(key: Seen<'_>, entries: &[Entry]) -> Outcome
     }
 }
 
-/// A found value, or another exception where there is none.
+/// Gives the found value, or another exception if there is none.
 fn gives_item(alloc: Global, item: Option<&Value>) -> Result<Outcome, OutOfMemory>
     ensures { IfOk result (λ o. outcome_of o ≡ gives_item (option_value item.entry)) }
 {
@@ -75,7 +75,7 @@ fn gives_item(alloc: Global, item: Option<&Value>) -> Result<Outcome, OutOfMemor
     }
 }
 
-/// A found value, or None.
+/// Gives the found value, or None if there is none.
 fn gives_or_none(alloc: Global, item: Option<&Value>) -> Result<Outcome, OutOfMemory>
     ensures { IfOk result (λ o. outcome_of o ≡ gives (value_or_none (option_value item.entry))) }
 {
@@ -85,8 +85,8 @@ fn gives_or_none(alloc: Global, item: Option<&Value>) -> Result<Outcome, OutOfMe
     }
 }
 
-/// `d[k]`. Language Reference 6.3.2 "Subscriptions".
-fn dict_item(alloc: Global, key: Seen<'_>, entries: &[Entry]) -> Result<Outcome, OutOfMemory>
+/// Evaluates `d[k]`; an absent key is another exception. Language Reference 6.3.2 "Subscriptions".
+fn dict_item(alloc: Global, key: Seen<'_>, entries: &[DictEntry]) -> Result<Outcome, OutOfMemory>
     ensures { IfOk result (λ o. outcome_of o ≡ dict_item (seen_of key.entry) (map entry_of entries.now)) }
 {
     match key {
@@ -98,8 +98,8 @@ fn dict_item(alloc: Global, key: Seen<'_>, entries: &[Entry]) -> Result<Outcome,
     }
 }
 
-/// `d.get(k)`. Library Reference, "Mapping Types".
-fn dict_get(alloc: Global, key: Seen<'_>, entries: &[Entry]) -> Result<Outcome, OutOfMemory>
+/// Evaluates `d.get(k)`; an absent key gives None. Library Reference, "Mapping Types".
+fn dict_get(alloc: Global, key: Seen<'_>, entries: &[DictEntry]) -> Result<Outcome, OutOfMemory>
     ensures { IfOk result (λ o. outcome_of o ≡ dict_get (seen_of key.entry) (map entry_of entries.now)) }
 {
     match key {
@@ -111,7 +111,7 @@ fn dict_get(alloc: Global, key: Seen<'_>, entries: &[Entry]) -> Result<Outcome, 
     }
 }
 
-/// `e.get(k)` on a dict. Library Reference, "Mapping Types".
+/// Evaluates `e.get(k)`; anything but a dict is out of the profile. Library Reference, "Mapping Types".
 pub fn get(alloc: Global, object: Seen<'_>, key: Seen<'_>) -> Result<Outcome, OutOfMemory>
     ensures { IfOk result (λ o. outcome_of o ≡ get_outcome (seen_of object.entry) (seen_of key.entry)) }
 {
@@ -121,8 +121,8 @@ pub fn get(alloc: Global, object: Seen<'_>, key: Seen<'_>) -> Result<Outcome, Ou
     }
 }
 
-/// The index that a whole number names in a list of this length; negative ones count from the end.
-/// Language Reference 6.3.2 "Subscriptions".
+/// Returns the position of an index in a list of `count` items, or `None` if it is out of range; negative ones count
+/// from the end. Language Reference 6.3.2 "Subscriptions".
 pub fn index_among(count: usize, index: i128) -> Option<usize>
     ensures { result ≡ index_among count index }
 {
@@ -144,7 +144,7 @@ pub fn index_among(count: usize, index: i128) -> Option<usize>
     }
 }
 
-/// The item that a whole number names, or another exception where there is none.
+/// Gives the item at an index, or another exception if it is out of range.
 fn value_item(alloc: Global, items: &[Value], index: i128) -> Result<Outcome, OutOfMemory>
     ensures { IfOk result (λ o. outcome_of o ≡ gives_item (item_numbered (map value_of items.now) index)) }
 {
@@ -154,7 +154,7 @@ fn value_item(alloc: Global, items: &[Value], index: i128) -> Result<Outcome, Ou
     }
 }
 
-/// A text of one character.
+/// Returns a text of one character.
 pub fn one_character(alloc: Global, character: char) -> Result<Value, OutOfMemory>
     ensures { IfOk result (λ v. value_of v ≡ string (character ∷ [])) }
 {
@@ -163,7 +163,7 @@ pub fn one_character(alloc: Global, character: char) -> Result<Value, OutOfMemor
     Ok(Value::Str(characters))
 }
 
-/// The character that a whole number names, or another exception where there is none.
+/// Gives the character at an index as a text, or another exception if it is out of range.
 fn character_item(alloc: Global, characters: &[char], index: i128) -> Result<Outcome, OutOfMemory>
     ensures { IfOk result (λ o. outcome_of o ≡ gives_character (item_numbered characters.now index)) }
 {
@@ -176,7 +176,8 @@ fn character_item(alloc: Global, characters: &[char], index: i128) -> Result<Out
     }
 }
 
-/// `e[i]`. Language Reference 6.3.2 "Subscriptions".
+/// Evaluates `e[i]` on a list, text, tuple or dict; other kinds are TypeError.
+/// Language Reference 6.3.2 "Subscriptions".
 pub fn item(alloc: Global, object: Seen<'_>, key: Seen<'_>) -> Result<Outcome, OutOfMemory>
     ensures { IfOk result (λ o. outcome_of o ≡ item_outcome (seen_of object.entry) (seen_of key.entry)) }
 {
@@ -189,14 +190,14 @@ pub fn item(alloc: Global, object: Seen<'_>, key: Seen<'_>) -> Result<Outcome, O
     }
 }
 
-/// A count as an outcome.
+/// Gives a count as a whole number.
 fn count(number: usize) -> Outcome
     ensures { outcome_of result ≡ limited_outcome (gives (whole (pos number))) }
 {
     Outcome::Gives(Value::Int(number as i128))
 }
 
-/// `len(e)`. Library Reference, "Built-in Functions".
+/// Evaluates `len(e)`; a text counts its characters. Library Reference, "Built-in Functions".
 pub fn length_of(operand: Seen<'_>) -> Outcome
     ensures { outcome_of result ≡ limited_outcome (length_outcome (seen_of operand.entry)) }
 {

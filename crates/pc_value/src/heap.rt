@@ -9,7 +9,7 @@ use crate::value::{Heap, Value};
 use std::alloc::Global;
 
 impl Heap {
-    /// A heap in which nothing lies.
+    /// Returns an empty heap.
     pub fn new(alloc: Global) -> Heap
         ensures { heap_of result ≡ [] }
     {
@@ -18,7 +18,7 @@ impl Heap {
         }
     }
 
-    /// The number of the class of an instance.
+    /// Returns the class number of an instance, or `None` for any other value.
     pub fn class_of(&self, value: &Value) -> Option<usize>
         ensures { result ≡ class_number_of (heap_of self.now) (value_of value.now) }
     {
@@ -28,14 +28,14 @@ impl Heap {
         }
     }
 
-    /// The truth of a value. Language Reference 6.11 "Boolean operations".
+    /// Returns the truth of a value. Language Reference 6.11 "Boolean operations".
     pub fn is_true(&self, value: &Value) -> bool
         ensures { result ≡ is_true (heap_of self.now) (value_of value.now) }
     {
         see(self, value).is_true()
     }
 
-    /// Whether a value is a list.
+    /// Returns whether a value is a list.
     pub fn is_list(&self, value: &Value) -> bool
         ensures { result ≡ is_list (seen (heap_of self.now) (value_of value.now)) }
     {

@@ -1,4 +1,4 @@
-//! What a `for` goes over, turn by turn.
+//! Iteration of a `for`, turn by turn.
 
 ghost use Rattle.std.specs.Prelude.{◌≡◌, IfOk, map, slice_get};
 ghost use Rattle.pc_value.specs.Meaning.{value_of, entry_of, heap_of};
@@ -11,11 +11,12 @@ ghost use Rattle.pc_value.specs.Internal.Keys.{option_value};
 use crate::action::{Exception, Iteration, Outcome};
 use crate::containers::one_character;
 use crate::seen::{Seen, see_cell};
-use crate::value::{Entry, Heap, Value, copy_text, copy_values};
+use crate::value::{DictEntry, Heap, Value, copy_text, copy_values};
 use pc_source::OutOfMemory;
 use std::alloc::Global;
 
-/// What a value gives to go over. Language Reference 8.3 "The for statement".
+/// Returns the source of items that a value gives a `for`; TypeError if it cannot be iterated over.
+/// Language Reference 8.3 "The for statement".
 pub fn iterate(alloc: Global, iterable: Seen<'_>) -> Result<Outcome, OutOfMemory>
     ensures { IfOk result (λ o. outcome_of o ≡ iterate_outcome (seen_of iterable.entry)) }
 {
@@ -32,7 +33,7 @@ pub fn iterate(alloc: Global, iterable: Seen<'_>) -> Result<Outcome, OutOfMemory
     }
 }
 
-/// `range(e)` as what a `for` goes over.
+/// Returns the source of items of `range(e)`; TypeError if `e` is not an int.
 pub fn iterate_range(limit: Seen<'_>) -> Outcome
     ensures { outcome_of result ≡ range_outcome (seen_of limit.entry) }
 {
@@ -42,7 +43,7 @@ pub fn iterate_range(limit: Seen<'_>) -> Outcome
     }
 }
 
-/// An item, or the end.
+/// Gives an item, or the end of the loop if there is none.
 fn turn_item(alloc: Global, item: Option<&Value>) -> Result<Outcome, OutOfMemory>
     ensures { IfOk result (λ o. outcome_of o ≡ turn_item (option_value item.entry)) }
 {
@@ -52,7 +53,7 @@ fn turn_item(alloc: Global, item: Option<&Value>) -> Result<Outcome, OutOfMemory
     }
 }
 
-/// A turn over a list, against its present length.
+/// Takes a turn over a list, whose current length counts.
 fn list_turn(alloc: Global, list: Seen<'_>, index: usize) -> Result<Outcome, OutOfMemory>
     ensures { IfOk result (λ o. outcome_of o ≡ list_turn (seen_of list.entry) index) }
 {
@@ -62,15 +63,15 @@ fn list_turn(alloc: Global, list: Seen<'_>, index: usize) -> Result<Outcome, Out
     }
 }
 
-/// A turn over items.
+/// Takes a turn over a slice of items.
 fn items_turn(alloc: Global, items: &[Value], index: usize) -> Result<Outcome, OutOfMemory>
     ensures { IfOk result (λ o. outcome_of o ≡ turn_item (slice_get (map value_of items.now) index)) }
 {
     turn_item(alloc, items.get(index))
 }
 
-/// The key of an entry.
-fn key_at(entries: &[Entry], index: usize) -> Option<&Value>
+/// Returns the key of the entry at an index, or `None` past the end.
+fn key_at(entries: &[DictEntry], index: usize) -> Option<&Value>
     ensures { option_value result ≡ slice_get (map (λ e. e.key) (map entry_of entries.now)) index }
 {
     if index < entries.len() {
@@ -80,7 +81,7 @@ fn key_at(entries: &[Entry], index: usize) -> Option<&Value>
     }
 }
 
-/// A turn over a dict, whose size stays.
+/// Takes a turn over the keys of a dict; another exception if its size changed since the start.
 fn dict_turn(
     alloc: Global,
     dict: Seen<'_>,
@@ -101,7 +102,7 @@ fn dict_turn(
     }
 }
 
-/// A turn over a text.
+/// Takes a turn over the characters of a text.
 fn text_turn(alloc: Global, characters: &[char], index: usize) -> Result<Outcome, OutOfMemory>
     ensures { IfOk result (λ o. outcome_of o ≡ turn_character (slice_get characters.now index)) }
 {
@@ -111,7 +112,8 @@ fn text_turn(alloc: Global, characters: &[char], index: usize) -> Result<Outcome
     }
 }
 
-/// A turn of a `for`, counted from 0. Language Reference 8.3 "The for statement".
+/// Takes a turn of a `for`, counted from 0: gives the next item, or `Finished`.
+/// Language Reference 8.3 "The for statement".
 pub fn turn(
     alloc: Global,
     heap: &Heap,

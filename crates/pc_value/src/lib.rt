@@ -1,4 +1,4 @@
-//! Values, heaps, and what each action on values comes to.
+//! Values, heaps, and the outcome of each action on values.
 #![tactic(auto)]
 
 mod action;
@@ -17,5 +17,5 @@ mod whole;
 pub use action::{Action, Exception, Iteration, Outcome};
 pub use actions::{act, takes_choice};
 pub use seen::{Seen, see};
-pub use value::{Cell, Entry, Heap, Slot, Value};
+pub use value::{Cell, DictEntry, Heap, Slot, Value};
 pub use whole::read_number;

@@ -23,7 +23,7 @@ use pc_source::OutOfMemory;
 use pc_tree::{BinaryOperator, ComparisonOperator};
 use std::alloc::Global;
 
-/// A whole number that was made, or that it does not fit.
+/// Gives a computed whole number, or `Cut` if it did not fit 128 signed bits.
 pub fn made(number: Option<i128>) -> Outcome
     ensures { outcome_of result ≡ made_outcome number }
 {
@@ -33,7 +33,7 @@ pub fn made(number: Option<i128>) -> Outcome
     }
 }
 
-/// `+`. Language Reference 6.7 "Binary arithmetic operations".
+/// Evaluates `+` on two ints or two texts. Language Reference 6.7 "Binary arithmetic operations".
 fn sum_of(alloc: Global, left: Seen<'_>, right: Seen<'_>) -> Result<Outcome, OutOfMemory>
     ensures { IfOk result (λ o. outcome_of o ≡ limited_outcome (sum_of (seen_of left.entry) (seen_of right.entry))) }
 {
@@ -46,7 +46,7 @@ fn sum_of(alloc: Global, left: Seen<'_>, right: Seen<'_>) -> Result<Outcome, Out
     }
 }
 
-/// `-`. Language Reference 6.7 "Binary arithmetic operations".
+/// Evaluates `-` on two ints. Language Reference 6.7 "Binary arithmetic operations".
 fn difference_of(left: Seen<'_>, right: Seen<'_>) -> Outcome
     ensures { outcome_of result ≡ limited_outcome (difference_of (seen_of left.entry) (seen_of right.entry)) }
 {
@@ -56,7 +56,7 @@ fn difference_of(left: Seen<'_>, right: Seen<'_>) -> Outcome
     }
 }
 
-/// `*`. Language Reference 6.7 "Binary arithmetic operations".
+/// Evaluates `*` on two ints. Language Reference 6.7 "Binary arithmetic operations".
 fn product_of(left: Seen<'_>, right: Seen<'_>) -> Outcome
     ensures { outcome_of result ≡ limited_outcome (product_of (seen_of left.entry) (seen_of right.entry)) }
 {
@@ -72,7 +72,7 @@ fn product_of(left: Seen<'_>, right: Seen<'_>) -> Outcome
     }
 }
 
-/// `//`. Language Reference 6.7 "Binary arithmetic operations".
+/// Evaluates `//` on two ints. Language Reference 6.7 "Binary arithmetic operations".
 fn quotient_of(left: Seen<'_>, right: Seen<'_>) -> Outcome
     ensures { outcome_of result ≡ limited_outcome (quotient_of (seen_of left.entry) (seen_of right.entry)) }
 {
@@ -82,7 +82,7 @@ fn quotient_of(left: Seen<'_>, right: Seen<'_>) -> Outcome
     }
 }
 
-/// The quotient of two numbers; by zero another exception.
+/// Gives the floor quotient of two numbers; division by zero is another exception.
 fn quotient(x: i128, y: i128) -> Outcome
     ensures { outcome_of result ≡ limited_outcome (quotient_of (a_number x) (a_number y)) }
 {
@@ -93,7 +93,7 @@ fn quotient(x: i128, y: i128) -> Outcome
     }
 }
 
-/// `%`. Language Reference 6.7 "Binary arithmetic operations".
+/// Evaluates `%` on two ints. Language Reference 6.7 "Binary arithmetic operations".
 fn remainder_of(left: Seen<'_>, right: Seen<'_>) -> Outcome
     ensures { outcome_of result ≡ limited_outcome (remainder_of (seen_of left.entry) (seen_of right.entry)) }
 {
@@ -104,7 +104,7 @@ fn remainder_of(left: Seen<'_>, right: Seen<'_>) -> Outcome
     }
 }
 
-/// What division of two numbers leaves; by zero another exception.
+/// Gives the remainder of floor division; division by zero is another exception.
 fn remainder(x: i128, y: i128) -> Outcome
     ensures { outcome_of result ≡ limited_outcome (remainder_of (a_number x) (a_number y)) }
 {
@@ -115,7 +115,7 @@ fn remainder(x: i128, y: i128) -> Outcome
     }
 }
 
-/// `+`, `-`, `*`, `//` and `%`.
+/// Evaluates `+`, `-`, `*`, `//` or `%`.
 pub fn binary(
     alloc: Global,
     operator: BinaryOperator,
@@ -134,7 +134,7 @@ pub fn binary(
     }
 }
 
-/// Unary `-`. Language Reference 6.6 "Unary arithmetic and bitwise operations".
+/// Evaluates unary `-` on an int. Language Reference 6.6 "Unary arithmetic and bitwise operations".
 pub fn negative(operand: Seen<'_>) -> Outcome
     ensures { outcome_of result ≡ limited_outcome (negative_of (seen_of operand.entry)) }
 {
@@ -144,14 +144,14 @@ pub fn negative(operand: Seen<'_>) -> Outcome
     }
 }
 
-/// A truth value as an outcome.
+/// Gives a truth value.
 pub fn truth(value: bool) -> Outcome
     ensures { outcome_of result ≡ gives (boolean value) }
 {
     Outcome::Gives(Value::Bool(value))
 }
 
-/// Whether `==` has a free answer.
+/// Returns whether `==` has a free answer: on two tuples, lists, dicts or instances.
 fn is_equality_free(left: Seen<'_>, right: Seen<'_>) -> bool
     ensures { result ≡ is_equality_free (seen_of left.entry) (seen_of right.entry) }
 {
@@ -164,7 +164,7 @@ fn is_equality_free(left: Seen<'_>, right: Seen<'_>) -> bool
     }
 }
 
-/// `==` where its answer is not free.
+/// Evaluates `==` if its answer is not free.
 fn is_same(left: Seen<'_>, right: Seen<'_>) -> bool
     ensures { result ≡ is_same (seen_of left.entry) (seen_of right.entry) }
 {
@@ -176,14 +176,14 @@ fn is_same(left: Seen<'_>, right: Seen<'_>) -> bool
     }
 }
 
-/// Whether a choice byte stands for true.
+/// Returns the truth value that a choice byte selects: true if it is odd.
 fn chosen_truth(choice: u8) -> bool
     ensures { result ≡ (free_of choice).truth }
 {
     choice % 2 == 1
 }
 
-/// `==`. Language Reference 6.10.1 "Value comparisons".
+/// Evaluates `==`; a free answer comes from the choice byte. Language Reference 6.10.1 "Value comparisons".
 fn is_equal(choice: u8, left: Seen<'_>, right: Seen<'_>) -> bool
     ensures { result ≡ is_equal (free_of choice) (seen_of left.entry) (seen_of right.entry) }
 {
@@ -194,7 +194,7 @@ fn is_equal(choice: u8, left: Seen<'_>, right: Seen<'_>) -> bool
     }
 }
 
-/// `<`. Language Reference 6.10.1 "Value comparisons".
+/// Evaluates `<` on two ints or two texts. Language Reference 6.10.1 "Value comparisons".
 fn below(left: Seen<'_>, right: Seen<'_>) -> Outcome
     ensures { outcome_of result ≡ below (seen_of left.entry) (seen_of right.entry) }
 {
@@ -207,7 +207,7 @@ fn below(left: Seen<'_>, right: Seen<'_>) -> Outcome
     }
 }
 
-/// The opposite truth value.
+/// Negates an outcome that is a truth value; leaves any other as it is.
 fn opposite(outcome: Outcome) -> Outcome
     ensures { outcome_of result ≡ opposite (outcome_of outcome) }
 {
@@ -217,7 +217,7 @@ fn opposite(outcome: Outcome) -> Outcome
     }
 }
 
-/// Whether `in` has a free answer.
+/// Returns whether `in` has a free answer: on a list or tuple.
 fn is_membership_free(right: Seen<'_>) -> bool
     ensures { result ≡ is_membership_free (seen_of right.entry) }
 {
@@ -228,7 +228,7 @@ fn is_membership_free(right: Seen<'_>) -> bool
     }
 }
 
-/// `in`. Language Reference 6.10.2 "Membership test operations".
+/// Evaluates `in`. Language Reference 6.10.2 "Membership test operations".
 fn member_of(choice: u8, left: Seen<'_>, right: Seen<'_>) -> Outcome
     ensures { outcome_of result ≡ membership_of (free_of choice) (seen_of left.entry) (seen_of right.entry) }
 {
@@ -241,7 +241,7 @@ fn member_of(choice: u8, left: Seen<'_>, right: Seen<'_>) -> Outcome
     }
 }
 
-/// A comparison. Language Reference 6.10 "Comparisons".
+/// Evaluates a comparison; a free answer comes from the choice byte. Language Reference 6.10 "Comparisons".
 pub fn compare(choice: u8, operator: ComparisonOperator, left: Seen<'_>, right: Seen<'_>) -> Outcome
     ensures { outcome_of result ≡ compare_outcome (free_of choice) operator (seen_of left.entry) (seen_of right.entry) }
 {
@@ -257,7 +257,7 @@ pub fn compare(choice: u8, operator: ComparisonOperator, left: Seen<'_>, right: 
     }
 }
 
-/// Whether a comparison has a free answer.
+/// Returns whether a comparison has a free answer.
 pub fn is_comparison_free(operator: ComparisonOperator, left: Seen<'_>, right: Seen<'_>) -> bool
     ensures { result ≡ is_comparison_free operator (seen_of left.entry) (seen_of right.entry) }
 {
@@ -270,7 +270,7 @@ pub fn is_comparison_free(operator: ComparisonOperator, left: Seen<'_>, right: S
     }
 }
 
-/// Whether `str` has a free answer.
+/// Returns whether `str` has a free answer: on a tuple, list, dict or instance.
 pub fn is_text_free(operand: &Value) -> bool
     ensures { result ≡ is_text_free (value_of operand.now) }
 {
@@ -281,14 +281,14 @@ pub fn is_text_free(operand: &Value) -> bool
     }
 }
 
-/// The free text of a choice byte.
+/// Returns the text that a choice byte selects: its remainder by 4 times `x`.
 fn chosen_text(alloc: Global, choice: u8) -> Result<Vec<char>, OutOfMemory>
     ensures { IfOk result (λ cs. cs.items ≡ (free_of choice).characters) }
 {
     Ok(vec![in alloc; 'x'; (choice % 4) as usize]?)
 }
 
-/// `str(e)`. Library Reference, "Built-in Functions".
+/// Evaluates `str(e)`; a free answer comes from the choice byte. Library Reference, "Built-in Functions".
 pub fn text_of(alloc: Global, choice: u8, operand: &Value) -> Result<Outcome, OutOfMemory>
     ensures { IfOk result (λ o. outcome_of o ≡ text_outcome (free_of choice) (value_of operand.now)) }
 {

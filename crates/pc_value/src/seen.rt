@@ -1,13 +1,13 @@
-//! A value by its kind.
+//! Values by kind.
 
 ghost use Rattle.std.specs.Prelude.{◌≡◌, slice_get};
 ghost use Rattle.pc_value.specs.Meaning.{value_of, heap_of};
 ghost use Rattle.pc_value.specs.Seeing.{seen_of};
 ghost use Rattle.pc_value.specs.Value.{seen, seen_cell, is_true_seen};
 
-use crate::value::{Cell, Entry, Heap, Slot, Value};
+use crate::value::{Cell, DictEntry, Heap, Slot, Value};
 
-/// A value by its kind; `bool` counts as `int`, and what lies in the heap comes with its location.
+/// A value by its kind; `bool` counts as `int`, and a heap cell comes with its location.
 #[derive(Clone, Copy)]
 pub enum Seen<'a> {
     Number(i128),
@@ -15,13 +15,13 @@ pub enum Seen<'a> {
     Nothing,
     Tuple(&'a [Value]),
     List(usize, &'a [Value]),
-    Dict(usize, &'a [Entry]),
+    Dict(usize, &'a [DictEntry]),
     Instance(usize, usize, &'a [Slot]),
-    /// A location at which nothing lies.
+    /// An empty location.
     Stray,
 }
 
-/// What lies at a location.
+/// Returns the content of a location by its kind.
 pub fn see_cell(heap: &Heap, place: usize) -> Seen<'_>
     ensures { seen_of result ≡ seen_cell place (slice_get (heap_of heap.now) place) }
 {
@@ -33,7 +33,7 @@ pub fn see_cell(heap: &Heap, place: usize) -> Seen<'_>
     }
 }
 
-/// A value by its kind.
+/// Returns a value by its kind, following a location into the heap.
 pub fn see<'a>(heap: &'a Heap, value: &'a Value) -> Seen<'a>
     ensures { seen_of result ≡ seen (heap_of heap.now) (value_of value.now) }
 {
@@ -48,8 +48,8 @@ pub fn see<'a>(heap: &'a Heap, value: &'a Value) -> Seen<'a>
 }
 
 impl Seen<'_> {
-    /// The truth of a value: false for None, False, 0, and the empty text, list, dict and tuple.
-    /// Language Reference 6.11 "Boolean operations".
+    /// Returns the truth of a value: false for None, False, 0, and the empty text, list, dict and tuple. Language
+    /// Reference 6.11 "Boolean operations".
     pub fn is_true(self) -> bool
         ensures { result ≡ is_true_seen (seen_of self.entry) }
     {

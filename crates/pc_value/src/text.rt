@@ -7,28 +7,28 @@ use pc_source::OutOfMemory;
 use std::alloc::Global;
 use std::cmp::Ordering;
 
-/// Whether two texts are the same.
+/// Returns whether two texts are the same.
 pub fn same_characters(left: &[char], right: &[char]) -> bool
     ensures { result ≡ same_text left.now right.now }
 {
     left == right
 }
 
-/// Whether two names are the same.
+/// Returns whether two names are the same.
 pub fn same_name(left: &str, right: &str) -> bool
     ensures { result ≡ same_text left.now right.now }
 {
     left == right
 }
 
-/// Whether one text comes before another. Language Reference 6.10 "Comparisons".
+/// Returns whether one text is ordered before another. Language Reference 6.10 "Comparisons".
 pub fn text_below(left: &[char], right: &[char]) -> bool
     ensures { result ≡ text_below left.now right.now }
 {
     matches!(left.cmp(&right), Ordering::Less)
 }
 
-/// Whether a text occurs in another one.
+/// Returns whether `part` occurs in `whole`.
 pub fn occurs_in(part: &[char], whole: &[char]) -> bool
     ensures { result ≡ occurs_in part.now whole.now }
 {
@@ -40,7 +40,7 @@ pub fn occurs_in(part: &[char], whole: &[char]) -> bool
     part.is_empty()
 }
 
-/// A text and another one after it.
+/// Returns `left` followed by `right`.
 pub fn joined(alloc: Global, left: &[char], right: &[char]) -> Result<Vec<char>, OutOfMemory>
     ensures { IfOk result (λ cs. cs.items ≡ left.now ++ right.now) }
 {
@@ -49,7 +49,7 @@ pub fn joined(alloc: Global, left: &[char], right: &[char]) -> Result<Vec<char>,
     Ok(whole)
 }
 
-/// A text of ASCII characters.
+/// Returns the characters of an ASCII text.
 pub fn ascii_text(alloc: Global, text: &str) -> Result<Vec<char>, OutOfMemory>
     ensures { IfOk result (λ cs. cs.items ≡ text.now) }
 {
@@ -60,7 +60,7 @@ pub fn ascii_text(alloc: Global, text: &str) -> Result<Vec<char>, OutOfMemory>
     Ok(characters)
 }
 
-/// A whole number in digits.
+/// Returns a whole number in decimal digits, with `-` before it if it is negative.
 pub fn text_of_number(alloc: Global, number: i128) -> Result<Vec<char>, OutOfMemory>
     ensures { IfOk result (λ cs. cs.items ≡ text_of_number number) }
 {

@@ -16,13 +16,13 @@ pub enum Value {
     Str(Vec<char>),
     None,
     Tuple(Vec<Value>),
-    /// Where a list, a dict or an instance lies in the heap.
+    /// The location of a list, a dict or an instance in the heap.
     Location(usize),
 }
 
 /// A key of a dict and its value.
 #[derive(Debug, Drop)]
-pub struct Entry {
+pub struct DictEntry {
     pub key: Value,
     pub value: Value,
 }
@@ -34,24 +34,24 @@ pub struct Slot {
     pub value: Value,
 }
 
-/// What lies at a location.
+/// Content of a location.
 #[derive(Debug, Drop)]
 pub enum Cell {
     List(Vec<Value>),
     /// The entries of a dict, in the order in which their keys were first set.
-    Dict(Vec<Entry>),
-    /// The number of a class, and the fields of an instance of it.
+    Dict(Vec<DictEntry>),
+    /// The number of a class, and the fields of an instance of that class.
     Instance(usize, Vec<Slot>),
 }
 
-/// What lies at each location, from 0 on.
+/// The content of each location, from 0 on.
 #[derive(Debug, Drop)]
 pub struct Heap {
     pub(crate) cells: Vec<Cell>,
 }
 
 impl Value {
-    /// A copy of the value.
+    /// Copies the value.
     #[cycle(copy)]
     pub fn copy(&self, alloc: Global) -> Result<Value, OutOfMemory>
         ensures { IfOk result (λ v. value_of v ≡ value_of self.now) }
@@ -67,7 +67,7 @@ impl Value {
     }
 }
 
-/// Copies of values.
+/// Copies values.
 #[cycle(copy)]
 pub fn copy_values(alloc: Global, values: &[Value]) -> Result<Vec<Value>, OutOfMemory>
     ensures { IfOk result (λ vs. map value_of vs.items ≡ map value_of values.now) }
@@ -83,7 +83,7 @@ pub fn copy_values(alloc: Global, values: &[Value]) -> Result<Vec<Value>, OutOfM
     Ok(copied)
 }
 
-/// A copy of a text.
+/// Copies a text.
 pub fn copy_text(alloc: Global, characters: &[char]) -> Result<Vec<char>, OutOfMemory>
     ensures { IfOk result (λ cs. cs.items ≡ characters.now) }
 {
@@ -93,7 +93,7 @@ pub fn copy_text(alloc: Global, characters: &[char]) -> Result<Vec<char>, OutOfM
     }
 }
 
-/// Copies of fields.
+/// Copies fields.
 pub fn copy_slots(alloc: Global, slots: &[Slot]) -> Result<Vec<Slot>, OutOfMemory>
     ensures { IfOk result (λ ss. map slot_of ss.items ≡ map slot_of slots.now) }
 {

@@ -14,7 +14,7 @@ pub enum Whole {
 }
 
 impl Whole {
-    /// A number of 128 signed bits by its sign.
+    /// Returns a number of 128 signed bits by its sign.
     pub fn of(n: i128) -> Whole
         ensures { whole_of result ≡ n }
     {
@@ -25,7 +25,7 @@ impl Whole {
         }
     }
 
-    /// The number in 128 signed bits, if it fits.
+    /// Returns the number, or `None` if it does not fit 128 signed bits.
     fn fit(self) -> Option<i128>
         ensures { result ≡ if_it_fits (whole_of self) }
     {
@@ -42,12 +42,12 @@ impl Whole {
     }
 }
 
-/// The number that digits stand for, if it fits 128 bits.
+/// Returns the value of decimal digits, or `None` if it does not fit 128 bits.
 /// Language Reference 2.4.4 "Numeric literals".
 fn read_digits(digits: &[u8]) -> Option<u128>
     ensures { MatchOption result (2 ^ 128 ≤ number_behind 0 digits.now) (λ n. n ≡ number_behind 0 digits.now) }
 {
-    // Without a sign, since the digits of the least signed number are one more than the greatest signed number.
+    // Unsigned, since the digits of the least signed number are one more than the greatest signed number.
     let mut number: u128 = 0;
     for digit in digits {
         let Some(shifted) = number.checked_mul(10) else {
@@ -61,7 +61,7 @@ fn read_digits(digits: &[u8]) -> Option<u128>
     Some(number)
 }
 
-/// The whole number that digits stand for, with or without a `-`, if it fits 128 signed bits.
+/// Returns the value of decimal digits, negated if `below_zero`, or `None` if it does not fit 128 signed bits.
 pub fn read_number(below_zero: bool, digits: &[u8]) -> Option<i128>
     ensures { result ≡ if_it_fits (written_number below_zero digits.now) }
 {
@@ -74,7 +74,7 @@ pub fn read_number(below_zero: bool, digits: &[u8]) -> Option<i128>
     }
 }
 
-/// Floor division of a whole number by one above zero.
+/// Returns the floor quotient of a whole number by a positive divisor.
 fn div_by(number: Whole, divisor: u128) -> Whole
     requires { 0 < divisor }
     ensures { whole_of result ≡ floor_div_by (whole_of number) divisor }
@@ -85,7 +85,7 @@ fn div_by(number: Whole, divisor: u128) -> Whole
     }
 }
 
-/// What floor division by a number above zero leaves.
+/// Returns the remainder of floor division by a positive divisor.
 fn mod_by(number: Whole, divisor: u128) -> u128
     requires { 0 < divisor }
     ensures { pos result ≡ floor_mod_by (whole_of number) divisor }
@@ -96,7 +96,7 @@ fn mod_by(number: Whole, divisor: u128) -> u128
     }
 }
 
-/// The opposite of a number of 128 signed bits.
+/// Returns the negated number, by its sign.
 fn opposite(number: i128) -> Whole
     ensures { whole_of result ≡ neg_ℤ number }
 {
@@ -107,8 +107,8 @@ fn opposite(number: i128) -> Whole
     }
 }
 
-/// Floor division, toward minus infinity, if the quotient fits 128 signed bits.
-/// Language Reference 6.7 "Binary arithmetic operations".
+/// Returns the quotient rounded toward minus infinity, or `None` if it does not fit 128 signed bits. Language
+/// Reference 6.7 "Binary arithmetic operations".
 pub fn floor_div(number: i128, divisor: i128) -> Option<i128>
     requires { divisor ≢ pos 0 }
     ensures { result ≡ if_it_fits (floor_div number divisor) }
@@ -120,7 +120,7 @@ pub fn floor_div(number: i128, divisor: i128) -> Option<i128>
     }
 }
 
-/// What floor division leaves, of the sign of the divisor.
+/// Returns the remainder of floor division, which has the sign of the divisor.
 /// Language Reference 6.7 "Binary arithmetic operations".
 pub fn floor_mod(number: i128, divisor: i128) -> Option<i128>
     requires { divisor ≢ pos 0 }
@@ -138,28 +138,28 @@ pub fn floor_mod(number: i128, divisor: i128) -> Option<i128>
     }
 }
 
-/// The opposite number, if it fits 128 signed bits.
+/// Returns the negated number, or `None` if it does not fit 128 signed bits.
 pub fn negated(number: i128) -> Option<i128>
     ensures { result ≡ if_it_fits (neg_ℤ number) }
 {
     opposite(number).fit()
 }
 
-/// The sum, if it fits 128 signed bits.
+/// Returns the sum, or `None` if it does not fit 128 signed bits.
 pub fn sum(left: i128, right: i128) -> Option<i128>
     ensures { result ≡ if_it_fits (left +ℤ right) }
 {
     left.checked_add(right)
 }
 
-/// The difference, if it fits 128 signed bits.
+/// Returns the difference, or `None` if it does not fit 128 signed bits.
 pub fn difference(left: i128, right: i128) -> Option<i128>
     ensures { result ≡ if_it_fits (left -ℤ right) }
 {
     left.checked_sub(right)
 }
 
-/// The product, if it fits 128 signed bits.
+/// Returns the product, or `None` if it does not fit 128 signed bits.
 pub fn product(left: i128, right: i128) -> Option<i128>
     ensures { result ≡ if_it_fits (left *ℤ right) }
 {

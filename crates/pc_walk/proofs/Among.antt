@@ -1,4 +1,4 @@
--- What is among lists of locals.
+-- Membership in lists of locals.
 use Rattle.std.proofs.Common.{◌≡◌, ◌∙◌, ℕ, List, ◌++◌, refl, sym}
 use Rattle.std.specs.Prelude.{Bool, true, false, ◌||◌, nat_eq}
 use Rattle.std.proofs.lemmas.List.Folds.{list_any-append}

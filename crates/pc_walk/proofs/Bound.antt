@@ -1,4 +1,4 @@
--- Names that are bound: their declared types, and what a local bound to a label comes to.
+-- Bound names: their declared types, and the result of binding a local to a label.
 use Rattle.std.proofs.Common.{◌≡◌, ◌∙◌, ℕ, List, [], ◌∷◌, ◌++◌, Option, Some, None, refl, sym, ap, subst, arith}
 use Rattle.std.specs.Prelude.{true, false, is_some, slice_set, slice_index_or, unwrap_or, map}
 use Rattle.std.specs.Option.{option_map}
@@ -8,9 +8,9 @@ use Rattle.pc_tree.specs.declared.code.Code.TheVariants.{E24}
 use Rattle.pc_tree.specs.Code.{finding}
 use Rattle.pc_tree.specs.Depth.{place_of}
 use Rattle.pc_tree.specs.Tree.{Name, Ann, Expr}
-use Rattle.pc_ann.specs.Listed.{ann_findings}
-use Rattle.pc_scope.specs.declared.resolution.Res.{Res}
-use Rattle.pc_scope.specs.declared.resolution.Res.TheVariants as res
+use Rattle.pc_annotations.specs.Listed.{ann_findings}
+use Rattle.pc_scope.specs.declared.resolution.NameMeaning.{NameMeaning}
+use Rattle.pc_scope.specs.declared.resolution.NameMeaning.TheVariants as res
 use Rattle.pc_types.specs.Tree.{Tree, Any}
 use Rattle.pc_types.specs.Below.{Bases}
 use Rattle.pc_types.specs.WellFormed.{IsWellFormed}
@@ -50,7 +50,7 @@ code_alike tree bases l m d e = ap (λ (b : _). code_unless (static_test bases) 
     (early_alike tree l m e) ∙ ap (λ (x : Label). code_unless (static_test bases) (assignable_test bases)
     (is_early m.codes) x.type d) e
 
--- what is found of a flow of a label is what is found of the flow of its label
+-- the finding of a flow is the same for a label of the program and for the label that it means
 pub flow_found : {Ty : Type 0} (tree : Ty → Tree) (bases : Bases) (p : Place) (l : RustLabel Ty) (m : Label) (into : Ty)
     (code : Option Code) (old new : List Note)
     → label_with tree l ≡ brief m
@@ -113,7 +113,7 @@ module _ {Store Ty : Type 0} (has : Store → Ty → Type 0) (tree : Ty → Tree
       (with_declared (slice_index_or types x None) types x d) (with_declared o (env_of tree types) x (tree d)))
       (sym (bound_is types x)) (settled_by (slice_index_or types x None) types x d h k)
 
-  -- what is known of a declared type is well-formed
+  -- the declared type known for a local is well-formed
   known_by : (o annotation : Option Tree) → IsWellFormedIfAny bases o → IsWellFormedIfAny bases annotation
       → IsWellFormedIfAny bases (known_declared o annotation)
   known_by (Some d) annotation h k = h
@@ -207,7 +207,7 @@ first_finds context (Some d) n a e = absurd (grind (arith, e))
 first_finds context None n a e = refl
 
 -- an annotation that doesn't count changes nothing of a value that is bound
-pub value_unless : (context : BodyContext) (table : Table) (env : Env) (r : Res) (t : Tree) (e : Expr)
+pub value_unless : (context : BodyContext) (table : Table) (env : Env) (r : NameMeaning) (t : Tree) (e : Expr)
     (found : List Note) → bind_value context table env r (annotation_unless (bound_name context table r) t) e found
     ≡ bind_value context table env r (Some t) e found
 value_unless context table env (res.Local x) t e found = go (bound_type table x)
@@ -224,7 +224,7 @@ value_unless context table env res.None t e found = refl
 
 -- ---- names that are no locals
 
-pub value_elsewhere : (context : BodyContext) (table : Table) (env : Env) (r : Res) (a : Option Tree) (e : Expr)
+pub value_elsewhere : (context : BodyContext) (table : Table) (env : Env) (r : NameMeaning) (a : Option Tree) (e : Expr)
     (found : List Note) → ((x : ℕ) → r ≡ res.Local x → ⊥) → bind_value context table env r a e found
     ≡ record { table = table; env = env; found = found ++ finds_in (at context table env) None e }
 value_elsewhere context table env (res.Local x) a e found h = absurd (h x refl)
@@ -234,8 +234,8 @@ value_elsewhere context table env (res.Class i) a e found h = refl
 value_elsewhere context table env (res.Builtin b) a e found h = refl
 value_elsewhere context table env res.None a e found h = refl
 
--- so the target of a `for`
-pub item_elsewhere : (context : BodyContext) (table : Table) (head : Env) (r : Res) (p : Place) (t : Tree)
+-- likewise the target of a `for`
+pub item_elsewhere : (context : BodyContext) (table : Table) (head : Env) (r : NameMeaning) (p : Place) (t : Tree)
     (found : List Note)
     → ((x : ℕ) → r ≡ res.Local x → ⊥)
     → bind_item context table head r p t found ≡ record { table = table; env = head; found = found }
@@ -265,7 +265,7 @@ module _ {Store Ty : Type 0} (has : Store → Ty → Type 0) (tree : Ty → Tree
       (subst (λ o. GivesTypes has tree bases store (declared_by types (res.Local x) (Some d))
       (with_declared o (env_of tree types) x (tree d))) b (settled_gives has tree bases store types x d h k))
 
-  pub alone_gives : (context : BodyContext) (types : List (Option Ty)) (r : Res) (ty : Option Ty) (t : Tree)
+  pub alone_gives : (context : BodyContext) (types : List (Option Ty)) (r : NameMeaning) (ty : Option Ty) (t : Tree)
       → option_map tree ty ≡ annotation_unless (bound_name context (env_of tree types) r) t
       → HoldsTypeIfAny (has store) tree bases ty → HoldsTypes (has store) tree bases types
       → GivesTypes has tree bases store (declared_by types r ty) (declared_alone context (env_of tree types) r t)
@@ -277,7 +277,7 @@ module _ {Store Ty : Type 0} (has : Store → Ty → Type 0) (tree : Ty → Tree
   alone_gives context types (res.Builtin b) ty t e h k = record { holds = k; is = refl }
   alone_gives context types res.None ty t e h k = record { holds = k; is = refl }
 
--- what is known without an annotation is what is bound
+-- the declared type known without an annotation is the one already bound
 pub known_bound : (o : Option Tree) → known_declared o None ≡ o
 known_bound None = refl
 known_bound (Some d) = refl

@@ -1,5 +1,5 @@
--- What the store gave stays given, well-formed types stay well-formed, and what environments and tables of the program
--- mean.
+-- Types of the store are kept, well-formed types stay well-formed, and environments and tables of the program keep
+-- their meaning.
 use Rattle.std.proofs.Common.{◌≡◌, ◌++◌, List, [], ◌∷◌, Option, Some, None, refl, sym, ap, subst, arith}
 use Rattle.std.specs.Prelude.{All, unwrap_or}
 use Rattle.std.specs.Option.{option_map}
@@ -20,7 +20,7 @@ use Rattle.pc_rules.specs.Operations.{Label}
 use Rattle.pc_rules.specs.Laws.WellFormed.{ContextWellFormed}
 use Rattle.pc_rules.specs.Computed.Standing.{Standing, HasIfAny, HasSignature, MeansLabel, label_in}
 use Rattle.pc_rules.proofs.ComputedLawful.{labels_are_lawful}
-use Rattle.pc_rules.specs.declared.setting.Signature.{Signature as RustSignature}
+use Rattle.pc_rules.specs.declared.expr_context.Signature.{Signature as RustSignature}
 use Rattle.pc_rules.specs.declared.label.Label.{Label as RustLabel}
 use Rattle.pc_walk.specs.declared.context.BodyContext.{BodyContext as RustBodyContext}
 use Rattle.pc_module_rules.specs.Computed.Statements.{Table, type_table}
@@ -99,14 +99,14 @@ module _ {Store Ty : Type 0} (has : Store → Ty → Type 0) (tree : Ty → Tree
     types_kept_if_any None h = tt
     types_kept_if_any (Some types) h = types_kept types h
 
--- what environments mean is kept
+-- the meanings of environments are kept
 module _ {Store Ty : Type 0} (has : Store → Ty → Type 0) (tree : Ty → Tree) (bases : Bases) (a b : Store)
     (k : KeepsTypes has a b) where
   pub gives_types_kept : (types : List (Option Ty)) (env : Env) → GivesTypes has tree bases a types env
       → GivesTypes has tree bases b types env
   gives_types_kept types env g = record { holds = types_kept has tree bases a b k types g.holds; is = g.is }
 
--- what a context holds is kept
+-- the types that a context holds are kept
 module _ {Store Ty : Type 0} (has : Store → Ty → Type 0) (a b : Store) (k : KeepsTypes has a b) where
   params_kept : (ps : List (RustParameter Ty)) → All (HasParameter (has a)) ps → All (HasParameter (has b)) ps
   params_kept ps h = All-weaker (HasParameter (has a)) (HasParameter (has b)) (λ p g. k p.ty g) ps h

@@ -1,12 +1,11 @@
--- Environments that are, at locals of some kind, the one from before: so joins, assignments, conditions and heads of
--- loops
--- leave them.
+-- Environments that agree with the one before at locals of some kind: joins, assignments, conditions and heads of loops
+-- keep this.
 use Rattle.std.proofs.Common.{◌≡◌, ◌∙◌, ℕ, zero, suc, not, List, [], ◌∷◌, ◌++◌, length, refl, sym, ap, subst, arith}
 use Rattle.std.specs.Prelude.{Bool as Test, true, false, Option, Some, None, option_to_list}
 use Rattle.std.proofs.lemmas.List.{length-set}
 use Rattle.pc_tree.specs.Tree.{Expr, name, number, text, truth, nothing, tuple, list, dict, negative, negation, binary}
 use Rattle.pc_tree.specs.Tree.{compare, is_none, is_not_none, conjunction, disjunction, attribute, index, call}
-use Rattle.pc_scope.specs.declared.resolution.Res.{Res}
+use Rattle.pc_scope.specs.declared.resolution.NameMeaning.{NameMeaning}
 use Rattle.pc_scope.specs.Expressions.{is_instance_test}
 use Rattle.pc_types.specs.Tree.{Tree}
 use Rattle.pc_types.specs.Below.{Bases}
@@ -107,7 +106,7 @@ module _ (Kind : ℕ → Type 0) (base : Env) where
     local_kept holds test None env a h = h
     local_kept holds test (Some x) env a h = current_kept holds test x env (current env x) a.0 h
 
-    module _ (resolve : List ℕ → Res) where
+    module _ (resolve : List ℕ → NameMeaning) where
       instance_kept : (holds is_test : Test) (x : Option ℕ) (test : Option Tested) (env : Env)
           → AreApart (tested_by_call is_test x) → IsKept env → IsKept
           (narrow_instance bases ds resolve holds is_test x test env)

@@ -3,8 +3,8 @@ use Rattle.std.proofs.Common.{◌≡◌, ◌∙◌, ℕ, List, [], ◌∷◌, re
 use Rattle.std.specs.Prelude.{◌||◌, nat_eq}
 use Rattle.std.specs.List.{list_any, cons_option}
 use Rattle.pc_tree.specs.Tree.{Name}
-use Rattle.pc_scope.specs.declared.resolution.Res.{Res}
-use Rattle.pc_scope.specs.declared.resolution.Res.TheVariants as res
+use Rattle.pc_scope.specs.declared.resolution.NameMeaning.{NameMeaning}
+use Rattle.pc_scope.specs.declared.resolution.NameMeaning.TheVariants as res
 use Rattle.pc_flow.specs.Narrowing.{as_local}
 use Rattle.pc_module_rules.specs.Statements.{binds_number, is_local_number}
 use Rattle.pc_module_rules.specs.Computed.Statements.{BodyContext, Table, unreached_name, unreached_names}
@@ -12,13 +12,13 @@ use Rattle.pc_walk.specs.Touched.{numbers_of}
 use Rattle.pc_walk.specs.Internal.BoundNames.{unreached_numbers}
 
 -- a number is among those of names where one of the names binds it
-pub numbers_bind : (resolve : List ℕ → Res) (names : List Name) (x : ℕ) → list_any (nat_eq x) (numbers_of resolve names)
+pub numbers_bind : (resolve : List ℕ → NameMeaning) (names : List Name) (x : ℕ) → list_any (nat_eq x) (numbers_of resolve names)
     ≡ binds_number resolve names x
 numbers_bind resolve [] x = refl
 numbers_bind resolve (n ∷ ns) x = go (resolve n.text) ∙ ap (λ b. is_local_number x (resolve n.text) || b)
     (numbers_bind resolve ns x)
   where
-    go : (r : Res) → list_any (nat_eq x) (cons_option (as_local r) (numbers_of resolve ns))
+    go : (r : NameMeaning) → list_any (nat_eq x) (cons_option (as_local r) (numbers_of resolve ns))
         ≡ (is_local_number x r || list_any (nat_eq x) (numbers_of resolve ns))
     go (res.Local y) = refl
     go (res.Const y) = refl
@@ -33,7 +33,7 @@ pub unreached_by : (context : BodyContext) (table : Table) (names : List Name)
 unreached_by context table [] = refl
 unreached_by context table (n ∷ ns) = go (context.context.resolve n.text) (λ t. unreached_by context t ns)
   where
-    go : (r : Res) → ((t : Table) → unreached_numbers t (numbers_of context.context.resolve ns) ≡ unreached_names
+    go : (r : NameMeaning) → ((t : Table) → unreached_numbers t (numbers_of context.context.resolve ns) ≡ unreached_names
         context t ns) → unreached_numbers table (cons_option (as_local r) (numbers_of context.context.resolve ns))
         ≡ unreached_names context (unreached_name context table r) ns
     go (res.Local y) h = h (unreached_name context table (res.Local y))

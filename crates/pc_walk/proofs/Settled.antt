@@ -1,4 +1,4 @@
--- Ways that take in an environment at all locals but some: joining it again changes nothing at the others.
+-- Environments that subsume another one at all locals except some: joining it again changes nothing at the others.
 use Rattle.std.proofs.Common.{◌≡◌, ℕ, List, ◌++◌, Bool as Test, true, false, Option, Some, None, refl, sym, subst}
 use Rattle.pc_types.specs.Tree.{Tree}
 use Rattle.pc_types.specs.Below.{Bases}
@@ -11,7 +11,7 @@ use Rattle.pc_flow.proofs.Settled.{outside_both, true_false}
 use Rattle.pc_walk.specs.Untouched.{AgreesIfAny, TakesInIfAny, WayTakesIn}
 use Rattle.pc_walk.proofs.KeptLocals.{IsKeptIfAny}
 
--- what is not among a list is not among a part of it
+-- a local outside a list is outside each part of it
 pub outside_part : (a b : Test) → (a ≡ true → b ≡ true) → b ≡ false → a ≡ false
 outside_part false b f e = refl
 outside_part true b f e = absurd (true_false b (f refl) e)

@@ -1,4 +1,4 @@
--- A walk over statements leaves each local that they do not touch as it is.
+-- A walk over statements leaves each local that they do not touch unchanged.
 use Rattle.std.proofs.Common.{◌≡◌, ◌∙◌, ℕ, List, [], ◌∷◌, ◌++◌, length, refl, sym, ap, subst, arith}
 use Rattle.std.specs.Prelude.{Bool as Test, true, false, ◌||◌, nat_eq, Option, Some, None, unwrap_or}
 use Rattle.std.specs.List.{cons_option}
@@ -11,8 +11,8 @@ use Rattle.pc_tree.specs.Tree.{breaks, continues, returns, asserts, annotated, a
 use Rattle.pc_tree.specs.Tree.{conditional, no_stmts, more_stmts, no_branches, more_branches}
 use Rattle.pc_tree.specs.Stopping.{bound_by, bound_by_stmt, bound_by_branches, name_of_target}
 use Rattle.pc_tree.specs.Depth.{place_of}
-use Rattle.pc_scope.specs.declared.resolution.Res.{Res}
-use Rattle.pc_scope.specs.declared.resolution.Res.TheVariants as res
+use Rattle.pc_scope.specs.declared.resolution.NameMeaning.{NameMeaning}
+use Rattle.pc_scope.specs.declared.resolution.NameMeaning.TheVariants as res
 use Rattle.pc_types.specs.Tree.{Tree, Any}
 use Rattle.pc_flow.specs.Environment.{Env, current, join_env}
 use Rattle.pc_flow.specs.Narrowing.{as_local}
@@ -21,7 +21,7 @@ use Rattle.pc_flow.proofs.Conditions.{current_well_formed}
 use Rattle.pc_notes.specs.Notes.{Note}
 use Rattle.pc_rules.specs.Operations.{Label, clean}
 use Rattle.pc_rules.specs.Computed.Standing.{label_in, finds_in}
-use Rattle.pc_ann.specs.Annotations.{read_ann}
+use Rattle.pc_annotations.specs.Annotations.{read_ann}
 use Rattle.pc_module_rules.specs.Statements.{binds_number, is_local_number}
 use Rattle.pc_module_rules.specs.Computed.Statements.{BodyContext, Table, type_table, bound_type, with_declared}
 use Rattle.pc_module_rules.specs.Computed.Statements.{known_declared, Walk, BindingResult, BranchesResult}
@@ -48,7 +48,7 @@ declared_long (Some d) table x t = refl
 declared_long None table x t = length-set table x (Some t)
 
 module _ (context : BodyContext) where
-  unreached_long_at : (table : Table) (r : Res) → length (unreached_name context table r) ≡ length table
+  unreached_long_at : (table : Table) (r : NameMeaning) → length (unreached_name context table r) ≡ length table
   unreached_long_at table (res.Local x) = declared_long (bound_type table x) table x Any
   unreached_long_at table (res.Const i) = refl
   unreached_long_at table (res.Func i) = refl
@@ -61,7 +61,7 @@ module _ (context : BodyContext) where
   unreached_long table (n ∷ ns) = unreached_long (unreached_name context table (context.context.resolve n.text)) ns
       ∙ unreached_long_at table (context.context.resolve n.text)
 
-  alone_long : (table : Table) (r : Res) (t : Tree) → length (declared_alone context table r t) ≡ length table
+  alone_long : (table : Table) (r : NameMeaning) (t : Tree) → length (declared_alone context table r t) ≡ length table
   alone_long table (res.Local x) t = declared_long (bound_type table x) table x t
   alone_long table (res.Const i) t = refl
   alone_long table (res.Func i) t = refl
@@ -88,7 +88,7 @@ module _ (context : BodyContext) (Kind : ℕ → Type 0) (base : Env) (fine : (x
       (subst (AreApart Kind base) (filter_map-append (λ (n : Name). as_local (context.context.resolve n.text)) a b) h)
 
   -- the meaning of one name, and of others
-  abbrev MeaningApart : Res → List ℕ → Type 0
+  abbrev MeaningApart : NameMeaning → List ℕ → Type 0
   MeaningApart r others = AreApart Kind base (cons_option (as_local r) others)
 
   not_equal : (x y : ℕ) → Kind x → (Kind y → ⊥) → nat_eq x y ≡ false
@@ -103,7 +103,7 @@ module _ (context : BodyContext) (Kind : ℕ → Type 0) (base : Env) (fine : (x
   binds_none [] x k h = refl
   binds_none (n ∷ ns) x k h = go (context.context.resolve n.text) h (λ g. binds_none ns x k g)
     where
-      go : (r : Res) → MeaningApart r (numbers_of context.context.resolve ns)
+      go : (r : NameMeaning) → MeaningApart r (numbers_of context.context.resolve ns)
           → (NamesApart ns → binds_number context.context.resolve ns x ≡ false)
           → (is_local_number x r || binds_number context.context.resolve ns x) ≡ false
       go (res.Local y) h f = ap (λ b. b || binds_number context.context.resolve ns x) (not_equal x y k h.0) ∙ f h.1
@@ -159,7 +159,7 @@ module _ (context : BodyContext) (Kind : ℕ → Type 0) (base : Env) (fine : (x
     env_here = assigned_kept Kind base env x _ a h;
   }
 
-  value_here : (table : Table) (env : Env) (r : Res) (annotation : Option Tree) (e : Expr) (found : List Note)
+  value_here : (table : Table) (env : Env) (r : NameMeaning) (annotation : Option Tree) (e : Expr) (found : List Note)
       → length table ≡ length base → MeaningApart r [] → Here env
       → BindingHere (bind_value context table env r annotation e found)
   value_here table env (res.Local x) annotation e found l a h =
@@ -192,7 +192,7 @@ module _ (context : BodyContext) (Kind : ℕ → Type 0) (base : Env) (fine : (x
   target_here table env (to_attribute p o field) e found l m h = record { long = l; env_here = h }
   target_here table env (to_index p o i) e found l m h = record { long = l; env_here = h }
 
-  pub item_here : (table : Table) (head : Env) (r : Res) (p : Place) (t : Tree) (found : List Note) (others : List ℕ)
+  pub item_here : (table : Table) (head : Env) (r : NameMeaning) (p : Place) (t : Tree) (found : List Note) (others : List ℕ)
       → length table ≡ length base → MeaningApart r others → Here head
       → BindingHere (bind_item context table head r p t found)
   item_here table head (res.Local x) p t found others l a h = label_here table head x (bound_type table x) p (clean t)
@@ -354,7 +354,7 @@ module _ (context : BodyContext) (Kind : ℕ → Type 0) (base : Env) (fine : (x
 
 -- ---- the law
 
--- what is among some locals is apart from what is outside them
+-- locals among some are apart from all locals outside these
 pub among_apart : (locals : List ℕ) (base : Env) (xs : List ℕ) → AreAmong locals xs
     → AreApart (λ x. is_among locals x ≡ false) base xs
 among_apart locals base [] h = tt
@@ -406,7 +406,7 @@ module _ (context : BodyContext) (table : Table) where
   head_at_long names env l = (head_here context (λ x. ⊥) table (λ x k. absurd k) table names env refl
       (none_apart table (numbers_of context.context.resolve names)) (long_kept table env l)).long
 
-  pub item_long : (head : Env) (r : Res) (p : Place) (t : Tree) (found : List Note) → length head ≡ length table
+  pub item_long : (head : Env) (r : NameMeaning) (p : Place) (t : Tree) (found : List Note) → length head ≡ length table
       → (length (bind_item context table head r p t found).table ≡ length table)
       × (length (bind_item context table head r p t found).env ≡ length table)
   item_long head r p t found l =

@@ -5,7 +5,7 @@ use Rattle.pc_types.specs.declared.store.TypeStore.{Ghosts as StoreOf}
 use Rattle.pc_flow.specs.Environment.{Env}
 use Rattle.pc_flow.specs.Stored.{env_of}
 use Rattle.pc_flow.proofs.Given.{keeps_both}
-use Rattle.pc_notes.specs.declared.notes.Entry.{Entry}
+use Rattle.pc_notes.specs.declared.notes.NoteEntry.{NoteEntry}
 use Rattle.pc_notes.specs.Notes.{Note, notes_of}
 use Rattle.pc_rules.specs.Computed.Standing.{Standing}
 use Rattle.pc_module_rules.specs.Computed.Statements.{BodyContext, BindingResult, Table, at}
@@ -13,15 +13,15 @@ use Rattle.pc_walk.specs.declared.context.BodyContext.{BodyContext as RustBodyCo
 use Rattle.pc_walk.specs.StatementsHeld.{body_context_with, HoldsContext, HoldsType, HoldsTypeIfAny, HoldsTypes}
 use Rattle.pc_walk.specs.StatementsHeld.{HoldsTypesIfAny}
 use Rattle.pc_walk.specs.declared.walk.Walk.{Walk}
-use Rattle.pc_walk.specs.Walks.{HoldsOne, HoldsWant, HoldsEnv, HoldsWay, IsEnv, GoesOn, IsQuiet, Stands, Found}
+use Rattle.pc_walk.specs.Walks.{HoldsOne, HoldsWant, HoldsEnv, HoldsWay, IsEnv, WalkKept, IsQuiet, Stands, Found}
 use Rattle.pc_walk.specs.Walks.{Bound, body_context_in, standing_in}
 use Rattle.pc_walk.proofs.Held.{type_kept, type_kept_if_any, types_kept, types_kept_if_any, context_kept}
 
 module _ {Store Ty : Type 0} {S : StoreOf Store Ty} where
   -- a step that keeps what the store gave, whatever it declares and finds
-  pub grown : {w : Walk Store Ty} {store : Store} {declared : List (Option Ty)} {found : List Entry}
+  pub grown : {w : Walk Store Ty} {store : Store} {declared : List (Option Ty)} {found : List NoteEntry}
       → KeepsTypes S.has w.store.now store
-      → GoesOn S w (record w {
+      → WalkKept S w (record w {
         store = record w.store { now = store };
         declared = record w.declared { now = declared };
         found = record w.found { now = found };
@@ -29,11 +29,11 @@ module _ {Store Ty : Type 0} {S : StoreOf Store Ty} where
   grown k = record { kept = k; context = refl; same_store = refl; same_declared = refl; same_notes = refl }
 
   -- no step
-  pub same_walk : {w : Walk Store Ty} → GoesOn S w w
+  pub same_walk : {w : Walk Store Ty} → WalkKept S w w
   same_walk = record { kept = λ ty h. h; context = refl; same_store = refl; same_declared = refl; same_notes = refl }
 
   -- one step after another
-  pub goes_further : {a b c : Walk Store Ty} → GoesOn S a b → GoesOn S b c → GoesOn S a c
+  pub goes_further : {a b c : Walk Store Ty} → WalkKept S a b → WalkKept S b c → WalkKept S a c
   goes_further {a = a} {b = b} {c = c} g h = record {
     kept = keeps_both S.has a.store.now b.store.now c.store.now g.kept h.kept;
     context = h.context ∙ g.context;
@@ -42,7 +42,7 @@ module _ {Store Ty : Type 0} {S : StoreOf Store Ty} where
     same_notes = h.same_notes ∙ g.same_notes;
   }
 
-  -- so where neither declared and found something
+  -- two steps that each declared and found nothing declared and found nothing together
   pub quiet_further : {a b c : Walk Store Ty} → IsQuiet S a b → IsQuiet S b c → IsQuiet S a c
   quiet_further g h = record {
     declared = h.declared ∙ g.declared;
@@ -50,49 +50,49 @@ module _ {Store Ty : Type 0} {S : StoreOf Store Ty} where
   }
 
 module _ {Store Ty : Type 0} (S : StoreOf Store Ty) (old new : Walk Store Ty) where
-  -- what is said of the context is said of it later
-  pub in_body_context : (P : RustBodyContext Ty → Type 0) → GoesOn S old new → P old.context → P new.context
+  -- a fact of the context stays a fact of it after a step
+  pub in_body_context : (P : RustBodyContext Ty → Type 0) → WalkKept S old new → P old.context → P new.context
   in_body_context P g h = subst P (sym g.context) h
 
   -- a type that the walk held it holds later
-  pub one_kept : (ty : Ty) → GoesOn S old new → HoldsOne S old ty → HoldsOne S new ty
+  pub one_kept : (ty : Ty) → WalkKept S old new → HoldsOne S old ty → HoldsOne S new ty
   one_kept ty g h = in_body_context (λ (f : RustBodyContext Ty). HoldsType (S.has new.store.now) S.tree
       f.globals.now.outline.now.parents.now ty) g
       (type_kept S.has S.tree old.context.globals.now.outline.now.parents.now old.store.now new.store.now g.kept ty h)
 
-  -- so an environment
-  pub env_kept : (env : List (Option Ty)) → GoesOn S old new → HoldsEnv S old env → HoldsEnv S new env
+  -- likewise an environment
+  pub env_kept : (env : List (Option Ty)) → WalkKept S old new → HoldsEnv S old env → HoldsEnv S new env
   env_kept env g h = in_body_context (λ (f : RustBodyContext Ty). HoldsTypes (S.has new.store.now) S.tree
       f.globals.now.outline.now.parents.now env) g
       (types_kept S.has S.tree old.context.globals.now.outline.now.parents.now old.store.now new.store.now g.kept env h)
 
-  -- so one that there may be
-  pub way_kept : (way : Option (List (Option Ty))) → GoesOn S old new → HoldsWay S old way → HoldsWay S new way
+  -- likewise one that there may be
+  pub way_kept : (way : Option (List (Option Ty))) → WalkKept S old new → HoldsWay S old way → HoldsWay S new way
   way_kept way g h = in_body_context (λ (f : RustBodyContext Ty). HoldsTypesIfAny (S.has new.store.now) S.tree
       f.globals.now.outline.now.parents.now way) g
       (types_kept_if_any S.has S.tree old.context.globals.now.outline.now.parents.now old.store.now new.store.now g.kept
       way h)
 
-  -- so a type that there may be
-  pub want_kept : (want : Option Ty) → GoesOn S old new → HoldsWant S old want → HoldsWant S new want
+  -- likewise a type that there may be
+  pub want_kept : (want : Option Ty) → WalkKept S old new → HoldsWant S old want → HoldsWant S new want
   want_kept want g h = in_body_context (λ (f : RustBodyContext Ty). HoldsTypeIfAny (S.has new.store.now) S.tree
       f.globals.now.outline.now.parents.now want) g
       (type_kept_if_any S.has S.tree old.context.globals.now.outline.now.parents.now old.store.now new.store.now g.kept
       want h)
 
-  -- what an environment means, later
-  pub env_given : (types : List (Option Ty)) (env : Env) → GoesOn S old new → IsEnv S old types env
+  -- an environment has the same meaning after a step
+  pub env_given : (types : List (Option Ty)) (env : Env) → WalkKept S old new → IsEnv S old types env
       → IsEnv S new types env
   env_given types env g h = record { holds = env_kept types g h.holds; is = h.is }
 
-  -- what its statements stand in holds later
-  pub context_on : HoldsContext (S.has old.store.now) S.tree old.context → GoesOn S old new
+  -- the context of statements holds after a step as before it
+  pub context_on : HoldsContext (S.has old.store.now) S.tree old.context → WalkKept S old new
       → HoldsContext (S.has new.store.now) S.tree new.context
   context_on h g = in_body_context (λ (f : RustBodyContext Ty). HoldsContext (S.has new.store.now) S.tree f) g
       (context_kept S.has old.store.now new.store.now g.kept S.tree old.context h)
 
   -- a walk that stood stands later, where it declared nothing
-  pub stands_on : (env : List (Option Ty)) → Stands S old env → GoesOn S old new
+  pub stands_on : (env : List (Option Ty)) → Stands S old env → WalkKept S old new
       → new.declared.now ≡ old.declared.now → Stands S new env
   stands_on env h g d = record {
     context = context_on h.context g;
@@ -100,16 +100,16 @@ module _ {Store Ty : Type 0} (S : StoreOf Store Ty) (old new : Walk Store Ty) wh
     current = env_kept env g h.current;
   }
 
-  -- what a step found
+  -- the findings of a step that declared nothing
   pub found_by : (env : List (Option Ty)) (finds : BodyContext → Standing → List Note)
-      → Stands S old env → GoesOn S old new → new.declared.now ≡ old.declared.now
+      → Stands S old env → WalkKept S old new → new.declared.now ≡ old.declared.now
       → notes_of new.found.now ≡ notes_of old.found.now ++ finds (body_context_in S old) (standing_in S old env)
       → Found S old env new finds
   found_by env finds h g d e = record { pushed = e; declared = d; stands = stands_on env h g d }
 
   -- a later walk stands in the same
   pub same_standing : {A : Type 0} (env : List (Option Ty)) (f : BodyContext → Standing → A)
-      → GoesOn S old new → new.declared.now ≡ old.declared.now
+      → WalkKept S old new → new.declared.now ≡ old.declared.now
       → f (body_context_in S new) (standing_in S new env) ≡ f (body_context_in S old) (standing_in S old env)
   same_standing env f g d =
       ap (λ (x : RustBodyContext Ty). let k = body_context_with S.tree x in
@@ -119,9 +119,9 @@ module _ {Store Ty : Type 0} (S : StoreOf Store Ty) (old new : Walk Store Ty) wh
 
 -- two steps
 module _ {Store Ty : Type 0} (S : StoreOf Store Ty) (old mid new : Walk Store Ty) where
-  -- what a step found, where the next one finds nothing
+  -- the findings of a step and a next one that finds nothing
   pub found_quiet : (env : List (Option Ty)) (finds : BodyContext → Standing → List Note)
-      → Found S old env mid finds → GoesOn S mid new → new.declared.now ≡ mid.declared.now
+      → Found S old env mid finds → WalkKept S mid new → new.declared.now ≡ mid.declared.now
       → notes_of new.found.now ≡ notes_of mid.found.now → Found S old env new finds
   found_quiet env finds a g d e = record {
     pushed = e ∙ a.pushed;
@@ -129,9 +129,9 @@ module _ {Store Ty : Type 0} (S : StoreOf Store Ty) (old mid new : Walk Store Ty
     stands = stands_on S mid new env a.stands g d;
   }
 
-  -- what two steps found, the second maybe in another environment
+  -- the findings of two steps, the second maybe in another environment
   pub found_then : (env other : List (Option Ty)) (first second finds : BodyContext → Standing → List Note)
-      → GoesOn S old mid → GoesOn S mid new → Found S old env mid first → Found S mid other new second
+      → WalkKept S old mid → WalkKept S mid new → Found S old env mid first → Found S mid other new second
       → first (body_context_in S old) (standing_in S old env) ++ second (body_context_in S old)
       (standing_in S old other)
       ≡ finds (body_context_in S old) (standing_in S old env)
@@ -151,10 +151,10 @@ module _ {Store Ty : Type 0} (S : StoreOf Store Ty) (old mid new : Walk Store Ty
         stands = stands_on S mid new env a.stands h b.declared;
       }
 
-  -- what a name bound comes to, where a step before it found something
+  -- the result of binding a name after a step that found something
   pub bound_then : (env behind : List (Option Ty)) (finds : BodyContext → Standing → List Note)
       (binds : BodyContext → Table → Env → List Note → BindingResult)
-      → GoesOn S old mid → Found S old env mid finds → Bound S mid env new behind binds
+      → WalkKept S old mid → Found S old env mid finds → Bound S mid env new behind binds
       → Bound S old env new behind (λ f t k ns. binds f t k (ns ++ finds f (at f t k)))
   bound_then env behind finds binds g a b =
       let E = env_of S.tree env in
@@ -169,10 +169,10 @@ module _ {Store Ty : Type 0} (S : StoreOf Store Ty) (old mid new : Walk Store Ty
         stands = b.stands;
       }
 
-  -- what two names bound come to
+  -- the result of binding one name and then another
   pub bound_further : (env between behind : List (Option Ty))
       (first second : BodyContext → Table → Env → List Note → BindingResult)
-      → GoesOn S old mid → Bound S old env mid between first → Bound S mid between new behind second
+      → WalkKept S old mid → Bound S old env mid between first → Bound S mid between new behind second
       → Bound S old env new behind (λ f t k ns. let b = first f t k ns in second f b.table b.env b.found)
   bound_further env between behind first second g a b =
       let E = env_of S.tree between in

@@ -1,5 +1,5 @@
--- What statements stand in, as the program holds it, and what it answers of expressions, environments and names that
--- are bound, in terms of the definitions. Own rule of the profile.
+-- The context of statements as the program holds it, and the program's results for expressions, environments and
+-- bindings, in terms of the definitions. Own rule of the profile.
 use Rattle.std.specs.Prelude.{◌≡◌, List, All, map, true, Option, Some, None}
 use Rattle.std.specs.Option.{option_map}
 use Rattle.pc_tree.specs.Tree.{module_of}
@@ -21,7 +21,7 @@ use Rattle.pc_module_rules.specs.Computed.Statements.{BodyContext, BindingResult
 use Rattle.pc_walk.specs.declared.context.BodyContext.{BodyContext as RustBodyContext}
 
 module _ {Ty : Type 0} (tree : Ty → Tree) where
-  -- what the statements of a function may name
+  -- the context of expressions that a program's body context means
   abbrev pub context_in : RustBodyContext Ty → Context
   context_in f = record {
     bases = f.globals.now.outline.now.parents.now;
@@ -33,7 +33,7 @@ module _ {Ty : Type 0} (tree : Ty → Tree) where
     resolve = meanings f.names.now;
   }
 
-  -- what the statements of a function stand in
+  -- the body context that a program's body context means
   abbrev pub body_context_with : RustBodyContext Ty → BodyContext
   body_context_with f = record {
     whole = module_of f.globals.now.outline.now.tree.now;
@@ -52,7 +52,7 @@ abbrev pub HoldsTypeIfAny : {Ty : Type 0} (has : Ty → Type 0) (tree : Ty → T
 HoldsTypeIfAny has tree bases None = Unit {0}
 HoldsTypeIfAny has tree bases (Some ty) = HoldsType has tree bases ty
 
--- the types of locals, declared or current, are of the store and well-formed, of each local that has one
+-- the types of locals, declared or current, are of the store and well-formed
 pub record HoldsTypes {Ty : Type 0} (has : Ty → Type 0) (tree : Ty → Tree) (bases : Bases)
     (types : List (Option Ty)) : Type 0 where
   pub given : HasEach has types
@@ -64,8 +64,7 @@ abbrev pub HoldsTypesIfAny : {Ty : Type 0} (has : Ty → Type 0) (tree : Ty → 
 HoldsTypesIfAny has tree bases None = Unit {0}
 HoldsTypesIfAny has tree bases (Some types) = HoldsTypes has tree bases types
 
--- the store gave all types of what statements stand in, all of them are well-formed, and names mean what the module's
--- scopes say
+-- the store gave all types of a body context, all of them are well-formed, and names mean what the module's scopes say
 pub record HoldsContext {Ty : Type 0} (has : Ty → Type 0) (tree : Ty → Tree) (f : RustBodyContext Ty) : Type 0 where
   pub classes : HasEntries has f.globals.now.classes.now
   pub functions : All (HasSignature has) f.globals.now.functions.now
@@ -75,29 +74,30 @@ pub record HoldsContext {Ty : Type 0} (has : Ty → Type 0) (tree : Ty → Tree)
   pub scopes : AreScopes (module_of f.globals.now.outline.now.tree.now) f.globals.now.outline.now.scopes.now
 
 module _ {Ty : Type 0} (tree : Ty → Tree) where
-  -- what a name bound comes to
+  -- the result of a binding that the program's values mean
   abbrev pub bound_with : (declared env : List (Option Ty)) → List Note → BindingResult
   bound_with declared env found = record { table = env_of tree declared; env = env_of tree env; found = found }
 
 module _ {Store Ty : Type 0} (has : Store → Ty → Type 0) (tree : Ty → Tree) (bases : Bases) where
-  -- a label with a well-formed type of the store, which means this one, but with each code once
+  -- a label with a well-formed type of the store means this label, with each code once
   pub record GivesLabel (store : Store) (l : RustLabel Ty) (m : Label) : Type 0 where
     pub label : MeansLabel has tree store l m
     pub well_formed : IsWellFormed bases (tree l.ty)
 
-  -- well-formed types of the store: those of locals, and those that mean this environment
+  -- the types of locals are well-formed types of the store and mean this environment
   pub record GivesTypes (store : Store) (types : List (Option Ty)) (env : List (Option Tree)) : Type 0 where
     pub holds : HoldsTypes (has store) tree bases types
     pub is : env_of tree types ≡ env
 
-  -- a name bound has come to this
+  -- the program's declared types, environment and notes are well-formed and mean this result of a binding
   pub record GivesBound (store : Store) (declared env : List (Option Ty)) (found : List Note)
       (b : BindingResult) : Type 0 where
     pub declared_holds : HoldsTypes (has store) tree bases declared
     pub env_holds : HoldsTypes (has store) tree bases env
     pub is : bound_with tree declared env found ≡ b
 
-  -- well-formed types of the store that mean an environment that there may be
+  -- the types of locals, if there are any, are well-formed types of the store and mean this environment, if there is
+  -- one
   pub record GivesTypesIfAny (store : Store) (types : Option (List (Option Ty)))
       (env : Option (List (Option Tree))) : Type 0 where
     pub holds : HoldsTypesIfAny (has store) tree bases types

@@ -1,5 +1,5 @@
--- A walk over the statements of a function, as the program holds it, and what its steps do, in terms of the
--- definitions. Own rule of the profile.
+-- A walk over the statements of a function, as the program holds it, and its steps, in terms of the definitions. Own
+-- rule of the profile.
 use Rattle.std.specs.Prelude.{◌≡◌, ◌++◌, List, Option}
 use Rattle.pc_types.specs.Tree.{Tree}
 use Rattle.pc_types.specs.Store.{KeepsTypes}
@@ -32,59 +32,59 @@ module _ {Store Ty : Type 0} (S : StoreOf Store Ty) where
   abbrev pub HoldsWay : Walk Store Ty → Option (List (Option Ty)) → Type 0
   HoldsWay w way = HoldsTypesIfAny (S.has w.store.now) S.tree w.context.globals.now.outline.now.parents.now way
 
-  -- a label of the walk, which means this one
+  -- a label of the walk means this label
   abbrev pub IsLabel : Walk Store Ty → RustLabel Ty → Label → Type 0
   IsLabel w l m = GivesLabel S.has S.tree w.context.globals.now.outline.now.parents.now w.store.now l m
 
-  -- a type of the walk, which means this one
+  -- a type of the walk means this type
   abbrev pub IsType : Walk Store Ty → Ty → Tree → Type 0
   IsType w ty t = HoldsOne w ty × (S.tree ty ≡ t)
 
-  -- an environment of the walk, which means this one
+  -- an environment of the walk means this environment
   abbrev pub IsEnv : Walk Store Ty → List (Option Ty) → Env → Type 0
   IsEnv w types env = GivesTypes S.has S.tree w.context.globals.now.outline.now.parents.now w.store.now types env
 
-  -- an environment of the walk, if there is one, means this one; where there is none, there is none
+  -- an environment of the walk, if there is one, means this environment; if there is none, so is here
   abbrev pub IsWay : Walk Store Ty → Option (List (Option Ty)) → Option Env → Type 0
   IsWay w types way = GivesTypesIfAny S.has S.tree w.context.globals.now.outline.now.parents.now w.store.now types way
 
-  -- the walk goes on: what the store gave stays given, and the context and what is lent are the same
-  pub record GoesOn (old new : Walk Store Ty) : Type 0 where
+  -- a step of the walk: types of its store are kept, and the context and everything lent to it are the same
+  pub record WalkKept (old new : Walk Store Ty) : Type 0 where
     pub kept : KeepsTypes S.has old.store.now new.store.now
     pub context : new.context ≡ old.context
     pub same_store : new.store.ghost_name ≡ old.store.ghost_name
     pub same_declared : new.declared.ghost_name ≡ old.declared.ghost_name
     pub same_notes : new.found.ghost_name ≡ old.found.ghost_name
 
-  -- the walk declared and found nothing
+  -- a step of the walk declared nothing and found nothing
   pub record IsQuiet (old new : Walk Store Ty) : Type 0 where
     pub declared : new.declared.now ≡ old.declared.now
     pub found : notes_of new.found.now ≡ notes_of old.found.now
 
 module _ {Store Ty : Type 0} (S : StoreOf Store Ty) where
-  -- what the statements stand in
+  -- the body context of the walk
   abbrev pub body_context_in : Walk Store Ty → BodyContext
   body_context_in w = body_context_with S.tree w.context
 
-  -- what an expression stands in, in this environment
+  -- the standing of an expression in this environment of the walk
   abbrev pub standing_in : Walk Store Ty → List (Option Ty) → Standing
   standing_in w env = at (body_context_in w) (env_of S.tree w.declared.now) (env_of S.tree env)
 
-  -- the walk stands, in this environment: the store gave all types, all are well-formed, and names mean what the scopes
-  -- say
+  -- the walk is valid in this environment: the store gave all types, all are well-formed, and names mean what the
+  -- scopes say
   pub record Stands (w : Walk Store Ty) (env : List (Option Ty)) : Type 0 where
     pub context : HoldsContext (S.has w.store.now) S.tree w.context
     pub declared : HoldsTypes (S.has w.store.now) S.tree w.context.globals.now.outline.now.parents.now w.declared.now
     pub current : HoldsTypes (S.has w.store.now) S.tree w.context.globals.now.outline.now.parents.now env
 
-  -- in this environment the walk found these notes, and declared nothing
+  -- in this environment a step of the walk appended these notes, and declared nothing
   pub record Found (old : Walk Store Ty) (env : List (Option Ty)) (new : Walk Store Ty)
       (finds : BodyContext → Standing → List Note) : Type 0 where
     pub pushed : notes_of new.found.now ≡ notes_of old.found.now ++ finds (body_context_in old) (standing_in old env)
     pub declared : new.declared.now ≡ old.declared.now
     pub stands : Stands new env
 
-  -- in this environment the walk bound a name, which came to this
+  -- in this environment a step of the walk bound a name, with this result
   pub record Bound (old : Walk Store Ty) (env : List (Option Ty)) (new : Walk Store Ty)
       (behind : List (Option Ty)) (binds : BodyContext → Table → Env → List Note → BindingResult) : Type 0 where
     pub is : bound_with S.tree new.declared.now behind (notes_of new.found.now)

@@ -1,4 +1,4 @@
-//! Names that are bound: their declared types, the annotations of names, and a local bound to what has a label.
+//! Bound names: their declared types, their annotations, and the binding of a local to a labelled value.
 
 #![tactic(auto, using(crate::proofs::Walks::goes_further))]
 
@@ -8,7 +8,7 @@ ghost use Rattle.std.specs.Option.{option_map};
 ghost use Rattle.pc_tree.specs.Tree.{ann_of, name_of, module_of};
 ghost use Rattle.pc_types.specs.Tree.{Tree};
 ghost use Rattle.pc_types.specs.Store.{Means};
-ghost use Rattle.pc_ann.specs.Annotations.{read_ann};
+ghost use Rattle.pc_annotations.specs.Annotations.{read_ann};
 ghost use Rattle.pc_flow.specs.Stored.{env_of, HasOne, HasEach, GivesOne};
 ghost use Rattle.pc_notes.specs.Notes.{notes_of};
 ghost use Rattle.pc_rules.specs.Operations.{Label as LabelOf};
@@ -19,21 +19,21 @@ ghost use Rattle.pc_module_rules.specs.Computed.Statements.{known_declared, boun
 ghost use Rattle.pc_module_rules.specs.Computed.Statements.{bound_name, bind_label, annotation_finds};
 ghost use Rattle.pc_walk.specs.AnnotatedNames.{annotation_unless, declared_by};
 ghost use Rattle.pc_walk.specs.StatementsHeld.{HoldsContext};
-ghost use Rattle.pc_walk.specs.Walks.{Stands, HoldsOne, HoldsWant, GoesOn, Bound, body_context_in};
+ghost use Rattle.pc_walk.specs.Walks.{Stands, HoldsOne, HoldsWant, WalkKept, Bound, body_context_in};
 
 use crate::flows::find_flow_in;
 use crate::walk::Walk;
-use pc_ann::read_ann;
+use pc_annotations::read_ann;
 use pc_flow::{DeclaredTypes, Env, assigned_type};
 use pc_rules::Label;
-use pc_scope::Res;
+use pc_scope::NameMeaning;
 use pc_source::{OutOfMemory, Place};
 use pc_tree::{Ann, Code, Name};
 use pc_types::TypeStore;
 use std::alloc::Global;
 
-/// Declares a local, unless its declared type is settled already.
-pub(crate) fn settle<Ty: Drop>(declared: &mut DeclaredTypes<Ty>, local: usize, ty: Ty)
+/// Declares a local with this type, unless it already has a declared type.
+pub(crate) fn declare<Ty: Drop>(declared: &mut DeclaredTypes<Ty>, local: usize, ty: Ty)
     ensures { declared.new ≡ with_declared (slice_index_or declared.old local None) declared.old local ty }
 {
     match declared.declared(local) {
@@ -42,7 +42,8 @@ pub(crate) fn settle<Ty: Drop>(declared: &mut DeclaredTypes<Ty>, local: usize, t
     }
 }
 
-/// The declared type of a local that is known before a value is bound to it: the one that it has, else its annotation.
+/// Returns the declared type of a local as known before a value is bound to it: the one that it already has, else its
+/// annotation, if there is one.
 pub fn known_type<S: TypeStore>(
     store: &S,
     alloc: Global,
@@ -62,7 +63,7 @@ pub fn known_type<S: TypeStore>(
     }
 }
 
-/// A type, or else this one again.
+/// Returns `ty`, or a copy of `other` if there is none.
 fn type_or<S: TypeStore>(
     store: &S,
     alloc: Global,
@@ -79,7 +80,9 @@ fn type_or<S: TypeStore>(
     }
 }
 
-/// Binds a local to what has this label, at this place. Where its declared type isn't known it is that of the label.
+/// Binds a local to a value with this label, at this place, and returns the environment with the local's new current
+/// type. A local without a declared type gets `want`, or the label's type if there is none. Appends the finding of the
+/// flow into the declared type, if there is one.
 pub fn bind_label<S: TypeStore>(
     walk: &mut Walk<'_, S>,
     env: Env<S::Ty>,
@@ -94,33 +97,33 @@ pub fn bind_label<S: TypeStore>(
     ensures bound { (m : LabelOf) → label_with S.tree label.now ≡ brief m
         → IfOk result (λ b. Bound S.TypeStore walk.old env walk.new b
         (λ f t k. bind_label f t k local (option_map S.tree want) place m)) }
-    ensures goes_on { GoesOn S.TypeStore walk.old walk.new }
+    ensures goes_on { WalkKept S.TypeStore walk.old walk.new }
 {
     let ty = type_or(walk.store, walk.alloc, want, &label.ty)?;
     let code = find_flow_in(walk, place, label, &ty)?;
     let current = assigned_type(walk.store, walk.alloc, &ty, &label.ty, code)?;
-    settle(walk.declared, local, ty);
+    declare(walk.declared, local, ty);
     let mut behind = env;
     behind.assign(walk.alloc, local, current)?;
     Ok(behind)
 }
 
-/// Whether a name means a local whose declared type is settled.
-fn is_bound<Ty: Drop>(declared: &DeclaredTypes<Ty>, meaning: Res) -> bool
+/// Returns whether a name means a local that already has a declared type.
+fn is_bound<Ty: Drop>(declared: &DeclaredTypes<Ty>, meaning: NameMeaning) -> bool
     ensures { (f : BodyContextOf) (tree : Ty → Tree) → result ≡ is_some
         (bound_name f (env_of tree declared.now) meaning) }
 {
     match meaning {
-        Res::Local(local) => declared.declared(local).is_some(),
+        NameMeaning::Local(local) => declared.declared(local).is_some(),
         _ => false,
     }
 }
 
-/// The type that the annotation of a name is read as, with what is found in it; none with E24 where the name means a
-/// local that is bound already.
+/// Reads the annotation of a name. Appends the findings in it and returns its type. If the name means a local that is
+/// already bound, appends E24 instead and returns `None`.
 pub fn annotated_type<S: TypeStore>(
     walk: &mut Walk<'_, S>,
-    meaning: Res,
+    meaning: NameMeaning,
     name: &Name,
     annotation: &Ann,
 ) -> Result<Option<S::Ty>, OutOfMemory>
@@ -133,7 +136,7 @@ pub fn annotated_type<S: TypeStore>(
         ++ annotation_finds (body_context_in S.TypeStore walk.old)
         (bound_name (body_context_in S.TypeStore walk.old) (env_of S.tree walk.old.declared.now) meaning)
         (name_of name.now) (ann_of annotation.now)) }
-    ensures goes_on { GoesOn S.TypeStore walk.old walk.new }
+    ensures goes_on { WalkKept S.TypeStore walk.old walk.new }
     ensures declared { OnOk result (walk.new.declared.now ≡ walk.old.declared.now) }
 {
     if is_bound(walk.declared, meaning) {
@@ -152,10 +155,11 @@ pub fn annotated_type<S: TypeStore>(
     Ok(Some(ty))
 }
 
-/// Declares what a name that is annotated alone means, if it is a local and the annotation counts.
+/// Declares the local of a name annotated without a value, unless it already has a declared type. Does nothing if the
+/// annotation is ignored (`None`) or the name means no local.
 pub fn declare_alone<Ty: Drop>(
     declared: &mut DeclaredTypes<Ty>,
-    meaning: Res,
+    meaning: NameMeaning,
     annotation: Option<Ty>,
 )
     ensures { declared.new ≡ declared_by declared.old meaning annotation }
@@ -163,7 +167,7 @@ pub fn declare_alone<Ty: Drop>(
     match annotation {
         None => {}
         Some(ty) => match meaning {
-            Res::Local(local) => settle(declared, local, ty),
+            NameMeaning::Local(local) => declare(declared, local, ty),
             _ => {}
         },
     }

@@ -1,18 +1,17 @@
-//! What the statements of a function stand in.
+//! The context of a function's statements.
 
 use pc_flow::OwnerNames;
 use pc_rules::ModuleContext;
 
-/// What the statements of a function stand in: what they may name, what names mean there, and the type that the
-/// function returns.
+/// The context of a function's statements: the globals that they may name, the meanings of names, and the return type.
 ///
 /// Own rule of the profile.
 #[derive(Drop)]
 pub struct BodyContext<'b, Ty: Drop> {
-    /// What may be named in the module.
+    /// The globals that may be named.
     pub globals: &'b ModuleContext<'b, Ty>,
-    /// What names mean in the function.
+    /// The meanings of names in the function.
     pub names: &'b OwnerNames<'b>,
-    /// The type that it returns.
+    /// The return type of the function.
     pub returned: &'b Ty,
 }

@@ -1,4 +1,4 @@
-//! Flows where a walk over statements stands.
+//! Flows in a walk over statements.
 
 #![tactic(auto, using(crate::proofs::Walks::goes_further))]
 
@@ -10,16 +10,18 @@ ghost use Rattle.pc_rules.specs.Context.{is_early};
 ghost use Rattle.pc_rules.specs.Computed.Expressions.{code_unless, flows_of};
 ghost use Rattle.pc_rules.specs.Computed.Findings.{flow_at, flows_at, brief};
 ghost use Rattle.pc_rules.specs.Computed.Standing.{label_with};
-ghost use Rattle.pc_walk.specs.Walks.{GoesOn};
+ghost use Rattle.pc_walk.specs.Walks.{WalkKept};
 
 use crate::walk::Walk;
-use pc_rules::{Checker, Label, find_flow, find_flows};
+use pc_rules::{Label, TypingState, find_flow, find_flows};
 use pc_source::{OutOfMemory, Place};
 use pc_tree::Code;
 use pc_types::TypeStore;
 
-/// Finds the flow of a labelled expression, which stands at this place, into a type, and answers its code. Typing
-/// specification, "Type system concepts", assignability; own rule of the profile.
+/// Checks the flow of a labelled expression at `place` into the type `into`. If the flow is not static, appends its
+/// code and returns it: A1 with both types if the expression's type is assignable, else E12. Returns `None` if the flow
+/// is static, or if the expression is E03. Typing specification, "Type system concepts", assignability; own rule of the
+/// profile.
 pub fn find_flow_in<S: TypeStore>(
     walk: &mut Walk<'_, S>,
     place: Place,
@@ -36,10 +38,10 @@ pub fn find_flow_in<S: TypeStore>(
         (λ c. notes_of walk.new.found.now
         ≡ notes_of walk.old.found.now ++ flow_at place (S.tree label.now.ty) (S.tree into.now) c) }
     ensures declared { walk.new.declared.now ≡ walk.old.declared.now }
-    ensures goes_on { GoesOn S.TypeStore walk.old walk.new }
+    ensures goes_on { WalkKept S.TypeStore walk.old walk.new }
 {
     let parents = walk.context.globals.outline.parents;
-    let mut checker = Checker {
+    let mut checker = TypingState {
         store: walk.store,
         alloc: walk.alloc,
         found: walk.found,
@@ -48,7 +50,8 @@ pub fn find_flow_in<S: TypeStore>(
     Ok(code)
 }
 
-/// Finds the flows of a labelled expression, which stands at this place, into several types, each code once.
+/// Checks the flows of a labelled expression at this place into several types. Appends each code once, for the first
+/// flow that has it.
 pub fn find_flows_in<S: TypeStore>(
     walk: &mut Walk<'_, S>,
     place: Place,
@@ -61,10 +64,10 @@ pub fn find_flows_in<S: TypeStore>(
         → OnOk result (notes_of walk.new.found.now ≡ notes_of walk.old.found.now
         ++ flows_at place (flows_of walk.old.context.globals.now.outline.now.parents.now m (map S.tree into.now))) }
     ensures declared { walk.new.declared.now ≡ walk.old.declared.now }
-    ensures goes_on { GoesOn S.TypeStore walk.old walk.new }
+    ensures goes_on { WalkKept S.TypeStore walk.old walk.new }
 {
     let parents = walk.context.globals.outline.parents;
-    let mut checker = Checker {
+    let mut checker = TypingState {
         store: walk.store,
         alloc: walk.alloc,
         found: walk.found,

@@ -1,4 +1,4 @@
-//! What the statements of a function stand in, and what they come to where no expression is typed.
+//! The context of a function's statements, and the steps of the walk over them that type no expression.
 #![tactic(auto)]
 
 mod binding;
@@ -21,4 +21,4 @@ pub use loops::{bind_item, for_start, while_start};
 pub use touched::{touched_by, touched_by_for, touched_by_while};
 pub use unreached::declare_unreached;
 pub use walk::Walk;
-pub use ways::{Ways, break_out, meet, note_locals, note_touched};
+pub use ways::{IfExits, break_out, meet, note_locals, note_touched};

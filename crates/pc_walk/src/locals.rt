@@ -7,18 +7,18 @@ ghost use Rattle.pc_walk.specs.Touched.{numbers_of};
 ghost use Rattle.pc_flow.specs.Naming.{meanings};
 
 use pc_flow::OwnerNames;
-use pc_scope::Res;
+use pc_scope::NameMeaning;
 use pc_source::OutOfMemory;
 use pc_tree::Name;
 use std::alloc::Global;
 
-/// Adds the local that a name means, if it means one.
+/// Appends the local that a name means, if it means one.
 fn add_local(locals: &mut Vec<usize>, names: &OwnerNames, name: &Name) -> Result<(), OutOfMemory>
     ensures { OnOk result (locals.new.items
         ≡ locals.old.items ++ numbers_of (meanings names.now) (name_of name.now ∷ [])) }
 {
     match names.resolve(name.text.as_str()) {
-        Res::Local(local) => {
+        NameMeaning::Local(local) => {
             locals.push(local)?;
             Ok(())
         }
@@ -26,7 +26,8 @@ fn add_local(locals: &mut Vec<usize>, names: &OwnerNames, name: &Name) -> Result
     }
 }
 
-/// The numbers of the locals that these names mean, in order.
+/// Returns the numbers of the locals that these names mean, in order, with repetitions. Leaves out names that mean no
+/// local.
 pub(crate) fn locals_of(
     alloc: Global,
     names: &OwnerNames,

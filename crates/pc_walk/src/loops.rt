@@ -8,7 +8,7 @@ ghost use Rattle.pc_tree.specs.Stopping.{bound_by};
 ghost use Rattle.pc_flow.specs.Stored.{env_of};
 ghost use Rattle.pc_module_rules.specs.Computed.Statements.{head_at, bind_item};
 ghost use Rattle.pc_walk.specs.Touched.{numbers_of};
-ghost use Rattle.pc_walk.specs.Walks.{Stands, HoldsOne, HoldsEnv, IsEnv, IsQuiet, GoesOn, Bound, body_context_in};
+ghost use Rattle.pc_walk.specs.Walks.{Stands, HoldsOne, HoldsEnv, IsEnv, IsQuiet, WalkKept, Bound, body_context_in};
 ghost use Rattle.pc_flow.specs.Naming.{meanings};
 
 use crate::binding::{bind_label, known_type};
@@ -17,13 +17,13 @@ use crate::standing::head_in;
 use crate::walk::Walk;
 use pc_flow::Env;
 use pc_rules::Label;
-use pc_scope::Res;
+use pc_scope::NameMeaning;
 use pc_source::{OutOfMemory, Place};
 use pc_tree::{Name, Stmt, add_bound};
 use pc_types::TypeStore;
 
-/// The environment at the head of a loop that binds these locals, from the one before it: each of them that is assigned
-/// has its declared type there. Own rule of the profile.
+/// Returns the environment at the head of a loop that binds these locals, given the one before the loop: each of them
+/// that is assigned has its declared type there. Own rule of the profile.
 fn loop_start<S: TypeStore>(
     walk: &mut Walk<'_, S>,
     env: &Env<S::Ty>,
@@ -35,13 +35,14 @@ fn loop_start<S: TypeStore>(
         → IfOk result (λ e. IsEnv S.TypeStore walk.new e (head_at (body_context_in S.TypeStore walk.old)
         (env_of S.tree walk.old.declared.now) names (env_of S.tree env.now))) }
     ensures quiet { OnOk result (IsQuiet S.TypeStore walk.old walk.new) }
-    ensures goes_on { GoesOn S.TypeStore walk.old walk.new }
+    ensures goes_on { WalkKept S.TypeStore walk.old walk.new }
 {
     let head = head_in(walk, locals, env)?;
     Ok(head)
 }
 
-/// The environment at the head of a `while`.
+/// Returns the environment at the head of a `while`, given the one before it: each assigned local that the body binds
+/// has its declared type there.
 pub fn while_start<S: TypeStore>(
     walk: &mut Walk<'_, S>,
     env: &Env<S::Ty>,
@@ -52,7 +53,7 @@ pub fn while_start<S: TypeStore>(
     ensures head { IfOk result (λ e. IsEnv S.TypeStore walk.new e (head_at (body_context_in S.TypeStore walk.old)
         (env_of S.tree walk.old.declared.now) (bound_by (stmts_of_list body.now)) (env_of S.tree env.now))) }
     ensures quiet { OnOk result (IsQuiet S.TypeStore walk.old walk.new) }
-    ensures goes_on { GoesOn S.TypeStore walk.old walk.new }
+    ensures goes_on { WalkKept S.TypeStore walk.old walk.new }
 {
     let mut bound = Vec::new(walk.alloc);
     add_bound(&mut bound, body)?;
@@ -61,7 +62,8 @@ pub fn while_start<S: TypeStore>(
     Ok(head)
 }
 
-/// The environment at the head of a `for`, which binds its target too.
+/// Returns the environment at the head of a `for`, given the one before it: each assigned local that the loop binds, in
+/// its body or as its target, has its declared type there.
 pub fn for_start<S: TypeStore>(
     walk: &mut Walk<'_, S>,
     env: &Env<S::Ty>,
@@ -74,7 +76,7 @@ pub fn for_start<S: TypeStore>(
         (env_of S.tree walk.old.declared.now) (name_of target.now ∷ bound_by (stmts_of_list body.now))
         (env_of S.tree env.now))) }
     ensures quiet { OnOk result (IsQuiet S.TypeStore walk.old walk.new) }
-    ensures goes_on { GoesOn S.TypeStore walk.old walk.new }
+    ensures goes_on { WalkKept S.TypeStore walk.old walk.new }
 {
     let mut bound = Vec::new(walk.alloc);
     bound.push(target)?;
@@ -84,7 +86,9 @@ pub fn for_start<S: TypeStore>(
     Ok(head)
 }
 
-/// Binds the target of a `for` to an item of this type, in the environment at the head. What is reserved binds nothing.
+/// Binds the target of a `for` to an item of this type, in the environment at the head, and returns the environment at
+/// the start of the body. A name that means no local binds nothing. Appends the finding of the flow at `place`, if
+/// there is one.
 pub fn bind_item<S: TypeStore>(
     walk: &mut Walk<'_, S>,
     head: Env<S::Ty>,
@@ -96,10 +100,10 @@ pub fn bind_item<S: TypeStore>(
     requires item { HoldsOne S.TypeStore walk.old item }
     ensures bound { IfOk result (λ b. Bound S.TypeStore walk.old head walk.new b
         (λ f t k. bind_item f t k (f.context.resolve (name_of target.now).text) place (S.tree item))) }
-    ensures goes_on { GoesOn S.TypeStore walk.old walk.new }
+    ensures goes_on { WalkKept S.TypeStore walk.old walk.new }
 {
     match walk.context.names.resolve(target.text.as_str()) {
-        Res::Local(local) => {
+        NameMeaning::Local(local) => {
             let want = known_type(walk.store, walk.alloc, walk.declared, local, None)?;
             let label = Label {
                 ty: item,

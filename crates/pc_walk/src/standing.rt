@@ -1,4 +1,4 @@
-//! Environments where a walk over statements stands.
+//! Environments in a walk over statements.
 
 #![tactic(auto, using(crate::proofs::Walks::goes_further))]
 
@@ -6,22 +6,22 @@ ghost use Rattle.std.specs.Prelude.{IfOk, OnOk};
 ghost use Rattle.pc_flow.specs.Environment.{join_env, loop_head};
 ghost use Rattle.pc_flow.specs.Stored.{env_of};
 ghost use Rattle.pc_module_rules.specs.Computed.Statements.{type_table};
-ghost use Rattle.pc_walk.specs.Walks.{HoldsEnv, IsEnv, IsQuiet, GoesOn};
+ghost use Rattle.pc_walk.specs.Walks.{HoldsEnv, IsEnv, IsQuiet, WalkKept};
 ghost use Rattle.pc_flow.specs.Agreement.{is_among, TakesInOutside};
 
 use crate::walk::Walk;
-use pc_flow::{Declarations, Env, Met, join_env_onto, loop_head};
+use pc_flow::{Declarations, Env, EnvJoin, join_env_onto, loop_head};
 use pc_source::OutOfMemory;
 use pc_types::TypeStore;
 
-/// Two environments where their ways meet, of which the first takes in the second at each local that is not among
-/// these, and the locals at which joining the second again may change what they come to.
+/// Joins `b` into `a` at `locals`; elsewhere `a` must already subsume `b`. Also returns the locals where a second join
+/// could still change something.
 pub(crate) fn join_onto<S: TypeStore>(
     walk: &mut Walk<'_, S>,
     locals: &[usize],
     a: Env<S::Ty>,
     b: &Env<S::Ty>,
-) -> Result<Met<S::Ty>, OutOfMemory>
+) -> Result<EnvJoin<S::Ty>, OutOfMemory>
     requires declared { HoldsEnv S.TypeStore walk.old walk.old.declared.now }
     requires left { HoldsEnv S.TypeStore walk.old a }
     requires right { HoldsEnv S.TypeStore walk.old b.now }
@@ -33,7 +33,7 @@ pub(crate) fn join_onto<S: TypeStore>(
     ensures settled { IfOk result (λ m. TakesInOutside walk.old.context.globals.now.outline.now.parents.now
         m.unsettled.items (env_of S.tree m.env) (env_of S.tree b.now)) }
     ensures quiet { OnOk result (IsQuiet S.TypeStore walk.old walk.new) }
-    ensures goes_on { GoesOn S.TypeStore walk.old walk.new }
+    ensures goes_on { WalkKept S.TypeStore walk.old walk.new }
 {
     let parents = walk.context.globals.outline.parents;
     parents.ordered();
@@ -46,7 +46,8 @@ pub(crate) fn join_onto<S: TypeStore>(
     Ok(met)
 }
 
-/// The environment at the head of a loop, from the one before it and the locals that the loop binds.
+/// Returns the environment at the head of a loop that binds the locals `bound`, given the one before the loop: each of
+/// them that is assigned has its declared type there.
 pub(crate) fn head_in<S: TypeStore>(
     walk: &mut Walk<'_, S>,
     bound: &[usize],
@@ -57,7 +58,7 @@ pub(crate) fn head_in<S: TypeStore>(
     ensures head { IfOk result (λ e. IsEnv S.TypeStore walk.new e (loop_head (λ x. is_among bound.now x)
         (type_table (env_of S.tree walk.old.declared.now)) (env_of S.tree env.now))) }
     ensures quiet { OnOk result (IsQuiet S.TypeStore walk.old walk.new) }
-    ensures goes_on { GoesOn S.TypeStore walk.old walk.new }
+    ensures goes_on { WalkKept S.TypeStore walk.old walk.new }
 {
     let head = loop_head(walk.store, walk.alloc, bound, walk.declared, env)?;
     Ok(head)

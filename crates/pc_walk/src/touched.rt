@@ -1,4 +1,4 @@
-//! The locals that statements touch: those that they bind, and those that conditions in them test.
+//! The locals that statements touch: those that they bind, and those tested by conditions in them.
 
 ghost use Rattle.std.specs.Prelude.{◌≡◌, ◌++◌, ℕ, IfOk, OnOk};
 ghost use Rattle.pc_source.specs.declared.place.Place.{Place as PlaceOf};
@@ -15,7 +15,7 @@ use pc_source::OutOfMemory;
 use pc_tree::{Branch, Expr, Name, Stmt, StmtKind, add_bound, add_bound_by, add_bound_in};
 use std::alloc::Global;
 
-/// Adds the locals that conditions in statements test, in text order.
+/// Appends the locals tested by conditions in statements, in text order.
 #[cycle(tested)]
 fn add_tested_in(
     names: &OwnerNames,
@@ -31,7 +31,7 @@ fn add_tested_in(
     Ok(())
 }
 
-/// Adds those that conditions in a statement test.
+/// Appends the locals tested by conditions in a statement.
 #[cycle(tested)]
 fn add_tested_by(
     names: &OwnerNames,
@@ -62,7 +62,7 @@ fn add_tested_by(
     }
 }
 
-/// Adds those that the conditions of an `if`, and conditions in their suites, test.
+/// Appends the locals tested by the conditions of an `if`, and by conditions in its branches.
 #[cycle(tested)]
 fn add_tested_in_branches(
     names: &OwnerNames,
@@ -79,7 +79,8 @@ fn add_tested_in_branches(
     Ok(())
 }
 
-/// Adds the locals that a statement touches: those that it binds, at any depth, and those that conditions in it test.
+/// Appends the locals that a statement touches: those that it binds, at any depth, and those tested by conditions in
+/// it.
 pub(crate) fn add_touched(
     alloc: Global,
     names: &OwnerNames,
@@ -96,7 +97,7 @@ pub(crate) fn add_touched(
     add_tested_by(names, kind, touched)
 }
 
-/// Leaves each of some locals once.
+/// Sorts locals and removes duplicates.
 pub(crate) fn each_once(locals: &mut Vec<usize>)
     ensures { (x : ℕ) → is_among locals.new.items x ≡ is_among locals.old.items x }
 {
@@ -104,9 +105,9 @@ pub(crate) fn each_once(locals: &mut Vec<usize>)
     locals.dedup();
 }
 
-/// The locals that an `if` with this suite of `else` touches, each once and in order: those that its suites bind, at
-/// any depth, and those that a condition in it tests. After it every other local is as before it. Own rule of the
-/// profile.
+/// Returns the locals that an `if` with these branches and this suite of `else` touches, sorted, without duplicates:
+/// those bound in its suites, at any depth, and those tested by a condition in it. Every other local is the same after
+/// the `if` as before it. Own rule of the profile.
 pub fn touched_by(
     alloc: Global,
     names: &OwnerNames,
@@ -128,8 +129,9 @@ pub fn touched_by(
     Ok(locals)
 }
 
-/// The locals that a `while` touches, each once and in order: those that its body binds, at any depth, and those that a
-/// condition in it tests. Inside it and after it every other local is as before it. Own rule of the profile.
+/// Returns the locals that a `while` touches, sorted, without duplicates: those bound in its body, at any depth, and
+/// those tested by a condition in it. Every other local is the same inside the loop and after it as before it. Own rule
+/// of the profile.
 pub fn touched_by_while(
     alloc: Global,
     names: &OwnerNames,
@@ -149,9 +151,9 @@ pub fn touched_by_while(
     Ok(locals)
 }
 
-/// The locals that a `for` touches, each once and in order: its target, those that its body binds, at any depth, and
-/// those that a condition in it tests. Inside it and after it every other local is as before it. Own rule of the
-/// profile.
+/// Returns the locals that a `for` touches, sorted, without duplicates: its target, those bound in its body, at any
+/// depth, and those tested by a condition in it. Every other local is the same inside the loop and after it as before
+/// it. Own rule of the profile.
 pub fn touched_by_for(
     alloc: Global,
     names: &OwnerNames,

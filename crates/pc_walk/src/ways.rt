@@ -1,4 +1,4 @@
-//! Ways that meet: the ways out of loops and of branches.
+//! Joins of environments: at the exits of loops, and at the ends of branches.
 
 #![tactic(auto, using(crate::proofs::Walks::goes_further))]
 
@@ -13,7 +13,7 @@ ghost use Rattle.pc_walk.specs.Touched.{touched_by_stmt};
 ghost use Rattle.pc_flow.specs.Naming.{meanings};
 ghost use Rattle.pc_source.specs.declared.place.Place.{Place as PlaceOf};
 ghost use Rattle.pc_tree.specs.Tree.{stmt_of_kind};
-ghost use Rattle.pc_walk.specs.Walks.{HoldsEnv, HoldsWay, IsWay, IsQuiet, GoesOn};
+ghost use Rattle.pc_walk.specs.Walks.{HoldsEnv, HoldsWay, IsWay, IsQuiet, WalkKept};
 
 use crate::standing::join_onto;
 use crate::touched::{add_touched, each_once};
@@ -23,9 +23,9 @@ use pc_source::OutOfMemory;
 use pc_tree::StmtKind;
 use pc_types::TypeStore;
 
-/// Joins the environment at a `break` onto the way out of its loop, if it stands in one. That way takes it in already
-/// at each local that is not unsettled: so only the unsettled ones are joined. Those are left at which joining it again
-/// may change something. Language Reference 7.9 "The break statement".
+/// Joins `env`, the environment at a `break`, into the exit environment `broken` of its loop, if there is a loop. Only
+/// the locals in `unsettled` are joined; elsewhere `broken` must already subsume `env`. Leaves in `unsettled` the
+/// locals where a second join could still change something. Language Reference 7.9 "The break statement".
 pub fn break_out<S: TypeStore>(
     walk: &mut Walk<'_, S>,
     unsettled: &mut Vec<usize>,
@@ -43,7 +43,7 @@ pub fn break_out<S: TypeStore>(
     ensures settled { OnOk result (WayTakesIn walk.old.context.globals.now.outline.now.parents.now unsettled.new.items
         (option_map (env_of S.tree) broken.new) (Some (env_of S.tree env.now))) }
     ensures quiet { OnOk result (IsQuiet S.TypeStore walk.old walk.new) }
-    ensures goes_on { GoesOn S.TypeStore walk.old walk.new }
+    ensures goes_on { WalkKept S.TypeStore walk.old walk.new }
 {
     match broken.take() {
         None => Ok(()),
@@ -57,8 +57,8 @@ pub fn break_out<S: TypeStore>(
     }
 }
 
-/// Notes locals that are touched, where there is a way out of a loop: they are unsettled from now on. Own rule of the
-/// profile.
+/// Appends touched locals to `unsettled` if there is an exit environment of a loop: a `break` must join them from now
+/// on. Own rule of the profile.
 pub fn note_locals<Ty: Drop>(
     broken: &Option<Env<Ty>>,
     touched: &[usize],
@@ -75,8 +75,8 @@ pub fn note_locals<Ty: Drop>(
     }
 }
 
-/// Notes the locals that a statement touches, where there is a way out of the loop around it: they are unsettled from
-/// now on. Own rule of the profile.
+/// Appends the locals that a statement touches to `unsettled` if there is an exit environment of a loop: a `break` must
+/// join them from now on. Own rule of the profile.
 pub fn note_touched<S: TypeStore>(
     walk: &Walk<'_, S>,
     broken: &Option<Env<S::Ty>>,
@@ -92,23 +92,24 @@ pub fn note_touched<S: TypeStore>(
     }
 }
 
-/// The ways out of the suites of an `if` so far, joined one after another.
+/// The joined environments at the ends of the suites of an `if` so far.
 #[derive(Drop)]
-pub struct Ways<Ty: Drop> {
-    /// Where they meet, if a run comes out of one of them.
+pub struct IfExits<Ty: Drop> {
+    /// Their join; `None` if none of the suites can complete.
     pub met: Option<Env<Ty>>,
-    /// The locals at which joining the environment before the next suite again may change something.
+    /// The locals where joining the environment before the next suite could still change something.
     pub unsettled: Vec<usize>,
 }
 
-/// Joins the way out of a suite, which touches these locals, onto the ways out of those before it, if a run comes out
-/// of it. Only what it touches is joined, and what was unsettled before: at all others the ways take it in already.
+/// Joins `out`, the environment at the end of a suite that touches these locals, into `ways`, the joined ends of the
+/// suites before it, and returns the join; `out` is `None` if the suite cannot complete. Only the touched and the
+/// unsettled locals are joined; elsewhere the suites before must already subsume `out`. Touched locals stay unsettled.
 pub fn meet<S: TypeStore>(
     walk: &mut Walk<'_, S>,
-    ways: Ways<S::Ty>,
+    ways: IfExits<S::Ty>,
     touched: Vec<usize>,
     out: Option<Env<S::Ty>>,
-) -> Result<Ways<S::Ty>, OutOfMemory>
+) -> Result<IfExits<S::Ty>, OutOfMemory>
     requires declared { HoldsEnv S.TypeStore walk.old walk.old.declared.now }
     requires ways { HoldsWay S.TypeStore walk.old ways.met }
     requires out { HoldsWay S.TypeStore walk.old out }
@@ -127,20 +128,20 @@ pub fn meet<S: TypeStore>(
     ensures touched { (x : ℕ) → is_among touched.items x ≡ true
         → IfOk result (λ w. is_among w.unsettled.items x ≡ true) }
     ensures quiet { OnOk result (IsQuiet S.TypeStore walk.old walk.new) }
-    ensures goes_on { GoesOn S.TypeStore walk.old walk.new }
+    ensures goes_on { WalkKept S.TypeStore walk.old walk.new }
 {
-    let Ways { met, unsettled } = ways;
+    let IfExits { met, unsettled } = ways;
     match out {
         None => {
             let mut all = unsettled;
             all.extend_from_slice(&touched)?;
-            Ok(Ways {
+            Ok(IfExits {
                 met,
                 unsettled: all,
             })
         }
         Some(out) => match met {
-            None => Ok(Ways {
+            None => Ok(IfExits {
                 met: Some(out),
                 unsettled: touched,
             }),
@@ -151,7 +152,7 @@ pub fn meet<S: TypeStore>(
                 let joined = join_onto(walk, &locals, way, &out)?;
                 let mut all = touched;
                 all.extend_from_slice(&joined.unsettled)?;
-                Ok(Ways {
+                Ok(IfExits {
                     met: Some(joined.env),
                     unsettled: all,
                 })

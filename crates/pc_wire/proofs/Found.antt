@@ -1,4 +1,4 @@
--- What was found of a message, from its header and its bytes.
+-- The outcome of reading a message, from its header and its bytes.
 use Rattle.std.proofs.Common.{◌≡◌, ℕ, ◌<◌, ◌≤◌, List, ◌++◌, length, take, length-append, sym, ap, subst, ◌∙◌, inl, inr}
 use Rattle.std.proofs.Common.{refl, true, false, below_more, arith}
 use Rattle.std.specs.Prelude.{Option, Ok, ◌+◌, Bool}

@@ -9,7 +9,7 @@ use Rattle.std.proofs.lemmas.List.Sums.{fails_before_first}
 use Rattle.pc_wire.specs.declared.fault.HeaderFault.{HeaderFault}
 use Rattle.pc_wire.specs.Fields.{after_line, after_lines, ended}
 
--- what the lines from a byte on give, and what is left where the byte stands past the end
+-- the result of the lines from a byte on, and the result if the byte is past the end
 pub record GivesFrom (named : Result (Option ℕ) HeaderFault) (header : List ℕ) (start : ℕ)
     (result : Result ℕ HeaderFault) : Type 0 where
   pub inside : start ≤ length header → result ≡ after_lines named (slice_split (λ b. b == 10) (drop start header))

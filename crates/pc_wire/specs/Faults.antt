@@ -1,4 +1,4 @@
--- What is said of a read of a message that found none. Own rule of the server.
+-- The outcome of a read: a message, none at the end, or a fault. Own rule of the server.
 use Rattle.std.specs.Prelude.{◌≡◌, ℕ, ◌<◌, ◌⊎◌, List, [], ◌++◌, length, Option, None, Some, Ok, Err, true}
 use Rattle.std.specs.Io.KnownBytes.{Consumes, IsAtEnd}
 use Rattle.pc_source.specs.Devices.{failures_after}
@@ -9,7 +9,7 @@ use Rattle.pc_wire.specs.declared.fault.HeaderFault.{HeaderFault}
 use Rattle.pc_wire.specs.Fields.{length_in}
 use Rattle.pc_wire.specs.Frames.{IsFrame, IsHeader, IsUnended, IsShort, IsLong, header_limit}
 
--- a header, and then less than the message that it names
+-- the bytes are a header and less than the message that it announces
 pub record IsCutMessage (bytes : List ℕ) : Type 0 where
   pub header : List ℕ
   pub part : List ℕ
@@ -19,13 +19,13 @@ pub record IsCutMessage (bytes : List ℕ) : Type 0 where
   pub less : length part < named
   pub spelled : bytes ≡ header ++ part
 
--- a header that names no message, for this fault
+-- the bytes are a header that gives no length, with this fault
 pub record NamesNone (fault : HeaderFault) (bytes : List ℕ) : Type 0 where
   pub is_header : IsHeader bytes
   pub none : length_in bytes ≡ Err fault
 
--- The fault of the bytes that were read: a header or a message that the end cuts off, a header that goes on at the
--- limit, or a header that names none. Of memory, of the device and of long messages nothing is said here.
+-- the fault of the bytes that were read: the end cuts off a header or a message, a header does not end within the
+-- limit, or a header gives no length; nothing is said here of memory, of the device and of long messages
 abbrev pub IsFaultOf : List ℕ → FrameFault → Type 0
 IsFaultOf bytes OutOfMemory = Unit {0}
 IsFaultOf bytes Read = Unit {0}
@@ -35,7 +35,7 @@ IsFaultOf bytes LongMessage = Unit {0}
 IsFaultOf bytes (Header fault) = NamesNone fault bytes
 
 module _ {D : Type 0} (remaining : D → Option (List ℕ)) where
-  -- the device gave these bytes, and no call failed
+  -- the device gave exactly these bytes, and no call failed
   abbrev pub Gives : List ℕ → Counted D → Counted D → Type 0
   Gives bytes old new = Consumes (remaining old.device) (remaining new.device) bytes × (new.failures ≡ old.failures)
 
@@ -43,13 +43,13 @@ module _ {D : Type 0} (remaining : D → Option (List ℕ)) where
   abbrev pub GivesFaulty : FrameFault → Counted D → Counted D → Type 0
   GivesFaulty fault old new = (bytes : List ℕ) × Gives bytes old new × IsFaultOf bytes fault
 
-  -- the device gave a framed message whole
+  -- the device gave a whole framed message
   abbrev pub GivesFrame : List ℕ → Counted D → Counted D → Type 0
   GivesFrame message old new = (bytes : List ℕ) × Gives bytes old new × IsFrame bytes message
 
-  -- Why no message was read: an allocation failed, or a message is over the limit, and the device gave it whole, framed,
-  -- and it is lost; the last call of the device failed; the device has no more, and what it gave is cut off; or what it
-  -- gave has the fault.
+  -- why no message was read: the device gave a whole framed message, which is lost, as an allocation failed or the
+  -- message is over the limit; the last call of the device failed; the device is at its end, and its bytes are cut off;
+  -- or its bytes have the fault
   abbrev pub IsBroken : FrameFault → Counted D → Counted D → Type 0
   IsBroken OutOfMemory old new = (message : List ℕ) × GivesFrame message old new × IsShort message
   IsBroken LongMessage old new = (message : List ℕ) × GivesFrame message old new × IsLong message
@@ -57,7 +57,7 @@ module _ {D : Type 0} (remaining : D → Option (List ℕ)) where
   IsBroken Cut old new = GivesFaulty Cut old new × IsAtEnd (remaining new.device)
   IsBroken fault old new = GivesFaulty fault old new
 
-  -- what a read found: a message within the limit, or none at the end
+  -- the result of a read: a message within the limit, or none at the end
   abbrev pub IsFound : Option (List ℕ) → Counted D → Counted D → Type 0
   IsFound None old new = Gives [] old new × IsAtEnd (remaining new.device)
   IsFound (Some message) old new = GivesFrame message old new × IsShort message

@@ -12,21 +12,21 @@ header_limit = 8192
 abbrev pub message_limit : ℕ
 message_limit = 16777216
 
--- two line ends stand at the end
+-- the bytes end with two line ends
 abbrev pub ends_header : List ℕ → Bool
 ends_header bytes = ends_with nat_eq bytes (codes "\r\n\r\n")
 
--- no front of the bytes ends a header, nor do they all
+-- no prefix of the bytes ends a header, nor do all of them
 abbrev pub IsUnended : List ℕ → Type 0
 IsUnended bytes = (k : ℕ) → k ≤ length bytes → ends_header (take k bytes) ≡ false
 
--- a header: it ends with two line ends, and no shorter front of it does; it is within the limit
+-- a header: it ends with two line ends, no shorter prefix of it does, and it is within the limit
 pub record IsHeader (header : List ℕ) : Type 0 where
   pub ended : ends_header header ≡ true
   pub first : (k : ℕ) → k < length header → ends_header (take k header) ≡ false
   pub short : length header ≤ header_limit
 
--- a framed message: a header that names the message's length, and then the message
+-- a framed message: a header that gives the message's length, and then the message
 pub record IsFrame (bytes message : List ℕ) : Type 0 where
   pub header : List ℕ
   pub is_header : IsHeader header
@@ -41,12 +41,12 @@ IsShort message = length message ≤ message_limit
 abbrev pub IsLong : List ℕ → Type 0
 IsLong message = message_limit < length message
 
--- the bytes are these framed messages, one after the other
+-- the bytes are these framed messages in order
 abbrev pub AreFrames : List ℕ → List (List ℕ) → Type 0
 AreFrames bytes [] = bytes ≡ []
 AreFrames bytes (message ∷ messages) = (first : List ℕ) × (rest : List ℕ) × (bytes ≡ first ++ rest)
     × IsFrame first message × AreFrames rest messages
 
--- a message with the header that is written before it
+-- a message with the header written before it
 abbrev pub frame : List ℕ → List ℕ
 frame message = (codes "Content-Length: " ++ (decimal (length message) ++ codes "\r\n\r\n")) ++ message

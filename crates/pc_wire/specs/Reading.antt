@@ -1,4 +1,4 @@
--- For private clauses: what was read of a header and of a message.
+-- For private clauses: how much of a header and of a message was read.
 use Rattle.std.specs.Prelude.{◌≡◌, ℕ, ◌<◌, Bool, true, false, List, [], length, Option}
 use Rattle.std.specs.Io.KnownBytes.{IsAtEnd}
 use Rattle.pc_source.specs.Devices.{failures_after}
@@ -9,7 +9,7 @@ use Rattle.pc_wire.specs.Frames.{IsHeader, IsUnended, header_limit}
 use Rattle.pc_wire.specs.Faults.{Gives}
 
 module _ {D : Type 0} (remaining : D → Option (List ℕ)) where
-  -- a header was read, or the device had no byte
+  -- a whole header was read, or the device had no byte left
   abbrev pub IsHeaderRead : Bool → List ℕ → Counted D → Counted D → Type 0
   IsHeaderRead true bytes old new = Gives remaining bytes old new × IsHeader bytes
   IsHeaderRead false bytes old new = Gives remaining bytes old new × (bytes ≡ []) × IsAtEnd (remaining new.device)
@@ -23,21 +23,21 @@ module _ {D : Type 0} (remaining : D → Option (List ℕ)) where
       × (IsUnended bytes × (length bytes ≡ header_limit))
   OnHeaderFault bytes old new _ = ⊥
 
-  -- so many bytes were read
+  -- exactly `len` bytes were read
   abbrev pub IsBodyRead : ℕ → List ℕ → Counted D → Counted D → Type 0
   IsBodyRead len bytes old new = Gives remaining bytes old new × (length bytes ≡ len)
 
-  -- why fewer were read
+  -- why fewer than `len` bytes were read
   abbrev pub OnBodyFault : ℕ → List ℕ → Counted D → Counted D → FrameFault → Type 0
   OnBodyFault len bytes old new Read = new.failures ≡ failures_after true old.failures
   OnBodyFault len bytes old new Cut = Gives remaining bytes old new × (length bytes < len)
       × IsAtEnd (remaining new.device)
   OnBodyFault len bytes old new _ = ⊥
 
-  -- so many bytes were read, whatever they are
+  -- exactly `len` bytes were read and discarded
   abbrev pub IsSkipped : ℕ → Counted D → Counted D → Type 0
   IsSkipped len old new = (bytes : List ℕ) × IsBodyRead len bytes old new
 
-  -- why fewer were read, whatever they are
+  -- why fewer than `len` bytes were read and discarded
   abbrev pub OnSkipFault : ℕ → Counted D → Counted D → FrameFault → Type 0
   OnSkipFault len old new fault = (bytes : List ℕ) × OnBodyFault len bytes old new fault

@@ -1,4 +1,4 @@
-//! Why no message was read, or written.
+//! Reasons why no message was read or written.
 
 ghost use Rattle.std.specs.Prelude.{◌≡◌};
 ghost use Rattle.pc_wire.specs.declared.fault.FrameFault.TheVariants as frame_fault;
@@ -7,27 +7,28 @@ ghost use Rattle.pc_wire.specs.declared.fault.SendFault.TheVariants as send_faul
 use std::alloc::AllocError;
 use thiserror::Error;
 
-/// Why a header names no length. Language Server Protocol 3.17, "Header Part".
+/// The reason why a header gives no length. Language Server Protocol 3.17, "Header Part".
 #[derive(Clone, Copy, Debug, PartialEq, Eq, Error)]
 pub enum HeaderFault {
     /// A line of the header has no colon.
     #[error("a line of a header without a colon")]
     BadField,
-    /// The length is no number that fits 64 bits.
+    /// The length is not a number that fits 64 bits.
     #[error("a Content-Length that is no number")]
     BadLength,
-    /// The header names no length.
+    /// The header gives no length.
     #[error("a header without Content-Length")]
     NoLength,
-    /// The header names two lengths.
+    /// The header gives two lengths.
     #[error("a header with two lengths")]
     TwoLengths,
 }
 
-/// Why no message was read. Language Server Protocol 3.17, "Base Protocol"; the limits are own rules of the server.
+/// The reason why no message was read. Language Server Protocol 3.17, "Base Protocol"; the limits are own rules of the
+/// server.
 #[derive(Clone, Copy, Debug, PartialEq, Eq, Error)]
 pub enum FrameFault {
-    /// The message had no room in memory. It was read whole, and is lost.
+    /// The message could not be allocated. It was read whole and is lost.
     #[error("out of memory")]
     OutOfMemory,
     /// The device failed.
@@ -39,10 +40,10 @@ pub enum FrameFault {
     /// The header does not end within 8,192 bytes.
     #[error("a header of more than 8,192 bytes")]
     LongHeader,
-    /// The header names no length.
+    /// The header gives no length.
     #[error("{0}")]
     Header(HeaderFault),
-    /// The message is longer than 16,777,216 bytes. It was read whole, and is lost.
+    /// The message is longer than 16,777,216 bytes. It was read whole and is lost.
     #[error("a message of more than 16,777,216 bytes")]
     LongMessage,
 }
@@ -63,10 +64,10 @@ impl From<AllocError> for FrameFault {
     }
 }
 
-/// Why a message was not written. Own rule of the server.
+/// The reason why a message was not written. Own rule of the server.
 #[derive(Clone, Copy, Debug, PartialEq, Eq, Error)]
 pub enum SendFault {
-    /// A growth of memory was refused.
+    /// An allocation failed.
     #[error("out of memory")]
     OutOfMemory,
     /// The device failed.

@@ -1,4 +1,4 @@
-//! What the header of a message says.
+//! The length given in the header of a message.
 
 ghost use Rattle.std.specs.Prelude.{◌≡◌, ◌≤◌, ◌==◌, length, Some, None};
 ghost use Rattle.std.specs.List.{prefix_len, suffix_len, position_or_len, before_first, after_first, list_any};
@@ -14,7 +14,7 @@ fn is_blank(byte: u8) -> bool
     byte == b' ' || byte == b'\t' || byte == b'\r'
 }
 
-/// How many blanks stand at the front.
+/// Returns the number of leading blanks.
 fn blanks_at_front(text: &[u8]) -> usize
     ensures count { result ≡ prefix_len is_blank text.now }
     ensures within { result ≤ length text.now }
@@ -22,7 +22,7 @@ fn blanks_at_front(text: &[u8]) -> usize
     text.iter().take_while(|b| is_blank(**b)).count()
 }
 
-/// How many blanks stand at the end.
+/// Returns the number of trailing blanks.
 fn blanks_at_end(text: &[u8]) -> usize
     ensures count { result ≡ suffix_len is_blank text.now }
     ensures within { result ≤ length text.now }
@@ -30,14 +30,14 @@ fn blanks_at_end(text: &[u8]) -> usize
     text.iter().rev().take_while(|b| is_blank(**b)).count()
 }
 
-/// Without the blanks at the front.
+/// Returns the text without its leading blanks.
 fn without_front(text: &[u8]) -> &[u8]
     ensures { result.now ≡ without_front text.now }
 {
     &text[blanks_at_front(text)..]
 }
 
-/// A text without the blanks at its front and at its end.
+/// Returns the text without its leading and trailing blanks.
 fn trimmed(text: &[u8]) -> &[u8]
     ensures { result.now ≡ trimmed text.now }
 {
@@ -45,7 +45,7 @@ fn trimmed(text: &[u8]) -> &[u8]
     &text[..text.len() - blanks_at_end(text)]
 }
 
-/// The number that a digit more makes of a number.
+/// Appends a decimal digit to a number. `None` if the byte is no digit or the number does not fit 64 bits.
 fn with_digit(number: usize, byte: u8) -> Option<usize>
     ensures { result ≡ with_digit number byte }
 {
@@ -55,7 +55,7 @@ fn with_digit(number: usize, byte: u8) -> Option<usize>
     number.checked_mul(10)?.checked_add((byte - b'0') as usize)
 }
 
-/// The number that a digit more makes of a number, if there is a number.
+/// Appends a decimal digit to a number, if there is a number.
 fn after_digit(number: Option<usize>, byte: u8) -> Option<usize>
     ensures { result ≡ after_digit number byte }
 {
@@ -65,7 +65,7 @@ fn after_digit(number: Option<usize>, byte: u8) -> Option<usize>
     }
 }
 
-/// The number in decimal that a text of digits alone writes.
+/// Parses a decimal number of digits alone. `None` if there is none or it does not fit 64 bits.
 fn number_in(text: &[u8]) -> Option<usize>
     ensures { result ≡ number_in text.now }
 {
@@ -79,14 +79,14 @@ fn number_in(text: &[u8]) -> Option<usize>
     number
 }
 
-/// Whether the name of a field is that of the length.
+/// Whether the name of a field is `Content-Length`, in any case.
 fn names_length(name: &[u8]) -> bool
     ensures { result ≡ names_length name.now }
 {
     name.eq_ignore_ascii_case(b"content-length")
 }
 
-/// The length, where none was found before.
+/// Returns the length of a field `Content-Length`. Fails if it is no number, or if a length was found before.
 fn first_length(found: Option<usize>, length: Option<usize>) -> Result<Option<usize>, HeaderFault>
     ensures { result ≡ first_length found length }
 {
@@ -97,7 +97,7 @@ fn first_length(found: Option<usize>, length: Option<usize>) -> Result<Option<us
     }
 }
 
-/// Where a byte stands first, or the length.
+/// Returns the index of the first occurrence of `byte`, or the length if there is none.
 fn first_place(text: &[u8], byte: u8) -> usize
     ensures place { result ≡ position_or_len (λ b. b == byte) text.now }
     ensures within { result ≤ length text.now }
@@ -105,7 +105,8 @@ fn first_place(text: &[u8], byte: u8) -> usize
     text.iter().take_while(|b| **b != byte).count()
 }
 
-/// The length that was found, after one more line of the header.
+/// Returns the length found so far, after one more line of the header. Fails if the line has no colon, or is a second
+/// or malformed `Content-Length`.
 fn with_line(found: Option<usize>, line: &[u8]) -> Result<Option<usize>, HeaderFault>
     ensures { result ≡ with_line found line.now }
 {
@@ -122,7 +123,7 @@ fn with_line(found: Option<usize>, line: &[u8]) -> Result<Option<usize>, HeaderF
     Ok(found)
 }
 
-/// The length or the fault after one more line of the header, where the lines before gave this.
+/// Returns the length found so far or the first fault, after one more line of the header.
 fn after_line(
     named: Result<Option<usize>, HeaderFault>,
     line: &[u8],
@@ -135,7 +136,7 @@ fn after_line(
     }
 }
 
-/// The length that was found, or the fault that there is none.
+/// Returns the length found in the whole header. Fails if there is none.
 fn ended(named: Result<Option<usize>, HeaderFault>) -> Result<usize, HeaderFault>
     ensures { result ≡ ended named }
 {
@@ -146,7 +147,8 @@ fn ended(named: Result<Option<usize>, HeaderFault>) -> Result<usize, HeaderFault
     }
 }
 
-/// The length that a header names: that of its one field `Content-Length`.
+/// Returns the length that a header gives, that of its only field `Content-Length`. Fails with the first fault of a
+/// line, or if there is no such field.
 pub(crate) fn length_in(header: &[u8]) -> Result<usize, HeaderFault>
     ensures { result ≡ length_in header.now }
 {

@@ -1,13 +1,13 @@
-//! The laws of framed messages.
+//! Laws of framed messages.
 
 ghost use Rattle.pc_wire.specs.Laws.{OneFrame, OneList};
 
-/// At most one framed message stands at the front of any bytes.
+/// Bytes begin with at most one framed message.
 pub fn one_frame()
     ensures { OneFrame }
 {}
 
-/// Bytes are one list of framed messages at most.
+/// Bytes are at most one list of framed messages.
 pub fn one_list()
     ensures { OneList }
 {}

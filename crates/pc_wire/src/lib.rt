@@ -1,4 +1,4 @@
-//! Framed messages, as the Language Server Protocol frames them: a header that names a length, and so many bytes.
+//! Framed messages of the Language Server Protocol: a header that gives a length, and that many bytes.
 #![tactic(auto)]
 
 mod fault;

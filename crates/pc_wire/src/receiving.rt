@@ -1,4 +1,4 @@
-//! Messages that are read from a device.
+//! Reading messages from a device.
 
 ghost use Rattle.std.specs.Prelude.{◌≡◌, ◌≤◌, [], IfOk, IfErr, OnOk, option_map, vec_capacity};
 ghost use Rattle.pc_wire.specs.Faults.{IsBroken, IsFound};
@@ -11,16 +11,17 @@ use pc_source::Counted;
 use std::alloc::Global;
 use std::io::Read;
 
-/// How many bytes a header may have.
+/// The greatest length of a header, in bytes.
 pub const HEADER_LIMIT: usize = 8192;
 
-/// How many bytes a message may have.
+/// The greatest length of a message, in bytes.
 pub const MESSAGE_LIMIT: usize = 16_777_216;
 
-/// How many bytes of a message are asked of a device at once.
+/// The number of bytes requested from a device at once.
 const PIECE: usize = 8192;
 
-/// Reads a header into an empty list, byte by byte; false where the device has no byte. It takes no memory.
+/// Reads a header into an empty list, byte by byte, without allocating. Returns false if the device has no byte left.
+/// Fails if a call fails, the device ends inside the header, or the header is over the limit.
 fn read_header<R: Read + Drop>(
     device: &mut Counted<R>,
     header: &mut ArrayVec<u8, HEADER_LIMIT>,
@@ -44,7 +45,7 @@ fn read_header<R: Read + Drop>(
     Ok(true)
 }
 
-/// Reads so many bytes into an empty list that has room for them.
+/// Reads `len` bytes into an empty list with capacity for them. Fails if a call fails or the device ends before.
 fn read_body<R: Read + Drop>(
     device: &mut Counted<R>,
     message: &mut Vec<u8>,
@@ -61,14 +62,14 @@ fn read_body<R: Read + Drop>(
         match device.read(&mut piece[..room]) {
             Err(_) => return Err(FrameFault::Read),
             Ok(0) => return Err(FrameFault::Cut),
-            // There is room, so this cannot fail.
+            // The capacity suffices, so this cannot fail.
             Ok(count) => message.extend_from_slice(&piece[..count])?,
         }
     }
     Ok(())
 }
 
-/// Reads so many bytes, and lets them be.
+/// Reads `len` bytes and discards them. Fails if a call fails or the device ends before.
 fn skip_body<R: Read + Drop>(device: &mut Counted<R>, len: usize) -> Result<(), FrameFault>
     ensures read { OnOk result (IsSkipped R.remaining len device.old device.new) }
     ensures fault { IfErr result (OnSkipFault R.remaining len device.old device.new) }
@@ -86,15 +87,15 @@ fn skip_body<R: Read + Drop>(device: &mut Counted<R>, len: usize) -> Result<(), 
     Ok(())
 }
 
-/// The next framed message of a device, or none where it ends before one begins.
-/// Language Server Protocol 3.17, "Base Protocol".
+/// Reads the next framed message from a device. `None` if the device ends before one begins. Language Server Protocol
+/// 3.17, "Base Protocol".
 ///
 /// # Errors
 ///
-/// `Cut` where the device ends inside a message, `LongHeader` past the limit of a header, `Header` where a header names
-/// no length, `Read` where a call of the device failed, an interruption included; no call follows it. `LongMessage` past
-/// the limit of a message, and `OutOfMemory` only when an allocation failed: then the message was read whole and is lost,
-/// and the next one can be read.
+/// `Cut` if the device ends inside a message, `LongHeader` if a header is over the limit, `Header` if a header gives no
+/// length, `Read` if a call of the device fails, an interruption included; no call follows it. `LongMessage` if a
+/// message is over the limit, and `OutOfMemory` only if an allocation fails: then the message was read whole and is
+/// lost, and the next one can be read.
 pub fn read_message<R: Read + Drop>(
     alloc: Global,
     device: &mut Counted<R>,

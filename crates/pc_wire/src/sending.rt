@@ -1,4 +1,4 @@
-//! Messages that are written to a device.
+//! Writing messages to a device.
 
 ghost use Rattle.std.specs.Prelude.{◌≡◌, IfOk};
 ghost use Rattle.pc_wire.specs.Frames.{frame};
@@ -9,7 +9,7 @@ use pc_source::Counted;
 use std::alloc::{AllocError, Global};
 use std::io::Write;
 
-/// A message with its header.
+/// Returns a message with its header before it.
 pub fn framed(alloc: Global, message: &[u8]) -> Result<Vec<u8>, AllocError>
     ensures { IfOk result (λ v. v.items ≡ frame message.now) }
 {
@@ -19,7 +19,7 @@ pub fn framed(alloc: Global, message: &[u8]) -> Result<Vec<u8>, AllocError>
     Ok(framed)
 }
 
-/// Writes bytes, by as many calls as the device asks for, and by none after one that failed.
+/// Writes all bytes, in as many calls as the device needs. Fails at the first call that fails.
 pub fn write_whole<W: Write + Drop>(device: &mut Counted<W>, bytes: &[u8]) -> Result<(), SendFault>
     ensures { IsSent W.contents bytes.now device.old device.new result }
 {
@@ -33,12 +33,12 @@ pub fn write_whole<W: Write + Drop>(device: &mut Counted<W>, bytes: &[u8]) -> Re
     Ok(())
 }
 
-/// Writes a message with its header. The device is not flushed. Language Server Protocol 3.17, "Base Protocol".
+/// Writes a message with its header. Does not flush the device. Language Server Protocol 3.17, "Base Protocol".
 ///
 /// # Errors
 ///
-/// `OutOfMemory` where the frame has no room, and nothing was written; `Write` where a call of the device failed, and a
-/// beginning of the frame was written.
+/// `OutOfMemory` if the frame cannot be allocated, and nothing was written; `Write` if a call of the device fails, and
+/// only a proper prefix of the frame was written.
 pub fn write_message<W: Write + Drop>(
     alloc: Global,
     device: &mut Counted<W>,

@@ -4,7 +4,7 @@
 ghost use Rattle.std.specs.Prelude.{◌≡◌};
 ghost use Rattle.pycheck.specs.Status.{status};
 
-use pc_commands::{Explained, given_words, reason_of, tell};
+use pc_commands::{RemembersError, given_words, reason_of, tell};
 pub use pc_commands::{CheckOptions as Options, OptionFault, check_options as options};
 use pc_source::Counted;
 use pc_top::{CheckFault, check_stream};
@@ -14,8 +14,8 @@ use std::io::Write;
 use std::process::ExitCode;
 use std::rt::{Env, Files};
 
-/// The exit status of an outcome, the numbers of errors and of dynamic places: 0 with no error, 1 with
-/// errors, 2 after a refusal, and 3 where memory or a device failed. Own rule of the profile.
+/// Returns the exit status of an outcome, the numbers of errors and of dynamic places: 0 without errors, 1 with errors,
+/// 2 after a refusal, and 3 if memory or a device failed. Own rule of the profile.
 pub fn status_of(outcome: &Result<(u64, u64), CheckFault>) -> u8
     ensures { result ≡ status outcome.now }
 {
@@ -27,14 +27,14 @@ pub fn status_of(outcome: &Result<(u64, u64), CheckFault>) -> u8
     }
 }
 
-/// What the words of the command line ask for.
+/// Reads the words of the command line.
 fn asked_for<R: Env + AllocGlobal>(rt: &R) -> Result<Options, OptionFault> {
     let given = given_words(rt)?;
     let words: Vec<&str> = given.iter().map(|word| word.as_str()).collect(rt.alloc())?;
     options(rt.alloc(), words.as_slice())
 }
 
-/// Says why there is no report: of a file or of standard output with the system's reason, where it gave one.
+/// Prints the reason that there is no report; for a file or standard output the system's reason, if there is one.
 fn explain<R: Eprint + AllocGlobal>(
     rt: &R,
     fault: &CheckFault,
@@ -47,18 +47,18 @@ fn explain<R: Eprint + AllocGlobal>(
         let _ = eprintln!(rt; "pycheck: {device}: {reason}");
         return;
     }
-    // Where standard error fails too there is nobody left to tell.
+    // If standard error fails too, there is no other way to report it.
     let _ = eprintln!(rt; "{fault}");
 }
 
-/// Checks what a file has, and writes its report to standard output.
+/// Checks the content of a file and writes the report to standard output.
 fn checked<R: Print + Eprint + Files + AllocGlobal>(
     rt: &R,
     options: &Options,
     file: R::File,
 ) -> Result<(u64, u64), CheckFault> {
-    let mut input = Counted::new(Explained::new(file));
-    let mut output = Counted::new(Explained::new(io::writer(rt)));
+    let mut input = Counted::new(RemembersError::new(file));
+    let mut output = Counted::new(RemembersError::new(io::writer(rt)));
     let mut outcome = check_stream(
         rt.alloc(),
         &mut input,
@@ -66,7 +66,7 @@ fn checked<R: Print + Eprint + Files + AllocGlobal>(
         options.json,
         options.format,
     );
-    // A report that was not flushed may be lost, and then the status must not say that it is there.
+    // A report that was not flushed may be lost, and then the status must not claim that it was written.
     if outcome.is_ok() && output.flush().is_err() {
         outcome = Err(CheckFault::Write);
     }
@@ -83,7 +83,7 @@ fn checked<R: Print + Eprint + Files + AllocGlobal>(
     outcome
 }
 
-/// Does what the words ask for, and gives the exit status.
+/// Runs the program on the words of its command line and returns the exit status.
 fn run<R: Print + Eprint + Env + Files + AllocGlobal>(rt: &R) -> u8 {
     let options = match asked_for(rt) {
         Ok(options) => options,

@@ -1,25 +1,25 @@
-//! The language server: reads framed messages from standard input, and writes its replies to standard output.
+//! The language server: reads framed messages from standard input and writes its replies to standard output.
 #![tactic(auto)]
 
-use pc_serve::End;
-use pc_server::{answer, status_of};
+use pc_checked_session::{answer, status_of};
+use pc_message_loop::ServingEnd;
 use pc_source::Counted;
 use std::io::{BufReader, BufWriter, ErrorKind};
 use std::process::ExitCode;
 use std::rt::Env;
 use std::{env, io};
 
-/// What is printed for help.
+/// Text of the help.
 const HELP: &str = "Usage: pycheck_server [--stdio] [--clientProcessId=N]\n\n\
     Answers the Language Server Protocol over standard input and output.\n\n\
     Options:\n      --stdio              Use standard input and output, as always\n\
     \x20     --clientProcessId=N  Taken, and not used: the server ends with its input\n\
     \x20 -h, --help               Print help\n  -V, --version            Print version\n";
 
-/// What is printed for the version.
+/// Text of the version.
 const VERSION: &str = "pycheck_server 1.0.0\n";
 
-/// What the words ask for.
+/// Request of the command line.
 enum Asked {
     Serve,
     Help,
@@ -27,11 +27,11 @@ enum Asked {
     Mistake,
     /// A word is not UTF-8.
     NoText,
-    /// Memory was wanting for the words.
+    /// An allocation for the words failed.
     OutOfMemory,
 }
 
-/// Whether a word names the process of the client, as editors have it: nothing is done with it.
+/// Returns whether a word names the client's process, as editors pass it; the server does not use it.
 fn names_client(word: &str) -> bool {
     match word.strip_prefix("--clientProcessId=") {
         None => false,
@@ -39,7 +39,7 @@ fn names_client(word: &str) -> bool {
     }
 }
 
-/// What words of the command line ask for that are UTF-8.
+/// Returns the request of words that are UTF-8.
 fn asked_in(given: &[String]) -> Asked {
     match given {
         [] => Asked::Serve,
@@ -64,7 +64,7 @@ fn asked_in(given: &[String]) -> Asked {
     }
 }
 
-/// What the words of the command line ask for.
+/// Reads the words of the command line.
 fn asked_for<R: Env + AllocGlobal>(rt: &R) -> Asked {
     let words = match env::args(rt) {
         Ok(words) => words,
@@ -77,31 +77,31 @@ fn asked_for<R: Env + AllocGlobal>(rt: &R) -> Asked {
     }
 }
 
-/// Prints a text, and gives the exit status.
+/// Prints a text and returns the exit status.
 fn told<R: Print>(rt: &R, text: &str) -> u8 {
     if print!(rt; "{text}").is_ok() { 0 } else { 3 }
 }
 
-/// Says that memory is wanting, and gives the exit status.
+/// Reports that an allocation failed and returns the exit status.
 fn out_of_memory<R: Eprint>(rt: &R) -> u8 {
     let _ = eprint!(rt; "out of memory\n");
     3
 }
 
-/// Says why the server ended, where it was not asked to.
-fn explain<R: Eprint>(rt: &R, end: &End) {
+/// Reports the reason that the server ended, unless it was asked to.
+fn explain<R: Eprint>(rt: &R, end: &ServingEnd) {
     match end {
-        End::Exited(_) | End::Ended => {}
-        End::Broken(fault) => {
+        ServingEnd::Exited(_) | ServingEnd::Ended => {}
+        ServingEnd::Broken(fault) => {
             let _ = eprint!(rt; "pycheck_server: {fault}\n");
         }
-        End::Failed => {
+        ServingEnd::Failed => {
             let _ = eprint!(rt; "pycheck_server: a device failed\n");
         }
     }
 }
 
-/// Answers the messages of standard input on standard output, and gives the exit status.
+/// Answers the messages of standard input on standard output and returns the exit status.
 fn served<R: Print + Eprint + Input + AllocGlobal>(rt: &R) -> u8 {
     let Ok(reader) = BufReader::new(rt.alloc(), rt.reader()) else {
         return out_of_memory(rt);
@@ -116,7 +116,7 @@ fn served<R: Print + Eprint + Input + AllocGlobal>(rt: &R) -> u8 {
     status_of(&end)
 }
 
-/// Does what the words ask for, and gives the exit status.
+/// Runs the program on the words of its command line and returns the exit status.
 fn run<R: Print + Eprint + Input + Env + AllocGlobal>(rt: &R) -> u8 {
     match asked_for(rt) {
         Asked::Serve => served(rt),

@@ -13,7 +13,7 @@ use std::random::RandomSource;
 use std::rt::{Env, Files};
 use std::{fs, io};
 
-/// What the words of the command line ask for.
+/// Reads the words of the command line.
 fn asked_for<R: Env + AllocGlobal>(rt: &R) -> Result<Options, OptionFault> {
     let given = given_words(rt)?;
     let words: Vec<&str> = given.iter().map(|word| word.as_str()).collect(rt.alloc())?;
@@ -26,7 +26,7 @@ fn print_trace<R: Print + AllocGlobal>(rt: &R, trace: &Trace) -> io::Result<()> 
     print!(rt; "{text}")
 }
 
-/// Says why a device failed, with the system's reason, and gives the exit status.
+/// Prints the reason that a device failed, as the system words it, and returns the exit status.
 fn explain<R: Eprint + AllocGlobal>(rt: &R, device: &str, error: &io::Error) -> u8 {
     let reason = reason_of(rt.alloc(), error);
     let _ = match reason {
@@ -39,7 +39,7 @@ fn explain<R: Eprint + AllocGlobal>(rt: &R, device: &str, error: &io::Error) -> 
     3
 }
 
-/// Prints what a run came to, and gives the exit status.
+/// Prints the trace or the fault of a run and returns the exit status.
 fn report<R: Print + Eprint + AllocGlobal>(rt: &R, outcome: &Result<Trace, Fault>) -> u8 {
     match outcome {
         Ok(trace) => {
@@ -54,7 +54,7 @@ fn report<R: Print + Eprint + AllocGlobal>(rt: &R, outcome: &Result<Trace, Fault
     status_of(outcome)
 }
 
-/// Does what the words ask for, and gives the exit status.
+/// Runs the program on the words of its command line and returns the exit status.
 fn run<R: Print + Eprint + Env + Files + RandomSource + AllocGlobal>(rt: &R) -> u8 {
     let options = match asked_for(rt) {
         Ok(options) => options,

@@ -1,5 +1,5 @@
--- What the program is given and answers at the entry of a function, in terms of the definitions.
--- Own rule of the profile.
+-- The inputs and results of the program at the entry of a function, in terms of the definitions. Own rule of the
+-- profile.
 use Rattle.std.specs.Prelude.{List, All}
 use Rattle.pc_types.specs.declared.store.TypeStore.{Ghosts as StoreOf}
 use Rattle.pc_class.specs.declared.table.Parameter.{Parameter}
@@ -13,6 +13,6 @@ use Rattle.pc_walk.specs.Walks.{HoldsOne}
 abbrev pub HoldsParameters : {Store Ty : Type 0} (S : StoreOf Store Ty) → Walk Store Ty → List (Parameter Ty) → Type 0
 HoldsParameters S w params = All (λ p. HoldsOne S w p.ty) params
 
--- the declared types and the environment that parameters come to, where nothing is found
+-- the result of entering a function: a table and an environment, without new notes
 abbrev pub entered : Table × Env → List Note → BindingResult
 entered e found = record { table = e.0; env = e.1; found = found }

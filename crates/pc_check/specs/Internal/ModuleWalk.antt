@@ -1,32 +1,33 @@
--- What the program that walks over the bodies of a module is given, in terms of the definitions.
--- Own rule of the profile.
+-- The inputs of the program that walks over the bodies of a module, in terms of the definitions. Own rule of the
+-- profile.
 use Rattle.std.specs.Prelude.{◌≡◌, map, length, Option, None, slice_get}
 use Rattle.pc_tree.specs.Tree.{Module, module_of}
 use Rattle.pc_scope.specs.declared.resolution.Owner.{Owner}
 use Rattle.pc_scope.specs.declared.resolution.Owner.TheVariants as owners
 use Rattle.pc_scope.specs.Bindings.{classes_in}
 use Rattle.pc_types.specs.Tree.{Tree}
-use Rattle.pc_ann.specs.ModuleOutlines.{IsModuleOutline}
+use Rattle.pc_annotations.specs.ModuleOutlines.{IsModuleOutline}
 use Rattle.pc_class.specs.Facts.{classes_of}
 use Rattle.pc_class.specs.Tables.{HasEntries, classes_with}
 use Rattle.pc_rules.specs.Signatures.{signatures_of}
 use Rattle.pc_rules.specs.Computed.Signatures.{constants_of, method_signatures}
 use Rattle.pc_signatures.specs.SignaturesHeld.{HeldSignatures, HasSigned, method_numbered, all_signatures_with}
 use Rattle.pc_rules.specs.Computed.Standing.{signature_with}
-use Rattle.pc_rules.specs.declared.setting.Signature.{Signature as RustSignature}
+use Rattle.pc_rules.specs.declared.expr_context.Signature.{Signature as RustSignature}
 use Rattle.pc_check.specs.declared.bodies.ModuleBodies.{ModuleBodies}
 
 -- the module whose bodies are walked over
 abbrev pub module_in : {Ty : Type 0} → ModuleBodies Ty → Module
 module_in b = module_of b.globals.now.outline.now.tree.now
 
--- what the function or method that an owner is takes and returns, by what is held of a module, none where there is none
+-- the signature of an owner's function or method, by the program's signatures of a module, none if there is none
 abbrev pub signature_for : {Ty : Type 0} → HeldSignatures Ty → Owner → Option (RustSignature Ty)
 signature_for s owners.Module = None
 signature_for s (owners.Func i) = slice_get s.functions i
 signature_for s (owners.Method c i) = method_numbered s.methods c i
 
--- what bodies stand in is that of their module: its outline and classes, the types of its constants, and its signatures
+-- the context of bodies belongs to their module: its outline and classes, the types of its constants, and its
+-- signatures
 pub record IsModuleBodies {Ty : Type 0} (has : Ty → Type 0) (tree : Ty → Tree) (b : ModuleBodies Ty) : Type 0 where
   pub outline : IsModuleOutline b.globals.now.outline.now
   pub classes : classes_with tree b.globals.now.classes.now ≡ classes_of (module_in b)

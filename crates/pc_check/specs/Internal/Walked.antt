@@ -1,9 +1,8 @@
--- What the walk over statements has come to, in terms of the definitions.
--- Own rule of the profile.
+-- The state of a walk over statements, in terms of the definitions. Own rule of the profile.
 use Rattle.pc_flow.specs.Naming.{meanings}
 use Rattle.std.specs.Prelude.{◌≡◌, ℕ, List, Option, Some}
 use Rattle.std.specs.Option.{option_map}
-use Rattle.pc_scope.specs.declared.resolution.Res.{Res}
+use Rattle.pc_scope.specs.declared.resolution.NameMeaning.{NameMeaning}
 use Rattle.pc_types.specs.declared.store.TypeStore.{Ghosts as StoreOf}
 use Rattle.pc_flow.specs.Stored.{env_of}
 use Rattle.pc_notes.specs.Notes.{notes_of}
@@ -15,44 +14,46 @@ use Rattle.pc_walk.specs.Walks.{HoldsEnv, HoldsWay, body_context_in}
 use Rattle.pc_check.specs.Internal.StatementWalk.{walk_with, forked_with, BreaksStaySettled}
 
 module _ {Store Ty : Type 0} (S : StoreOf Store Ty) where
-  -- what a walk has come to, with the environment here, if a run comes here, and the way out of the loop around
+  -- the state of a walk, with the environment if this point is reachable, and the exit environment of the enclosing
+  -- loop
   abbrev pub reached : Walk Store Ty → (env way : Option (List (Option Ty))) → Reached
   reached w env way = walk_with S.tree w.declared.now env way (notes_of w.found.now)
 
-  -- what a walk over branches has come to
+  -- the state of a walk over branches
   abbrev pub forked : Walk Store Ty → (last : List (Option Ty)) → (ways way : Option (List (Option Ty)))
       → BranchesResult
   forked w last ways way = forked_with S.tree w.declared.now last ways way (notes_of w.found.now)
 
 module _ {Store Ty : Type 0} (S : StoreOf Store Ty) where
-  -- the walk stands, with this environment and this way out of the loop around, if there are such: the store gave all
-  -- types, all are well-formed, and names mean what the scopes say
+  -- the walk is valid with this environment and this exit environment of the enclosing loop, if there are such: the
+  -- store gave all types, all are well-formed, and names mean what the scopes say
   pub record StandsIn (w : Walk Store Ty) (env way : Option (List (Option Ty))) : Type 0 where
     pub context : HoldsContext (S.has w.store.now) S.tree w.context
     pub declared : HoldsEnv S w w.declared.now
     pub current : HoldsWay S w env
     pub out : HoldsWay S w way
 
-  -- the way out of the loop around, if there is one, takes in the environment here at each local that is not unsettled
+  -- the exit environment of the enclosing loop, if there is one, subsumes the environment at each local that is not
+  -- unsettled
   abbrev pub Settles : Walk Store Ty → (unsettled : List ℕ) → (env way : Option (List (Option Ty))) → Type 0
   Settles w unsettled env way = WayTakesIn w.context.globals.now.outline.now.parents.now unsettled
       (option_map (env_of S.tree) way) (option_map (env_of S.tree) env)
 
-  -- what the way out of the loop took in before statements that touch these locals it takes in after them
-  abbrev pub StaysSettled : (old new : Walk Store Ty) → (touched : (List ℕ → Res) → List ℕ)
+  -- the exit environment of the loop subsumes after statements that touch these locals whatever it subsumed before them
+  abbrev pub StaysSettled : (old new : Walk Store Ty) → (touched : (List ℕ → NameMeaning) → List ℕ)
       → (unsettled later : List ℕ) → (env way out : Option (List (Option Ty))) → Type 0
   StaysSettled old new touched unsettled later env way out =
       BreaksStaySettled old.context.globals.now.outline.now.parents.now (touched (meanings old.context.names.now))
       unsettled later (option_map (env_of S.tree) way) (option_map (env_of S.tree) env) (option_map (env_of S.tree) out)
 
-  -- the walk went over statements, from an environment and a way out of the loop around to others
+  -- the walk passed statements, from one environment and exit environment of the enclosing loop to others
   pub record Walked (old : Walk Store Ty) (env way : Option (List (Option Ty))) (new : Walk Store Ty)
       (behind later : Option (List (Option Ty))) (walks : BodyContext → Reached → Reached) : Type 0 where
     pub is : reached S new behind later ≡ walks (body_context_in S old) (reached S old env way)
     pub stands : StandsIn new behind later
 
-  -- the walk went over branches, from the environment where all conditions so far are false, the ways out of suites
-  -- joined and a way out of the loop around to others
+  -- the walk passed branches, from the environment where all conditions so far are false, the join at the ends of
+  -- suites and the exit environment of the enclosing loop to others
   pub record Forked (old : Walk Store Ty) (last : List (Option Ty)) (ways way : Option (List (Option Ty)))
       (new : Walk Store Ty) (next : List (Option Ty)) (joined later : Option (List (Option Ty)))
       (walks : BodyContext → BranchesResult → BranchesResult) : Type 0 where

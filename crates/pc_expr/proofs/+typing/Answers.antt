@@ -45,8 +45,8 @@ use Rattle.pc_expr.proofs.ConditionsTyped.{negation_found, conjunction_found, di
 use Rattle.pc_rules.proofs.Checkers.{goes_further}
 use Rattle.pc_expr.proofs.+typing.Goals as goal
 
-pub typing::type_expr-returns-clause-found : goal.typing::type_expr-returns-clause-found
-typing::type_expr-returns-clause-found g t c =
+pub typing::check_expr-returns-clause-found : goal.typing::check_expr-returns-clause-found
+typing::check_expr-returns-clause-found g t c =
     whole_found g.S.TypeStore.tree (standing_of g.S.TypeStore.tree c.args.setting.now c.args.env.now)
     (option_map g.S.TypeStore.tree c.args.want.now) (expr_of c.args.e.now) c.in_ok-label.label _ _ _
     c.in_ok-label.ensures.labelled.is c.in_ok-label.ensures.found
@@ -133,91 +133,91 @@ typing::label_expr-returns-in-NoneValue-clause-found g t c =
     (sym (parts_nothing (standing_of g.S.TypeStore.tree c.args.setting.now c.args.env.now)
     (option_map g.S.TypeStore.tree c.args.want.now) c.in-NoneValue.field-0))))
 
-pub typing::label_unary-returns-in_ok-operand-in-Negative-clause-found :
-    goal.typing::label_unary-returns-in_ok-operand-in-Negative-clause-found
-typing::label_unary-returns-in_ok-operand-in-Negative-clause-found g t c expected =
+pub typing::type_unary-returns-in_ok-operand-in-Negative-clause-found :
+    goal.typing::type_unary-returns-in_ok-operand-in-Negative-clause-found
+typing::type_unary-returns-in_ok-operand-in-Negative-clause-found g t c expected =
     rw c.in-Negative.is
     (on_ok c.label_negative.result ((rw c.deref.ensures at c.in_ok-operand-in-Negative.ensures.found)
     ∙ ap (λ fs. (notes_of c.args.checker.now.found.now) ++ fs)
     (sym (parts_negative (standing_of g.S.TypeStore.tree c.args.setting.now c.args.env.now) expected
     c.in-Negative.field-0 (expr_of c.in-Negative.operand.value)))))
 
-pub typing::label_unary-returns-in_ok-operand-in-Negative-clause-labelled :
-    goal.typing::label_unary-returns-in_ok-operand-in-Negative-clause-labelled
-typing::label_unary-returns-in_ok-operand-in-Negative-clause-labelled g t c expected =
+pub typing::type_unary-returns-in_ok-operand-in-Negative-clause-labelled :
+    goal.typing::type_unary-returns-in_ok-operand-in-Negative-clause-labelled
+typing::type_unary-returns-in_ok-operand-in-Negative-clause-labelled g t c expected =
     rw c.in-Negative.is (labelled_by g.S.TypeStore.has g.S.TypeStore.tree _ c.label_negative.result _ _
     (negative_is g.S.TypeStore.tree (standing_of g.S.TypeStore.tree c.args.setting.now c.args.env.now) expected
     c.in-Negative.field-0 (expr_of c.in-Negative.operand.value) c.in_ok-operand-in-Negative.operand
     (rw c.deref.ensures at c.in_ok-operand-in-Negative.ensures.labelled.is)) c.label_negative.ensures.value)
 
-pub typing::label_unary-returns-in_ok-type_expr-in-Not-clause-found :
-    goal.typing::label_unary-returns-in_ok-type_expr-in-Not-clause-found
-typing::label_unary-returns-in_ok-type_expr-in-Not-clause-found g t c expected =
-    rw c.in-Not.is (on_ok c.label_bool.result ((rw c.deref-in-Not.ensures at c.in_ok-type_expr-in-Not.ensures.found)
+pub typing::type_unary-returns-in_ok-check_expr-in-Not-clause-found :
+    goal.typing::type_unary-returns-in_ok-check_expr-in-Not-clause-found
+typing::type_unary-returns-in_ok-check_expr-in-Not-clause-found g t c expected =
+    rw c.in-Not.is (on_ok c.label_bool.result ((rw c.deref-in-Not.ensures at c.in_ok-check_expr-in-Not.ensures.found)
     ∙ ap (λ fs. (notes_of c.args.checker.now.found.now) ++ fs)
     (sym (parts_negation (standing_of g.S.TypeStore.tree c.args.setting.now c.args.env.now) expected
     c.in-Not.field-0 (expr_of c.in-Not.operand.value)))))
 
-pub typing::label_unary-returns-in_ok-type_expr-in-Not-clause-labelled :
-    goal.typing::label_unary-returns-in_ok-type_expr-in-Not-clause-labelled
-typing::label_unary-returns-in_ok-type_expr-in-Not-clause-labelled g t c expected =
+pub typing::type_unary-returns-in_ok-check_expr-in-Not-clause-labelled :
+    goal.typing::type_unary-returns-in_ok-check_expr-in-Not-clause-labelled
+typing::type_unary-returns-in_ok-check_expr-in-Not-clause-labelled g t c expected =
     rw c.in-Not.is (labelled_by g.S.TypeStore.has g.S.TypeStore.tree _ c.label_bool.result _ _
     (sym (label_negation (standing_of g.S.TypeStore.tree c.args.setting.now c.args.env.now) expected
     c.in-Not.field-0 (expr_of c.in-Not.operand.value))) c.label_bool.ensures.value)
 
-pub typing::label_unary-returns-in_ok-type_expr-in-IsNone-clause-found :
-    goal.typing::label_unary-returns-in_ok-type_expr-in-IsNone-clause-found
-typing::label_unary-returns-in_ok-type_expr-in-IsNone-clause-found g t c expected =
+pub typing::type_unary-returns-in_ok-check_expr-in-IsNone-clause-found :
+    goal.typing::type_unary-returns-in_ok-check_expr-in-IsNone-clause-found
+typing::type_unary-returns-in_ok-check_expr-in-IsNone-clause-found g t c expected =
     rw c.in-IsNone.is (on_ok c.label_bool-in-IsNone.result
-    ((rw c.deref-in-IsNone.ensures at c.in_ok-type_expr-in-IsNone.ensures.found)
+    ((rw c.deref-in-IsNone.ensures at c.in_ok-check_expr-in-IsNone.ensures.found)
     ∙ ap (λ fs. (notes_of c.args.checker.now.found.now) ++ fs)
     (sym (parts_is_none (standing_of g.S.TypeStore.tree c.args.setting.now c.args.env.now) expected
     c.in-IsNone.field-0 (expr_of c.in-IsNone.operand.value)))))
 
-pub typing::label_unary-returns-in_ok-type_expr-in-IsNone-clause-labelled :
-    goal.typing::label_unary-returns-in_ok-type_expr-in-IsNone-clause-labelled
-typing::label_unary-returns-in_ok-type_expr-in-IsNone-clause-labelled g t c expected =
+pub typing::type_unary-returns-in_ok-check_expr-in-IsNone-clause-labelled :
+    goal.typing::type_unary-returns-in_ok-check_expr-in-IsNone-clause-labelled
+typing::type_unary-returns-in_ok-check_expr-in-IsNone-clause-labelled g t c expected =
     rw c.in-IsNone.is (labelled_by g.S.TypeStore.has g.S.TypeStore.tree _ c.label_bool-in-IsNone.result _ _
     (sym (label_is_none (standing_of g.S.TypeStore.tree c.args.setting.now c.args.env.now) expected
     c.in-IsNone.field-0 (expr_of c.in-IsNone.operand.value))) c.label_bool-in-IsNone.ensures.value)
 
-pub typing::label_unary-returns-in_ok-type_expr-in-IsNotNone-clause-found :
-    goal.typing::label_unary-returns-in_ok-type_expr-in-IsNotNone-clause-found
-typing::label_unary-returns-in_ok-type_expr-in-IsNotNone-clause-found g t c expected =
+pub typing::type_unary-returns-in_ok-check_expr-in-IsNotNone-clause-found :
+    goal.typing::type_unary-returns-in_ok-check_expr-in-IsNotNone-clause-found
+typing::type_unary-returns-in_ok-check_expr-in-IsNotNone-clause-found g t c expected =
     rw c.in-IsNotNone.is (on_ok c.label_bool-in-IsNotNone.result
-    ((rw c.deref-in-IsNotNone.ensures at c.in_ok-type_expr-in-IsNotNone.ensures.found)
+    ((rw c.deref-in-IsNotNone.ensures at c.in_ok-check_expr-in-IsNotNone.ensures.found)
     ∙ ap (λ fs. (notes_of c.args.checker.now.found.now) ++ fs)
     (sym (parts_is_not_none (standing_of g.S.TypeStore.tree c.args.setting.now c.args.env.now) expected
     c.in-IsNotNone.field-0 (expr_of c.in-IsNotNone.operand.value)))))
 
-pub typing::label_unary-returns-in_ok-type_expr-in-IsNotNone-clause-labelled :
-    goal.typing::label_unary-returns-in_ok-type_expr-in-IsNotNone-clause-labelled
-typing::label_unary-returns-in_ok-type_expr-in-IsNotNone-clause-labelled g t c expected =
+pub typing::type_unary-returns-in_ok-check_expr-in-IsNotNone-clause-labelled :
+    goal.typing::type_unary-returns-in_ok-check_expr-in-IsNotNone-clause-labelled
+typing::type_unary-returns-in_ok-check_expr-in-IsNotNone-clause-labelled g t c expected =
     rw c.in-IsNotNone.is (labelled_by g.S.TypeStore.has g.S.TypeStore.tree _ c.label_bool-in-IsNotNone.result _ _
     (sym (label_is_not_none (standing_of g.S.TypeStore.tree c.args.setting.now c.args.env.now) expected
     c.in-IsNotNone.field-0 (expr_of c.in-IsNotNone.operand.value))) c.label_bool-in-IsNotNone.ensures.value)
 
-pub typing::label_unary-returns-in_ok-object-in-Attribute-clause-labelled :
-    goal.typing::label_unary-returns-in_ok-object-in-Attribute-clause-labelled
-typing::label_unary-returns-in_ok-object-in-Attribute-clause-labelled g t c expected =
+pub typing::type_unary-returns-in_ok-object-in-Attribute-clause-labelled :
+    goal.typing::type_unary-returns-in_ok-object-in-Attribute-clause-labelled
+typing::type_unary-returns-in_ok-object-in-Attribute-clause-labelled g t c expected =
     rw c.in-Attribute.is (labelled_by g.S.TypeStore.has g.S.TypeStore.tree _ c.label_attribute.result _ _
     (attribute_is g.S.TypeStore.tree (standing_of g.S.TypeStore.tree c.args.setting.now c.args.env.now) expected
     c.in-Attribute.field-0 (expr_of c.in-Attribute.object.value) (name_of c.in-Attribute.field)
     c.in_ok-object-in-Attribute.object (rw c.deref-in-Attribute.ensures at
     c.in_ok-object-in-Attribute.ensures.labelled.is)) c.label_attribute.ensures.value)
 
-pub typing::label_unary-returns-in_ok-object-in-Attribute-clause-found :
-    goal.typing::label_unary-returns-in_ok-object-in-Attribute-clause-found
-typing::label_unary-returns-in_ok-object-in-Attribute-clause-found g t c expected =
+pub typing::type_unary-returns-in_ok-object-in-Attribute-clause-found :
+    goal.typing::type_unary-returns-in_ok-object-in-Attribute-clause-found
+typing::type_unary-returns-in_ok-object-in-Attribute-clause-found g t c expected =
     rw c.in-Attribute.is
     (on_ok c.label_attribute.result ((rw c.deref-in-Attribute.ensures at c.in_ok-object-in-Attribute.ensures.found)
     ∙ ap (λ fs. (notes_of c.args.checker.now.found.now) ++ fs)
     (sym (parts_attribute (standing_of g.S.TypeStore.tree c.args.setting.now c.args.env.now) expected
     c.in-Attribute.field-0 (expr_of c.in-Attribute.object.value) (name_of c.in-Attribute.field)))))
 
-pub typing::label_binary-returns-in_ok-second-in-Binary-clause-labelled :
-    goal.typing::label_binary-returns-in_ok-second-in-Binary-clause-labelled
-typing::label_binary-returns-in_ok-second-in-Binary-clause-labelled g t c expected =
+pub typing::type_binary-returns-in_ok-second-in-Binary-clause-labelled :
+    goal.typing::type_binary-returns-in_ok-second-in-Binary-clause-labelled
+typing::type_binary-returns-in_ok-second-in-Binary-clause-labelled g t c expected =
     rw c.in-Binary.is (labelled_by g.S.TypeStore.has g.S.TypeStore.tree _ c.binary_label.result _ _
     (binary_is g.S.TypeStore.tree (standing_of g.S.TypeStore.tree c.args.setting.now c.args.env.now) expected
     c.in-Binary.field-0 (expr_of c.in-Binary.left.value) (expr_of c.in-Binary.right.value)
@@ -225,18 +225,18 @@ typing::label_binary-returns-in_ok-second-in-Binary-clause-labelled g t c expect
     (rw c.deref.ensures at c.in_ok-first-in-Binary.ensures.labelled.is) c.in-Binary.operator
     (rw c.deref-in-Binary.ensures at c.in_ok-second-in-Binary.ensures.labelled.is)) c.binary_label.ensures.value)
 
-pub typing::label_binary-returns-in_ok-second-in-Binary-clause-found :
-    goal.typing::label_binary-returns-in_ok-second-in-Binary-clause-found
-typing::label_binary-returns-in_ok-second-in-Binary-clause-found g t c expected =
+pub typing::type_binary-returns-in_ok-second-in-Binary-clause-found :
+    goal.typing::type_binary-returns-in_ok-second-in-Binary-clause-found
+typing::type_binary-returns-in_ok-second-in-Binary-clause-found g t c expected =
     rw c.in-Binary.is (on_ok c.binary_label.result (binary_found g.S.TypeStore.tree
     (standing_of g.S.TypeStore.tree c.args.setting.now c.args.env.now) expected c.in-Binary.field-0
     c.in-Binary.operator (expr_of c.in-Binary.left.value) (expr_of c.in-Binary.right.value) _ _ _
     (rw c.deref.ensures at c.in_ok-first-in-Binary.ensures.found)
     (rw c.deref-in-Binary.ensures at c.in_ok-second-in-Binary.ensures.found)))
 
-pub typing::label_binary-returns-in_ok-second-in-Compare-clause-labelled :
-    goal.typing::label_binary-returns-in_ok-second-in-Compare-clause-labelled
-typing::label_binary-returns-in_ok-second-in-Compare-clause-labelled g t c expected =
+pub typing::type_binary-returns-in_ok-second-in-Compare-clause-labelled :
+    goal.typing::type_binary-returns-in_ok-second-in-Compare-clause-labelled
+typing::type_binary-returns-in_ok-second-in-Compare-clause-labelled g t c expected =
     rw c.in-Compare.is (labelled_by g.S.TypeStore.has g.S.TypeStore.tree _ c.label_comparison.result _ _
     (compare_is g.S.TypeStore.tree (standing_of g.S.TypeStore.tree c.args.setting.now c.args.env.now) expected
     c.in-Compare.field-0 (expr_of c.in-Compare.left.value) (expr_of c.in-Compare.right.value)
@@ -245,9 +245,9 @@ typing::label_binary-returns-in_ok-second-in-Compare-clause-labelled g t c expec
     (rw c.deref-in-Compare-2.ensures at c.in_ok-second-in-Compare.ensures.labelled.is))
     c.label_comparison.ensures.value)
 
-pub typing::label_binary-returns-in_ok-second-in-Compare-clause-found :
-    goal.typing::label_binary-returns-in_ok-second-in-Compare-clause-found
-typing::label_binary-returns-in_ok-second-in-Compare-clause-found g t c expected =
+pub typing::type_binary-returns-in_ok-second-in-Compare-clause-found :
+    goal.typing::type_binary-returns-in_ok-second-in-Compare-clause-found
+typing::type_binary-returns-in_ok-second-in-Compare-clause-found g t c expected =
     rw c.in-Compare.is (if_ok c.label_comparison.result (λ i. compare_found g.S.TypeStore.tree
     (standing_of g.S.TypeStore.tree c.args.setting.now c.args.env.now) expected c.in-Compare.field-0
     (expr_of c.in-Compare.left.value) (expr_of c.in-Compare.right.value) c.in_ok-first-in-Compare.first
@@ -260,9 +260,9 @@ typing::label_binary-returns-in_ok-second-in-Compare-clause-found g t c expected
     (expr_of c.in-Compare.left.value)) (rw c.deref-in-Compare.ensures at
     c.in_ok-first-in-Compare.ensures.labelled.is))))
 
-pub typing::label_binary-returns-in_ok-index-in-Index-clause-labelled :
-    goal.typing::label_binary-returns-in_ok-index-in-Index-clause-labelled
-typing::label_binary-returns-in_ok-index-in-Index-clause-labelled g t c expected =
+pub typing::type_binary-returns-in_ok-index-in-Index-clause-labelled :
+    goal.typing::type_binary-returns-in_ok-index-in-Index-clause-labelled
+typing::type_binary-returns-in_ok-index-in-Index-clause-labelled g t c expected =
     rw c.in-Index.is (labelled_by g.S.TypeStore.has g.S.TypeStore.tree _ c.label_index.result _ _
     (index_is g.S.TypeStore.tree (standing_of g.S.TypeStore.tree c.args.setting.now c.args.env.now) expected
     c.in-Index.field-0 (expr_of c.in-Index.object.value) (expr_of c.in-Index.key.value)
@@ -270,9 +270,9 @@ typing::label_binary-returns-in_ok-index-in-Index-clause-labelled g t c expected
     (rw c.deref-in-Index.ensures at c.in_ok-object-in-Index.ensures.labelled.is))
     (rw c.deref-in-Index-3.ensures at c.label_index.ensures.value))
 
-pub typing::label_binary-returns-in_ok-index-in-Index-clause-found :
-    goal.typing::label_binary-returns-in_ok-index-in-Index-clause-found
-typing::label_binary-returns-in_ok-index-in-Index-clause-found g t c expected =
+pub typing::type_binary-returns-in_ok-index-in-Index-clause-found :
+    goal.typing::type_binary-returns-in_ok-index-in-Index-clause-found
+typing::type_binary-returns-in_ok-index-in-Index-clause-found g t c expected =
     rw c.in-Index.is (if_ok c.label_index.result (λ i. index_found g.S.TypeStore.tree
     (standing_of g.S.TypeStore.tree c.args.setting.now c.args.env.now) expected c.in-Index.field-0
     (expr_of c.in-Index.object.value) (expr_of c.in-Index.key.value) c.in_ok-object-in-Index.object
@@ -283,9 +283,9 @@ typing::label_binary-returns-in_ok-index-in-Index-clause-found g t c expected =
     (label_in (standing_of g.S.TypeStore.tree c.args.setting.now c.args.env.now) None
     (expr_of c.in-Index.key.value)) (rw c.deref-in-Index-2.ensures at c.in_ok-index-in-Index.ensures.labelled.is))))
 
-pub typing::label_connective-returns-in_ok-second-in-And-clause-labelled :
-    goal.typing::label_connective-returns-in_ok-second-in-And-clause-labelled
-typing::label_connective-returns-in_ok-second-in-And-clause-labelled g t c expected =
+pub typing::type_connective-returns-in_ok-second-in-And-clause-labelled :
+    goal.typing::type_connective-returns-in_ok-second-in-And-clause-labelled
+typing::type_connective-returns-in_ok-second-in-And-clause-labelled g t c expected =
     rw c.in-And.is (labelled_by g.S.TypeStore.has g.S.TypeStore.tree _ c.label_junction.result _ _
     (and_is g.S.TypeStore.tree (standing_of g.S.TypeStore.tree c.args.setting.now c.args.env.now) expected
     c.in-And.field-0 (expr_of c.in-And.left.value) (expr_of c.in-And.right.value) c.in_ok-first-in-And.first.label
@@ -296,9 +296,9 @@ typing::label_connective-returns-in_ok-second-in-And-clause-labelled g t c expec
     (expr_of c.in-And.left.value) (rw c.deref.ensures at c.in_ok-first-in-And.ensures.ways.where_true)))
     c.label_junction.ensures.value)
 
-pub typing::label_connective-returns-in_ok-second-in-And-clause-found :
-    goal.typing::label_connective-returns-in_ok-second-in-And-clause-found
-typing::label_connective-returns-in_ok-second-in-And-clause-found g t c expected =
+pub typing::type_connective-returns-in_ok-second-in-And-clause-found :
+    goal.typing::type_connective-returns-in_ok-second-in-And-clause-found
+typing::type_connective-returns-in_ok-second-in-And-clause-found g t c expected =
     rw c.in-And.is (on_ok c.label_junction.result (and_found g.S.TypeStore.tree
     (standing_of g.S.TypeStore.tree c.args.setting.now c.args.env.now) expected c.in-And.field-0
     (expr_of c.in-And.left.value) (expr_of c.in-And.right.value)
@@ -308,9 +308,9 @@ typing::label_connective-returns-in_ok-second-in-And-clause-found g t c expected
     (rw c.deref.ensures at c.in_ok-first-in-And.ensures.found)
     (rw c.deref-in-And.ensures at c.in_ok-second-in-And.ensures.found)))
 
-pub typing::label_connective-returns-in_ok-second-in-Or-clause-labelled :
-    goal.typing::label_connective-returns-in_ok-second-in-Or-clause-labelled
-typing::label_connective-returns-in_ok-second-in-Or-clause-labelled g t c expected =
+pub typing::type_connective-returns-in_ok-second-in-Or-clause-labelled :
+    goal.typing::type_connective-returns-in_ok-second-in-Or-clause-labelled
+typing::type_connective-returns-in_ok-second-in-Or-clause-labelled g t c expected =
     rw c.in-Or.is (labelled_by g.S.TypeStore.has g.S.TypeStore.tree _ c.label_junction-in-Or.result _ _
     (or_is g.S.TypeStore.tree (standing_of g.S.TypeStore.tree c.args.setting.now c.args.env.now) expected
     c.in-Or.field-0 (expr_of c.in-Or.left.value) (expr_of c.in-Or.right.value) c.in_ok-first-in-Or.first.label
@@ -321,9 +321,9 @@ typing::label_connective-returns-in_ok-second-in-Or-clause-labelled g t c expect
     (expr_of c.in-Or.left.value) (rw c.deref-in-Or.ensures at c.in_ok-first-in-Or.ensures.ways.where_false)))
     c.label_junction-in-Or.ensures.value)
 
-pub typing::label_connective-returns-in_ok-second-in-Or-clause-found :
-    goal.typing::label_connective-returns-in_ok-second-in-Or-clause-found
-typing::label_connective-returns-in_ok-second-in-Or-clause-found g t c expected =
+pub typing::type_connective-returns-in_ok-second-in-Or-clause-found :
+    goal.typing::type_connective-returns-in_ok-second-in-Or-clause-found
+typing::type_connective-returns-in_ok-second-in-Or-clause-found g t c expected =
     rw c.in-Or.is (on_ok c.label_junction-in-Or.result (or_found g.S.TypeStore.tree
     (standing_of g.S.TypeStore.tree c.args.setting.now c.args.env.now) expected c.in-Or.field-0
     (expr_of c.in-Or.left.value) (expr_of c.in-Or.right.value)
@@ -333,33 +333,33 @@ typing::label_connective-returns-in_ok-second-in-Or-clause-found g t c expected 
     (rw c.deref-in-Or.ensures at c.in_ok-first-in-Or.ensures.found)
     (rw c.deref-in-Or-2.ensures at c.in_ok-second-in-Or.ensures.found)))
 
-pub typing::label_unary-label_attribute-requires-clause-classes :
-    goal.typing::label_unary-label_attribute-requires-clause-classes
-typing::label_unary-label_attribute-requires-clause-classes g t c =
-    entries_kept (g.S.TypeStore.has _) (g.S.TypeStore.has _) c.type_expr-in-Attribute.ensures.goes_on.kept
+pub typing::type_unary-label_attribute-requires-clause-classes :
+    goal.typing::type_unary-label_attribute-requires-clause-classes
+typing::type_unary-label_attribute-requires-clause-classes g t c =
+    entries_kept (g.S.TypeStore.has _) (g.S.TypeStore.has _) c.check_expr-in-Attribute.ensures.goes_on.kept
     c.args.setting.now.globals.now.classes.now c.requires.given.classes
 
-pub typing::label_binary-label_index-requires-clause-classes :
-    goal.typing::label_binary-label_index-requires-clause-classes
-typing::label_binary-label_index-requires-clause-classes g t c =
+pub typing::type_binary-label_index-requires-clause-classes :
+    goal.typing::type_binary-label_index-requires-clause-classes
+typing::type_binary-label_index-requires-clause-classes g t c =
     entries_kept (g.S.TypeStore.has _) (g.S.TypeStore.has _) (keeps_both g.S.TypeStore.has _ _ _
-    c.type_expr-in-Index.ensures.goes_on.kept c.type_expr-in-Index-2.ensures.goes_on.kept)
+    c.check_expr-in-Index.ensures.goes_on.kept c.check_expr-in-Index-2.ensures.goes_on.kept)
     c.args.setting.now.globals.now.classes.now c.requires.given.classes
 
 pub displays::label_display-returns-in_ok-types-in-List-clause-labelled :
     goal.displays::label_display-returns-in_ok-types-in-List-clause-labelled
 displays::label_display-returns-in_ok-types-in-List-clause-labelled g t c =
-    rw c.in-List.is (labelled_by g.S.TypeStore.has g.S.TypeStore.tree _ c.label_list.result _ _
+    rw c.in-List.is (labelled_by g.S.TypeStore.has g.S.TypeStore.tree _ c.expected_list_label.result _ _
     (list_is (standing_of g.S.TypeStore.tree c.args.setting.now c.args.env.now)
     (option_map g.S.TypeStore.tree c.args.want.now) c.in-List.field-0 c.in-List.items _ _
     c.in_ok-seats-in-List.ensures.value (rw c.deref-in-List.ensures.value at c.in_ok-types-in-List.ensures.typed))
-    (rw c.deref-in-List-2.ensures.value at c.label_list.ensures.value))
+    (rw c.deref-in-List-2.ensures.value at c.expected_list_label.ensures.value))
 
 pub displays::label_display-returns-in_ok-types-in-List-clause-found :
     goal.displays::label_display-returns-in_ok-types-in-List-clause-found
 displays::label_display-returns-in_ok-types-in-List-clause-found g t c =
     rw c.in-List.is
-    (on_ok c.label_list.result (list_found (standing_of g.S.TypeStore.tree c.args.setting.now c.args.env.now)
+    (on_ok c.expected_list_label.result (list_found (standing_of g.S.TypeStore.tree c.args.setting.now c.args.env.now)
     (option_map g.S.TypeStore.tree c.args.want.now) c.in-List.field-0 c.in-List.items _ _ _
     c.in_ok-seats-in-List.ensures.value (rw c.deref-in-List.ensures.value at c.in_ok-types-in-List.ensures.found)))
 
@@ -387,18 +387,18 @@ displays::label_display-returns-in_ok-types-in-Tuple-clause-found g t c =
 pub displays::label_display-returns-in_ok-types-in-Dict-clause-labelled :
     goal.displays::label_display-returns-in_ok-types-in-Dict-clause-labelled
 displays::label_display-returns-in_ok-types-in-Dict-clause-labelled g t c =
-    rw c.in-Dict.is (labelled_by g.S.TypeStore.has g.S.TypeStore.tree _ c.label_dict.result _ _
+    rw c.in-Dict.is (labelled_by g.S.TypeStore.has g.S.TypeStore.tree _ c.expected_dict_label.result _ _
     (dict_is (standing_of g.S.TypeStore.tree c.args.setting.now c.args.env.now)
     (option_map g.S.TypeStore.tree c.args.want.now) c.in-Dict.field-0 c.in-Dict.entries _ _
     c.in_ok-seats-in-Dict.ensures.keys c.in_ok-seats-in-Dict.ensures.values _ _
     (rw c.deref-in-Dict.ensures.value at c.in_ok-types-in-Dict.ensures.typed.keys)
-    (rw c.deref-in-Dict.ensures.value at c.in_ok-types-in-Dict.ensures.typed.values)) c.label_dict.ensures.value)
+    (rw c.deref-in-Dict.ensures.value at c.in_ok-types-in-Dict.ensures.typed.values)) c.expected_dict_label.ensures.value)
 
 pub displays::label_display-returns-in_ok-types-in-Dict-clause-found :
     goal.displays::label_display-returns-in_ok-types-in-Dict-clause-found
 displays::label_display-returns-in_ok-types-in-Dict-clause-found g t c =
     rw c.in-Dict.is
-    (on_ok c.label_dict.result (dict_found (standing_of g.S.TypeStore.tree c.args.setting.now c.args.env.now)
+    (on_ok c.expected_dict_label.result (dict_found (standing_of g.S.TypeStore.tree c.args.setting.now c.args.env.now)
     (option_map g.S.TypeStore.tree c.args.want.now) c.in-Dict.field-0 c.in-Dict.entries _ _
     c.in_ok-seats-in-Dict.ensures.keys c.in_ok-seats-in-Dict.ensures.values _ _
     (rw c.deref-in-Dict.ensures.value at c.in_ok-types-in-Dict.ensures.found)))
@@ -492,14 +492,14 @@ displays::type_items-returns-clause-found g t c =
     (seats_of g.S.TypeStore.tree c.args.seats.now) c.args.items.now c.loop-item.item-index (omega arith) _ _
     c.loop-item.invariant.found
 
-pub calls::label_callee-callee_of_method-requires-clause-classes :
-    goal.calls::label_callee-callee_of_method-requires-clause-classes
-calls::label_callee-callee_of_method-requires-clause-classes g t c = entries_kept (g.S.TypeStore.has _)
-    (g.S.TypeStore.has _) c.type_expr.ensures.goes_on.kept c.args.setting.now.globals.now.classes.now
+pub calls::type_callee-callee_of_method-requires-clause-classes :
+    goal.calls::type_callee-callee_of_method-requires-clause-classes
+calls::type_callee-callee_of_method-requires-clause-classes g t c = entries_kept (g.S.TypeStore.has _)
+    (g.S.TypeStore.has _) c.check_expr.ensures.goes_on.kept c.args.setting.now.globals.now.classes.now
     c.requires.given.classes
 
-pub calls::label_callee-returns-then-setting-clause-called : goal.calls::label_callee-returns-then-setting-clause-called
-calls::label_callee-returns-then-setting-clause-called g t c =
+pub calls::type_callee-returns-then-setting-clause-called : goal.calls::type_callee-returns-then-setting-clause-called
+calls::type_callee-returns-then-setting-clause-called g t c =
     rw c.in-Attribute.is (callee_as g.S.TypeStore.has g.S.TypeStore.tree _ c.callee_of_method.result _ _
     (ap (λ t. method_callee (standing_of g.S.TypeStore.tree c.args.setting.now c.args.env.now).context
     (given_with c.args.given.now) (name_of c.in-Attribute.field).text t)
@@ -510,30 +510,30 @@ calls::label_callee-returns-then-setting-clause-called g t c =
     (given_with c.args.given.now) c.in-Attribute.field-0 (expr_of c.in-Attribute.object.value)
     (name_of c.in-Attribute.field) c.if-setting.true)) c.callee_of_method.ensures.callee)
 
-pub calls::label_callee-returns-then-setting-clause-found : goal.calls::label_callee-returns-then-setting-clause-found
-calls::label_callee-returns-then-setting-clause-found g t c =
+pub calls::type_callee-returns-then-setting-clause-found : goal.calls::type_callee-returns-then-setting-clause-found
+calls::type_callee-returns-then-setting-clause-found g t c =
     rw c.in-Attribute.is
     (on_ok c.callee_of_method.result ((rw c.deref.ensures at c.in_ok-label-in-Attribute.ensures.found)
     ∙ ap (λ fs. (notes_of c.args.checker.now.found.now) ++ fs)
     (sym (parts_attribute (standing_of g.S.TypeStore.tree c.args.setting.now c.args.env.now) None c.in-Attribute.field-0
     (expr_of c.in-Attribute.object.value) (name_of c.in-Attribute.field)))))
 
-pub calls::label_callee-returns-in-Name-clause-called : goal.calls::label_callee-returns-in-Name-clause-called
-calls::label_callee-returns-in-Name-clause-called g t c = rw c.in-Name.is
+pub calls::type_callee-returns-in-Name-clause-called : goal.calls::type_callee-returns-in-Name-clause-called
+calls::type_callee-returns-in-Name-clause-called g t c = rw c.in-Name.is
     (callee_as g.S.TypeStore.has g.S.TypeStore.tree _ c.callee_of_name.result _ _
     (sym (callee_name (standing_of g.S.TypeStore.tree c.args.setting.now c.args.env.now) (given_with c.args.given.now)
     (name_of c.in-Name.name))) c.callee_of_name.ensures.callee)
 
-pub calls::label_callee-returns-in-Name-clause-found : goal.calls::label_callee-returns-in-Name-clause-found
-calls::label_callee-returns-in-Name-clause-found g t c = rw c.in-Name.is
+pub calls::type_callee-returns-in-Name-clause-found : goal.calls::type_callee-returns-in-Name-clause-found
+calls::type_callee-returns-in-Name-clause-found g t c = rw c.in-Name.is
     (on_ok c.callee_of_name.result (sym (append-nil (notes_of c.args.checker.now.found.now))
     ∙ ap (λ fs. (notes_of c.args.checker.now.found.now) ++ fs)
     (sym (parts_name (standing_of g.S.TypeStore.tree c.args.setting.now c.args.env.now) None
     (name_of c.in-Name.name)))))
 
-pub calls::label_callee-returns-in_ok-label-in-Attribute-2-clause-called :
-    goal.calls::label_callee-returns-in_ok-label-in-Attribute-2-clause-called
-calls::label_callee-returns-in_ok-label-in-Attribute-2-clause-called g t c =
+pub calls::type_callee-returns-in_ok-label-in-Attribute-2-clause-called :
+    goal.calls::type_callee-returns-in_ok-label-in-Attribute-2-clause-called
+calls::type_callee-returns-in_ok-label-in-Attribute-2-clause-called g t c =
     callee_as g.S.TypeStore.has g.S.TypeStore.tree _ c.callee_of_other.result _ _
     (sym (rw c.in-Attribute.is (callee_early (standing_of g.S.TypeStore.tree c.args.setting.now c.args.env.now)
     (given_with c.args.given.now) c.in-Attribute.field-0 (expr_of c.in-Attribute.object.value)
@@ -541,9 +541,9 @@ calls::label_callee-returns-in_ok-label-in-Attribute-2-clause-called g t c =
     (label_in (standing_of g.S.TypeStore.tree c.args.setting.now c.args.env.now) None (expr_of c.args.callee.now))
     c.in_ok-label-in-Attribute-2.ensures.labelled.is)
 
-pub calls::label_callee-returns-in_ok-label-in-Int-clause-called :
-    goal.calls::label_callee-returns-in_ok-label-in-Int-clause-called
-calls::label_callee-returns-in_ok-label-in-Int-clause-called g t c =
+pub calls::type_callee-returns-in_ok-label-in-Int-clause-called :
+    goal.calls::type_callee-returns-in_ok-label-in-Int-clause-called
+calls::type_callee-returns-in_ok-label-in-Int-clause-called g t c =
     let other : shows (expr_of c.args.callee.now) ≡ true =
     (⊎_elim (λ t. ap (λ (x : RustExpr). shows (expr_of x)) t.2)
     (⊎_elim (λ t. ap (λ (x : RustExpr). shows (expr_of x)) t.2)
@@ -571,15 +571,15 @@ calls::label_callee-returns-in_ok-label-in-Int-clause-called g t c =
     (label_in (standing_of g.S.TypeStore.tree c.args.setting.now c.args.env.now) None (expr_of c.args.callee.now))
     c.in_ok-label-in-Int.ensures.labelled.is)
 
-pub calls::label_called-label_call-requires-clause-classes : goal.calls::label_called-label_call-requires-clause-classes
-calls::label_called-label_call-requires-clause-classes g t c =
+pub calls::type_call-judge_call-requires-clause-classes : goal.calls::type_call-judge_call-requires-clause-classes
+calls::type_call-judge_call-requires-clause-classes g t c =
     entries_kept (g.S.TypeStore.has _) (g.S.TypeStore.has _) (keeps_both g.S.TypeStore.has _ _ _
-    (keeps_both g.S.TypeStore.has _ _ _ c.label_callee.ensures.goes_on.kept c.type_arguments.ensures.goes_on.kept)
+    (keeps_both g.S.TypeStore.has _ _ _ c.type_callee.ensures.goes_on.kept c.type_arguments.ensures.goes_on.kept)
     c.type_keywords.ensures.goes_on.kept) c.args.setting.now.globals.now.classes.now c.requires.given.classes
 
-pub calls::label_called-returns-clause-labelled : goal.calls::label_called-returns-clause-labelled
-calls::label_called-returns-clause-labelled g t c expected =
-    rw c.in-Call.is (labelled_by g.S.TypeStore.has g.S.TypeStore.tree _ c.label_call.result _ _
+pub calls::type_call-returns-clause-labelled : goal.calls::type_call-returns-clause-labelled
+calls::type_call-returns-clause-labelled g t c expected =
+    rw c.in-Call.is (labelled_by g.S.TypeStore.has g.S.TypeStore.tree _ c.judge_call.result _ _
     (call_label_is (standing_of g.S.TypeStore.tree c.args.setting.now c.args.env.now) expected c.in-Call.place
     (expr_of c.in-Call.callee.value) (exprs_of_list c.in-Call.arguments.items)
     (keywords_of_list c.in-Call.by_name.items) (given_with c.in_ok-given-in-Call.given)
@@ -592,11 +592,11 @@ calls::label_called-returns-clause-labelled g t c expected =
     c.in_ok-typed-in-Call.ensures.typed.types)
     ∙ ap (label_in (standing_of g.S.TypeStore.tree c.args.setting.now c.args.env.now) expected)
     (sym (call_tree c.in-Call.place c.in-Call.callee c.in-Call.arguments c.in-Call.by_name)))
-    (rw c.deref-in-Call-12.ensures.value at c.label_call.ensures.value))
+    (rw c.deref-in-Call-12.ensures.value at c.judge_call.ensures.value))
 
-pub calls::label_called-returns-clause-found : goal.calls::label_called-returns-clause-found
-calls::label_called-returns-clause-found g t c expected =
-    rw c.in-Call.is (if_ok c.label_call.result (λ i. call_parts_found
+pub calls::type_call-returns-clause-found : goal.calls::type_call-returns-clause-found
+calls::type_call-returns-clause-found g t c expected =
+    rw c.in-Call.is (if_ok c.judge_call.result (λ i. call_parts_found
     (standing_of g.S.TypeStore.tree c.args.setting.now c.args.env.now) expected c.in-Call.place
     (expr_of c.in-Call.callee.value) (exprs_of_list c.in-Call.arguments.items)
     (keywords_of_list c.in-Call.by_name.items) (given_with c.in_ok-given-in-Call.given)
@@ -625,7 +625,7 @@ calls::label_called-returns-clause-found g t c expected =
     c.in_ok-type_keywords-in-Call.ensures.found) i ∙ ap (λ x. (notes_of c.args.checker.now.found.now) ++ parts_find
     (standing_of g.S.TypeStore.tree c.args.setting.now c.args.env.now) expected x)
     (sym (call_tree c.in-Call.place c.in-Call.callee c.in-Call.arguments c.in-Call.by_name)))
-    (rw c.deref-in-Call-12.ensures.value at c.label_call.ensures.found))
+    (rw c.deref-in-Call-12.ensures.value at c.judge_call.ensures.found))
 
 pub calls::type_arguments-loop-argument-preserved : goal.calls::type_arguments-loop-argument-preserved
 calls::type_arguments-loop-argument-preserved g t c =
@@ -717,7 +717,7 @@ calls::type_tested-returns-clause-typed g t c = record {
   given = rw (c.in_ok-push-2.ensures.items, c.in_ok-push.ensures.items, c.new-types.ensures.items)
       (All-push (g.S.TypeStore.has _) (c.in_ok-tested.tested.ty ∷ []) c.in_ok-kind.kind.ty
       (All-push (g.S.TypeStore.has _) [] c.in_ok-tested.tested.ty (All-nil (g.S.TypeStore.has _))
-      (c.type_expr-2.ensures.goes_on.kept _ c.in_ok-tested.ensures.labelled.given))
+      (c.check_expr-2.ensures.goes_on.kept _ c.in_ok-tested.ensures.labelled.given))
       c.in_ok-kind.ensures.labelled.given);
   types = rw (c.in_ok-push-2.ensures.items, c.in_ok-push.ensures.items, c.new-types.ensures.items)
       (two_types (standing_of g.S.TypeStore.tree c.args.setting.now c.args.env.now)
@@ -748,10 +748,10 @@ calls::type_tested-returns-clause-found g t c = first_found (standing_of g.S.Typ
     c.index-arguments-1.result c.requires.two c.index-arguments-0.is c.index-arguments-1.is) _
     c.in_ok-seat.ensures.wants _ _ c.in_ok-tested.ensures.found
 
-pub typing::label_unary-label_negative-requires-clause-classes :
-    goal.typing::label_unary-label_negative-requires-clause-classes
-typing::label_unary-label_negative-requires-clause-classes g t c =
-    entries_kept (g.S.TypeStore.has _) (g.S.TypeStore.has _) c.type_expr.ensures.goes_on.kept
+pub typing::type_unary-label_negative-requires-clause-classes :
+    goal.typing::type_unary-label_negative-requires-clause-classes
+typing::type_unary-label_negative-requires-clause-classes g t c =
+    entries_kept (g.S.TypeStore.has _) (g.S.TypeStore.has _) c.check_expr.ensures.goes_on.kept
     c.args.setting.now.globals.now.classes.now c.requires.given.classes
 
 pub typing::type_seated-returns-clause-labelled : goal.typing::type_seated-returns-clause-labelled
@@ -774,28 +774,28 @@ typing::type_seated-returns-clause-found g t c =
     ∙ append_assoc (notes_of c.args.checker.now.found.now) _ flows
 
 pub typing::label_expr-returns-in-Negative-clause-labelled : goal.typing::label_expr-returns-in-Negative-clause-labelled
-typing::label_expr-returns-in-Negative-clause-labelled g t c = c.label_unary.ensures.labelled _
+typing::label_expr-returns-in-Negative-clause-labelled g t c = c.type_unary.ensures.labelled _
 
 pub typing::label_expr-returns-in-Negative-clause-found : goal.typing::label_expr-returns-in-Negative-clause-found
-typing::label_expr-returns-in-Negative-clause-found g t c = c.label_unary.ensures.found _
+typing::label_expr-returns-in-Negative-clause-found g t c = c.type_unary.ensures.found _
 
 pub typing::label_expr-returns-in-Binary-clause-labelled : goal.typing::label_expr-returns-in-Binary-clause-labelled
-typing::label_expr-returns-in-Binary-clause-labelled g t c = c.label_binary.ensures.labelled _
+typing::label_expr-returns-in-Binary-clause-labelled g t c = c.type_binary.ensures.labelled _
 
 pub typing::label_expr-returns-in-Binary-clause-found : goal.typing::label_expr-returns-in-Binary-clause-found
-typing::label_expr-returns-in-Binary-clause-found g t c = c.label_binary.ensures.found _
+typing::label_expr-returns-in-Binary-clause-found g t c = c.type_binary.ensures.found _
 
 pub typing::label_expr-returns-in-And-clause-labelled : goal.typing::label_expr-returns-in-And-clause-labelled
-typing::label_expr-returns-in-And-clause-labelled g t c = c.label_connective.ensures.labelled _
+typing::label_expr-returns-in-And-clause-labelled g t c = c.type_connective.ensures.labelled _
 
 pub typing::label_expr-returns-in-And-clause-found : goal.typing::label_expr-returns-in-And-clause-found
-typing::label_expr-returns-in-And-clause-found g t c = c.label_connective.ensures.found _
+typing::label_expr-returns-in-And-clause-found g t c = c.type_connective.ensures.found _
 
 pub typing::label_expr-returns-in-Call-clause-labelled : goal.typing::label_expr-returns-in-Call-clause-labelled
-typing::label_expr-returns-in-Call-clause-labelled g t c = c.label_called.ensures.labelled _
+typing::label_expr-returns-in-Call-clause-labelled g t c = c.type_call.ensures.labelled _
 
 pub typing::label_expr-returns-in-Call-clause-found : goal.typing::label_expr-returns-in-Call-clause-found
-typing::label_expr-returns-in-Call-clause-found g t c = c.label_called.ensures.found _
+typing::label_expr-returns-in-Call-clause-found g t c = c.type_call.ensures.found _
 
 pub conditions::type_condition-returns-in_ok-note_label-in-Not-clause-labelled :
     goal.conditions::type_condition-returns-in_ok-note_label-in-Not-clause-labelled
@@ -832,7 +832,7 @@ conditions::type_condition-returns-in_ok-note_label-in-Not-clause-found g t c =
 
 pub conditions::type_condition-simple_ways-requires : goal.conditions::type_condition-simple_ways-requires
 conditions::type_condition-simple_ways-requires g t c = record {
-  given = stands_kept (g.S.TypeStore.has _) (g.S.TypeStore.has _) c.type_expr.ensures.goes_on.kept g.S.TypeStore.tree
+  given = stands_kept (g.S.TypeStore.has _) (g.S.TypeStore.has _) c.check_expr.ensures.goes_on.kept g.S.TypeStore.tree
       c.args.setting.now c.args.env.now c.requires;
   simple = first_of (search (rules, the_lemmas), grind (the_lemmas, arith));
 }
@@ -967,16 +967,16 @@ conditions::type_condition-junction_condition-requires-in-Or-clause-agree g t c 
     (rw c.deref-in-Or-3.ensures at first.ensures.ways) c.in_ok-second-in-Or.second.ways
     (rw c.deref-in-Or-4.ensures at c.in_ok-second-in-Or.ensures.ways))
 
-pub typing::label_binary-type_expr-requires-in-Binary :
-    goal.typing::label_binary-type_expr-requires-in-Binary
-typing::label_binary-type_expr-requires-in-Binary g t c κs within = (
+pub typing::type_binary-check_expr-requires-in-Binary :
+    goal.typing::type_binary-check_expr-requires-in-Binary
+typing::type_binary-check_expr-requires-in-Binary g t c κs within = (
   first_of (search (rules, the_lemmas), grind (the_lemmas, arith)),
   (
     within.0,
     (
       within.1,
       (
-        stands_kept (g.S.TypeStore.has _) (g.S.TypeStore.has _) c.type_expr.ensures.goes_on.kept g.S.TypeStore.tree
+        stands_kept (g.S.TypeStore.has _) (g.S.TypeStore.has _) c.check_expr.ensures.goes_on.kept g.S.TypeStore.tree
             c.args.setting.now
             c.args.env.now c.requires.given,
         search rules,
@@ -985,16 +985,16 @@ typing::label_binary-type_expr-requires-in-Binary g t c κs within = (
   ),
 )
 
-pub typing::label_binary-type_expr-requires-in-Compare-2 :
-    goal.typing::label_binary-type_expr-requires-in-Compare-2
-typing::label_binary-type_expr-requires-in-Compare-2 g t c κs within = (
+pub typing::type_binary-check_expr-requires-in-Compare-2 :
+    goal.typing::type_binary-check_expr-requires-in-Compare-2
+typing::type_binary-check_expr-requires-in-Compare-2 g t c κs within = (
   first_of (search (rules, the_lemmas), grind (the_lemmas, arith)),
   (
     within.0,
     (
       within.1,
       (
-        stands_kept (g.S.TypeStore.has _) (g.S.TypeStore.has _) c.type_expr-in-Compare.ensures.goes_on.kept
+        stands_kept (g.S.TypeStore.has _) (g.S.TypeStore.has _) c.check_expr-in-Compare.ensures.goes_on.kept
             g.S.TypeStore.tree c.args.setting.now
             c.args.env.now c.requires.given,
         search rules,
@@ -1003,16 +1003,16 @@ typing::label_binary-type_expr-requires-in-Compare-2 g t c κs within = (
   ),
 )
 
-pub typing::label_binary-type_expr-requires-in-Index-2 :
-    goal.typing::label_binary-type_expr-requires-in-Index-2
-typing::label_binary-type_expr-requires-in-Index-2 g t c κs within = (
+pub typing::type_binary-check_expr-requires-in-Index-2 :
+    goal.typing::type_binary-check_expr-requires-in-Index-2
+typing::type_binary-check_expr-requires-in-Index-2 g t c κs within = (
   first_of (search (rules, the_lemmas), grind (the_lemmas, arith)),
   (
     within.0,
     (
       within.1,
       (
-        stands_kept (g.S.TypeStore.has _) (g.S.TypeStore.has _) c.type_expr-in-Index.ensures.goes_on.kept
+        stands_kept (g.S.TypeStore.has _) (g.S.TypeStore.has _) c.check_expr-in-Index.ensures.goes_on.kept
             g.S.TypeStore.tree c.args.setting.now
             c.args.env.now c.requires.given,
         search rules,
@@ -1039,16 +1039,16 @@ displays::type_entries-type_seated-requires-in-loop-entry g t c κs within = (
   ),
 )
 
-pub calls::type_tested-type_expr-requires-2 :
-    goal.calls::type_tested-type_expr-requires-2
-calls::type_tested-type_expr-requires-2 g t c κs within = (
+pub calls::type_tested-check_expr-requires-2 :
+    goal.calls::type_tested-check_expr-requires-2
+calls::type_tested-check_expr-requires-2 g t c κs within = (
   first_of (search (rules, the_lemmas), grind (the_lemmas, arith)),
   (
     within.0,
     (
       within.1,
       (
-        stands_kept (g.S.TypeStore.has _) (g.S.TypeStore.has _) c.type_expr.ensures.goes_on.kept g.S.TypeStore.tree
+        stands_kept (g.S.TypeStore.has _) (g.S.TypeStore.has _) c.check_expr.ensures.goes_on.kept g.S.TypeStore.tree
             c.args.setting.now
             c.args.env.now c.requires.given,
         search rules,
@@ -1057,11 +1057,11 @@ calls::type_tested-type_expr-requires-2 g t c κs within = (
   ),
 )
 
-pub calls::label_called-type_arguments-requires : goal.calls::label_called-type_arguments-requires
-calls::label_called-type_arguments-requires g t c κs within =
-    let offers : All (HasCallOffer (g.S.TypeStore.has c.label_callee.new.checker.store.now))
+pub calls::type_call-type_arguments-requires : goal.calls::type_call-type_arguments-requires
+calls::type_call-type_arguments-requires g t c κs within =
+    let offers : All (HasCallOffer (g.S.TypeStore.has c.type_callee.new.checker.store.now))
     c.deref-in-Call-8.result.now =
-    subst (All (HasCallOffer (g.S.TypeStore.has c.label_callee.new.checker.store.now)))
+    subst (All (HasCallOffer (g.S.TypeStore.has c.type_callee.new.checker.store.now)))
     (sym c.deref-in-Call-8.ensures.value)
     c.in_ok-called-in-Call.ensures.called.held in
     let two : c.is_test-is_test.result ≡ true → length c.deref-in-Call-9.result.now ≡ 2 =
@@ -1073,7 +1073,7 @@ calls::label_called-type_arguments-requires g t c κs within =
         (
           within.1,
           (
-            stands_kept (g.S.TypeStore.has _) (g.S.TypeStore.has _) c.label_callee.ensures.goes_on.kept
+            stands_kept (g.S.TypeStore.has _) (g.S.TypeStore.has _) c.type_callee.ensures.goes_on.kept
                 g.S.TypeStore.tree
                 c.args.setting.now c.args.env.now c.requires.given,
             (offers, two),
@@ -1082,8 +1082,8 @@ calls::label_called-type_arguments-requires g t c κs within =
       ),
     )
 
-pub calls::label_called-type_keywords-requires : goal.calls::label_called-type_keywords-requires
-calls::label_called-type_keywords-requires g t c κs within =
+pub calls::type_call-type_keywords-requires : goal.calls::type_call-type_keywords-requires
+calls::type_call-type_keywords-requires g t c κs within =
     let offers : All (HasCallOffer (g.S.TypeStore.has c.type_arguments.new.checker.store.now))
     c.deref-in-Call-10.result.now =
     subst (All (HasCallOffer (g.S.TypeStore.has c.type_arguments.new.checker.store.now)))
@@ -1097,7 +1097,7 @@ calls::label_called-type_keywords-requires g t c κs within =
           within.1,
           (
             stands_kept (g.S.TypeStore.has _) (g.S.TypeStore.has _)
-                (keeps_both g.S.TypeStore.has _ _ _ c.label_callee.ensures.goes_on.kept
+                (keeps_both g.S.TypeStore.has _ _ _ c.type_callee.ensures.goes_on.kept
                 c.type_arguments.ensures.goes_on.kept) g.S.TypeStore.tree c.args.setting.now c.args.env.now
                 c.requires.given,
             offers,
@@ -1106,8 +1106,8 @@ calls::label_called-type_keywords-requires g t c κs within =
       ),
     )
 
-pub calls::label_called-label_call-requires-clause-offers : goal.calls::label_called-label_call-requires-clause-offers
-calls::label_called-label_call-requires-clause-offers g t c =
+pub calls::type_call-judge_call-requires-clause-offers : goal.calls::type_call-judge_call-requires-clause-offers
+calls::type_call-judge_call-requires-clause-offers g t c =
     offers_kept g.S.TypeStore.has _ _ (keeps_both g.S.TypeStore.has _ _ _ c.type_arguments.ensures.goes_on.kept
     c.type_keywords.ensures.goes_on.kept) c.in_ok-called-in-Call.called.offers.items
     c.in_ok-called-in-Call.ensures.called.held

@@ -6,7 +6,7 @@ use Rattle.pc_rules.specs.Calls.{positional_seat, named_seat}
 use Rattle.pc_rules.specs.Computed.Standing.{standing_of, types_in, items_find, keys_in, values_in, entries_find}
 use Rattle.pc_rules.specs.Computed.Standing.{HasGivenAll, keywords_find}
 use Rattle.pc_calls.specs.JudgedCalls.{offer_called, HasCallOffer, names_in}
-use Rattle.pc_rules.specs.Computed.Checkers.{GoesOn}
+use Rattle.pc_rules.specs.Computed.Checkers.{CheckerKept}
 use Rattle.pc_expr.specs.Typing.{early_in}
 use Rattle.pc_expr.specs.Internal.Seats.{seats_of, seat_with, HasSeats, HasEntrySeats}
 use Rattle.pc_expr.proofs.Steps.{seats_from, types_from, finds_from, early_from}
@@ -26,7 +26,7 @@ invariant-displays::type_items-loop-item g l = record {
   found : (notes_of l.checker.found.now) ++ finds_from (standing_of g.S.TypeStore.tree l.setting l.env)
       (seats_of g.S.TypeStore.tree l.seats) l.items l.item-index ≡ (notes_of l.fn.checker.found.now) ++ items_find
       (standing_of g.S.TypeStore.tree l.setting l.env) (seats_of g.S.TypeStore.tree l.seats) (exprs_of_list l.items);
-  goes_on : GoesOn g.S.TypeStore l.fn.checker l.checker;
+  goes_on : CheckerKept g.S.TypeStore l.fn.checker l.checker;
 }
 
 abbrev pub invariant-displays::type_entries-loop-entry : goal.invariant-displays::type_entries-loop-entry
@@ -48,7 +48,7 @@ invariant-displays::type_entries-loop-entry g l = record {
       ≡ (notes_of l.fn.checker.found.now) ++ entries_find (standing_of g.S.TypeStore.tree l.setting l.env)
       (seat_with g.S.TypeStore.tree l.seats.key) (seat_with g.S.TypeStore.tree l.seats.value)
       (entries_of_list l.entries);
-  goes_on : GoesOn g.S.TypeStore l.fn.checker l.checker;
+  goes_on : CheckerKept g.S.TypeStore l.fn.checker l.checker;
 }
 
 abbrev pub invariant-calls::type_arguments-loop-argument : goal.invariant-calls::type_arguments-loop-argument
@@ -69,7 +69,7 @@ invariant-calls::type_arguments-loop-argument g l = record {
       (positional_seat (map (offer_called g.S.TypeStore.tree) l.offers)) l.arguments l.argument-index
       ≡ (notes_of l.fn.checker.found.now) ++ items_find (standing_of g.S.TypeStore.tree l.setting l.env)
       (positional_seat (map (offer_called g.S.TypeStore.tree) l.offers)) (exprs_of_list l.arguments);
-  goes_on : GoesOn g.S.TypeStore l.fn.checker l.checker;
+  goes_on : CheckerKept g.S.TypeStore l.fn.checker l.checker;
 }
 
 abbrev pub invariant-calls::type_keywords-loop-argument : goal.invariant-calls::type_keywords-loop-argument
@@ -81,5 +81,5 @@ invariant-calls::type_keywords-loop-argument g l = record {
       (keywords_of_list (drop l.argument-index l.by_name)) ≡ (notes_of l.fn.checker.found.now) ++ keywords_find
       (standing_of g.S.TypeStore.tree l.setting l.env) (named_seat (map (offer_called g.S.TypeStore.tree) l.offers)) []
       (keywords_of_list l.by_name);
-  goes_on : GoesOn g.S.TypeStore l.fn.checker l.checker;
+  goes_on : CheckerKept g.S.TypeStore l.fn.checker l.checker;
 }

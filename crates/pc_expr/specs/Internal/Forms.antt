@@ -1,5 +1,4 @@
--- The forms of expressions as the program tells them apart.
--- Own rule of the profile.
+-- The forms of expressions as the program distinguishes them. Own rule of the profile.
 use Rattle.std.specs.Prelude.{◌≡◌, ◌⊎◌, Vec, Box}
 use Rattle.std.specs.Global.{Global}
 use Rattle.pc_source.specs.declared.place.Place.{Place}

@@ -27,51 +27,51 @@ abbrev pub prefix_kind : Prefix → TokenKind
 prefix_kind minus = kind.Operator sign.Minus
 prefix_kind denial = kind.Keyword word.Not
 
--- these tokens are those of the part, parentheses around it included, where an operand of the level stands
+-- the tokens are those of the part, including parentheses around it, which is an operand of this level
 pub record Holds (level : ℕ) (p : Part) (ts : List Lexeme) : Type 0 where
   pub tokens : p.tokens ≡ ts
   pub spelled : Operand level (own_level p.tree) (λ x. Spells p.tree x) ts
   pub plain : p.plain ≡ true → Spells p.tree ts
 
--- items with a comma after each
+-- items, each followed by a comma
 abbrev pub EachItem : Exprs → Spelling
 EachItem no_exprs = Nothing
 EachItem (more_exprs x xs) = Expression x ⟫ Sign sign.Comma ⟫ EachItem xs
 
--- arguments by name with a comma after each
+-- arguments by name, each followed by a comma
 abbrev pub EachKeyword : Keywords → Spelling
 EachKeyword no_keywords = Nothing
 EachKeyword (more_keywords n e ks) = IsName n ⟫ Sign sign.Equal ⟫ Expression e ⟫ Sign sign.Comma ⟫ EachKeyword ks
 
--- entries of a dict with a comma after each
+-- entries of a dict, each followed by a comma
 abbrev pub EachEntry : Entries → Spelling
 EachEntry no_entries = Nothing
 EachEntry (more_entries x y es) = Expression x ⟫ Sign sign.Colon ⟫ Expression y ⟫ Sign sign.Comma ⟫ EachEntry es
 
--- a callee and its bracket
+-- a callee and the `(` of its call
 abbrev pub Callee : Expr → Spelling
 Callee e = Operand 7 (own_level e) (λ x. Spells e x) ⟫ Sign sign.LeftParenthesis
 
--- there is one expression at least
+-- there is at least one expression
 abbrev pub IsMoreExprs : Exprs → Type 0
 IsMoreExprs no_exprs = ⊥
 IsMoreExprs (more_exprs x xs) = Unit {0}
 
--- an open bracket, and the items so far; a tuple has one at least
+-- an open bracket, and the items so far; a tuple has at least one
 abbrev pub ItemsBefore : Head → Exprs → Spelling
 ItemsBefore in_list xs = Sign sign.LeftBracket ⟫ EachItem xs
 ItemsBefore in_tuple xs = λ ts. IsMoreExprs xs × (Sign sign.LeftParenthesis ⟫ EachItem xs) ts
 ItemsBefore (in_call e) xs = Callee e ⟫ EachItem xs
 
--- a callee and its bracket, and its arguments so far by position and by name, with a comma after each
+-- a callee and its bracket, and its positional and named arguments so far, each followed by a comma
 abbrev pub KeywordsBefore : Expr → Exprs → Keywords → Spelling
 KeywordsBefore e xs ks = (Callee e ⟫ EachItem xs) ⟫ EachKeyword ks
 
--- the open brace of a dict, and its entries so far, with a comma after each
+-- the `{` of a dict, and its entries so far, each followed by a comma
 abbrev pub EntriesBefore : Entries → Spelling
 EntriesBefore es = Sign sign.LeftBrace ⟫ EachEntry es
 
--- the tokens that led to a stack
+-- the tokens before the operand on top of a stack
 abbrev pub Before : Stack → Spelling
 Before (whole c) = BeforeContext c
 Before (joining op l us s) = λ ts. (rank s ≤ own_of op)

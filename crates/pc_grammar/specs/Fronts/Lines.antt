@@ -40,17 +40,17 @@ WordAt w = JustAt (kind.Keyword w)
 abbrev pub SignAt : Operator → Place → Spelling
 SignAt o = JustAt (kind.Operator o)
 
--- the very tokens that are kept
+-- tokens of A, which are exactly these
 abbrev pub Kept : List Lexeme → Spelling → Spelling
 Kept us A ts = (us ≡ ts) × A ts
 
--- what begins a suite
+-- the tokens from the `:` before a suite to its INDENT
 abbrev pub Opening : Spelling
 Opening = (Sign sign.Colon ⟫ Just kind.Newline) ⟫ Just kind.Indent
 
 -- ---- the module
 
--- the headers of a module: that of `annotations`, and those of `dataclass` and `Any` where it has them
+-- the headers of a module: that of `annotations`, and those of `dataclass` and `Any` if it has them
 abbrev pub Headers : Bool → Bool → Spelling
 Headers dataclass any = Header (codes "__future__") (codes "annotations")
     ⟫ OptionalHeader dataclass (codes "dataclasses") (codes "dataclass")
@@ -60,7 +60,8 @@ Headers dataclass any = Header (codes "__future__") (codes "annotations")
 abbrev pub BeforeItems : Top → Spelling
 BeforeItems top = Headers top.imports_dataclass top.imports_any ⟫ SpellsItems top.items
 
--- where other headers may come, they have not come yet, and no item has
+-- the headers read so far are those of the stage, and no item has been read; after the last header there is no
+-- condition
 abbrev pub AtStage : Stage → Top → Type 0
 AtStage after_future top = (top.imports_dataclass ≡ false) × (top.imports_any ≡ false) × (top.items ≡ [])
 AtStage after_dataclasses top = (top.imports_dataclass ≡ true) × (top.imports_any ≡ false) × (top.items ≡ [])
@@ -68,16 +69,16 @@ AtStage after_headers top = Unit {0}
 
 -- ---- classes
 
--- the line `@dataclass`, of which the places of both tokens are kept, and `class`
+-- the line `@dataclass`, with the places of both tokens, and `class`
 abbrev pub ClassWord : Place → Place → Spelling
 ClassWord first decorator = ((SignAt sign.At first ⟫ NamedAt (codes "dataclass") decorator) ⟫ Just kind.Newline)
     ⟫ Word word.Class
 
--- a class up to its name
+-- a class, up to its name
 abbrev pub ClassName : ClassStart → Spelling
 ClassName c = ClassWord c.first c.decorator ⟫ IsName c.name
 
--- a class up to the indent of its suite
+-- a class, up to the INDENT of its suite
 abbrev pub ClassHead : ClassStart → Spelling
 ClassHead c = (ClassName c ⟫ Maybe (λ b. Sign sign.LeftParenthesis ⟫ IsName b ⟫ Sign sign.RightParenthesis) c.base)
     ⟫ Opening
@@ -88,12 +89,12 @@ BeforeMembers c ms = (BeforeItems c.top ⟫ ClassHead c) ⟫ SpellsMembers ms
 
 -- ---- functions
 
--- what comes before a function of the module, or before a method of a class
+-- the tokens before a function of the module, or before a method of a class
 abbrev pub BeforeOwner : Owner → Spelling
 BeforeOwner (of_module top) = BeforeItems top
 BeforeOwner (of_class c ms) = BeforeMembers c ms
 
--- `def`, whose place is kept in the module
+-- `def`, with its place if it is in the module
 abbrev pub DefWord : Owner → Place → Spelling
 DefWord (of_module top) first = WordAt word.Def first
 DefWord (of_class c ms) first = Word word.Def
@@ -102,35 +103,36 @@ DefWord (of_class c ms) first = Word word.Def
 abbrev pub DefName : DefStart → Spelling
 DefName d = (DefWord d.owner d.first ⟫ IsName d.name) ⟫ Sign sign.LeftParenthesis
 
--- parameters with a comma after each
+-- parameters, each followed by a comma
 abbrev pub EachParam : List Param → Spelling
 EachParam [] = Nothing
 EachParam (p ∷ ps) = SpellsParam p ⟫ Sign sign.Comma ⟫ EachParam ps
 
--- the parameters of a function or a method; those of a method come after `self`
+-- the parameters of a function or a method, each followed by a comma; those of a method follow `self`
 abbrev pub ParamsOf : Owner → List Param → Spelling
 ParamsOf (of_module top) ps = EachParam ps
 ParamsOf (of_class c ms) ps = Named (codes "self") ⟫ Sign sign.Comma ⟫ EachParam ps
 
--- whether a function stands in a class
+-- whether a function is in a class
 abbrev pub is_method : Owner → Bool
 is_method (of_module top) = false
 is_method (of_class c ms) = true
 
--- what comes before a parameter: all up to the `(`, and the parameters so far, `self` too, with a comma after each
+-- the tokens before a parameter: all up to the `(`, and the parameters so far, including `self`, each followed by a
+-- comma
 abbrev pub BeforeParams : DefStart → List Param → Spelling
 BeforeParams d ps = BeforeOwner d.owner ⟫ (DefName d ⟫ ParamsOf d.owner ps)
 
--- what comes up to the `self` of a method, which a function of the module doesn't have
+-- the tokens up to the `self` of a method; a function of the module has none
 abbrev pub SelfRead : DefStart → Owner → Spelling
 SelfRead d (of_module top) = λ ts. ⊥
 SelfRead d (of_class c ms) = BeforeOwner d.owner ⟫ (DefName d ⟫ Named (codes "self"))
 
--- what comes up to the `)` after the parameters of a function
+-- the tokens up to the `)` after the parameters of a function
 abbrev pub ParamsRead : DefStart → List Param → Spelling
 ParamsRead d ps = BeforeOwner d.owner ⟫ (DefName d ⟫ (Parameters (is_method d.owner) ps ⟫ Sign sign.RightParenthesis))
 
--- what comes before the first statement of a function
+-- the tokens before the first statement of a function
 abbrev pub BeforeBody : DefHead → Spelling
 BeforeBody h = ParamsRead h.start h.params ⟫ (Maybe (λ a. Sign sign.Arrow ⟫ Annotation a) h.returns ⟫ Opening)
 
@@ -138,7 +140,7 @@ BeforeBody h = ParamsRead h.start h.params ⟫ (Maybe (λ a. Sign sign.Arrow ⟫
 abbrev pub BeforeParam : Name → Option Ann → Spelling
 BeforeParam n a = IsName n ⟫ Maybe (λ x. Sign sign.Colon ⟫ Annotation x) a
 
--- what comes before a default, up to its `=`
+-- the tokens before a default, up to its `=`
 abbrev pub BeforeLiteral : LiteralContext → Spelling
 BeforeLiteral (default_of_param d ps n a) = BeforeParams d ps ⟫ (BeforeParam n a ⟫ Sign sign.Equal)
 BeforeLiteral (default_of_field c ms n a) = BeforeMembers c ms
@@ -146,7 +148,7 @@ BeforeLiteral (default_of_field c ms n a) = BeforeMembers c ms
 
 -- ---- statements
 
--- statements one after another
+-- statements, in order
 abbrev pub EachStmt : Stmts → Spelling
 EachStmt no_stmts = Nothing
 EachStmt (more_stmts s ss) = SpellsStmt s ⟫ EachStmt ss
@@ -157,12 +159,12 @@ IfBranches first no_branches = λ ts. ⊥
 IfBranches first (more_branches condition body rest) =
     (WordAt word.If first ⟫ (Expression condition ⟫ Suite (SpellsStmts body))) ⟫ SpellsBranches rest
 
--- up to the condition of the next branch
+-- an `if` up to the condition of its next branch
 abbrev pub BranchWord : Place → Branches → Spelling
 BranchWord first no_branches = WordAt word.If first
 BranchWord first (more_branches c b rest) = IfBranches first (more_branches c b rest) ⟫ Word word.Elif
 
--- what a suite inside a suite comes after, in its statement
+-- the tokens of a statement before a suite nested in it
 abbrev pub BeforeNest : Place → Nest → Spelling
 BeforeNest first (while_body condition) = WordAt word.While first ⟫ Expression condition
 BeforeNest first (for_body target iterable) = ((WordAt word.For first ⟫ IsName target) ⟫ Word word.In)
@@ -170,16 +172,16 @@ BeforeNest first (for_body target iterable) = ((WordAt word.For first ⟫ IsName
 BeforeNest first (branch_body bs condition) = BranchWord first bs ⟫ Expression condition
 BeforeNest first (else_body bs) = IfBranches first bs ⟫ Word word.Else
 
--- what comes before the first statement of a suite
+-- the tokens before the first statement of a suite
 abbrev pub BeforeBlock : Block → Spelling
 BeforeBlock (def_body h) = BeforeBody h
 BeforeBlock (nested first of done outer) = (BeforeBlock outer ⟫ EachStmt done) ⟫ (BeforeNest first of ⟫ Opening)
 
--- what comes before the next statement of a suite
+-- the tokens before the next statement of a suite
 abbrev pub BeforeStmts : Stmts → Block → Spelling
 BeforeStmts done b = BeforeBlock b ⟫ EachStmt done
 
--- what of a statement comes before its expression
+-- the tokens of a statement before its expression
 abbrev pub BeforeBegun : Place → Begun → Spelling
 BeforeBegun first (assigned target) = Begins first (SpellsTarget target) ⟫ Sign sign.Equal
 BeforeBegun first (annotated_value n a) = ((Begins first (IsName n) ⟫ Sign sign.Colon) ⟫ Annotation a) ⟫ Sign sign.Equal
@@ -190,7 +192,7 @@ BeforeBegun first looping = WordAt word.While first
 BeforeBegun first (iterating target) = (WordAt word.For first ⟫ IsName target) ⟫ Word word.In
 BeforeBegun first (branching bs) = BranchWord first bs
 
--- what comes before a whole expression
+-- the tokens before a whole expression
 abbrev pub BeforeContext : ExpressionPosition → Spelling
 BeforeContext (in_line done b) = BeforeStmts done b
 BeforeContext (in_statement begun site) = BeforeStmts site.done site.block ⟫ BeforeBegun site.first begun
@@ -198,7 +200,7 @@ BeforeContext (in_constant n a top) = BeforeItems top ⟫ (BeforeParam n a ⟫ S
 
 -- ---- annotations
 
--- what comes before a whole annotation, up to its `:` or `->`
+-- the tokens before a whole annotation, up to its `:` or `->`
 abbrev pub BeforeAnnContext : AnnotationPosition → Spelling
 BeforeAnnContext (of_constant n top) = BeforeItems top ⟫ (IsName n ⟫ Sign sign.Colon)
 BeforeAnnContext (of_field c ms n) = BeforeMembers c ms ⟫ (IsName n ⟫ Sign sign.Colon)
@@ -206,17 +208,17 @@ BeforeAnnContext (of_param d ps n) = BeforeParams d ps ⟫ (IsName n ⟫ Sign si
 BeforeAnnContext (of_return d ps) = ParamsRead d ps ⟫ Sign sign.Arrow
 BeforeAnnContext (of_local n site) = BeforeStmts site.done site.block ⟫ (Begins site.first (IsName n) ⟫ Sign sign.Colon)
 
--- annotations with this sign after each
+-- annotations, each followed by this sign
 abbrev pub EachAnn : Anns → Operator → Bool → Spelling
 EachAnn no_anns o whole = Nothing
 EachAnn (more_anns a rest) o whole = SpellsAnn a whole ⟫ Sign o ⟫ EachAnn rest o whole
 
--- what comes before an annotation, be it a whole one or an argument of another
+-- the tokens before an annotation, whole or an argument of another
 abbrev pub BeforeAnn : AnnStack → Spelling
 BeforeAnn (ann_whole c) = BeforeAnnContext c
 BeforeAnn (ann_inside head done us parts before s) = (BeforeAnn s ⟫ Kept before (EachAnn parts sign.Bar false))
     ⟫ Kept us ((IsName head ⟫ Sign sign.LeftBracket) ⟫ EachAnn done sign.Comma true)
 
--- what comes before a part of a union
+-- the tokens before a part of a union
 abbrev pub Parts : Anns → List Lexeme → AnnStack → Spelling
 Parts parts before s = BeforeAnn s ⟫ Kept before (EachAnn parts sign.Bar false)

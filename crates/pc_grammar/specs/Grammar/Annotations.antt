@@ -6,14 +6,14 @@ use Rattle.pc_token.specs.declared.token.Operator.TheVariants as sign
 use Rattle.pc_tree.specs.Tree.{Ann, named, none_type, applied, applied_empty, union, Anns, no_anns, more_anns}
 use Rattle.pc_grammar.specs.Grammar.{Spelling, At, ◌⟫◌, Rest, Sign, Word, IsName}
 
--- two or more
+-- there are two or more annotations
 abbrev pub AreSeveral : Anns → Type 0
 AreSeveral (more_anns a (more_anns b rest)) = Unit {0}
 AreSeveral _ = ⊥
 
--- the tokens of annotations, and of several with a sign between them
+-- the tokens of an annotation, and of several with a sign between them
 abbrev mutual
-  -- an annotation; a part of a union is no union itself
+  -- an annotation; a part of a union is not itself a union
   pub SpellsAnn : Ann → Bool → Spelling
   SpellsAnn (named n) whole = IsName n
   SpellsAnn (none_type p) whole = At p (Word word.None)
@@ -26,7 +26,7 @@ abbrev mutual
   SpellsAnn (union p parts) whole = λ ts. IsTrue whole × AreSeveral parts
       × At p (λ us. Separated parts sign.Bar false us) ts
 
-  -- one or more with this sign between them, and none after the last
+  -- one or more annotations with this sign between them, and none after the last
   pub Separated : Anns → Operator → Bool → Spelling
   Separated no_anns o whole = λ ts. ⊥
   Separated (more_anns a rest) o whole = (λ ts. SpellsAnn a whole ts)

@@ -1,5 +1,5 @@
--- Expressions, one level of precedence a case. Python Language Reference 3.12, 6 "Expressions", 6.17 "Operator
--- precedence". That comparisons don't chain, and what is left out, is an own rule of the profile.
+-- Expressions, by levels of precedence. Python Language Reference 3.12, 6 "Expressions", 6.17 "Operator precedence".
+-- That comparisons do not chain, and which forms are excluded, are own rules of the profile.
 use Rattle.std.specs.Prelude.{◌≡◌, ◌⊎◌, ℕ, zero, suc, ◌+◌, ◌≤◌, ◌<◌, Bool, true, false, ⊤}
 use Rattle.pc_token.specs.declared.token.Keyword.{Keyword}
 use Rattle.pc_token.specs.declared.token.Keyword.TheVariants as word
@@ -15,7 +15,7 @@ use Rattle.pc_tree.specs.Tree.{no_exprs, more_exprs, Entries, no_entries, more_e
 use Rattle.pc_tree.specs.Tree.{more_keywords, Target, to_name, to_attribute, to_index}
 use Rattle.pc_grammar.specs.Grammar.{Spelling, At, ◌⟫◌, Nothing, Sign, Word, IsName, AfterComma, IsNumber, IsString}
 
--- how tightly an arithmetic operator binds: the sums, then the products
+-- the level of an arithmetic operator: sums, then products
 abbrev pub level_of : BinaryOperator → ℕ
 level_of Add = 4
 level_of Sub = 4
@@ -23,7 +23,7 @@ level_of Mul = 5
 level_of FloorDiv = 5
 level_of Mod = 5
 
--- how tightly a node binds without parentheses: `or`, 0, then `and`, `not`, comparisons, sums, products, unary minus,
+-- the level of a node without parentheses: `or`, 0, then `and`, `not`, comparisons, sums, products, unary minus,
 -- primaries
 abbrev pub own_level : Expr → ℕ
 own_level (disjunction p l r) = 0
@@ -60,12 +60,12 @@ abbrev pub truth_word : Bool → Keyword
 truth_word true = word.True
 truth_word false = word.False
 
--- in n pairs of parentheses, which leave no node
+-- tokens of A in n pairs of parentheses, which make no node
 abbrev pub Wrapped : ℕ → Spelling → Spelling
 Wrapped zero A = A
 Wrapped (suc n) A = Sign sign.LeftParenthesis ⟫ Wrapped n A ⟫ Sign sign.RightParenthesis
 
--- where an operand of this level stands: a node that binds as tightly, or one in parentheses
+-- an operand of this level: a node of at least this level, or any node in parentheses
 abbrev pub Operand : ℕ → ℕ → Spelling → Spelling
 Operand level own A ts = (n : ℕ) × ((level ≤ own) ⊎ (0 < n)) × Wrapped n A ts
 
@@ -104,30 +104,31 @@ abbrev mutual
   Spells (call p e xs ks) = At p (Operand 7 (own_level e) (λ ts. Spells e ts) ⟫ Sign sign.LeftParenthesis
       ⟫ (λ ts. Items xs (λ us. SpellsKeywords ks us) (ks ≡ no_keywords) ts) ⟫ Sign sign.RightParenthesis)
 
-  -- expressions, each with a comma after it, and then others; where nothing else comes, the last one needs no comma
+  -- expressions, each followed by a comma, and then other tokens; the last comma may be omitted if nothing else
+  -- follows
   pub Items : Exprs → Spelling → Type 0 → Spelling
   Items no_exprs Others alone = Others
   Items (more_exprs x xs) Others alone = Operand 0 (own_level x) (λ ts. Spells x ts)
       ⟫ AfterComma ((xs ≡ no_exprs) × alone) (λ ts. Items xs Others alone ts)
 
-  -- the entries of a dict display, with perhaps a comma after the last
+  -- the entries of a dict display, optionally with a comma after the last
   pub SpellsEntries : Entries → Spelling
   SpellsEntries no_entries = Nothing
   SpellsEntries (more_entries x y es) = Operand 0 (own_level x) (λ ts. Spells x ts) ⟫ Sign sign.Colon
       ⟫ Operand 0 (own_level y) (λ ts. Spells y ts)
       ⟫ AfterComma (es ≡ no_entries) (λ ts. SpellsEntries es ts)
 
-  -- arguments by name, with perhaps a comma after the last
+  -- arguments by name, optionally with a comma after the last
   pub SpellsKeywords : Keywords → Spelling
   SpellsKeywords no_keywords = Nothing
   SpellsKeywords (more_keywords n e ks) = IsName n ⟫ Sign sign.Equal ⟫ Operand 0 (own_level e) (λ ts. Spells e ts)
       ⟫ AfterComma (ks ≡ no_keywords) (λ ts. SpellsKeywords ks ts)
 
--- a whole expression, parentheses around it included
+-- a whole expression, including parentheses around it
 abbrev pub Expression : Expr → Spelling
 Expression e = Operand 0 (own_level e) (λ ts. Spells e ts)
 
--- what is assigned to stands in no parentheses
+-- a target of an assignment, without parentheses around it
 abbrev pub SpellsTarget : Target → Spelling
 SpellsTarget (to_name n) = Spells (name n)
 SpellsTarget (to_attribute p e f) = Spells (attribute p e f)

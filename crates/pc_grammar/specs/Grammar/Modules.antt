@@ -1,5 +1,5 @@
 -- Modules: headers, constants, classes, functions, and the last line. Python Language Reference 3.12, 7.2, 7.11, 8.7,
--- 8.8; which headers there are, their order, and the last line are own rules of the profile.
+-- 8.8; the headers, their order, and the last line are own rules of the profile.
 use Rattle.std.specs.Prelude.{◌≡◌, ℕ, Bool, true, false, List, [], ◌∷◌, ◌++◌, codes}
 use Rattle.pc_source.specs.declared.place.Place.{Place}
 use Rattle.pc_token.specs.declared.token.TokenKind.TheVariants as kind
@@ -31,12 +31,12 @@ abbrev pub SpellsParam : Param → Spelling
 SpellsParam p = IsName p.name ⟫ Maybe (λ a. Sign sign.Colon ⟫ Annotation a) p.annotation
     ⟫ Maybe (λ l. Sign sign.Equal ⟫ SpellsLiteral l) p.default
 
--- parameters, with perhaps a comma after the last
+-- parameters, optionally with a comma after the last
 abbrev pub SpellsParams : List Param → Spelling
 SpellsParams [] = Nothing
 SpellsParams (p ∷ ps) = SpellsParam p ⟫ AfterComma (ps ≡ []) (λ ts. SpellsParams ps ts)
 
--- the parameters of a function or a method; those of a method come after `self`
+-- the parameters of a function or a method; those of a method follow `self`
 abbrev pub Parameters : (method : Bool) → List Param → Spelling
 Parameters true ps = Named (codes "self") ⟫ AfterComma (ps ≡ []) (SpellsParams ps)
 Parameters false ps = SpellsParams ps
@@ -55,12 +55,12 @@ SpellsMember (field_member f) = IsName f.name ⟫ Sign sign.Colon ⟫ Annotation
     ⟫ Maybe (λ l. Sign sign.Equal ⟫ SpellsLiteral l) f.default ⟫ Just kind.Newline
 SpellsMember (method_member f) = SpellsDef true f
 
--- members, one after the other
+-- members, in order
 abbrev pub SpellsMembers : List Member → Spelling
 SpellsMembers [] = Nothing
 SpellsMembers (m ∷ ms) = SpellsMember m ⟫ SpellsMembers ms
 
--- the members, or `pass` where there are none
+-- the members, or `pass` if there are none
 abbrev pub ClassBody : List Member → Spelling
 ClassBody [] = Word word.Pass ⟫ Just kind.Newline
 ClassBody (m ∷ ms) = SpellsMembers (m ∷ ms)
@@ -82,7 +82,7 @@ SpellsItem (constant_item first c) =
 SpellsItem (class_item first c) = Begins first (SpellsClass c)
 SpellsItem (def_item first f) = Begins first (SpellsDef false f)
 
--- items, one after the other
+-- items, in order
 abbrev pub SpellsItems : List Item → Spelling
 SpellsItems [] = Nothing
 SpellsItems (i ∷ is) = SpellsItem i ⟫ SpellsItems is
@@ -91,7 +91,7 @@ SpellsItems (i ∷ is) = SpellsItem i ⟫ SpellsItems is
 abbrev pub Header : List ℕ → List ℕ → Spelling
 Header source imported = Word word.From ⟫ Named source ⟫ Word word.Import ⟫ Named imported ⟫ Just kind.Newline
 
--- a header where the module has it, else no token
+-- a header if the module has it, otherwise no token
 abbrev pub OptionalHeader : Bool → List ℕ → List ℕ → Spelling
 OptionalHeader true source imported = Header source imported
 OptionalHeader false source imported = Nothing

@@ -1,5 +1,5 @@
--- Statements. Python Language Reference 3.12, 7 "Simple statements" and 8 "Compound statements"; what is left out is an
--- own rule of the profile.
+-- Statements. Python Language Reference 3.12, 7 "Simple statements" and 8 "Compound statements"; which forms are
+-- excluded is an own rule of the profile.
 use Rattle.std.specs.Prelude.{◌≡◌}
 use Rattle.pc_token.specs.declared.token.TokenKind.TheVariants as kind
 use Rattle.pc_token.specs.declared.token.Keyword.TheVariants as word
@@ -11,7 +11,7 @@ use Rattle.pc_grammar.specs.Grammar.{Spelling, Begins, ◌⟫◌, Nothing, Maybe
 use Rattle.pc_grammar.specs.Grammar.Expressions.{Expression, SpellsTarget}
 use Rattle.pc_grammar.specs.Grammar.Annotations.{Annotation}
 
--- a suite: its statements stand on lines of their own, deeper than the line that begins it
+-- a suite: statements on lines of their own, deeper than the line that begins it
 abbrev pub Suite : Spelling → Spelling
 Suite A = Sign sign.Colon ⟫ Just kind.Newline ⟫ Just kind.Indent ⟫ A ⟫ Just kind.Dedent
 
@@ -42,12 +42,12 @@ abbrev mutual
       ⟫ (λ ts. SpellsBranches branches ts)
       ⟫ Rest (otherwise ≡ no_stmts) (Word word.Else ⟫ Suite (λ ts. SpellsStmts otherwise ts)))
 
-  -- one statement or more
+  -- one or more statements
   pub SpellsStmts : Stmts → Spelling
   SpellsStmts no_stmts = λ ts. ⊥
   SpellsStmts (more_stmts s rest) = (λ ts. SpellsStmt s ts) ⟫ Rest (rest ≡ no_stmts) (λ ts. SpellsStmts rest ts)
 
-  -- each `elif`
+  -- the `elif` branches
   pub SpellsBranches : Branches → Spelling
   SpellsBranches no_branches = Nothing
   SpellsBranches (more_branches condition body rest) = Word word.Elif ⟫ Expression condition

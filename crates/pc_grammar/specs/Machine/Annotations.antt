@@ -1,4 +1,4 @@
--- Where a token leads inside an annotation.
+-- Turns inside an annotation.
 use Rattle.std.specs.Prelude.{List, [], ◌∷◌, ◌++◌}
 use Rattle.pc_token.specs.declared.token.TokenKind.{TokenKind}
 use Rattle.pc_token.specs.declared.token.TokenKind.TheVariants as kind
@@ -18,12 +18,12 @@ abbrev pub part_turn : Anns → List Lexeme → AnnStack → Lexeme → TokenKin
 part_turn parts before s t k = on (same_kind k kind.Name) (part_named (name_at t) (t ∷ []) parts before s)
     (on (same_kind k (kind.Keyword word.None)) (part_read (none_type (span (t ∷ []))) (t ∷ []) parts before s) stuck)
 
--- the parts before, and the last one
+-- the annotation of these parts and the last one: a union, or the last alone if there are no others
 abbrev pub whole_ann : Anns → Ann → List Lexeme → Ann
 whole_ann no_anns a ts = a
 whole_ann (more_anns b rest) a ts = union (span ts) (add_ann (more_anns b rest) a)
 
--- after an annotation and its tokens
+-- the turn after an annotation and its tokens
 abbrev pub ann_end : Ann → List Lexeme → AnnStack → Lexeme → TokenKind → Turn
 ann_end a tokens (ann_whole c) t k = finish_ann c a k
 ann_end a tokens (ann_inside head done ts parts before s) t k =
@@ -51,12 +51,12 @@ argument_turn head ts parts before s t k =
     on (same_kind k (kind.Operator sign.LeftParenthesis)) (empty_opened head (ts ++ (t ∷ [])) parts before s)
     (part_turn no_anns [] (ann_inside head no_anns ts parts before s) t k)
 
--- the turn after `N[(`, where only `)` can stand
+-- the turn after `N[(`, where only `)` may follow
 abbrev pub empty_opened_turn : Name → List Lexeme → Anns → List Lexeme → AnnStack → Lexeme → TokenKind → Turn
 empty_opened_turn head ts parts before s t k =
     on (same_kind k (kind.Operator sign.RightParenthesis)) (empty_closed head (ts ++ (t ∷ [])) parts before s) stuck
 
--- the turn after `N[()`, where only `]` can stand
+-- the turn after `N[()`, where only `]` may follow
 abbrev pub empty_closed_turn : Name → List Lexeme → Anns → List Lexeme → AnnStack → Lexeme → TokenKind → Turn
 empty_closed_turn head ts parts before s t k =
     on (same_kind k (kind.Operator sign.RightBracket))

@@ -1,4 +1,4 @@
--- Where a token leads inside an expression.
+-- Turns inside an expression.
 use Rattle.std.specs.Prelude.{ℕ, ◌+◌, ◌≤◌, nat_le, true, false, if◌then◌else◌, List, [], ◌∷◌, ◌++◌, Option, Some, None}
 use Rattle.pc_source.specs.declared.place.Place.{Place}
 use Rattle.pc_token.specs.declared.token.TokenKind.{TokenKind}
@@ -30,51 +30,52 @@ use Rattle.pc_grammar.specs.Machine.Finishing.{add_expr, add_entry, add_keyword,
 
 -- ---- levels
 
--- how tightly the node binds that an operator makes
+-- the level of the node that an operator makes
 abbrev pub own_of : Infix → ℕ
 own_of (arithmetic o) = level_of o
 own_of (comparison o) = 3
 own_of both = 1
 own_of either = 0
 
--- how tightly the left operand of an operator must bind
+-- the level that the left operand of an operator must have
 abbrev pub left_of : Infix → ℕ
 left_of (arithmetic o) = level_of o
 left_of (comparison o) = 4
 left_of both = 1
 left_of either = 0
 
--- how tightly the right operand of an operator must bind
+-- the level that the right operand of an operator must have
 abbrev pub right_of : Infix → ℕ
 right_of (arithmetic o) = level_of o + 1
 right_of (comparison o) = 4
 right_of both = 2
 right_of either = 1
 
--- the level of the node of an operator that begins so: `not in`, `is None` and `is not None` are comparisons
+-- the level of the node of an operator with this beginning: `not in`, `is None` and `is not None` are comparisons
 abbrev pub own_of_link : Link → ℕ
 own_of_link (linking op) = own_of op
 own_of_link denying = 3
 own_of_link identifying = 3
 
--- how tightly the operand before an operator that begins so must bind
+-- the level that the operand before an operator with this beginning must have
 abbrev pub left_of_link : Link → ℕ
 left_of_link (linking op) = left_of op
 left_of_link denying = 4
 left_of_link identifying = 4
 
--- the level of the node that a prefix makes, and that of its operand
+-- the level of the node that a prefix makes, and of its operand
 abbrev pub prefix_level : Prefix → ℕ
 prefix_level minus = 6
 prefix_level denial = 2
 
--- how tightly an operand must bind to stand on this stack
+-- the level that an operand on this stack must have
 abbrev pub rank : Stack → ℕ
 rank (joining op l o s) = right_of op
 rank (applying x t s) = prefix_level x
 rank _ = 0
 
--- how tightly a token binds to the operand before it: one more than the level of an operand that it goes on with
+-- the tightness with which a token binds to the operand before it: one more than the level that the operand must have,
+-- 0 if the token ends the expression
 abbrev pub follow_tightness : Follow → ℕ
 follow_tightness (link l) = left_of_link l + 1
 follow_tightness a_dot = 8
@@ -82,18 +83,18 @@ follow_tightness calls = 8
 follow_tightness indexes = 8
 follow_tightness (ends e) = 0
 
--- how tightly a token of this kind binds to the operand before it
+-- the tightness with which a token of this kind binds to the operand before it
 abbrev pub tightness : TokenKind → ℕ
 tightness k = follow_tightness (follow_of k)
 
--- what comes next binds no tighter than this
+-- the next token, if any, binds no tighter than this
 abbrev pub Stops : ℕ → List Lexeme → Type 0
 Stops level [] = Unit {0}
 Stops level (t ∷ ts) = tightness t.kind ≤ level
 
 -- ---- parts
 
--- a node that these tokens spell
+-- the part with this node, which these tokens spell without parentheses
 abbrev pub part : (Place → Expr) → List Lexeme → Part
 part make ts = record { tree = make (span ts); tokens = ts; plain = true }
 
@@ -121,7 +122,7 @@ applied x o p = part (prefix_tree x p.tree) (o ++ p.tokens)
 abbrev pub name_part : Lexeme → Part
 name_part t = record { tree = name (name_at t); tokens = t ∷ []; plain = true }
 
--- in parentheses
+-- the part in parentheses
 abbrev pub grouped : List Lexeme → Part → Lexeme → Part
 grouped o p t = record { tree = p.tree; tokens = o ++ (p.tokens ++ (t ∷ [])); plain = false }
 
@@ -137,7 +138,8 @@ call_part e xs ks ts = part (λ p. call p e xs ks) ts
 
 -- ---- turns
 
--- joins the operators and prefixes that bind at least as tightly as the next one
+-- the part and stack after the topmost open operators and prefixes of at least this level are joined with their
+-- operands
 abbrev pub reduce : ℕ → Part → Stack → (p : Part) × Stack
 reduce level p (joining op l o s) = if nat_le level (own_of op) then reduce level (joined op l o p) s
     else (p, joining op l o s)
@@ -151,8 +153,8 @@ reduce level p (naming e xs ks n ts s) = (p, naming e xs ks n ts s)
 reduce level p (keying es ts s) = (p, keying es ts s)
 reduce level p (valuing es k ts s) = (p, valuing es k ts s)
 
--- the turn where an operand is due: a single token, an opening bracket, a `-`, or a `not` unless what is open binds
--- more tightly
+-- the turn where an operand is due: a single token, an opening bracket, a `-`, or a `not` unless an open operator binds
+-- tighter
 abbrev pub operand_turn : Stack → Lexeme → Start → Turn
 operand_turn s t a_name = go (have 7 (name_part t) s)
 operand_turn s t a_number = go (have 7 (part (λ p. number p (digits_of t.text)) (t ∷ [])) s)
@@ -188,7 +190,7 @@ abbrev pub keyword_turn : Expr → Exprs → Keywords → List Lexeme → Stack 
 keyword_turn e xs ks ts s t k = on (same_kind k kind.Name) (keyword_named e xs ks (name_at t) (ts ++ (t ∷ [])) s)
     (on (same_kind k (kind.Operator sign.RightParenthesis)) (have 7 (call_part e xs ks (ts ++ (t ∷ []))) s) stuck)
 
--- the turn after the name of an argument, where only `=` can stand
+-- the turn after the name of an argument, where only `=` may follow
 abbrev pub named_turn : Expr → Exprs → Keywords → Name → List Lexeme → Stack → Lexeme → TokenKind → Turn
 named_turn e xs ks n ts s t k =
     on (same_kind k (kind.Operator sign.Equal)) (operand (naming e xs ks n (ts ++ (t ∷ [])) s)) stuck
@@ -199,12 +201,12 @@ key_turn es ts s t k = on (same_kind k (kind.Operator sign.RightBrace))
     (have 7 (part (λ p. dict p es) (ts ++ (t ∷ []))) s)
     (operand_turn (keying es ts s) t (start_of k))
 
--- the turn after a dot, where only the name of an attribute can stand
+-- the turn after a dot, where only the name of an attribute may follow
 abbrev pub dotted_turn : Part → List Lexeme → Stack → Lexeme → TokenKind → Turn
 dotted_turn p d s t k = on (same_kind k kind.Name)
     (have 7 (part (λ q. attribute q p.tree (name_at t)) (p.tokens ++ (d ++ (t ∷ [])))) s) stuck
 
--- the turn after `e not`, where only `in` can stand
+-- the turn after `e not`, where only `in` may follow
 abbrev pub denied_turn : Part → List Lexeme → Stack → Lexeme → TokenKind → Turn
 denied_turn p d s t k = on (same_kind k (kind.Keyword word.In))
     (operand (joining (comparison cmp.NotIn) p (d ++ (t ∷ [])) s)) stuck
@@ -215,13 +217,13 @@ identified_turn p d s t k =
     on (same_kind k (kind.Keyword word.None)) (have 3 (part (λ q. is_none q p.tree) (p.tokens ++ (d ++ (t ∷ [])))) s)
     (on (same_kind k (kind.Keyword word.Not)) (unidentified p (d ++ (t ∷ [])) s) stuck)
 
--- the turn after `e is not`, where only `None` can stand
+-- the turn after `e is not`, where only `None` may follow
 abbrev pub unidentified_turn : Part → List Lexeme → Stack → Lexeme → TokenKind → Turn
 unidentified_turn p d s t k =
     on (same_kind k (kind.Keyword word.None))
     (have 3 (part (λ q. is_not_none q p.tree) (p.tokens ++ (d ++ (t ∷ [])))) s) stuck
 
--- ---- what ends an expression in brackets
+-- ---- the end of an expression in brackets
 
 -- the turn after the first expression in parentheses: the `)`, or the comma that makes them a tuple
 abbrev pub close_group : List Lexeme → Stack → Part → Lexeme → Ending → Turn
@@ -229,7 +231,7 @@ close_group o s p t closes_parenthesis = go (have 7 (grouped o p t) s)
 close_group o s p t a_comma = go (item_due in_tuple (more_exprs p.tree no_exprs) (o ++ (p.tokens ++ (t ∷ []))) s)
 close_group o s p t _ = stuck
 
--- the turn at the `=` of the first argument by name in a call: its value is due, unless no name stands before the `=`
+-- the turn at the `=` of the first argument by name in a call: its value is due, unless no name is before the `=`
 abbrev pub begin_keyword : Option Name → Expr → Exprs → List Lexeme → Stack → Turn
 begin_keyword (Some n) e xs ts s = go (operand (naming e xs no_keywords n ts s))
 begin_keyword None e xs ts s = stuck
@@ -248,7 +250,7 @@ close_item (in_call e) xs ts s p t an_equal =
     begin_keyword (if_plain p.plain (name_of_tree p.tree)) e xs (ts ++ (p.tokens ++ (t ∷ []))) s
 close_item h xs ts s p t _ = stuck
 
--- the turn after the key of `e[i]`, where only `]` can stand
+-- the turn after the key of `e[i]`, where only `]` may follow
 abbrev pub close_index : Expr → List Lexeme → Stack → Part → Lexeme → Ending → Turn
 close_index e ts s p t closes_bracket = go (have 7 (part (λ q. index q e p.tree) (ts ++ (p.tokens ++ (t ∷ [])))) s)
 close_index e ts s p t _ = stuck
@@ -261,7 +263,7 @@ close_keyword e xs ks n ts s p t closes_parenthesis =
     go (have 7 (call_part e xs (add_keyword ks n p.tree) (ts ++ (p.tokens ++ (t ∷ [])))) s)
 close_keyword e xs ks n ts s p t _ = stuck
 
--- the turn after the key of an entry, where only `:` can stand
+-- the turn after the key of an entry, where only `:` may follow
 abbrev pub close_key : Entries → List Lexeme → Stack → Part → Lexeme → Ending → Turn
 close_key es ts s p t a_colon = go (operand (valuing es p.tree (ts ++ (p.tokens ++ (t ∷ []))) s))
 close_key es ts s p t _ = stuck
@@ -273,7 +275,7 @@ close_value es key ts s p t closes_brace =
     go (have 7 (part (λ q. dict q (add_entry es key p.tree)) (ts ++ (p.tokens ++ (t ∷ [])))) s)
 close_value es key ts s p t _ = stuck
 
--- with no operator and no prefix open
+-- the turn at the end of an expression, with no operator and no prefix open
 abbrev pub close : Part → Stack → Lexeme → Ending → Turn
 close p (whole c) t e = finish c p e
 close p (grouping o s) t e = close_group o s p t e
@@ -293,15 +295,15 @@ linked (linking op) t p s = operand (joining op p (t ∷ []) s)
 linked denying t p s = denied p (t ∷ []) s
 linked identifying t p s = identified p (t ∷ []) s
 
--- the turn at a token that begins an operator, whose node must bind tightly enough for what is still open
+-- the turn at the beginning of an operator, whose node must have the level that the stack needs
 abbrev pub after_link : Link → Lexeme → (p : Part) × Stack → Turn
 after_link l t r = on (nat_le (rank r.1) (own_of_link l)) (linked l t r.0 r.1) stuck
 
--- what goes on with the operand must find it to bind tightly enough
+-- the turn, if the operand has at least the level that the token needs
 abbrev pub if_tight : ℕ → ℕ → Turn → Turn
 if_tight low level turn = if nat_le low level then turn else stuck
 
--- the turn after an operand of this level: an operator, a dot, an opening bracket, or what ends the expression
+-- the turn after an operand of this level: an operator, a dot, an opening bracket, or the end of the expression
 abbrev pub have_turn : ℕ → Part → Stack → Lexeme → Follow → Turn
 have_turn level p s t (link l) = if_tight (left_of_link l) level (after_link l t (reduce (left_of_link l) p s))
 have_turn level p s t a_dot = if_tight 7 level (go (dotted p (t ∷ []) s))

@@ -1,4 +1,4 @@
--- What the machine asks of the kind of a token.
+-- Tests of the kind of a token.
 use Rattle.std.specs.Prelude.{ℕ, ◌==◌, ◌&&◌, Bool, true, false, List, [], ◌∷◌, bytes_eq}
 use Rattle.pc_token.specs.declared.token.TokenKind.{TokenKind}
 use Rattle.pc_token.specs.declared.token.TokenKind.TheVariants as kind
@@ -141,9 +141,9 @@ abbrev pub SpellsAllFixed : List Fixed → Spelling
 SpellsAllFixed [] = Nothing
 SpellsAllFixed (w ∷ ws) = SpellsFixed w ⟫ SpellsAllFixed ws
 
--- ---- what may begin an operand
+-- ---- tokens that begin an operand
 
--- how a token begins an operand, or that it begins none
+-- the way in which a token begins an operand, if it does
 pub data Start : Type 0 where
   a_name : Start
   a_number : Start
@@ -157,7 +157,7 @@ pub data Start : Type 0 where
   a_not : Start
   no_start : Start
 
--- how a token of this kind begins an operand, if it does
+-- the way in which a token of this kind begins an operand, if it does
 abbrev pub start_of : TokenKind → Start
 start_of kind.Name = a_name
 start_of kind.Int = a_number
@@ -172,7 +172,7 @@ start_of (kind.Operator sign.LeftBrace) = opens_brace
 start_of (kind.Operator sign.Minus) = a_minus
 start_of _ = no_start
 
--- ---- what may come after an operand
+-- ---- tokens after an operand
 
 -- an operator between two operands
 pub data Infix : Type 0 where
@@ -181,13 +181,13 @@ pub data Infix : Type 0 where
   both : Infix
   either : Infix
 
--- what begins an operator: the operator itself, the `not` of `not in`, or the `is` of `is None`
+-- the beginning of an operator: the operator itself, the `not` of `not in`, or the `is` of `is None`
 pub data Link : Type 0 where
   linking : (operator : Infix) → Link
   denying : Link
   identifying : Link
 
--- what ends a whole expression, or a part of one in brackets
+-- the end of a whole expression, or of a part of one in brackets
 pub data Ending : Type 0 where
   a_comma : Ending
   a_colon : Ending
@@ -198,7 +198,7 @@ pub data Ending : Type 0 where
   a_line_end : Ending
   no_ending : Ending
 
--- what a token does after an operand: it begins an operator, an attribute, a call or an index, or can only end the
+-- the effect of a token after an operand: it begins an operator, an attribute, a call or an index, or can only end the
 -- expression
 pub data Follow : Type 0 where
   link : (l : Link) → Follow
@@ -207,7 +207,7 @@ pub data Follow : Type 0 where
   indexes : Follow
   ends : (e : Ending) → Follow
 
--- what a token of this kind does after an operand
+-- the effect of a token of this kind after an operand
 abbrev pub follow_of : TokenKind → Follow
 follow_of (kind.Operator sign.Plus) = link (linking (arithmetic Add))
 follow_of (kind.Operator sign.Minus) = link (linking (arithmetic Sub))
@@ -237,9 +237,9 @@ follow_of (kind.Operator sign.RightBrace) = ends closes_brace
 follow_of kind.Newline = ends a_line_end
 follow_of _ = ends no_ending
 
--- ---- what may begin a statement, or end a suite
+-- ---- tokens that begin a statement or end a suite
 
--- how a token begins a statement, or that it ends the suite
+-- the way in which a token begins a statement, or ends the suite
 pub data Lead : Type 0 where
   leads_pass : Lead
   leads_break : Lead
@@ -252,7 +252,7 @@ pub data Lead : Type 0 where
   leads_out : Lead
   leads_other : Lead
 
--- how a token of this kind begins a statement or ends the suite
+-- the way in which a token of this kind begins a statement or ends the suite
 abbrev pub lead_of : TokenKind → Lead
 lead_of (kind.Keyword word.Pass) = leads_pass
 lead_of (kind.Keyword word.Break) = leads_break

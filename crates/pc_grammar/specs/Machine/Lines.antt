@@ -1,4 +1,4 @@
--- Where a token leads in a module, a class, a function and a suite.
+-- Turns in a module, a class, a function and a suite.
 use Rattle.std.specs.Prelude.{◌&&◌, Bool, true, false, List, [], ◌∷◌, ◌++◌, Some, None, codes, bytes_eq}
 use Rattle.pc_source.specs.declared.place.Place.{Place}
 use Rattle.pc_token.specs.declared.token.TokenKind.{TokenKind}
@@ -29,7 +29,7 @@ use Rattle.pc_grammar.specs.Machine.Finishing.{add_stmt, suite_of, after_stmt, n
 use Rattle.pc_grammar.specs.Machine.Finishing.{param_more, finish_literal}
 use Rattle.pc_grammar.specs.Machine.Expressions.{operand_turn}
 
--- after these words
+-- the state where these words are due, and then the next state
 abbrev pub due : List Fixed → State → State
 due [] next = next
 due (w ∷ ws) next = fixed w ws next
@@ -40,7 +40,7 @@ fixed_turn w ws next t k = on (is_fixed w t k) (due ws next) stuck
 
 -- ---- the module
 
--- the module of the headers and items so far, with this place of `main`
+-- the module with the headers and items so far, and this place of `main`
 abbrev pub module_of : Top → Place → Module
 module_of top main = record {
   imports_dataclass = top.imports_dataclass;
@@ -49,11 +49,11 @@ module_of top main = record {
   main = main;
 }
 
--- a module of which no item and no optional header was read yet
+-- a module of which no item and no optional header has been read
 abbrev pub no_top : Top
 no_top = record { imports_dataclass = false; imports_any = false; items = [] }
 
--- the machine begins before the first header
+-- the first state, before the first header
 abbrev pub start : State
 start = fixed (a_kind (kind.Keyword word.From))
     (a_form (codes "__future__") ∷ a_kind (kind.Keyword word.Import) ∷ a_form (codes "annotations")
@@ -99,12 +99,12 @@ item_named_turn n top t k =
 
 -- ---- classes
 
--- the turn after `@`, where only `dataclass` can stand
+-- the turn after `@`, where only `dataclass` may follow
 abbrev pub decorator_turn : Place → Top → Lexeme → TokenKind → Turn
 decorator_turn first top t k = on (same_kind k kind.Name && bytes_eq t.form (codes "dataclass"))
     (fixed (a_kind kind.Newline) (a_kind (kind.Keyword word.Class) ∷ []) (class_due first t.place top)) stuck
 
--- the turn after `class`, where only the name of the class can stand
+-- the turn after `class`, where only the name of the class may follow
 abbrev pub class_turn : Place → Place → Top → Lexeme → TokenKind → Turn
 class_turn first decorator top t k =
     on (same_kind k kind.Name)
@@ -116,20 +116,20 @@ class_named_turn c t k = on (same_kind k (kind.Operator sign.LeftParenthesis)) (
     (on (same_kind k (kind.Operator sign.Colon))
     (fixed (a_kind kind.Newline) (a_kind kind.Indent ∷ []) (members c [])) stuck)
 
--- the turn after the `(` of a class, where only the name of its base can stand
+-- the turn after the `(` of a class, where only the name of its base may follow
 abbrev pub base_turn : ClassStart → Lexeme → TokenKind → Turn
 base_turn c t k = on (same_kind k kind.Name)
     (fixed (a_kind (kind.Operator sign.RightParenthesis))
     (a_kind (kind.Operator sign.Colon) ∷ a_kind kind.Newline ∷ a_kind kind.Indent ∷ [])
     (members (record c { base = Some (name_at t) }) [])) stuck
 
--- what may end the members: `pass` in place of the first, the end of the suite after some
+-- the turn at the end of the members: `pass` if there are none, otherwise the end of the suite
 abbrev pub members_end : ClassStart → List Member → TokenKind → Turn
 members_end c [] k = on (same_kind k (kind.Keyword word.Pass))
     (fixed (a_kind kind.Newline) (a_kind kind.Dedent ∷ []) (after_class c [])) stuck
 members_end c (m ∷ ms) k = on (same_kind k kind.Dedent) (after_class c (m ∷ ms)) stuck
 
--- the turn where a member of a class is due: the name of a field, the `def` of a method, or what may end the members
+-- the turn where a member of a class is due: the name of a field, the `def` of a method, or the end of the members
 abbrev pub members_turn : ClassStart → List Member → Lexeme → TokenKind → Turn
 members_turn c ms t k = on (same_kind k kind.Name)
     (fixed (a_kind (kind.Operator sign.Colon)) [] (part_due no_anns [] (ann_whole (of_field c ms (name_at t)))))
@@ -137,13 +137,13 @@ members_turn c ms t k = on (same_kind k kind.Name)
 
 -- ---- functions
 
--- after the name: what comes before the first parameter
+-- the state after the name of a function, before its first parameter
 abbrev pub params_of : Owner → DefStart → State
 params_of (of_module top) d = fixed (a_kind (kind.Operator sign.LeftParenthesis)) [] (param_due d [])
 params_of (of_class c ms) d =
     fixed (a_kind (kind.Operator sign.LeftParenthesis)) (a_form (codes "self") ∷ []) (self_read d)
 
--- the turn after `def`, where only the name of the function can stand
+-- the turn after `def`, where only the name of the function may follow
 abbrev pub def_turn : Owner → Place → Lexeme → TokenKind → Turn
 def_turn owner first t k =
     on (same_kind k kind.Name) (params_of owner (record { owner = owner; first = first; name = name_at t })) stuck
@@ -158,7 +158,7 @@ abbrev pub param_turn : DefStart → List Param → Lexeme → TokenKind → Tur
 param_turn d ps t k = on (same_kind k kind.Name) (param_named d ps (name_at t))
     (on (same_kind k (kind.Operator sign.RightParenthesis)) (params_read d ps) stuck)
 
--- the turn after the name of a parameter: the `:` of its annotation, or what may come without one
+-- the turn after the name of a parameter: the `:` of its annotation, or a token that may follow without one
 abbrev pub param_named_turn : DefStart → List Param → Name → Lexeme → TokenKind → Turn
 param_named_turn d ps n t k =
     on (same_kind k (kind.Operator sign.Colon)) (part_due no_anns [] (ann_whole (of_param d ps n)))
@@ -180,7 +180,7 @@ literal_turn c t k = on (same_kind k kind.Int) (literal_read c (number_literal (
     (on (same_kind k (kind.Keyword word.None)) (literal_read c (none_literal (span (t ∷ []))))
     (on (same_kind k (kind.Operator sign.Minus)) (minus_read c (t ∷ [])) stuck)))))
 
--- the turn after the `-` of a literal, where only a number can stand
+-- the turn after the `-` of a literal, where only a number may follow
 abbrev pub minus_turn : LiteralContext → List Lexeme → Lexeme → TokenKind → Turn
 minus_turn c m t k = on (same_kind k kind.Int)
     (literal_read c (negative_literal (span (m ++ (t ∷ []))) (digits_of t.text))) stuck
@@ -191,7 +191,7 @@ literal_read_turn c l t k = finish_literal c l k
 
 -- ---- statements
 
--- the turn at the end of a suite, which can't be without a statement
+-- the turn at the end of a suite, which must have a statement
 abbrev pub end_suite : Stmts → Block → Turn
 end_suite no_stmts b = stuck
 end_suite (more_stmts s ss) b = go (after_suite b (more_stmts s ss))
@@ -222,16 +222,16 @@ abbrev pub return_turn : Site → Lexeme → TokenKind → Turn
 return_turn site t k = on (same_kind k kind.Newline) (after_stmt site (returns site.first None))
     (operand_turn (whole (in_statement returned site)) t (start_of k))
 
--- the turn after `for`, where only a name as the target can stand
+-- the turn after `for`, where only the name of the target may follow
 abbrev pub target_turn : Site → Lexeme → TokenKind → Turn
 target_turn site t k = on (same_kind k kind.Name)
     (fixed (a_kind (kind.Keyword word.In)) [] (operand (whole (in_statement (iterating (name_at t)) site)))) stuck
 
--- an `if` with no more branches
+-- the statements with this `if`, which has no more branches, at the end
 abbrev pub closed_branches : Branches → Site → Stmts
 closed_branches bs site = add_stmt site.done (conditional site.first bs no_stmts)
 
--- the turn after a suite of `if` or `elif`: `elif`, `else`, or what may come after the whole statement
+-- the turn after a suite of `if` or `elif`: `elif`, `else`, or a token that may follow the whole statement
 abbrev pub branch_turn : Branches → Site → Lexeme → TokenKind → Turn
 branch_turn bs site t k = on (same_kind k (kind.Keyword word.Elif)) (operand (whole (in_statement (branching bs) site)))
     (on (same_kind k (kind.Keyword word.Else))

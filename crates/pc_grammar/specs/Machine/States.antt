@@ -1,4 +1,4 @@
--- What the machine is in the middle of: the parts that were read, and what is still open.
+-- States of the machine: the parts read so far, and the open nodes.
 use Rattle.std.specs.Prelude.{ℕ, Bool, List, Option}
 use Rattle.pc_source.specs.declared.place.Place.{Place}
 use Rattle.pc_token.specs.Lexeme.{Lexeme}
@@ -8,13 +8,13 @@ use Rattle.pc_grammar.specs.Machine.Kinds.{Fixed, Infix}
 
 -- ---- the module and its items
 
--- which headers may still come
+-- the headers that may still follow
 pub data Stage : Type 0 where
   after_future : Stage
   after_dataclasses : Stage
   after_headers : Stage
 
--- a module as far as it was read
+-- a module, as far as it has been read
 pub record Top : Type 0 where
   pub imports_dataclass : Bool
   pub imports_any : Bool
@@ -28,7 +28,7 @@ pub record ClassStart : Type 0 where
   pub name : Name
   pub base : Option Name
 
--- where a function stands: in the module, or in a class after its other members
+-- the owner of a function: the module, or a class after its other members
 pub data Owner : Type 0 where
   of_module : (top : Top) → Owner
   of_class : (c : ClassStart) (members : List Member) → Owner
@@ -47,27 +47,27 @@ pub record DefHead : Type 0 where
 
 -- ---- suites
 
--- what a suite inside a suite belongs to
+-- the part of a statement to which a nested suite belongs
 pub data Nest : Type 0 where
   while_body : (condition : Expr) → Nest
   for_body : (target : Name) (iterable : Expr) → Nest
   branch_body : (branches : Branches) (condition : Expr) → Nest
   else_body : (branches : Branches) → Nest
 
--- what the suite that is being read belongs to, out to the function; with the statements before it in each suite
+-- the suite that is being read: a function's, or one nested in a statement, with the statements before it in each suite
 pub data Block : Type 0 where
   def_body : (head : DefHead) → Block
   nested : (first : Place) (of : Nest) (done : Stmts) (outer : Block) → Block
 
--- a statement that was begun, after those before it in its suite
+-- a statement that has begun, and those before it in its suite
 pub record Site : Type 0 where
   pub first : Place
   pub done : Stmts
   pub block : Block
 
--- ---- what whole expressions, annotations and literals are for
+-- ---- positions of whole expressions, annotations and literals
 
--- what of a statement stands before the expression
+-- the part of a statement before an expression
 pub data Begun : Type 0 where
   assigned : (target : Target) → Begun
   annotated_value : (n : Name) (annotation : Ann) → Begun
@@ -78,14 +78,14 @@ pub data Begun : Type 0 where
   iterating : (target : Name) → Begun
   branching : (branches : Branches) → Begun
 
--- where a whole expression stands: first in a line, after what begins a statement, or as the value of a constant
+-- the position of a whole expression: first in a line, inside a begun statement, or the value of a constant
 pub data ExpressionPosition : Type 0 where
-  -- the first of a line, of which it is not known yet what it is
+  -- first in a line, of a statement that is not known yet
   in_line : (done : Stmts) (block : Block) → ExpressionPosition
   in_statement : (begun : Begun) (site : Site) → ExpressionPosition
   in_constant : (n : Name) (annotation : Option Ann) (top : Top) → ExpressionPosition
 
--- what a whole annotation belongs to: a constant, a field, a parameter, what a function returns, or a local name
+-- the position of a whole annotation: of a constant, a field, a parameter, the return of a function, or a local name
 pub data AnnotationPosition : Type 0 where
   of_constant : (n : Name) (top : Top) → AnnotationPosition
   of_field : (c : ClassStart) (members : List Member) (n : Name) → AnnotationPosition
@@ -93,14 +93,14 @@ pub data AnnotationPosition : Type 0 where
   of_return : (d : DefStart) (params : List Param) → AnnotationPosition
   of_local : (n : Name) (site : Site) → AnnotationPosition
 
--- what a literal is the default of: a parameter or a field
+-- the position of a literal: the default of a parameter or a field
 pub data LiteralContext : Type 0 where
   default_of_param : (d : DefStart) (params : List Param) (n : Name) (annotation : Option Ann) → LiteralContext
   default_of_field : (c : ClassStart) (members : List Member) (n : Name) (annotation : Ann) → LiteralContext
 
 -- ---- expressions
 
--- a node with its tokens, parentheses around it included, and whether there are none around it
+-- a node with its tokens, including parentheses around it, and whether there are none
 pub record Part : Type 0 where
   pub tree : Expr
   pub tokens : List Lexeme
@@ -111,25 +111,25 @@ pub data Prefix : Type 0 where
   minus : Prefix
   denial : Prefix
 
--- what the items in a bracket are for: a tuple, a list, or a call of this
+-- the purpose of the items in a bracket: a tuple, a list, or a call of this callee
 pub data Head : Type 0 where
   in_tuple : Head
   in_list : Head
   in_call : (callee : Expr) → Head
 
--- What is open around an operand. The lists of tokens are those from where the open node begins.
+-- the open nodes around an operand; each list of tokens begins with its node
 pub data Stack : Type 0 where
-  -- the expression is a whole one
+  -- no open node: the operand is in a whole expression
   whole : (c : ExpressionPosition) → Stack
-  -- the right side of an operator, after its left side and the operator's own tokens
+  -- the right operand of an operator, after its left operand and the operator's tokens
   joining : (operator : Infix) (left : Part) (tokens : List Lexeme) (s : Stack) → Stack
   -- the operand of a sign or of `not`
   applying : (x : Prefix) (tokens : List Lexeme) (s : Stack) → Stack
-  -- the first in parentheses
+  -- the first expression in parentheses
   grouping : (tokens : List Lexeme) (s : Stack) → Stack
-  -- an item after others
+  -- an item, after others
   listing : (h : Head) (xs : Exprs) (tokens : List Lexeme) (s : Stack) → Stack
-  -- what stands in the brackets of `e[i]`
+  -- the key in the brackets of `e[i]`
   indexing : (object : Expr) (tokens : List Lexeme) (s : Stack) → Stack
   -- the value of an argument by name
   naming : (callee : Expr) (xs : Exprs) (ks : Keywords) (n : Name) (tokens : List Lexeme) (s : Stack) → Stack
@@ -140,20 +140,20 @@ pub data Stack : Type 0 where
 
 -- ---- annotations
 
--- What is open around an annotation.
+-- the open nodes around an annotation
 pub data AnnStack : Type 0 where
   ann_whole : (c : AnnotationPosition) → AnnStack
-  -- an argument after others, in a part after others of a union
+  -- an argument, after others, in a part of a union, after others
   ann_inside : (head : Name) (done : Anns) (tokens : List Lexeme) (parts : Anns) (before : List Lexeme) (s : AnnStack)
       → AnnStack
 
 -- ---- states
 
--- where the machine stands: what is due or was just read, with what is still open
+-- a state of the machine: what is due or was just read, with the open nodes
 pub data State : Type 0 where
-  -- these words are due, and then what comes next
+  -- these words are due, and then the next state
   fixed : (w : Fixed) (ws : List Fixed) (next : State) → State
-  -- an item of the module, or the last line
+  -- an item of the module, or the last line, is due
   items : (stage : Stage) (top : Top) → State
   -- after `from`
   importing : (stage : Stage) (top : Top) → State
@@ -167,23 +167,23 @@ pub data State : Type 0 where
   class_named : (c : ClassStart) → State
   -- after the `(` of a class
   base_due : (c : ClassStart) → State
-  -- a member of a class, or the end of its suite
+  -- a member of a class, or the end of its suite, is due
   members : (c : ClassStart) (done : List Member) → State
   -- after `def`
   def_due : (owner : Owner) (first : Place) → State
   -- after `self`
   self_read : (d : DefStart) → State
-  -- a parameter or `)`
+  -- a parameter or `)` is due
   param_due : (d : DefStart) (params : List Param) → State
   -- after the name of a parameter
   param_named : (d : DefStart) (params : List Param) (n : Name) → State
   -- after the parameters
   params_read : (d : DefStart) (params : List Param) → State
-  -- a literal, after its `-`, after it
+  -- a literal is due; after its `-`; after the literal
   literal_due : (c : LiteralContext) → State
   minus_read : (c : LiteralContext) (tokens : List Lexeme) → State
   literal_read : (c : LiteralContext) (l : Literal) → State
-  -- a statement, or the end of the suite
+  -- a statement, or the end of the suite, is due
   stmts : (done : Stmts) (block : Block) → State
   -- after `return`
   return_due : (site : Site) → State
@@ -191,7 +191,7 @@ pub data State : Type 0 where
   target_due : (site : Site) → State
   -- after a suite of `if` or `elif`
   after_branch : (branches : Branches) (site : Site) → State
-  -- a part of an annotation, after the other parts and their tokens
+  -- a part of an annotation is due, after the other parts and their tokens
   part_due : (parts : Anns) (before : List Lexeme) (s : AnnStack) → State
   -- after a name as a part
   part_named : (n : Name) (tokens : List Lexeme) (parts : Anns) (before : List Lexeme) (s : AnnStack) → State
@@ -202,9 +202,9 @@ pub data State : Type 0 where
   -- after `N[(` and after `N[()`
   empty_opened : (head : Name) (tokens : List Lexeme) (parts : Anns) (before : List Lexeme) (s : AnnStack) → State
   empty_closed : (head : Name) (tokens : List Lexeme) (parts : Anns) (before : List Lexeme) (s : AnnStack) → State
-  -- an operand
+  -- an operand is due
   operand : (s : Stack) → State
-  -- after an operand that binds as tightly as this level
+  -- after an operand of this level
   have : (level : ℕ) (p : Part) (s : Stack) → State
   -- after `e not`, `e is`, `e is not`
   denied : (p : Part) (tokens : List Lexeme) (s : Stack) → State
@@ -214,23 +214,23 @@ pub data State : Type 0 where
   dotted : (p : Part) (tokens : List Lexeme) (s : Stack) → State
   -- after `(`
   group_due : (tokens : List Lexeme) (s : Stack) → State
-  -- an item or the closing bracket
+  -- an item or the closing bracket is due
   item_due : (h : Head) (xs : Exprs) (tokens : List Lexeme) (s : Stack) → State
-  -- an argument by name or `)`, after arguments by name
+  -- an argument by name or `)` is due, after arguments by name
   keyword_due : (callee : Expr) (xs : Exprs) (ks : Keywords) (tokens : List Lexeme) (s : Stack) → State
-  -- after the name of an argument, where no other can stand
+  -- after the name of an argument, where only an argument by name may follow
   keyword_named : (callee : Expr) (xs : Exprs) (ks : Keywords) (n : Name) (tokens : List Lexeme) (s : Stack) → State
-  -- a key or `}`
+  -- a key or `}` is due
   key_due : (es : Entries) (tokens : List Lexeme) (s : Stack) → State
   -- after the end of the text
   ended : (m : Module) → State
 
--- where a token leads
+-- the result of one token: the next state, or stuck
 pub data Turn : Type 0 where
   stuck : Turn
   go : (s : State) → Turn
 
--- the first of these that holds
+-- a turn to this state if the test holds, otherwise the other turn
 abbrev pub on : Bool → State → Turn → Turn
 on Bool.true s other = go s
 on Bool.false s other = other

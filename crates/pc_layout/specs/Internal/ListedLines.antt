@@ -1,4 +1,4 @@
--- What an iterator over the lines of a list gives.
+-- The iterator over the lines of a list.
 use Rattle.std.specs.Prelude.{◌≡◌, List, [], ◌∷◌, Option, Result, MatchOption, MatchResult, map, drop}
 use Rattle.pc_source.specs.declared.fault.Fault.{Fault}
 use Rattle.pc_source.specs.declared.fault.Fault.TheVariants.{OutOfMemory}
@@ -10,7 +10,7 @@ use Rattle.pc_layout.specs.declared.listed.Listed.{Listed}
 abbrev pub lines_left : Listed → List LogicalLine
 lines_left s = map line_of (drop s.at s.lines.now)
 
--- the first of the lines that are left comes, or an allocation failed
+-- the iterator gives the first of the lines that are left, or an allocation failed
 abbrev pub gives_line : Listed → Option (Result Line Fault) → Listed → Type 0
 gives_line s r t = MatchOption r ((lines_left s ≡ []) × (lines_left t ≡ []))
     (λ i. MatchResult i (λ l. lines_left s ≡ line_of l ∷ lines_left t) (λ e. e ≡ OutOfMemory))

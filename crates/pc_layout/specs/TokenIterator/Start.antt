@@ -4,11 +4,11 @@ use Rattle.pc_source.specs.declared.fault.Fault.{Fault}
 use Rattle.pc_token.specs.Lexeme.{LogicalLine}
 use Rattle.pc_layout.specs.Stepping.{layout_lexemes, start}
 use Rattle.pc_layout.specs.TokenIterator.PendingTokens.{pending}
-use Rattle.pc_layout.specs.declared.hand.Due.TheVariants.{Lines}
-use Rattle.pc_layout.specs.declared.toks.Toks.{Toks}
+use Rattle.pc_layout.specs.declared.pending_line.LineStage.TheVariants.{Lines}
+use Rattle.pc_layout.specs.declared.layout_tokens.LayoutTokens.{LayoutTokens}
 
--- nothing came yet: all tokens of the lines that are left in the iterator of lines
-pub record IsAtStart {I : Type 0} (text : List ℕ) (lines : I) (toks : Toks I) : Type 0 where
+-- the iterator is at its start: all tokens of the lines left in the iterator of lines are left
+pub record IsAtStart {I : Type 0} (text : List ℕ) (lines : I) (toks : LayoutTokens I) : Type 0 where
   pub over : toks.lines ≡ lines
   pub due : toks.hand.due ≡ Lines
   pub tokens : (ls : List (Result LogicalLine Fault)) → pending toks.hand ls ≡ layout_lexemes text start ls

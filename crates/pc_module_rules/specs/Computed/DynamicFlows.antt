@@ -7,7 +7,7 @@ use Rattle.pc_types.specs.Tree.{Tree}
 use Rattle.pc_notes.specs.Notes.{flow_noted}
 use Rattle.pc_module_rules.specs.Computed.Modules.{module_finds}
 
--- the type that flows dynamically at a place and the one that it flows into; where several do so at one place, those of
--- the first in the order of the walk over the module; none where no flow there is dynamic
+-- the type that flows dynamically at a place and the type that it flows into; if several flow there, those of the first
+-- in the order of the walk over the module; none if no flow there is dynamic
 abbrev pub dynamic_flow : Module → Place → Option (Tree × Tree)
 dynamic_flow m p = flow_noted p (module_finds m [])

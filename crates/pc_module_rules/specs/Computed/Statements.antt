@@ -1,7 +1,7 @@
--- What a walk over statements comes to, computed by recursion on the tree: the computed twin of the lawful labels of
--- statements and of what is found under them. Declared types are settled in text order: a local has none as long as no
--- name was bound that means it, and the first binding gives it one. So a name is bound first where its local has no
--- declared type yet. Own rule of the profile.
+-- The state of a walk over statements, computed by recursion on the tree: the computed twin of the lawful labels of
+-- statements and of the findings under them. Declared types become known in text order: a local has none until a name
+-- that means it is bound, and the first binding gives it one. So a name is first bound where its local has no declared
+-- type yet. Own rule of the profile.
 use Rattle.std.specs.Prelude.{ℕ, List, [], ◌∷◌, ◌++◌, map, length, Bool as Test, true, false, if◌then◌else◌, Option}
 use Rattle.std.specs.Prelude.{Some, None, unwrap_or, slice_set, slice_index_or}
 use Rattle.pc_source.specs.declared.place.Place.{Place}
@@ -14,15 +14,15 @@ use Rattle.pc_tree.specs.Tree.{FuncDef, Module}
 use Rattle.pc_tree.specs.Stopping.{bound_by, bound_by_stmt}
 use Rattle.pc_tree.specs.Depth.{place_of}
 use Rattle.pc_scope.specs.declared.resolution.Owner.{Owner}
-use Rattle.pc_scope.specs.declared.resolution.Res.{Res}
-use Rattle.pc_scope.specs.declared.resolution.Res.TheVariants as res
+use Rattle.pc_scope.specs.declared.resolution.NameMeaning.{NameMeaning}
+use Rattle.pc_scope.specs.declared.resolution.NameMeaning.TheVariants as res
 use Rattle.pc_scope.specs.Resolution.{locals}
 use Rattle.pc_types.specs.Tree.{Tree, Any, NoneType}
 use Rattle.pc_types.specs.Below.{Bases}
 use Rattle.pc_types.specs.Shape.{members}
-use Rattle.pc_ann.specs.Annotations.{read_ann}
+use Rattle.pc_annotations.specs.Annotations.{read_ann}
 use Rattle.pc_types.specs.Computed.{static_test}
-use Rattle.pc_ann.specs.Listed.{ann_findings}
+use Rattle.pc_annotations.specs.Listed.{ann_findings}
 use Rattle.pc_class.specs.Bases.{bases_of}
 use Rattle.pc_class.specs.Facts.{TypedParameter, return_type}
 use Rattle.pc_flow.specs.Environment.{Env, assign, assigned_type, join_env, loop_head, none_assigned}
@@ -42,54 +42,54 @@ use Rattle.pc_module_rules.specs.Modules.{entry_parameters}
 
 -- ---- declared types so far
 
--- for each local its declared type so far, or none where it is not bound so far
+-- the declared type of each local so far, none for a local not yet bound
 abbrev pub Table : Type 0
 Table = List (Option Tree)
 
--- the declared types, Any for locals not bound so far
+-- the declared types, Any for locals not yet bound
 abbrev pub type_table : Table → List Tree
 type_table table = map (λ o. unwrap_or o Any) table
 
--- the declared type of a local, if it is bound so far
+-- the declared type of a local, if it is bound
 abbrev pub bound_type : Table → ℕ → Option Tree
 bound_type table x = slice_index_or table x None
 
--- with a declared type for a local, unless it has this one already
+-- a table with a declared type for a local, unless it has one already
 abbrev pub with_declared : {A : Type 0} → (bound : Option A) → List (Option A) → ℕ → A → List (Option A)
 with_declared (Some d) table x t = table
 with_declared None table x t = slice_set table x (Some t)
 
--- the declared type of a local that is known before a value is bound to it: the one that it has, else its annotation
+-- the declared type of a local before a value is bound to it: the one that it has, else its annotation
 abbrev pub known_declared : (bound : Option Tree) → (annotation : Option Tree) → Option Tree
 known_declared (Some d) annotation = Some d
 known_declared None annotation = annotation
 
--- ---- what a walk has come to
+-- ---- the state of a walk
 
--- what the statements of a function stand in: the module, what they may name, the type that the function returns, and
--- whether the types of labels are noted
+-- the body context of a function: the module, the context of its expressions, its return type, and whether the types of
+-- labels are noted
 pub record BodyContext : Type 0 where
   pub whole : Module
   pub context : Context
   pub returned : Tree
   pub keeps : Test
 
--- what a walk over statements has come to: declared types, the environment, none where no run comes, inside a loop the
--- way out of it joined with each `break` so far, and what was found
+-- the state of a walk over statements: declared types; the environment, none in unreachable code; inside a loop its
+-- exit environment joined with each `break` so far; and the notes
 pub record Walk : Type 0 where
   pub table : Table
   pub env : Option Env
   pub broken : Option Env
   pub found : List Note
 
--- what a name bound comes to: declared types, the environment after it, and what was found
+-- the result of a binding: declared types, the environment after it, and the notes
 pub record BindingResult : Type 0 where
   pub table : Table
   pub env : Env
   pub found : List Note
 
--- what a walk over branches has come to: declared types, the environment where all conditions so far are false, the
--- ways out of the suites joined, breaks, and what was found
+-- the state of a walk over branches: declared types, the environment where all conditions so far are false, the join of
+-- the environments at the ends of the suites, breaks, and the notes
 pub record BranchesResult : Type 0 where
   pub table : Table
   pub last : Env
@@ -97,19 +97,19 @@ pub record BranchesResult : Type 0 where
   pub broken : Option Env
   pub found : List Note
 
--- an environment joined onto a way, if there is one
+-- an environment joined onto the exit environment of a loop, if there is a loop
 abbrev pub join_onto_way : Bases → Table → (way : Option Env) → Env → Option Env
 join_onto_way bases table None env = None
 join_onto_way bases table (Some way) env = Some (join_env bases (type_table table) way env)
 
--- one way more where several meet, if a run comes out of it
+-- the join of the environments at the ends of suites with one more, if that suite can complete
 abbrev pub with_way : Bases → Table → (ways : Option Env) → (out : Option Env) → Option Env
 with_way bases table ways None = ways
 with_way bases table None (Some env) = Some env
 with_way bases table (Some way) (Some env) = Some (join_env bases (type_table table) way env)
 
 module _ (context : BodyContext) where
-  -- what an expression stands in
+  -- the standing of an expression here
   abbrev pub at : Table → Env → Standing
   at table env = record {
     context = context.context;
@@ -122,21 +122,21 @@ module _ (context : BodyContext) where
   abbrev pub narrowed_at : Table → (holds : Test) → Expr → Env → Env
   narrowed_at table holds c env = narrow context.context.bases (type_table table) context.context.resolve holds c env
 
-  -- ---- names that no run binds
+  -- ---- names in unreachable code
 
-  -- a local that is first bound where no run comes has Any
-  abbrev pub unreached_name : Table → Res → Table
+  -- a table with Any for a local first bound in unreachable code
+  abbrev pub unreached_name : Table → NameMeaning → Table
   unreached_name table (res.Local x) = with_declared (bound_type table x) table x Any
   unreached_name table r = table
 
-  -- each of several locals that are first bound where no run comes has Any
+  -- a table with Any for each of the locals first bound in unreachable code
   abbrev pub unreached_names : Table → List Name → Table
   unreached_names table [] = table
   unreached_names table (n ∷ ns) = unreached_names (unreached_name table (context.context.resolve n.text)) ns
 
   -- ---- binding a name
 
-  -- a local bound to what has this label, at this place: its declared type, the flow into it, and its current type
+  -- the result of binding a local to a label at this place: its declared type, the flow into it, and its current type
   abbrev pub bind_label : (table : Table) → Env → ℕ → (want : Option Tree) → Place → Label → List Note → BindingResult
   bind_label table env x want p label found =
       let d = unwrap_or want label.type in
@@ -147,8 +147,8 @@ module _ (context : BodyContext) where
         found = found ++ flows_at p flows;
       }
 
-  -- a value bound to a name, with its annotation if it is one that counts; what is reserved binds nothing
-  abbrev pub bind_value : Table → Env → Res → (annotation : Option Tree) → Expr → List Note → BindingResult
+  -- the result of binding a value to a name, with its annotation unless ignored; only a local is bound
+  abbrev pub bind_value : Table → Env → NameMeaning → (annotation : Option Tree) → Expr → List Note → BindingResult
   bind_value table env (res.Local x) annotation e found =
       let want = known_declared (bound_type table x) annotation in
       bind_label table env x want (place_of e) (label_in (at table env) want e)
@@ -159,22 +159,22 @@ module _ (context : BodyContext) where
     found = found ++ finds_in (at table env) None e;
   }
 
-  -- a name annotated alone
-  abbrev pub declared_alone : Table → Res → Tree → Table
+  -- the table after a name annotated without a value
+  abbrev pub declared_alone : Table → NameMeaning → Tree → Table
   declared_alone table (res.Local x) t = with_declared (bound_type table x) table x t
   declared_alone table r t = table
 
-  -- what is found at an annotation: E24 of a local that is bound already, else what is found in it
+  -- the notes at an annotation: E24 if the local is bound already, else those in the annotation
   abbrev pub annotation_finds : (bound : Option Tree) → Name → Ann → List Note
   annotation_finds (Some d) n a = plain_note (finding n.place E24) ∷ []
   annotation_finds None n a = map plain_note (ann_findings context.whole context.context.bases a)
 
-  -- the declared type of the local that a name means, if it means one that is bound so far
-  abbrev pub bound_name : Table → Res → Option Tree
+  -- the declared type of the local that a name means, if it is a bound one
+  abbrev pub bound_name : Table → NameMeaning → Option Tree
   bound_name table (res.Local x) = bound_type table x
   bound_name table r = None
 
-  -- a name annotated, with a value or alone
+  -- the result of an annotated name, with or without a value
   abbrev pub bind_annotated : Table → Env → Name → Ann → Option Expr → List Note → BindingResult
   bind_annotated table env n a None found = record {
     table = declared_alone table (context.context.resolve n.text) (read_ann context.whole context.context.bases a);
@@ -187,15 +187,15 @@ module _ (context : BodyContext) where
 
   -- ---- stores
 
-  -- what storing to an attribute comes to on each member of the object's type
+  -- the results of a store to an attribute on each member of the object's type
   abbrev pub attribute_stores : List ℕ → Tree → List StoreOffer
   attribute_stores field t = map (store_attribute_member context.context.classes field) (members t)
 
-  -- what storing to an item comes to on each member of the object's type
+  -- the results of a store to an item on each member of the object's type
   abbrev pub index_stores : Tree → List StoreOffer
   index_stores t = map store_index_member (members t)
 
-  -- what is found at a store, and of the value: it flows into what the members take
+  -- the notes of a store and of its value, which flows into the types that the members take
   abbrev pub stored_finds : Standing → List StoreOffer → Place → Expr → List Note
   stored_finds k offers p e =
       let want = only_type offers (stored_types offers) in
@@ -203,7 +203,7 @@ module _ (context : BodyContext) where
       ++ (finds_in k want e ++ flows_at (place_of e)
       (flows_of context.context.bases (label_in k want e) (stored_types offers)))
 
-  -- what is found in a store to a target that is no name: in the object, in the index and of its flow, and then of the
+  -- the notes of a store to a target other than a name: in the object, in the index and of its flow, and then of the
   -- value
   abbrev pub store_finds : Standing → Target → Expr → List Note
   store_finds k (to_name n) e = []
@@ -215,7 +215,7 @@ module _ (context : BodyContext) where
       ++ (flows_at (place_of i) (flows_of context.context.bases (label_in k None i) (store_index_types offers))
       ++ stored_finds k offers p e))
 
-  -- an assignment: a name is bound, any other target is stored to
+  -- the result of an assignment: a name is bound, any other target is stored to
   abbrev pub assign_target : Table → Env → Target → Expr → List Note → BindingResult
   assign_target table env (to_name n) e found = bind_value table env (context.context.resolve n.text) None e found
   assign_target table env t e found = record {
@@ -224,29 +224,29 @@ module _ (context : BodyContext) where
     found = found ++ store_finds (at table env) t e;
   }
 
-  -- ---- what a `for` goes over
+  -- ---- the iterable of a `for`
 
-  -- the label of a turn's item, of any iterable but a call of `range`
+  -- the label of an item of any iterable except a call of `range`
   abbrev pub values_item : Standing → Expr → Label
   values_item k e = offers_label context.context.bases
       (map (iterate_member context.context.bases) (members (label_in k None e).type))
 
-  -- the label of a turn's item
+  -- the label of an item of an iterable
   abbrev pub item_label_of : Standing → Expr → Label
   item_label_of k (call p (name n) arguments keywords) =
       if is_range (context.context.resolve n.text) then range_item (arguments_given arguments keywords)
       else values_item k (call p (name n) arguments keywords)
   item_label_of k e = values_item k e
 
-  -- what is found in an iterable
+  -- the notes of an iterable
   abbrev pub iterable_finds : Standing → Expr → List Note
   iterable_finds k (call p (name n) arguments keywords) =
       if is_range (context.context.resolve n.text) then range_finds k p (name n) arguments keywords
       else finds_in k None (call p (name n) arguments keywords)
   iterable_finds k e = finds_in k None e
 
-  -- the target of a `for` bound to an item of this type, in the environment at the head
-  abbrev pub bind_item : Table → (head : Env) → Res → Place → Tree → List Note → BindingResult
+  -- the result of binding the target of a `for` to an item of this type, in the environment at the head
+  abbrev pub bind_item : Table → (head : Env) → NameMeaning → Place → Tree → List Note → BindingResult
   bind_item table head (res.Local x) p t found = bind_label table head x (bound_type table x) p (clean t) found
   bind_item table head r p t found = record { table = table; env = head; found = found }
 
@@ -256,31 +256,32 @@ module _ (context : BodyContext) where
 
   -- ---- statements
 
-  -- what is found in an expression that may be missing
+  -- the notes of an expression that may be missing
   abbrev pub option_finds : Standing → (want : Option Tree) → Option Expr → List Note
   option_finds k want None = []
   option_finds k want (Some e) = finds_in k want e
 
-  -- what is found in a `return`: in its value, and of the flow into the return type; without a value None flows
+  -- the notes of a `return`: in its value, and of the flow into the return type; without a value None flows
   abbrev pub return_finds : Standing → Place → Option Expr → List Note
   return_finds k p None = flows_at p (flows_of context.context.bases (clean NoneType) (context.returned ∷ []))
   return_finds k p (Some e) = finds_in k (Some context.returned) e
       ++ flows_at (place_of e) (flows_of context.context.bases (label_in k (Some context.returned) e)
       (context.returned ∷ []))
 
-  -- after a name that is bound
+  -- the state after a bound name
   abbrev pub behind_binding : (broken : Option Env) → BindingResult → Walk
   behind_binding broken b = record { table = b.table; env = Some b.env; broken = broken; found = b.found }
 
-  -- in the body of a `for`, whose way out is the head
+  -- the state at the start of the body of a `for`, whose exit environment is the head
   abbrev pub inside_for : (head : Env) → BindingResult → Walk
   inside_for head b = record { table = b.table; env = Some b.env; broken = Some head; found = b.found }
 
-  -- after a loop: the way out of it, with each `break`; the breaks of a loop around it are as before it
+  -- the state after a loop: its exit environment joined with each `break`; the breaks of an enclosing loop are as
+  -- before
   abbrev pub behind_loop : (broken : Option Env) → Walk → Walk
   behind_loop broken body = record { table = body.table; env = body.broken; broken = broken; found = body.found }
 
-  -- after an `if`: the ways out of its branches and of `else` joined
+  -- the state after an `if`: the join of the environments at the ends of its branches and of `else`
   abbrev pub behind_branches : (ways : Option Env) → Walk → Walk
   behind_branches ways last = record {
     table = last.table;
@@ -289,10 +290,10 @@ module _ (context : BodyContext) where
     found = last.found;
   }
 
-  -- what a walk comes to over a statement from an environment, over a suite, and over branches
+  -- the state after a statement, after a suite, and after branches
   abbrev mutual
     pub step : Table → (env : Option Env) → (broken : Option Env) → List Note → Stmt → Walk
-    -- no run comes to it: nothing is found, and what it binds first has Any
+    -- unreachable: nothing is found, and locals first bound here have Any
     step table None broken found s = record {
       table = unreached_names table (bound_by_stmt s);
       env = None;
@@ -383,28 +384,29 @@ module _ (context : BodyContext) where
 
 -- ---- functions
 
--- what a function is entered with, each parameter declared and assigned; a name that is bound already, or reserved,
--- binds nothing
+-- the table and environment at the entry of a function, with each parameter declared and assigned; a name that is
+-- already bound, or reserved, binds nothing
 abbrev pub enter_local : (bound : Option Tree) → Table → Env → ℕ → Tree → Table × Env
 enter_local (Some d) table env x t = (table, env)
 enter_local None table env x t = (slice_set table x (Some t), assign env x t)
 
-abbrev pub enter_name : Table → Env → Res → Tree → Table × Env
+abbrev pub enter_name : Table → Env → NameMeaning → Tree → Table × Env
 enter_name table env (res.Local x) t = enter_local (bound_type table x) table env x t
 enter_name table env r t = (table, env)
 
-abbrev pub enter_parameters : (List ℕ → Res) → Table → Env → List TypedParameter → Table × Env
+abbrev pub enter_parameters : (List ℕ → NameMeaning) → Table → Env → List TypedParameter → Table × Env
 enter_parameters resolve table env [] = (table, env)
 enter_parameters resolve table env (p ∷ ps) = let r = enter_name table env (resolve p.name) p.type in
     enter_parameters resolve r.0 r.1 ps
 
--- E21 at this place: the end of the body can be reached, and None is not static to the return type
+-- the notes at the end of a body: E21 at this place if the end can be reached, and None is not a static subtype of the
+-- return type
 abbrev pub end_finds : Bases → (return_type : Tree) → Place → (out : Option Env) → List Note
 end_finds bases return_type p None = []
 end_finds bases return_type p (Some env) = if static_test bases NoneType return_type then []
     else plain_note (finding p E21) ∷ []
 
--- what the statements of a function stand in
+-- the body context of a function of the module
 abbrev pub body_context_of : (keeps : Test) → Module → (constants : List Tree) → Owner → FuncDef → BodyContext
 body_context_of keeps m constants owner f = record {
   whole = m;
@@ -421,7 +423,7 @@ walk_body keeps m constants owner f found =
     (none_assigned (length (locals owner f))) (entry_parameters m owner f) in
     walk_suite context (record { table = start.0; env = Some start.1; broken = None; found = found }) f.body
 
--- what was noted, and then what is noted in the body of a function, and E21 at its name
+-- notes, followed by those in the body of a function, and E21 at its name
 abbrev pub function_finds : (keeps : Test) → Module → (constants : List Tree) → Owner → FuncDef → List Note → List Note
 function_finds keeps m constants owner f found =
     let body = walk_body keeps m constants owner f found in

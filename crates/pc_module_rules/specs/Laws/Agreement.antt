@@ -1,5 +1,5 @@
--- What labels say of scopes, for their types, is what is found of scopes: E02 and E03.
--- Own rule of the profile.
+-- The law that labels have the codes of scope analysis, E02 and E03, exactly where it finds them. Own rule of the
+-- profile.
 use Rattle.std.specs.Prelude.{◌≡◌, ℕ, take, length, true, Some, Contains, slice_get, filter_map}
 use Rattle.pc_source.specs.declared.place.Place.{Place}
 use Rattle.pc_tree.specs.declared.code.Code.TheVariants.{E03}
@@ -15,17 +15,17 @@ use Rattle.pc_scope_findings.specs.Findings.{IsUnknownIn, IsEarlyMeaning, ScopeF
 use Rattle.pc_rules.specs.Labels.{is_of_scopes}
 use Rattle.pc_module_rules.specs.Modules.{Labelling, LabelsSay}
 
--- a labelling says E02 and E03 where scopes find them, and nowhere else; of what stands second in a test of an instance
--- it says nothing
+-- a labelling has E02 and E03 exactly where scope analysis finds them; in the second argument of an instance test it
+-- has neither
 pub record AgreesWithScopes (m : Module) (labels : Labelling m) : Type 0 where
-  -- what it says of scopes is found of scopes
+  -- each E02 and E03 under the labelling is a finding of scope analysis
   pub found : (f : Finding) → is_of_scopes f.code ≡ true → LabelsSay m labels f → ScopeFinds m f
   -- a name that means nothing is E02, in an initializer and in a body
   pub unknown_in_constant : (c : Constant) → Contains (constants_in m.items) c → (f : Finding)
       → IsUnknownIn m owners.Module c.value f → LabelsSay m labels f
   pub unknown_in_body : (b : Body) → Contains (bodies m) b → (e : Expr) → Contains (exprs_in_all true b.function.body) e
       → (f : Finding) → IsUnknownIn m b.owner e f → LabelsSay m labels f
-  -- a name that an initializer may not name is E03, and so is a callee in it that is no name
+  -- a name that an initializer may not name yet is E03, and so is a callee in it that is not a name
   pub early_name : (at : ℕ) (first : Place) (c : Constant) → slice_get m.items at ≡ Some (constant_item first c)
       → (n : Name) → Contains (filter_map name_of_tree (parts_in true c.value)) n
       → IsEarlyMeaning (length (constants_in (take at m.items))) (length (classes_in (take at m.items)))

@@ -1,6 +1,6 @@
--- The laws on the dynamic flows of a module: A1 is found at a place exactly where there is one under the lawful
--- labelling of the module; of the first one there, the one type flows into the other by a reading of Any alone, and
--- both are well-formed; and it is the one that is computed. Own rule of the profile.
+-- The laws on the dynamic flows of a module: A1 is found at a place exactly if there is one under the lawful labelling
+-- of the module; the first one there flows only because Any is consistent with every type, and both its types are
+-- well-formed; and it is the computed one. Own rule of the profile.
 use Rattle.std.specs.Prelude.{◌≡◌, ◌↔◌, List, Option, Some, None}
 use Rattle.pc_source.specs.declared.place.Place.{Place}
 use Rattle.pc_tree.specs.declared.code.Code.TheVariants.{A1}
@@ -16,35 +16,36 @@ use Rattle.pc_module_rules.specs.Modules.{IsFinding}
 use Rattle.pc_module_rules.specs.Computed.DynamicFlows.{dynamic_flow}
 use Rattle.pc_module_rules.specs.FlowsOfModules.{FlowsDynamically, HasDynamicFlow}
 
--- notes tell of just the dynamic flows of a module: at each place, of the two types of the dynamic flow there
+-- notes hold exactly the dynamic flows of a module: at each place, the two types of the dynamic flow there
 pub record TellsFlows (m : Module) (notes : List Note) : Type 0 where
   pub just : (p : Place) (s t : Tree) → flow_noted p notes ≡ Some (s, t) ↔ FlowsDynamically m p s t
 
--- A1 is found at a place exactly where a type flows dynamically
+-- the law that A1 is found at a place exactly if a type flows dynamically there
 abbrev pub DynamicFlowsAreFound : Type 0
 DynamicFlowsAreFound = (m : Module) (p : Place) → IsFinding m (finding p A1) ↔ HasDynamicFlow m p
 
--- the type that flows is assignable to the one that it flows into, and is not static to it
+-- the law that a type that flows dynamically is assignable to the type that it flows into, but not a static subtype of
+-- it
 abbrev pub DynamicFlowsAreDynamic : Type 0
 DynamicFlowsAreDynamic = (m : Module) (p : Place) (s t : Tree) → FlowsDynamically m p s t
     → Assignable (bases_of m) s t × ¬ (Static (bases_of m) s t)
 
--- both are in normal form, without absorbed members and of at most 256 nodes
+-- the law that both types are in normal form, without absorbed members and of at most 256 nodes
 abbrev pub DynamicFlowsAreWellFormed : Type 0
 DynamicFlowsAreWellFormed = (m : Module) (p : Place) (s t : Tree) → FlowsDynamically m p s t
     → IsWellFormed (bases_of m) s × IsWellFormed (bases_of m) t
 
--- no other types flow dynamically at the same place
+-- the law that no other types flow dynamically at the same place
 abbrev pub DynamicFlowsAreUnique : Type 0
 DynamicFlowsAreUnique = (m : Module) (p : Place) (s t u v : Tree) → FlowsDynamically m p s t → FlowsDynamically m p u v
     → (s ≡ u) × (t ≡ v)
 
--- the flow that is computed at a place is the dynamic flow there
+-- the law that the computed flow at a place is the dynamic flow there
 abbrev pub DynamicFlowsAreComputed : Type 0
 DynamicFlowsAreComputed = (m : Module) (p : Place) (s t : Tree)
     → dynamic_flow m p ≡ Some (s, t) ↔ FlowsDynamically m p s t
 
--- types of a store that mean the two that flow dynamically at a place, or none where A1 is not found there
+-- types of a store that mean the two types that flow dynamically at a place, or none if A1 is not found there
 abbrev pub ExplainsPlace : {Store Ty : Type 0} → (has : Store → Ty → Type 0) → (tree : Ty → Tree) → Module → Place
     → Store → Option (Ty × Ty) → Type 0
 ExplainsPlace has tree m p store None = ¬ (IsFinding m (finding p A1))

@@ -1,7 +1,6 @@
--- Statements, suites and functions that have lawful labels, and the law that each has.
--- Labels are made in text order, while declared types are still to be settled: so a table of declared types grows with
--- the names that are bound, and labels are lawful with every table that agrees with it on the names bound by then.
--- Own rule of the profile.
+-- Statements, suites and functions with lawful labels, and the law that each has them. Labels are made in text order,
+-- while some declared types are still unknown: so a table of declared types grows with the names that are bound, and
+-- labels are lawful with every table that agrees with it on the names bound by then. Own rule of the profile.
 use Rattle.std.specs.Prelude.{◌≡◌, ◌<◌, ℕ, List, [], ◌∷◌, ◌++◌, length, Bool as Test, true, false, Option, Some, None}
 use Rattle.std.specs.Prelude.{is_some}
 use Rattle.pc_tree.specs.Tree.{Stmt, Stmts, Branches, FuncDef, Member, Module}
@@ -10,7 +9,7 @@ use Rattle.pc_scope.specs.Bindings.{texts}
 use Rattle.pc_scope.specs.Reach.{completes, completes_all, some_completes}
 use Rattle.pc_scope.specs.Resolution.{is_one_of}
 use Rattle.pc_scope.specs.declared.resolution.Owner.{Owner}
-use Rattle.pc_scope.specs.declared.resolution.Res.TheVariants as res
+use Rattle.pc_scope.specs.declared.resolution.NameMeaning.TheVariants as res
 use Rattle.pc_types.specs.Tree.{Tree}
 use Rattle.pc_types.specs.WellFormed.{IsWellFormed}
 use Rattle.pc_class.specs.Bases.{bases_of}
@@ -25,12 +24,12 @@ use Rattle.pc_module_rules.specs.StatementLabels.{breaks_in_branches, ways_in}
 use Rattle.pc_module_rules.specs.Statements.{NamesBound, LawfulStmt, LawfulSuite, LawfulBranches}
 use Rattle.pc_module_rules.specs.Modules.{FunctionLabels, LawfulFunction, MembersLabels, LawfulMembers}
 
--- names mean so many locals, and no two names the same one
+-- names mean locals with numbers below a count, and no two names mean the same one
 pub record Locals (ctx : Context) (count : ℕ) : Type 0 where
   pub below : (word : List ℕ) (x : ℕ) → ctx.resolve word ≡ res.Local x → x < count
   pub apart : (a b : List ℕ) (x : ℕ) → ctx.resolve a ≡ res.Local x → ctx.resolve b ≡ res.Local x → a ≡ b
 
--- what statements stand in: a module, what they may name, all of it of well-formed types, and so many locals
+-- the surroundings of statements: a module, a context with well-formed types, and the number of locals
 pub record Surroundings : Type 0 where
   pub whole : Module
   pub context : Context
@@ -38,7 +37,7 @@ pub record Surroundings : Type 0 where
   pub count : ℕ
   pub locals : Locals context count
 
--- a table of declared types: a well-formed one for each local
+-- a table with a well-formed declared type for each local
 pub record IsDeclaredTable (setting : Surroundings) (declared : List Tree) : Type 0 where
   pub long : length declared ≡ setting.count
   pub well_formed : AreWellFormed setting.context.bases declared
@@ -48,31 +47,32 @@ abbrev pub Agree : Context → (declared others : List Tree) → NamesBound → 
 Agree ctx declared others seen = (word : List ℕ) (x : ℕ) → is_one_of word seen ≡ true → ctx.resolve word ≡ res.Local x
     → declared_type declared x ≡ declared_type others x
 
--- an environment goes by the names bound so far: its types are well-formed, and it assigns only locals on which each
--- table agrees that agrees on those names
+-- an environment depends only on the names bound so far: its types are well-formed, and it assigns only locals whose
+-- declared types are fixed by those names
 pub record GoesByNames (setting : Surroundings) (declared : List Tree) (seen : NamesBound) (env : Env) : Type 0 where
   pub well_formed : IsWellFormedEnv setting.context.bases env
   pub same : (others : List Tree) → IsDeclaredTable setting others → Agree setting.context declared others seen
       → SameWhere declared others env
 
--- several environments go by the names bound so far
+-- each of several environments depends only on the names bound so far
 abbrev pub SettledAll : Surroundings → List Tree → NamesBound → List Env → Type 0
 SettledAll setting declared seen [] = Unit {0}
 SettledAll setting declared seen (e ∷ es) = GoesByNames setting declared seen e × SettledAll setting declared seen es
 
--- an environment, if there is one, goes by the names bound so far
+-- an environment, if there is one, depends only on the names bound so far
 abbrev pub OutSettled : Surroundings → List Tree → NamesBound → Option Env → Type 0
 OutSettled setting declared seen None = Unit {0}
 OutSettled setting declared seen (Some env) = GoesByNames setting declared seen env
 
--- there is a way
+-- whether some branch can complete
 abbrev pub any_way : List Env → Test
 any_way [] = false
 any_way (e ∷ es) = true
 
--- A statement is labelled, from a table, the names bound so far and an environment: there are a table that agrees on
--- those names, labels, and the environment after it, that go by the names bound by then; it ends somewhere exactly
--- where it can complete; and the labels are lawful with every table that agrees on the names bound by then.
+-- a statement is labelled, from a table, the names bound so far and an environment: there are a table that agrees on
+-- those names, labels, and the environment after it, which depend only on the names bound by then; the environment
+-- after it exists exactly if the statement can complete; and the labels are lawful with every table that agrees on the
+-- names bound by then
 pub record StmtLabelled (setting : Surroundings) (returned : Tree) (declared : List Tree) (seen : NamesBound)
     (env : Env) (s : Stmt) : Type 0 where
   pub table : List Tree
@@ -87,7 +87,7 @@ pub record StmtLabelled (setting : Surroundings) (returned : Tree) (declared : L
       → Agree setting.context table others (texts (bound_by_stmt s) ++ seen)
       → LawfulStmt setting.whole setting.context others returned seen env s labels out
 
--- a suite has lawful labels from here on, as a statement has
+-- a suite is labelled, as a statement is
 pub record SuiteLabelled (setting : Surroundings) (returned : Tree) (declared : List Tree) (seen : NamesBound)
     (env : Env) (b : Stmts) : Type 0 where
   pub table : List Tree
@@ -102,7 +102,7 @@ pub record SuiteLabelled (setting : Surroundings) (returned : Tree) (declared : 
       → Agree setting.context table others (texts (bound_by b) ++ seen)
       → LawfulSuite setting.whole setting.context others returned seen env b labels out
 
--- the branches of an `if` have lawful labels: the environments at their ends, and the one where no condition was true
+-- the branches of an `if` are labelled, with the environments at their ends and the one after all conditions are false
 pub record BranchesLabelled (setting : Surroundings) (returned : Tree) (declared : List Tree) (seen : NamesBound)
     (env : Env) (bs : Branches) : Type 0 where
   pub table : List Tree
@@ -118,15 +118,15 @@ pub record BranchesLabelled (setting : Surroundings) (returned : Tree) (declared
       → Agree setting.context table others (texts (bound_by_branches bs) ++ seen)
       → LawfulBranches setting.whole setting.context others returned seen env bs labels last
 
--- each statement is labelled, from a table and an environment that go by the names bound so far, in a function that
--- returns a well-formed type
+-- the law that each statement is labelled, from a table and an environment that depend only on the names bound so far,
+-- in a function that returns a well-formed type
 abbrev pub StatementsAreLabelled : Type 0
 StatementsAreLabelled =
     (setting : Surroundings) (returned : Tree) → IsWellFormed setting.context.bases returned
     → (declared : List Tree) (seen : NamesBound) (env : Env) → IsDeclaredTable setting declared
     → GoesByNames setting declared seen env → (s : Stmt) → StmtLabelled setting returned declared seen env s
 
--- each suite is labelled, from such a table and environment, in a function that returns a well-formed type
+-- the law that each suite is labelled, from such a table and environment, in a function that returns a well-formed type
 abbrev pub SuitesAreLabelled : Type 0
 SuitesAreLabelled =
     (setting : Surroundings) (returned : Tree) → IsWellFormed setting.context.bases returned
@@ -144,12 +144,12 @@ pub record MembersLabelled (m : Module) (constants : List Tree) (base : ClassFac
   pub labels : MembersLabels ms
   pub lawful : LawfulMembers m constants base c number before ms labels
 
--- each function has lawful labels, where the types of the constants are well-formed
+-- the law that each function has lawful labels, if the types of the constants are well-formed
 abbrev pub FunctionsAreLabelled : Type 0
 FunctionsAreLabelled = (m : Module) (constants : List Tree) → AreWellFormed (bases_of m) constants
     → (owner : Owner) (f : FuncDef) → FunctionLabelled m constants owner f
 
--- the members of each class have lawful labels, where the types of the constants are well-formed
+-- the law that the members of each class have lawful labels, if the types of the constants are well-formed
 abbrev pub ClassesAreLabelled : Type 0
 ClassesAreLabelled = (m : Module) (constants : List Tree) → AreWellFormed (bases_of m) constants
     → (base : ClassFacts) (c number : ℕ) (before : List (List ℕ)) (ms : List Member)

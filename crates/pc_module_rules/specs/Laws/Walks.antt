@@ -1,12 +1,12 @@
--- The law that a walk over statements comes to just what their lawful labels say: the computed twin of the rules of
--- statements has the environments of the labels, and finds just what stands under them, but for what is found of
--- scopes. Own rule of the profile.
+-- The law that a walk over statements agrees with their lawful labels: the computed twin of the rules of statements has
+-- the environments of the labels, and finds exactly what is under them, except E02 and E03, which scope analysis
+-- reports. Own rule of the profile.
 use Rattle.std.specs.Prelude.{◌≡◌, ◌⊎◌, ◌↔◌, ℕ, List, [], ◌++◌, length, true, false, Option, Some, None, Contains}
 use Rattle.pc_tree.specs.declared.code.Finding.{Finding}
 use Rattle.pc_tree.specs.Tree.{Stmt, Stmts, FuncDef, Module}
 use Rattle.pc_tree.specs.Stopping.{bound_by, bound_by_stmt}
 use Rattle.pc_scope.specs.declared.resolution.Owner.{Owner}
-use Rattle.pc_scope.specs.declared.resolution.Res.TheVariants as res
+use Rattle.pc_scope.specs.declared.resolution.NameMeaning.TheVariants as res
 use Rattle.pc_scope.specs.Bindings.{texts}
 use Rattle.pc_scope.specs.Resolution.{is_one_of, locals}
 use Rattle.pc_types.specs.Tree.{Tree}
@@ -27,7 +27,7 @@ use Rattle.pc_module_rules.specs.Computed.Statements.{Table, type_table, bound_t
 use Rattle.pc_module_rules.specs.Computed.Statements.{walk_suite}
 use Rattle.pc_module_rules.specs.Computed.Statements.{function_finds}
 
--- what the statements of a function that returns this type stand in
+-- the body context of a function that returns this type
 abbrev pub body_context_in : Surroundings → (returned : Tree) → BodyContext
 body_context_in setting returned = record {
   whole = setting.whole;
@@ -36,7 +36,7 @@ body_context_in setting returned = record {
   keeps = false;
 }
 
--- a table of a walk fits declared types, after the names bound so far: each local that one of them means has its
+-- the table of a walk fits declared types, after the names bound so far: each local that one of them means has its
 -- declared type there, and no other local has one
 pub record TableFits (setting : Surroundings) (declared : List Tree) (seen : NamesBound) (table : Table) : Type 0 where
   pub long : length table ≡ setting.count
@@ -46,33 +46,33 @@ pub record TableFits (setting : Surroundings) (declared : List Tree) (seen : Nam
   pub unbound : (word : List ℕ) (x : ℕ) → is_one_of word seen ≡ false → setting.context.resolve word ≡ res.Local x
       → bound_type table x ≡ None
 
--- an environment fits a table of a walk and declared types: they agree on each local that it assigns, and its types are
--- well-formed
+-- an environment fits the table of a walk and declared types: they agree on each local that it assigns, and its types
+-- are well-formed
 pub record EnvFits (setting : Surroundings) (declared : List Tree) (table : Table) (env : Env) : Type 0 where
   pub same : SameWhere declared (type_table table) env
   pub well_formed : IsWellFormedEnv setting.context.bases env
 
--- an environment fits a table of a walk and declared types, if there is one
+-- an environment, if there is one, fits the table of a walk and declared types
 abbrev pub OutFits : Surroundings → List Tree → Table → Option Env → Type 0
 OutFits setting declared table None = Unit {0}
 OutFits setting declared table (Some env) = EnvFits setting declared table env
 
--- the way out of a loop, if there is a loop, joined with the environments at several `break`s
+-- the exit environment of a loop, if there is a loop, joined with the environments at several `break`s
 abbrev pub with_breaks : Bases → (declared : List Tree) → (broken : Option Env) → List Env → Option Env
 with_breaks bases declared None envs = None
 with_breaks bases declared (Some way) envs = Some (join_envs_onto bases declared way envs)
 
--- more was found: just what is said, but for what is found of scopes
+-- exactly these findings were added, except those of scope analysis
 abbrev pub Adds : (before after : List Note) → (Says : Finding → Type 0) → Type 0
 Adds before after Says = (f : Finding)
     → Contains (findings_of after) f ↔ (Contains (findings_of before) f ⊎ (Says f × (is_of_scopes f.code ≡ false)))
 
--- a list has just what is said, but for what is found of scopes
+-- a list holds exactly these findings, except those of scope analysis
 abbrev pub Lists : List Note → (Says : Finding → Type 0) → Type 0
 Lists notes Says = (f : Finding) → Contains (findings_of notes) f ↔ (Says f × (is_of_scopes f.code ≡ false))
 
--- A walk has come to what labels say: from a table to one that fits after these names, to this environment, with these
--- `break`s joined, and with what is said found; and what fitted the table before fits the one after.
+-- a walk agrees with labels: its table fits after these names, its environment is this one, these `break`s are joined,
+-- and exactly these findings were added; and what fitted the table before fits the one after
 pub record WalkSays (setting : Surroundings) (declared : List Tree) (seen : NamesBound) (table : Table)
     (broken : Option Env) (found : List Note) (w : Walk) (out : Option Env) (breaks : List Env)
     (Says : Finding → Type 0) : Type 0 where
@@ -84,7 +84,7 @@ pub record WalkSays (setting : Surroundings) (declared : List Tree) (seen : Name
   pub broken_fits : OutFits setting declared w.table w.broken
   pub found_is : Adds found w.found Says
 
--- a walk over a statement comes to what any lawful labels of it say
+-- the law that a walk over a statement agrees with any lawful labels of it
 abbrev pub WalksOfStatementsSayWhatLabelsSay : Type 0
 WalksOfStatementsSayWhatLabelsSay =
     (setting : Surroundings) (returned : Tree) → IsWellFormed setting.context.bases returned →
@@ -96,7 +96,7 @@ WalksOfStatementsSayWhatLabelsSay =
     (step (body_context_in setting returned) table (Some env) broken found s) out (breaks_in s labels)
     (StmtFinds setting.whole setting.context seen s labels)
 
--- a walk over a suite comes to what its labels say
+-- the law that a walk over a suite agrees with any lawful labels of it
 abbrev pub WalksOfSuitesSayWhatLabelsSay : Type 0
 WalksOfSuitesSayWhatLabelsSay =
     (setting : Surroundings) (returned : Tree) → IsWellFormed setting.context.bases returned →
@@ -109,15 +109,15 @@ WalksOfSuitesSayWhatLabelsSay =
     (record { table = table; env = Some env; broken = broken; found = found }) b) out (breaks_in_suite b labels)
     (SuiteFinds setting.whole setting.context seen b labels)
 
--- what labels say in the body of a function and at its name
+-- the findings under labels in the body of a function and at its name
 abbrev pub BodySays : Module → (constants : List Tree) → Owner → (f : FuncDef) → FunctionLabels f → Finding → Type 0
 BodySays m constants owner f labels g =
     IsCodeAt f.name.place labels.completing g
     ⊎ SuiteFinds m (body_context m constants (locals owner f))
     (names_entered [] (entry_parameters m owner f)) f.body labels.body g
 
--- the walk over the body of a function finds just what any lawful labels of the function say in its body and at its
--- name, but for what is found of scopes
+-- the law that the walk over the body of a function finds exactly what is under any lawful labels of the function in
+-- its body and at its name, except those of scope analysis
 abbrev pub BodiesFindWhatLabelsSay : Type 0
 BodiesFindWhatLabelsSay =
     (m : Module) (constants : List Tree) → AreWellFormed (bases_of m) constants

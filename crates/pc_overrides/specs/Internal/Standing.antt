@@ -1,5 +1,5 @@
--- Demands that stand for others, so that whatever meets the one meets the other; and demands that are enough in place
--- of methods. Own rule of the profile.
+-- Demands that imply others, so that whatever satisfies the one satisfies the other; and demands that are enough in
+-- place of methods. Own rule of the profile.
 use Rattle.std.specs.Prelude.{◌≡◌, ℕ, zero, suc, List, Bool, true, false, ◌&&◌, IsTrue, Option, Some, None, All}
 use Rattle.std.specs.Prelude.{slice_get, string_bytes, Vec}
 use Rattle.std.specs.Global.{Global}
@@ -7,7 +7,7 @@ use Rattle.std.specs.List.{list_all}
 use Rattle.pc_types.specs.Tree.{Tree, Any}
 use Rattle.pc_types.specs.Below.{Bases, base_of}
 use Rattle.pc_types.specs.Assignable.{IsPlain}
-use Rattle.pc_ann.specs.Bases.{bases_of}
+use Rattle.pc_annotations.specs.Bases.{bases_of}
 use Rattle.pc_overrides.specs.declared.known.Judged.{Judged}
 use Rattle.pc_overrides.specs.declared.known.Judging.{Judging}
 use Rattle.pc_overrides.specs.declared.overriding.Demand.{Demand}
@@ -19,19 +19,19 @@ use Rattle.pc_class.specs.Tables.{IsMethod, method_lent}
 use Rattle.pc_class.specs.WellFormed.{MethodWellFormed}
 use Rattle.pc_overrides.specs.Internal.OverrideTests.{overrides_by, meets, meets_demand, module_judged, methods_above}
 
--- a type without Any, the same type as the other, or one beside Any: where it is static to the other, what is good
--- against it is good against the other
+-- a type without Any, the same type as the other, or any type if the other is Any: if it is a static subtype of the
+-- other, whatever is good against it is good against the other
 pub data Settles (new old : Tree) : Type 0 where
   plain : IsPlain new → Settles new old
   unknown : old ≡ Any → Settles new old
   same : new ≡ old → Settles new old
 
--- the type of a parameter settles that of the ancestor's
+-- the type of a parameter settles that of the ancestor's parameter
 abbrev pub ParameterSettles : (new old : Option TypedParameter) → Type 0
 ParameterSettles (Some new) (Some old) = Settles new.type old.type
 ParameterSettles _ _ = ⊥
 
--- the type of a method at a part settles that of another there
+-- the type of a method at a part settles that of another method at this part
 abbrev pub PartSettles : (new old : Method) → ℕ → Type 0
 PartSettles new old zero = Settles new.returns old.returns
 PartSettles new old (suc n) = ParameterSettles (slice_get new.parameters n) (slice_get old.parameters n)
@@ -41,7 +41,7 @@ pub record AreAlike (x y : Method) : Type 0 where
   pub parameters : x.parameters ≡ y.parameters
   pub returns : x.returns ≡ y.returns
 
--- whatever meets what the one asks at a part meets what the other asks there
+-- whatever satisfies the demand of the one method at a part satisfies that of the other
 abbrev pub StandsFor : Bases → (new old : Method) → ℕ → Type 0
 StandsFor bases new old part = (relation : Relation) (z : Method) → MethodWellFormed bases z
     → IsTrue (meets relation bases z new part) → IsTrue (meets relation bases z old part)
@@ -52,37 +52,38 @@ static_where false _ = None
 static_where true static = Some static
 
 module _ {Ty : Type 0} (tree : Ty → Tree) where
-  -- meeting these demands is meeting those and one more
+  -- to satisfy these demands is to satisfy the earlier ones and one more
   abbrev pub IsOneMore : Bases → (demands before : List (Demand Ty)) → Demand Ty → Type 0
   IsOneMore bases demands before d = (relation : Relation) (z : Method) → MethodWellFormed bases z
       → list_all (meets_demand tree relation bases z) demands
       ≡ (list_all (meets_demand tree relation bases z) before && meets_demand tree relation bases z d)
 
-  -- meeting these demands is overriding a method and meeting the others
+  -- to satisfy these demands is to override a method and to satisfy the others
   abbrev pub AreWith : Bases → (demands : List (Demand Ty)) → Method → (others : List (Demand Ty)) → Type 0
   AreWith bases demands x others = (relation : Relation) (z : Method) → MethodWellFormed bases z
       → list_all (meets_demand tree relation bases z) demands
       ≡ (overrides_by relation bases z x && list_all (meets_demand tree relation bases z) others)
 
-  -- meeting these demands and overriding some methods is overriding all of others
+  -- to satisfy these demands and to override some methods is to override all of these methods
   abbrev pub IsEnough : Bases → List (Demand Ty) → (some all : List Method) → Type 0
   IsEnough bases demands some all = (relation : Relation) (z : Method) → MethodWellFormed bases z
       → (list_all (meets_demand tree relation bases z) demands && list_all (overrides_by relation bases z) some)
       ≡ list_all (overrides_by relation bases z) all
 
   module _ (s : Judging Ty) where
-    -- demands of methods of the table
+    -- the methods of these demands are in the table
     abbrev pub AreListed : List (Demand Ty) → Type 0
     AreListed demands = All (λ (d : Demand Ty). IsMethod s.classes.now d.method.now) demands
 
-    -- demands of methods of the table, and all methods of the name from a class on, are enough in place of methods
+    -- demands of methods in the table, with all methods of the name that a class has, are enough in place of these
+    -- methods
     pub record StandIn (name : List ℕ) (olds : List Method) (demands : List (Demand Ty)) (rest : Option ℕ) : Type 0
       where
         pub listed : AreListed demands
         pub enough : IsEnough (bases_of (module_judged s)) demands (overridden (methods_above s rest) name) olds
 
-    -- what is known of a method of a class: it is one of the table's; its code; what stands in for all of its name that
-    -- the class has
+    -- the facts kept of a method of a class: the method is in the table; its code; demands in place of all methods of
+    -- its name that the class has
     pub record IsKnown (c : ℕ) (k : Judged Ty) : Type 0 where
       pub method : IsMethod s.classes.now k.method.now
       pub code : k.code ≡ override_code (bases_of (module_judged s)) (overridden (methods_above s
@@ -90,7 +91,7 @@ module _ {Ty : Type 0} (tree : Ty → Tree) where
       pub known : StandIn (string_bytes k.method.now.name)
           (overridden (methods_above s (Some c)) (string_bytes k.method.now.name)) k.demands.items k.rest
 
-    -- what is known of the methods of each class
+    -- the facts kept of the methods of each class
     abbrev pub AreKnown : List (Vec (Judged Ty) Global) → Type 0
     AreKnown judged = (c : ℕ) (own : Vec (Judged Ty) Global) → slice_get judged c ≡ Some own
         → All (IsKnown c) own.items

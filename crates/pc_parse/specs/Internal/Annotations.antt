@@ -1,4 +1,4 @@
--- What the functions promise that read annotations.
+-- Results of the functions that read annotations.
 use Rattle.std.specs.Prelude.{ℕ, ◌≡◌, ◌≤◌, ◌<◌, List, [], ◌∷◌, Option, Result, MatchResult, min}
 use Rattle.std.specs.Iterator.{Count}
 use Rattle.pc_source.specs.declared.fault.Fault.{Fault}
@@ -18,7 +18,8 @@ use Rattle.pc_reader.specs.Reading.{Blames, Came, Onward, IsReady, left_in}
 use Rattle.pc_parse.specs.declared.annotation.Annotation.{Annotation}
 use Rattle.pc_parse.specs.declared.annotation.Annotations.{Annotations}
 
--- all of an annotation that these tokens spell, but for a tree that is too deep, of which that it is too deep
+-- the value keeps the annotation that these tokens spell; of one that is too deep, only its place and that it is too
+-- deep
 pub record KeepsAnn (o : Annotation) (a : Ann) (ts : List Lexeme) : Type 0 where
   pub starts : Starts ts o.place.start
   pub ends : Ends ts o.place.end
@@ -31,16 +32,16 @@ abbrev pub anns_in : List RustAnn → Anns
 anns_in [] = no_anns
 anns_in (a ∷ rest) = more_anns (ann_of a) (anns_in rest)
 
--- the annotations, unless one is so deep that the node over them is too deep
+-- the list keeps these annotations, unless a node over them would be too deep
 pub record KeepsAnns (o : Annotations) (anns : Anns) : Type 0 where
   pub depth : o.depth ≡ min 65 (depth_over_anns anns)
   pub kept : o.depth ≤ 64 → anns_in o.anns.items ≡ anns
 
--- the annotation that tokens between these bytes spell
+-- the value is the annotation that any tokens between these bytes spell
 abbrev pub MakesAnn : Annotation → (Place → Ann) → ℕ → ℕ → Type 0
 MakesAnn o make start end = (ts : List Lexeme) → Starts ts start → Ends ts end → KeepsAnn o (make (span ts)) ts
 
--- a state after a name and its bracket, with the tokens of the part so far, the parts before and their tokens
+-- a state after a name and its bracket, given the tokens of the part so far, the parts before and their tokens
 abbrev pub Opened : Type 0
 Opened = (head : Name) (tokens : List Lexeme) (parts : Anns) (before : List Lexeme) (s : AnnStack) → State
 
@@ -56,7 +57,7 @@ module _ {X I : Type 0} (text : X → List ℕ) (steps : I → Option (Result (T
     pub leads : (s : AnnStack)
         → Onward text steps a b (at (part_due no_anns [] s)) (at (part_read tree tokens no_anns [] s))
 
-  -- an annotation was read, or the refusal is that to which the tokens lead
+  -- an annotation was read, or the refusal is the machine's
   abbrev pub ReadsUnion : Reader X I → Reader X I → Result Annotation Fault → Type 0
   ReadsUnion a b r = MatchResult r (λ o. GivesUnion a b o)
       (λ e. Blames e (λ x. (s : AnnStack) → Came text steps a (at (part_due no_anns [] s)) x))
@@ -71,13 +72,13 @@ module _ {X I : Type 0} (text : X → List ℕ) (steps : I → Option (Result (T
     pub leads : (parts : Anns) (before : List Lexeme) (s : AnnStack)
         → Onward text steps a b (at (part_due parts before s)) (at (part_read tree tokens parts before s))
 
-  -- a part was read, or the refusal is that to which the tokens lead
+  -- a part was read, or the refusal is the machine's
   abbrev pub ReadsPart : Reader X I → Reader X I → Result Annotation Fault → Type 0
   ReadsPart a b r = MatchResult r (λ o. GivesPart a b o)
       (λ e. Blames e (λ x. (parts : Anns) (before : List Lexeme) (s : AnnStack)
       → Came text steps a (at (part_due parts before s)) x))
 
-  -- what stands after a name and its bracket was read, after these tokens of the part
+  -- the brackets after a name were read, after these tokens of the part
   pub record AppliesOn (from : Opened) (a b : Reader X I) (o : Annotation) (head : Name)
       (ts : List Lexeme) : Type 0 where
     pub tree : Ann
@@ -86,20 +87,20 @@ module _ {X I : Type 0} (text : X → List ℕ) (steps : I → Option (Result (T
     pub leads : (parts : Anns) (before : List Lexeme) (s : AnnStack)
         → Onward text steps a b (at (from head ts parts before s)) (at (part_read tree tokens parts before s))
 
-  -- what stands after a name and its bracket was read, whatever tokens of the part begin with the name
+  -- the brackets after a name were read, whatever the tokens of the part that begin with the name
   pub record GivesApplied (from : Opened) (a b : Reader X I) (head : RustName) (o : Annotation) : Type 0 where
     pub ready : IsReady can left b
     pub later : left_in left b < left_in left a
     pub applies : (ts : List Lexeme) → Starts ts head.place.start → AppliesOn from a b o (name_of head) ts
 
-  -- what stands after a name and its bracket was read, or the refusal is that to which the tokens lead
+  -- the brackets after a name were read, or the refusal is the machine's
   abbrev pub ReadsApplied : Opened → Reader X I → Reader X I → RustName → Result Annotation Fault → Type 0
   ReadsApplied from a b head r = MatchResult r (λ o. GivesApplied from a b head o)
       (λ e. Blames e (λ x. (ts : List Lexeme) → Starts ts head.place.start
       → (parts : Anns) (before : List Lexeme) (s : AnnStack)
       → Came text steps a (at (from (name_of head) ts parts before s)) x))
 
-  -- parts with `|` after each were read
+  -- parts were read so far, each followed by `|`
   pub record PartsSoFar (a b : Reader X I) (now : Annotations) (start : ℕ) : Type 0 where
     pub first : Ann
     pub rest : Anns
@@ -109,7 +110,7 @@ module _ {X I : Type 0} (text : X → List ℕ) (steps : I → Option (Result (T
     pub leads : (s : AnnStack)
         → Onward text steps a b (at (part_due no_anns [] s)) (at (part_due (more_anns first rest) tokens s))
 
-  -- arguments with a comma after each were read
+  -- arguments were read so far, each followed by a comma
   pub record ArgumentsSoFar (a b : Reader X I) (now : Annotations) (head : RustName) (ts : List Lexeme) : Type 0 where
     pub arguments : Anns
     pub tokens : List Lexeme

@@ -1,4 +1,4 @@
--- What the functions promise that read classes.
+-- Results of the functions that read classes.
 use Rattle.std.specs.Prelude.{ℕ, ◌≡◌, ◌≤◌, ◌<◌, false, List, [], ◌∷◌, ◌++◌, map, Option, Some, None, Result}
 use Rattle.std.specs.Prelude.{MatchResult, Vec}
 use Rattle.std.specs.declared.alloc.Global.{Global}
@@ -25,24 +25,24 @@ use Rattle.pc_reader.specs.Reading.{Blames, IsAhead, Came, Onward, IsReady, left
 use Rattle.pc_parse.specs.declared.parser.Parser.{Parser}
 use Rattle.pc_parse.specs.Internal.WholeTrees.{KeepsTree}
 
--- a class of this name and base
+-- the class with this base
 abbrev pub with_base : ClassStart → Option RustName → ClassStart
 with_base c base = record c { base = option_name_of base }
 
--- no token is ahead that ends these members
+-- the token ahead, if any, does not end these members
 abbrev pub GoOn : {X I : Type 0} → Reader X I → ClassStart → List Member → Type 0
 GoOn {X} a c ms = (t : Token X) → a.ahead ≡ Some t → members_end c ms t.kind ≡ stuck
 
 module _ {X I : Type 0} (text : X → List ℕ) (steps : I → Option (Result (Token X) Fault) → I → Type 0)
     (can : I → Type 0) (left : I → Count) where
-  -- what stands between the name of a class and its first member was read
+  -- the tokens between the name of a class and its first member were read
   pub record GivesBase (a b : Reader X I) (base : Option RustName) : Type 0 where
     pub ready : IsReady can left b
     pub later : left_in left b ≤ left_in left a
     pub leads : (c : ClassStart) → c.base ≡ None
         → Onward text steps a b (at (class_named c)) (at (members (with_base c base) []))
 
-  -- what stands between a class's name and its members was read, or the refusal is that to which the tokens lead
+  -- the tokens between the name of a class and its first member were read, or the refusal is the machine's
   abbrev pub ReadsBase : Reader X I → Reader X I → Result (Option RustName) Fault → Type 0
   ReadsBase a b r = MatchResult r (λ n. GivesBase a b n)
       (λ e. Blames e (λ o. (c : ClassStart) → c.base ≡ None → Came text steps a (at (class_named c)) o))
@@ -56,8 +56,7 @@ module _ {X I : Type 0} (text : X → List ℕ) (steps : I → Option (Result (T
     pub leads : (c : ClassStart) (ms : List Member)
         → Onward text steps a.reader b.reader (at (members c ms)) (at (members c (ms ++ (field_member field ∷ []))))
 
-  -- a field was read, or the refusal is that to which the tokens lead where neither `def` nor an end of the members is
-  -- ahead
+  -- a field was read, or the refusal is the machine's where neither `def` nor an end of the members is ahead
   abbrev pub ReadsField : Parser X I → Parser X I → Result RustField Fault → Type 0
   ReadsField a b r = MatchResult r (λ f. GivesField a b f)
       (λ e. Blames e (λ o. (c : ClassStart) (ms : List Member) → IsAhead (kind.Keyword word.Def) a.reader.ahead ≡ false
@@ -72,7 +71,7 @@ module _ {X I : Type 0} (text : X → List ℕ) (steps : I → Option (Result (T
     pub leads : (c : ClassStart) (ms : List Member)
         → Onward text steps a.reader b.reader (at (members c ms)) (at (members c (ms ++ (member ∷ []))))
 
-  -- a member was read, or the refusal is that to which the tokens lead where no end of the members is ahead
+  -- a member was read, or the refusal is the machine's where no end of the members is ahead
   abbrev pub ReadsMember : Parser X I → Parser X I → Result RustMember Fault → Type 0
   ReadsMember a b r = MatchResult r (λ m. GivesMember a b m)
       (λ e. Blames e (λ o. (c : ClassStart) (ms : List Member) → GoOn a.reader c ms
@@ -86,19 +85,19 @@ module _ {X I : Type 0} (text : X → List ℕ) (steps : I → Option (Result (T
     pub later : left_in left b.reader ≤ left_in left a.reader
     pub leads : (c : ClassStart) → Onward text steps a.reader b.reader (at (members c [])) (at (after_class c all))
 
-  -- the members of a class and the end of its suite were read, or the refusal is that to which the tokens lead
+  -- the members of a class and the end of its suite were read, or the refusal is the machine's
   abbrev pub ReadsMembers : Parser X I → Parser X I → Result (Vec RustMember Global) Fault → Type 0
   ReadsMembers a b r = MatchResult r (λ v. GivesMembers a b v)
       (λ e. Blames e (λ o. (c : ClassStart) → Came text steps a.reader (at (members c [])) o))
 
-  -- members were read so far
+  -- members were read so far, and the token ahead does not end them
   pub record MembersSoFar (a b : Parser X I) (v : Vec RustMember Global) : Type 0 where
     pub all : List Member
     pub keeps : KeepsTree (λ w. map member_of w.items) wholes_of_members a.deep b.deep v all
     pub goes_on : (c : ClassStart) → GoOn b.reader c all
     pub leads : (c : ClassStart) → Onward text steps a.reader b.reader (at (members c [])) (at (members c all))
 
-  -- a class was read from after its `@`
+  -- a class was read, from after its `@`
   pub record GivesClass (a b : Parser X I) (c : RustClassDef) : Type 0 where
     pub class : ClassDef
     pub keeps : KeepsTree class_of (λ x. wholes_of_members x.members) a.deep b.deep c class
@@ -108,7 +107,7 @@ module _ {X I : Type 0} (text : X → List ℕ) (steps : I → Option (Result (T
         → Onward text steps a.reader b.reader (at (decorator_due first top))
         (at (items after_headers (add_item top (class_item first class))))
 
-  -- a class was read from after its `@`, or the refusal is that to which the tokens lead
+  -- a class was read, from after its `@`, or the refusal is the machine's
   abbrev pub ReadsClass : Parser X I → Parser X I → Result RustClassDef Fault → Type 0
   ReadsClass a b r = MatchResult r (λ c. GivesClass a b c)
       (λ e. Blames e (λ o. (first : Place) (top : Top) → Came text steps a.reader (at (decorator_due first top)) o))

@@ -1,4 +1,4 @@
--- What the functions promise that read a module.
+-- Results of the functions that read a module.
 use Rattle.std.specs.Prelude.{ℕ, ◌≡◌, ◌<◌, ◌&&◌, false, List, [], ◌∷◌, ◌++◌, map, Option, Some, Result, Ok, MatchResult}
 use Rattle.std.specs.Prelude.{Vec, codes, bytes_eq}
 use Rattle.std.specs.declared.alloc.Global.{Global}
@@ -21,22 +21,22 @@ use Rattle.pc_grammar.specs.Machine.Finishing.{add_item}
 use Rattle.pc_grammar.specs.Machine.Lines.{start, module_of as module_over}
 use Rattle.pc_reader.specs.declared.reader.Reader.{Reader}
 use Rattle.pc_reader.specs.Reading.{Blames, Came, Onward, IsReady, left_in}
-use Rattle.pc_parse.specs.declared.headers.Headers.{Headers}
+use Rattle.pc_parse.specs.declared.optional_imports.OptionalImports.{OptionalImports}
 use Rattle.pc_parse.specs.declared.piece.Piece.{Piece}
 use Rattle.pc_parse.specs.declared.piece.Piece.TheVariants as piece
 use Rattle.pc_parse.specs.declared.parser.Parser.{Parser}
 use Rattle.pc_parse.specs.Internal.WholeTrees.{KeepsTree}
 
--- `M import N` and the end of the line
+-- the words `M import N` and the end of the line
 abbrev pub import_words : List ℕ → List ℕ → List Fixed
 import_words source imported =
     a_form source ∷ a_kind (kind.Keyword word.Import) ∷ a_form imported ∷ a_kind kind.Newline ∷ []
 
 -- a module with these headers and items
-abbrev pub top_of : Headers → List Item → Top
+abbrev pub top_of : OptionalImports → List Item → Top
 top_of h is = record { imports_dataclass = h.dataclass; imports_any = h.any; items = is }
 
--- after this name no last line goes on
+-- the token ahead, if any, does not continue a last line after this name
 abbrev pub IsNoLastLine : {X I : Type 0} → Reader X I → Name → Type 0
 IsNoLastLine {X} a n = (t : Token X) → a.ahead ≡ Some t
     → (same_kind t.kind (kind.Operator sign.LeftParenthesis) && bytes_eq n.text (codes "main")) ≡ false
@@ -44,16 +44,16 @@ IsNoLastLine {X} a n = (t : Token X) → a.ahead ≡ Some t
 module _ {X I : Type 0} (text : X → List ℕ) (steps : I → Option (Result (Token X) Fault) → I → Type 0)
     (can : I → Type 0) (left : I → Count) where
   -- the headers were read
-  pub record GivesHeaders (a b : Reader X I) (h : Headers) : Type 0 where
+  pub record GivesHeaders (a b : Reader X I) (h : OptionalImports) : Type 0 where
     pub ready : IsReady can left b
     pub later : left_in left b < left_in left a
     pub leads : Onward text steps a b (at start) (at (items after_headers (top_of h [])))
 
-  -- the headers were read, or the refusal is that to which the tokens lead
-  abbrev pub ReadsHeaders : Reader X I → Reader X I → Result Headers Fault → Type 0
+  -- the headers were read, or the refusal is the machine's
+  abbrev pub ReadsHeaders : Reader X I → Reader X I → Result OptionalImports Fault → Type 0
   ReadsHeaders a b r = MatchResult r (λ h. GivesHeaders a b h) (λ e. Blames e (λ o. Came text steps a (at start) o))
 
-  -- a constant was read from after its name
+  -- a constant was read, from after its name
   pub record GivesConstant (a b : Parser X I) (n : Name) (v : RustConstant) : Type 0 where
     pub constant : Constant
     pub keeps : KeepsTree constant_of
@@ -63,8 +63,7 @@ module _ {X I : Type 0} (text : X → List ℕ) (steps : I → Option (Result (T
     pub leads : (top : Top) → Onward text steps a.reader b.reader (at (item_named n top))
         (at (items after_headers (add_item top (constant_item n.place constant))))
 
-  -- where no last line goes on, a constant was read from after its name, or the refusal is that to which the tokens
-  -- lead
+  -- unless this is the last line, a constant was read, from after its name, or the refusal is the machine's
   abbrev pub ReadsConstant : Parser X I → Parser X I → Name → Result RustConstant Fault → Type 0
   ReadsConstant a b n r = IsNoLastLine a.reader n
       → MatchResult r (λ v. GivesConstant a b n v)
@@ -86,29 +85,29 @@ module _ {X I : Type 0} (text : X → List ℕ) (steps : I → Option (Result (T
     pub leads : (top : Top) → Onward text steps a.reader b.reader (at (items after_headers top))
         (at (ended (module_over top main)))
 
-  -- an item was read, or the last line
+  -- an item or the last line was read
   abbrev pub GivesPiece : Parser X I → Parser X I → Piece → Type 0
   GivesPiece a b (piece.Item v) = GivesItem a b v
   GivesPiece a b (piece.Last main) = GivesLast a b main
 
-  -- an item or the last line was read, or the refusal is that to which the tokens lead
+  -- an item or the last line was read, or the refusal is the machine's
   abbrev pub ReadsPiece : Parser X I → Parser X I → Result Piece Fault → Type 0
   ReadsPiece a b r = MatchResult r (λ v. GivesPiece a b v)
       (λ e. Blames e (λ o. (top : Top) → Came text steps a.reader (at (items after_headers top)) o))
 
   -- items were read so far
-  pub record ItemsSoFar (a b : Parser X I) (h : Headers) (v : Vec RustItem Global) : Type 0 where
+  pub record ItemsSoFar (a b : Parser X I) (h : OptionalImports) (v : Vec RustItem Global) : Type 0 where
     pub all : List Item
     pub keeps : KeepsTree (λ w. map item_of w.items) wholes_of_items a.deep b.deep v all
     pub leads : Onward text steps a.reader b.reader (at start) (at (items after_headers (top_of h all)))
 
-  -- a module was read, and all tokens with it
+  -- a module was read, and with it all tokens
   pub record GivesModule (a b : Parser X I) (v : RustModule) : Type 0 where
     pub tree : Module
     pub keeps : KeepsTree module_of (λ m. wholes_of_items m.items) a.deep b.deep v tree
     pub comes : Came text steps a.reader (at start) (Ok tree)
 
-  -- a module was read, or the refusal is that to which the tokens lead
+  -- a module was read, or the refusal is the machine's
   abbrev pub ReadsModule : Parser X I → Parser X I → Result RustModule Fault → Type 0
   ReadsModule a b r = MatchResult r (λ v. GivesModule a b v)
       (λ e. Blames e (λ o. Came text steps a.reader (at start) o))

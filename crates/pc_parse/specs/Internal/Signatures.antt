@@ -1,4 +1,4 @@
--- What the functions promise that read parameters and functions.
+-- Results of the functions that read parameters and functions.
 use Rattle.std.specs.Prelude.{ℕ, ◌≡◌, ◌≤◌, ◌<◌, Bool, false, List, [], map, Option, Some, None, Result, MatchResult}
 use Rattle.std.specs.Prelude.{Vec, codes}
 use Rattle.std.specs.declared.alloc.Global.{Global}
@@ -27,18 +27,18 @@ use Rattle.pc_reader.specs.Internal.StatesAhead.{StandsBefore, LeadsTo}
 use Rattle.pc_parse.specs.declared.parser.Parser.{Parser}
 use Rattle.pc_parse.specs.Internal.WholeTrees.{KeepsTree}
 
--- this sign begins an annotation, and any other token goes on so
+-- the turn where an annotation is optional: this sign begins it, any other token does what it does without one
 abbrev pub opens_ann : Opener → AnnotationPosition → (TokenKind → Turn) → TokenKind → Turn
 opens_ann opener c other k = on (same_kind k (kind.Operator opener)) (part_due no_anns [] (ann_whole c)) (other k)
 
--- what comes after an annotation, or in its place
+-- the turn after an optional annotation
 abbrev pub or_ann : AnnotationPosition → (TokenKind → Turn) → Option Ann → TokenKind → Turn
 or_ann c other None k = other k
 or_ann c other (Some a) k = finish_ann c a k
 
 module _ {X I : Type 0} (text : X → List ℕ) (steps : I → Option (Result (Token X) Fault) → I → Type 0)
     (can : I → Type 0) (left : I → Count) where
-  -- an annotation that may be left out was read
+  -- an optional annotation was read
   pub record GivesOpened (opener : Opener) (a b : Parser X I) (n : Option RustAnn) : Type 0 where
     pub annotation : Option Ann
     pub keeps : KeepsTree option_ann_of optional_anns a.deep b.deep n annotation
@@ -48,7 +48,7 @@ module _ {X I : Type 0} (text : X → List ℕ) (steps : I → Option (Result (T
         → StandsBefore text a.reader st (opens_ann opener c other)
         → LeadsTo text steps a.reader b.reader st (or_ann c other annotation)
 
-  -- an annotation that may be left out was read, or the refusal is that to which the tokens lead
+  -- an optional annotation was read, or the refusal is the machine's
   abbrev pub ReadsOpened : Opener → Parser X I → Parser X I → Result (Option RustAnn) Fault → Type 0
   ReadsOpened opener a b r = MatchResult r (λ n. GivesOpened opener a b n)
       (λ e. Blames e (λ o. (st : State) (c : AnnotationPosition) (other : TokenKind → Turn)
@@ -63,14 +63,14 @@ module _ {X I : Type 0} (text : X → List ℕ) (steps : I → Option (Result (T
     pub leads : (d : DefStart) (ps : List Param)
         → LeadsTo text steps a.reader b.reader (param_due d ps) (param_end d ps parameter)
 
-  -- a parameter was read, or the refusal is that to which the tokens lead where no `)` is ahead
+  -- a parameter was read, or the refusal is the machine's where no `)` is ahead
   abbrev pub ReadsParam : Parser X I → Parser X I → Result RustParam Fault → Type 0
   ReadsParam a b r = MatchResult r (λ p. GivesParam a b p)
       (λ e. Blames e (λ o. (d : DefStart) (ps : List Param)
       → IsAhead (kind.Operator sign.RightParenthesis) a.reader.ahead ≡ false
       → Came text steps a.reader (at (param_due d ps)) o))
 
-  -- parameters and the closing parenthesis were read, from a state that waits for them
+  -- parameters and `)` were read, from a state where they are due
   pub record GivesParams (from : DefStart → State) (a b : Parser X I) (v : Vec RustParam Global) : Type 0 where
     pub params : List Param
     pub keeps : KeepsTree (λ w. map param_of w.items) wholes_of_params a.deep b.deep v params
@@ -78,28 +78,28 @@ module _ {X I : Type 0} (text : X → List ℕ) (steps : I → Option (Result (T
     pub later : left_in left b.reader < left_in left a.reader
     pub leads : (d : DefStart) → Onward text steps a.reader b.reader (at (from d)) (at (params_read d params))
 
-  -- parameters and `)` were read from such a state, or the refusal is that to which the tokens lead
+  -- parameters and `)` were read, from a state where they are due, or the refusal is the machine's
   abbrev pub ReadsParamsFrom : (DefStart → State) → Parser X I → Parser X I → Result (Vec RustParam Global) Fault
       → Type 0
   ReadsParamsFrom from a b r =
       MatchResult r (λ v. GivesParams from a b v)
       (λ e. Blames e (λ o. (d : DefStart) → Came text steps a.reader (at (from d)) o))
 
-  -- parameters and `)` were read after the opening parenthesis of a function, or the refusal is that of the tokens
+  -- parameters and `)` were read, after the `(` of a function, or the refusal is the machine's
   abbrev pub ReadsParams : Parser X I → Parser X I → Result (Vec RustParam Global) Fault → Type 0
   ReadsParams a b r = ReadsParamsFrom (λ d. param_due d []) a b r
 
-  -- after the opening parenthesis of a method
+  -- `self`, parameters and `)` were read, after the `(` of a method, or the refusal is the machine's
   abbrev pub ReadsMethodParams : Parser X I → Parser X I → Result (Vec RustParam Global) Fault → Type 0
   ReadsMethodParams a b r = ReadsParamsFrom (λ d. fixed (a_form (codes "self")) [] (self_read d)) a b r
 
-  -- parameters were read so far, each with a comma after it
+  -- parameters were read so far, each followed by a comma
   pub record ParamsSoFar (a b : Parser X I) (v : Vec RustParam Global) : Type 0 where
     pub params : List Param
     pub keeps : KeepsTree (λ w. map param_of w.items) wholes_of_params a.deep b.deep v params
     pub leads : (d : DefStart) → Onward text steps a.reader b.reader (at (param_due d [])) (at (param_due d params))
 
-  -- the parameters of a function, or of a method, and the parentheses around them were read
+  -- the parameters of a function or method were read, with the parentheses around them
   pub record GivesSignature (method : Bool) (a b : Parser X I) (v : Vec RustParam Global) : Type 0 where
     pub params : List Param
     pub keeps : KeepsTree (λ w. map param_of w.items) wholes_of_params a.deep b.deep v params
@@ -108,14 +108,13 @@ module _ {X I : Type 0} (text : X → List ℕ) (steps : I → Option (Result (T
     pub leads : (owner : Owner) (d : DefStart) → is_method owner ≡ method
         → Onward text steps a.reader b.reader (at (params_of owner d)) (at (params_read d params))
 
-  -- the parameters of a function or method and their parentheses were read, or the refusal is that to which the tokens
-  -- lead
+  -- the parameters of a function or method and their parentheses were read, or the refusal is the machine's
   abbrev pub ReadsSignature : Bool → Parser X I → Parser X I → Result (Vec RustParam Global) Fault → Type 0
   ReadsSignature method a b r = MatchResult r (λ v. GivesSignature method a b v)
       (λ e. Blames e (λ o. (owner : Owner) (d : DefStart) → is_method owner ≡ method
       → Came text steps a.reader (at (params_of owner d)) o))
 
-  -- a function, or a method, was read from after its `def`
+  -- a function or method was read, from after its `def`
   pub record GivesFunction (method : Bool) (a b : Parser X I) (f : RustFuncDef) : Type 0 where
     pub function : FuncDef
     pub keeps : KeepsTree func_of wholes_of_def a.deep b.deep f function
@@ -124,7 +123,7 @@ module _ {X I : Type 0} (text : X → List ℕ) (steps : I → Option (Result (T
     pub leads : (owner : Owner) (first : Place) → is_method owner ≡ method
         → Onward text steps a.reader b.reader (at (def_due owner first)) (at (after_def owner first function))
 
-  -- a function or a method was read from after its `def`, or the refusal is that to which the tokens lead
+  -- a function or method was read, from after its `def`, or the refusal is the machine's
   abbrev pub ReadsFunction : Bool → Parser X I → Parser X I → Result RustFuncDef Fault → Type 0
   ReadsFunction method a b r = MatchResult r (λ f. GivesFunction method a b f)
       (λ e. Blames e (λ o. (owner : Owner) (first : Place) → is_method owner ≡ method

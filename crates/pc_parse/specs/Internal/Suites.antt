@@ -1,4 +1,4 @@
--- What the functions promise that read statements and suites.
+-- Results of the functions that read statements and suites.
 use Rattle.std.specs.Prelude.{ℕ, ◌≡◌, ◌<◌, ◌≤◌, ◌⊎◌, false, List, [], ◌∷◌, Option, Some, None, Result, MatchResult, Vec}
 use Rattle.std.specs.declared.alloc.Global.{Global}
 use Rattle.std.specs.Iterator.{Count}
@@ -35,7 +35,7 @@ use Rattle.pc_parse.specs.declared.statement.Word.{Word}
 use Rattle.pc_parse.specs.declared.statement.Word.TheVariants as alone
 use Rattle.pc_parse.specs.Internal.WholeTrees.{KeepsTree, deep_after}
 
--- what may begin a statement, as the token machine names it
+-- the beginning of a statement, as the machine names it
 abbrev pub lead_view : Lead → Joint
 lead_view rust.Pass = leads_pass
 lead_view rust.Break = leads_break
@@ -48,11 +48,11 @@ lead_view rust.If = leads_if
 lead_view rust.Dedent = leads_out
 lead_view rust.Other = leads_other
 
--- a statement that begins with a token at this place
+-- the site of a statement that begins with a token at this place
 abbrev pub site_at : Place → Stmts → Block → Site
 site_at first done block = record { first = first; done = done; block = block }
 
--- these words begin the suite of this, after an expression
+-- after the expression of this begun statement, a `:` begins this suite
 abbrev pub Heads : Begun → (Expr → Nest) → Type 0
 Heads begun nest = (p : Part) (site : Site) (e : Ending)
     → finish_stmt begun p site e ≡ at_colon (suite_of (nested_in site (nest p.tree))) e
@@ -63,22 +63,22 @@ kind_of_word alone.Pass = statement.Pass
 kind_of_word alone.Break = statement.Break
 kind_of_word alone.Continue = statement.Continue
 
--- if a token is ahead, it begins a statement in this way
+-- the token ahead, if any, begins a statement in this way
 abbrev pub HasLead : {X I : Type 0} → Joint → Parser X I → Type 0
 HasLead {X} l a = (t : Token X) → a.reader.ahead ≡ Some t → lead_of t.kind ≡ l
 
--- a suite does not end before its first statement, and here
+-- the suite has no statement yet, or no end of it is ahead
 abbrev pub MayGoOn : {X I : Type 0} → Stmts → Parser X I → Type 0
 MayGoOn done a = (done ≡ no_stmts) ⊎ (IsAhead kind.Dedent a.reader.ahead ≡ false)
 
 module _ {X I : Type 0} (text : X → List ℕ) where
-  -- the token ahead is all of this statement
+  -- the token ahead, if any, is all of this statement
   abbrev pub HasWord : StmtKind → Parser X I → Type 0
   HasWord k a = (t : Token X) (site : Site) → a.reader.ahead ≡ Some t
       → lead_turn site (lexeme text t) t.kind (lead_of t.kind)
       ≡ go (line_ends (after_stmt site (stmt_of_kind site.first k)))
 
-  -- a line end leads from one state to another, and nothing else goes on from it
+  -- a line end leads from one state to the other, and no other token fits
   pub record LineEnds (a : Parser X I) (st next : State) : Type 0 where
     pub unfinished : stop_at st ≡ short
     pub turns : (t : Token X) → a.reader.ahead ≡ Some t
@@ -93,12 +93,12 @@ module _ {X I : Type 0} (text : X → List ℕ) (steps : I → Option (Result (T
     pub later : left_in left b.reader < left_in left a.reader
     pub leads : (st next : State) → LineEnds text a st next → Onward text steps a.reader b.reader (at st) (at next)
 
-  -- a line end was read after what was read of the line, or the refusal is that to which the tokens lead
+  -- a line end was read, and the value passed in is returned, or the refusal is the machine's
   abbrev pub ReadsLineEnd : {T : Type 0} → Parser X I → Parser X I → T → Result T Fault → Type 0
   ReadsLineEnd a b s r = MatchResult r (λ s'. (s' ≡ s) × EndsLine a b)
       (λ e. Blames e (λ o. (st next : State) → LineEnds text a st next → Came text steps a.reader (at st) o))
 
-  -- a statement was read, from a state after other statements of which this holds
+  -- a statement was read, from a state after other statements that fit
   pub record GivesStmt (start : Stmts → Block → State) (fits : Stmts → Type 0) (a b : Parser X I)
       (s : RustStmt) : Type 0 where
     pub statement : Stmt
@@ -108,7 +108,7 @@ module _ {X I : Type 0} (text : X → List ℕ) (steps : I → Option (Result (T
     pub leads : (done : Stmts) (block : Block) → fits done
         → Onward text steps a.reader b.reader (at (start done block)) (at (stmts (add_stmt done statement) block))
 
-  -- a statement was read from such a state, or the refusal is that to which the tokens lead
+  -- a statement was read, from a state after other statements that fit, or the refusal is the machine's
   abbrev pub ReadsFrom : (Stmts → Block → State) → (Stmts → Type 0) → Parser X I → Parser X I → Result RustStmt Fault
       → Type 0
   ReadsFrom start fits a b r =
@@ -116,17 +116,18 @@ module _ {X I : Type 0} (text : X → List ℕ) (steps : I → Option (Result (T
       (λ e. Blames e (λ o. (done : Stmts) (block : Block) → fits done
       → Came text steps a.reader (at (start done block)) o))
 
-  -- a whole statement
+  -- a whole statement was read, or the refusal is the machine's
   abbrev pub ReadsStmt : (Stmts → Type 0) → Parser X I → Parser X I → Result RustStmt Fault → Type 0
   ReadsStmt fits a b r = ReadsFrom (λ done block. stmts done block) fits a b r
 
-  -- what stands after the `:` of an annotated local, in a statement that begins at this place
+  -- the rest of an annotated local after its `:` was read, in a statement that begins at this place, or the refusal is
+  -- the machine's
   abbrev pub ReadsLocal : Place → RustName → Parser X I → Parser X I → Result RustStmt Fault → Type 0
   ReadsLocal first n a b r =
       ReadsFrom (λ done block. part_due no_anns [] (ann_whole (of_local (name_of n) (site_at first done block))))
       (λ _. Unit {0}) a b r
 
-  -- the statements of a suite were read, from after its `:` up to and with its end
+  -- the statements of a suite were read, from after its `:` to its end
   pub record GivesSuite (a b : Parser X I) (v : Vec RustStmt Global) : Type 0 where
     pub statements : Stmts
     pub keeps : KeepsTree (λ (w : Vec RustStmt Global). stmts_of_list w.items)
@@ -136,7 +137,7 @@ module _ {X I : Type 0} (text : X → List ℕ) (steps : I → Option (Result (T
     pub leads : (block : Block)
         → Onward text steps a.reader b.reader (at (suite_of block)) (at (after_suite block statements))
 
-  -- the statements of a suite and its end were read, or the refusal is that to which the tokens lead
+  -- the statements of a suite and its end were read, or the refusal is the machine's
   abbrev pub ReadsSuite : Parser X I → Parser X I → Result (Vec RustStmt Global) Fault → Type 0
   ReadsSuite a b r = MatchResult r (λ v. GivesSuite a b v)
       (λ e. Blames e (λ o. (block : Block) → Came text steps a.reader (at (suite_of block)) o))
@@ -154,7 +155,7 @@ module _ {X I : Type 0} (text : X → List ℕ) (steps : I → Option (Result (T
         → Onward text steps a.reader b.reader (at (operand (whole (in_statement begun site))))
         (at (after_suite (nested_in site (nest head)) body))
 
-  -- an expression and a suite after it were read, or the refusal is that to which the tokens lead
+  -- an expression and a suite after it were read, or the refusal is the machine's
   abbrev pub ReadsHeaded : Parser X I → Parser X I → Result ((e : RustExpr) × Vec RustStmt Global) Fault → Type 0
   ReadsHeaded a b r = MatchResult r (λ h. GivesHeaded a b h.0 h.1.items)
       (λ e. Blames e (λ o. (begun : Begun) (nest : Expr → Nest) (site : Site) → Heads begun nest
@@ -170,8 +171,7 @@ module _ {X I : Type 0} (text : X → List ℕ) (steps : I → Option (Result (T
         → Onward text steps a.reader b.reader (at (after_branch branches site))
         (at (after_stmt site (conditional site.first branches statements)))
 
-  -- the suite of `else` was read, if there is one, or the refusal is that to which the tokens lead where no `elif` is
-  -- ahead
+  -- the suite of `else` was read, if there is one, or the refusal is the machine's where no `elif` is ahead
   abbrev pub ReadsElse : Parser X I → Parser X I → Result (Vec RustStmt Global) Fault → Type 0
   ReadsElse a b r = MatchResult r (λ v. GivesElse a b v.items)
       (λ e. Blames e (λ o. (branches : Branches) (site : Site) → IsAhead (kind.Keyword word.Elif) a.reader.ahead ≡ false
@@ -179,7 +179,7 @@ module _ {X I : Type 0} (text : X → List ℕ) (steps : I → Option (Result (T
 
   -- ---- loops
 
-  -- the statements of a suite so far
+  -- the statements of a suite were read so far
   pub record StmtsSoFar (a b : Parser X I) (v : List RustStmt) : Type 0 where
     pub statements : Stmts
     pub keeps : KeepsTree stmts_of_list wholes_of_stmts a.deep b.deep v statements
@@ -189,7 +189,7 @@ module _ {X I : Type 0} (text : X → List ℕ) (steps : I → Option (Result (T
     pub leads : (block : Block)
         → Onward text steps a.reader b.reader (at (suite_of block)) (at (stmts statements block))
 
-  -- the branches of an `if` so far, before a condition
+  -- the branches of an `if` were read so far, up to the next condition
   pub record BranchesSoFar (first : Place) (a b : Parser X I) (v : List RustBranch) : Type 0 where
     pub branches : Branches
     pub keeps : KeepsTree branches_of_list wholes_of_branches a.deep b.deep v branches

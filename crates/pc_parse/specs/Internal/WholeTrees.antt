@@ -1,4 +1,4 @@
--- What the parser promises of whole expressions and annotations, and where the first begins that is too deep.
+-- Results of the functions that read whole expressions and annotations, and the first that is too deep.
 use Rattle.std.specs.Prelude.{ℕ, ◌≡◌, ◌<◌, List, [], ◌∷◌, Option, Some, None, Result, MatchResult}
 use Rattle.std.specs.Iterator.{Count}
 use Rattle.pc_source.specs.declared.fault.Fault.{Fault}
@@ -20,17 +20,17 @@ use Rattle.pc_parse.specs.declared.parser.Parser.{Parser}
 
 -- ---- the first that is too deep
 
--- the first of two bytes that is there
+-- the first of these bytes that there is
 abbrev pub sooner : Option ℕ → Option ℕ → Option ℕ
 sooner (Some byte) later = Some byte
 sooner None later = later
 
--- after these whole expressions and annotations were read
+-- the first byte of one that is too deep, after these whole expressions and annotations
 abbrev pub deep_after : Option ℕ → List Whole → Option ℕ
 deep_after deep ws = sooner deep (first_too_deep ws)
 
--- What a value of the program keeps of a tree, with the first byte of what is too deep before and after it was read:
--- the tree itself, unless something was too deep by then.
+-- the value keeps the tree, unless something was too deep by the time that it was read; `before` and `after` are the
+-- first byte of one that is too deep, before and after
 pub record KeepsTree {V T : Type 0} (of : V → T) (wholes : T → List Whole) (before after : Option ℕ) (value : V)
     (tree : T) : Type 0 where
   pub deep : after ≡ deep_after before (wholes tree)
@@ -38,18 +38,18 @@ pub record KeepsTree {V T : Type 0} (of : V → T) (wholes : T → List Whole) (
 
 -- ---- whole expressions and annotations
 
--- what of a token may end a whole expression
+-- the end that a token with this effect is for a whole expression
 abbrev pub ending_in : Follow → Ending
 ending_in (ends e) = e
 ending_in _ = no_ending
 
--- what of a token of this kind may end a whole expression
+-- the end that a token of this kind is for a whole expression
 abbrev pub ending_of : TokenKind → Ending
 ending_of k = ending_in (follow_of k)
 
 module _ {X I : Type 0} (text : X → List ℕ) (steps : I → Option (Result (Token X) Fault) → I → Type 0)
     (can : I → Type 0) (left : I → Count) where
-  -- a whole expression was read, and noted
+  -- a whole expression was read, and its depth noted
   pub record GivesWhole (a b : Parser X I) (o : Operand) : Type 0 where
     pub part : Part
     pub keeps : KeepsPart o part
@@ -59,16 +59,16 @@ module _ {X I : Type 0} (text : X → List ℕ) (steps : I → Option (Result (T
     pub later : left_in left b.reader < left_in left a.reader
     pub leads : (c : ExpressionPosition)
         → Onward text steps a.reader b.reader (at (operand (whole c))) (at (have o.level part (whole c)))
-    -- what comes after it
+    -- the turn at the token after it
     pub goes : (c : ExpressionPosition) (t : Token X) → b.reader.ahead ≡ Some t
         → turn (have o.level part (whole c)) (lexeme text t) t.kind ≡ finish c part (ending_of t.kind)
 
-  -- a whole expression was read, or the refusal is that to which the tokens lead
+  -- a whole expression was read, or the refusal is the machine's
   abbrev pub ReadsWhole : Parser X I → Parser X I → Result Operand Fault → Type 0
   ReadsWhole a b r = MatchResult r (λ o. GivesWhole a b o)
       (λ e. Blames e (λ o. (c : ExpressionPosition) → Came text steps a.reader (at (operand (whole c))) o))
 
-  -- a whole annotation was read, and noted
+  -- a whole annotation was read, and its depth noted
   pub record GivesAnn (a b : Parser X I) (n : RustAnn) : Type 0 where
     pub annotation : Ann
     pub keeps : KeepsTree ann_of (λ x. whole_ann x ∷ []) a.deep b.deep n annotation
@@ -82,7 +82,7 @@ module _ {X I : Type 0} (text : X → List ℕ) (steps : I → Option (Result (T
     pub goes : (c : AnnotationPosition) (t : Token X) → b.reader.ahead ≡ Some t
         → turn (behind c) (lexeme text t) t.kind ≡ finish_ann c annotation t.kind
 
-  -- a whole annotation was read, or the refusal is that to which the tokens lead
+  -- a whole annotation was read, or the refusal is the machine's
   abbrev pub ReadsAnn : Parser X I → Parser X I → Result RustAnn Fault → Type 0
   ReadsAnn a b r = MatchResult r (λ n. GivesAnn a b n)
       (λ e. Blames e (λ o. (c : AnnotationPosition)

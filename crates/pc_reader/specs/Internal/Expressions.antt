@@ -1,4 +1,4 @@
--- What the functions promise that read expressions.
+-- Results of the functions that read expressions.
 use Rattle.std.specs.Prelude.{ℕ, ◌≡◌, ◌≤◌, ◌<◌, ◌⊎◌, Bool, true, false, List, [], ◌∷◌, ◌++◌, Option, Some, None, Result}
 use Rattle.std.specs.Prelude.{MatchOption, MatchResult, Vec}
 use Rattle.std.specs.declared.alloc.Global.{Global}
@@ -31,29 +31,29 @@ use Rattle.pc_reader.specs.Internal.Brackets.{KeepsItems, KeepsKeywords}
 use Rattle.pc_reader.specs.Internal.Operands.{KeepsPart, Ends, infix_of, signs_on, starts_of, applied_all}
 use Rattle.pc_reader.specs.Reading.{Blames, Came, Onward, IsReady, IsAhead, NeedsKind, Takes, lexeme, left_in}
 
--- a link that does not go on with an operand of a level, where one that binds as `need` is due
+-- the token after an operand of this level is no operator that continues it where a node of level `need` is due
 abbrev pub Over : ℕ → ℕ → Follow → Type 0
 Over need level (link l) = (own_of_link l < need) ⊎ (level < left_of_link l)
 Over need level _ = Unit {0}
 
--- no dot or bracket that goes on with an operand of a level
+-- the token after an operand of this level is no dot or bracket that continues it
 abbrev pub Undotted : ℕ → Follow → Type 0
 Undotted level a_dot = level < 7
 Undotted level calls = level < 7
 Undotted level indexes = level < 7
 Undotted level _ = Unit {0}
 
--- if a token is ahead, this holds of what it is after an operand
+-- P holds of the effect that the token ahead, if any, has after an operand
 abbrev pub NextIs : {X : Type 0} → (Follow → Type 0) → Option (Token X) → Type 0
 NextIs P None = Unit {0}
 NextIs P (Some t) = P (follow_of t.kind)
 
--- the level after signs
+-- the level of an operand after these signs are applied to it
 abbrev pub wrapped_level : Sign → List Lexeme → ℕ → ℕ
 wrapped_level x [] level = level
 wrapped_level x (t ∷ ts) level = prefix_level x
 
--- the link ahead goes on with an operand of a level, where one that binds as `need` is due
+-- the token ahead begins this operator, which continues an operand of this level where a node of level `need` is due
 pub record HasLink {X : Type 0} (need level : ℕ) (l : Joint) (a : Option (Token X)) : Type 0 where
   pub token : Token X
   pub here : a ≡ Some token
@@ -61,17 +61,17 @@ pub record HasLink {X : Type 0} (need level : ℕ) (l : Joint) (a : Option (Toke
   pub binds : need ≤ own_of_link l
   pub goes : left_of_link l ≤ level
 
--- what signs ask of what stands around them
+-- the stack allows this sign: `not` only if nothing open binds tighter
 abbrev pub TakesSign : Sign → Stack → Type 0
 TakesSign minus s = Unit {0}
 TakesSign denial s = rank s ≤ 2
 
--- where an operand without a sign is due
+-- an operand is due, and no sign that it may have is ahead
 pub record IsPrimary {X I : Type 0} (a : Reader X I) (s : Stack) : Type 0 where
   pub plain : IsAhead (kind.Operator sign.Minus) a.ahead ≡ false
   pub undenied : (2 < rank s) ⊎ (IsAhead (kind.Keyword word.Not) a.ahead ≡ false)
 
--- where a single token is due
+-- an operand of a single token is due: no sign that it may have is ahead, and no bracket
 pub record IsSingle {X I : Type 0} (a : Reader X I) (s : Stack) : Type 0 where
   pub primary : IsPrimary a s
   pub parenthesis : IsAhead (kind.Operator sign.LeftParenthesis) a.ahead ≡ false
@@ -92,20 +92,20 @@ abbrev pub value_ahead : {X : Type 0} → Option (Token X) → Bool
 value_ahead None = false
 value_ahead (Some t) = is_value_start (start_of t.kind)
 
--- the value that a token is
+-- the operand is the value of this token
 pub record IsValue (t : Lexeme) (o : Operand) : Type 0 where
   pub part : Part
   pub keeps : KeepsPart o part
   pub begins : first_place part.tokens ≡ t.place
   pub leads : (s : Stack) → operand_turn s t (start_of t.kind) ≡ go (have 7 part s)
 
--- the bracket that closes items that are no arguments
+-- the bracket that closes items other than arguments
 abbrev pub Closes : Head → Bracket → Type 0
 Closes in_tuple o = o ≡ sign.RightParenthesis
 Closes in_list o = o ≡ sign.RightBracket
 Closes (in_call e) o = ⊥
 
--- some of the signs before an operand were put to it, the last ones, and the others are left
+-- the last of these signs have been applied to the operand, and the first are left
 pub record HasAppliedSigns (x : Sign) (ts : List Lexeme) (p : Part) (o : Operand) (rest : List ℕ)
     (o' : Operand) : Type 0 where
   pub front : List Lexeme
@@ -117,7 +117,7 @@ pub record HasAppliedSigns (x : Sign) (ts : List Lexeme) (p : Part) (o : Operand
 
 module _ {X I : Type 0} (text : X → List ℕ) (steps : I → Option (Result (Token X) Fault) → I → Type 0)
     (can : I → Type 0) (left : I → Count) where
-  -- an operand was read, on any stack of which this holds
+  -- an operand of at least this level was read, on any stack that fits
   pub record Gives (fits : Stack → Type 0) (level : ℕ) (a b : Reader X I) (o : Operand) : Type 0 where
     pub part : Part
     pub keeps : KeepsPart o part
@@ -127,13 +127,13 @@ module _ {X I : Type 0} (text : X → List ℕ) (steps : I → Option (Result (T
     pub begins : (t : Token X) → a.ahead ≡ Some t → first_place part.tokens ≡ t.place
     pub leads : (s : Stack) → fits s → Onward text steps a b (at (operand s)) (at (have o.level part s))
 
-  -- an operand that binds at least as tightly as the level was read, or the refusal is that to which the tokens lead
+  -- an operand of at least this level was read, or the refusal is the machine's
   abbrev pub ReadsOperand : (Stack → Type 0) → ℕ → Reader X I → Reader X I → Result Operand Fault → Type 0
   ReadsOperand fits level a b r =
       MatchResult r (λ o. Gives fits level a b o)
       (λ e. Blames e (λ o. (s : Stack) → fits s → Came text steps a (at (operand s)) o))
 
-  -- a link ahead of this form
+  -- the token ahead, if any, begins this operator
   abbrev pub IsLink : Joint → Reader X I → Type 0
   IsLink l a = (t : Token X) → a.ahead ≡ Some t → follow_of t.kind ≡ link l
 
@@ -146,7 +146,7 @@ module _ {X I : Type 0} (text : X → List ℕ) (steps : I → Option (Result (T
     pub leads : IsLink l a → (level : ℕ) (p : Part) (s : Stack) → left_of_link l ≤ level → rank s ≤ own_of_link l
         → Onward text steps a b (at (have level p s)) (at (operand (joining op p tokens s)))
 
-  -- `is` was read
+  -- the `is` of `is None` or `is not None` was read
   pub record GivesIs (l : Joint) (a b : Reader X I) : Type 0 where
     pub token : Lexeme
     pub own : own_of_link l ≡ 3
@@ -155,13 +155,13 @@ module _ {X I : Type 0} (text : X → List ℕ) (steps : I → Option (Result (T
     pub leads : IsLink l a → (level : ℕ) (p : Part) (s : Stack) → left_of_link l ≤ level → rank s ≤ own_of_link l
         → Onward text steps a b (at (have level p s)) (at (identified p (token ∷ []) s))
 
-  -- an operator between two operands, or `is`, was read, or the refusal is that to which the tokens lead
+  -- an operator between two operands, or `is`, was read, or the refusal is the machine's
   abbrev pub ReadsInfix : Joint → Reader X I → Reader X I → Result (Option Infix) Fault → Type 0
   ReadsInfix l a b r = MatchResult r (λ i. MatchOption i (GivesIs l a b) (λ op. GivesInfix l a b (infix_of op)))
       (λ e. Blames e (λ o. IsLink l a → (level : ℕ) (p : Part) (s : Stack) → left_of_link l ≤ level
       → rank s ≤ own_of_link l → Came text steps a (at (have level p s)) o))
 
-  -- an operand goes on, from states that follow it
+  -- the operand was continued, from states after it
   pub record OperandGoesOn {K : Type 0} (st : K → Part → Stack → State) (level : ℕ) (a b : Reader X I) (o o' : Operand)
       (k : K) (p : Part) : Type 0 where
     pub part : Part
@@ -169,7 +169,7 @@ module _ {X I : Type 0} (text : X → List ℕ) (steps : I → Option (Result (T
     pub begins : first_place part.tokens ≡ first_place p.tokens
     pub leads : (s : Stack) → Onward text steps a b (at (st k p s)) (at (have level part s))
 
-  -- what goes on with an operand was read, and makes it one of this level
+  -- a continuation of the operand was read, which makes it one of this level
   pub record GivesOn {K : Type 0} (st : K → Part → Stack → State) (level : ℕ) (a b : Reader X I)
       (o o' : Operand) : Type 0 where
     pub level_is : o'.level ≡ level
@@ -177,14 +177,14 @@ module _ {X I : Type 0} (text : X → List ℕ) (steps : I → Option (Result (T
     pub later : left_in left b < left_in left a
     pub goes : (k : K) (p : Part) → KeepsPart o p → OperandGoesOn st level a b o o' k p
 
-  -- what goes on with an operand was read, or the refusal is that to which the tokens lead
+  -- a continuation of the operand was read, or the refusal is the machine's
   abbrev pub ReadsOn : {K : Type 0} (st : K → Part → Stack → State) → ℕ → Reader X I → Reader X I → Operand
       → Result Operand Fault → Type 0
   ReadsOn {K} st level a b o r =
       MatchResult r (λ o'. GivesOn st level a b o o')
       (λ e. Blames e (λ x. (k : K) (p : Part) (s : Stack) → KeepsPart o p → Came text steps a (at (st k p s)) x))
 
-  -- signs were read
+  -- the signs before an operand were read
   pub record GivesSigns (x : Sign) (a b : Reader X I) (signs : List ℕ) : Type 0 where
     pub tokens : List Lexeme
     pub starts : starts_of tokens ≡ signs
@@ -196,7 +196,7 @@ module _ {X I : Type 0} (text : X → List ℕ) (steps : I → Option (Result (T
     pub leads : (s : Stack) → TakesSign x s
         → Onward text steps a b (at (operand s)) (at (operand (signs_on x tokens s)))
 
-  -- signs were read, or the refusal is that to which the tokens lead
+  -- the signs before an operand were read, or the refusal is the machine's
   abbrev pub ReadsSigns : Sign → Reader X I → Reader X I → Result (Vec ℕ Global) Fault → Type 0
   ReadsSigns x a b r = MatchResult r (λ v. GivesSigns x a b v.items)
       (λ e. Blames e (λ o. (s : Stack) → TakesSign x s → Came text steps a (at (operand s)) o))
@@ -208,12 +208,12 @@ module _ {X I : Type 0} (text : X → List ℕ) (steps : I → Option (Result (T
     pub is : token.kind ≡ kind.Name
     pub name : name_of n ≡ name_at (lexeme text token)
 
-  -- a name was read, or the refusal is that to which the tokens lead from where one is due
+  -- a name was read, or the refusal is the machine's where only a name fits
   abbrev pub ReadsName : Reader X I → Reader X I → Result RustName Fault → Type 0
   ReadsName a b r = MatchResult r (λ n. GivesName a b n)
       (λ e. Blames e (λ o. (st : State) → NeedsKind text kind.Name st a → Came text steps a (at st) o))
 
-  -- items were read after others, up to the bracket that closes them
+  -- more items were read, up to the bracket that closes them
   pub record ListsOn (a b : Reader X I) (l : Listed) (h : Head) (xs : Exprs) (ts : List Lexeme) : Type 0 where
     pub items : Exprs
     pub more : List Lexeme
@@ -228,7 +228,7 @@ module _ {X I : Type 0} (text : X → List ℕ) (steps : I → Option (Result (T
     pub later : left_in left b < left_in left a
     pub lists : (h : Head) (xs : Exprs) (ts : List Lexeme) → Closes h close → KeepsItems some xs → ListsOn a b l h xs ts
 
-  -- items were read up to this bracket, or the refusal is that to which the tokens lead
+  -- items were read up to this bracket, or the refusal is the machine's
   abbrev pub ReadsItems : Bracket → Reader X I → Reader X I → Items → Result Listed Fault → Type 0
   ReadsItems close a b some r = MatchResult r (λ l. GivesItems close a b some l)
       (λ e. Blames e (λ o. (h : Head) (xs : Exprs) (ts : List Lexeme) (s : Stack) → Closes h close
@@ -244,13 +244,13 @@ module _ {X I : Type 0} (text : X → List ℕ) (steps : I → Option (Result (T
     pub leads : (s : Stack) → Onward text steps a b (at (operand (naming e xs ks n ts s)))
         (at (have 7 (call_part e xs arguments (ts ++ more)) s))
 
-  -- arguments by name were read from after the `=` of the first
+  -- arguments by name were read, from after the `=` of the first
   pub record GivesKeywords (a b : Reader X I) (first : RustName) (l : Arguments) : Type 0 where
     pub ready : IsReady can left b
     pub later : left_in left b < left_in left a
     pub names : (e : Expr) (xs : Exprs) (ts : List Lexeme) → NamesOn a b l e xs no_keywords (name_of first) ts
 
-  -- arguments by name were read up to the closing parenthesis, or the refusal is that to which the tokens lead
+  -- arguments by name were read up to the closing parenthesis, or the refusal is the machine's
   abbrev pub ReadsKeywords : Reader X I → Reader X I → RustName → Result Arguments Fault → Type 0
   ReadsKeywords a b first r = MatchResult r (λ l. GivesKeywords a b first l)
       (λ e. Blames e (λ o. (f : Expr) (xs : Exprs) (ts : List Lexeme) (s : Stack)

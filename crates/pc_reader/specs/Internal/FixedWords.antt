@@ -1,4 +1,4 @@
--- What the functions promise that read tokens of which the grammar says exactly which one must stand.
+-- Results of the functions that read fixed tokens.
 use Rattle.std.specs.Prelude.{ℕ, ◌≡◌, ◌≤◌, Bool, true, false, List, [], ◌∷◌, Option, Some, None, Result, MatchResult}
 use Rattle.std.specs.Iterator.{Count}
 use Rattle.pc_source.specs.declared.fault.Fault.{Fault}
@@ -16,13 +16,13 @@ abbrev pub IsFormAhead : {X : Type 0} → (X → List ℕ) → List ℕ → Opti
 IsFormAhead text form None = false
 IsFormAhead text form (Some t) = is_fixed (a_form form) (lexeme text t) t.kind
 
--- a name of another form, or no name, does not go on from a state
+-- only a name of this form fits the state
 pub record NeedsForm {X I : Type 0} (text : X → List ℕ) (form : List ℕ) (st : State) (a : Reader X I) : Type 0 where
   pub unfinished : stop_at st ≡ short
   pub stuck_at : (t : Token X) → a.ahead ≡ Some t → is_fixed (a_form form) (lexeme text t) t.kind ≡ false
       → turn st (lexeme text t) t.kind ≡ stuck
 
--- tokens of these kinds, one after the other
+-- fixed tokens of these kinds, in order
 abbrev pub kinds_of : List TokenKind → List Fixed
 kinds_of [] = []
 kinds_of (k ∷ ks) = a_kind k ∷ kinds_of ks
@@ -34,18 +34,18 @@ module _ {X I : Type 0} (text : X → List ℕ) (steps : I → Option (Result (T
     pub takes : Takes text steps can left a b t
     pub is : is_fixed (a_form form) (lexeme text t) t.kind ≡ true
 
-  -- a name of this form was taken, or the refusal is that to which the tokens lead from where one is due
+  -- a name of this form was taken, or the refusal is the machine's where only that name fits
   abbrev pub ReadsForm : List ℕ → Reader X I → Reader X I → Result (Token X) Fault → Type 0
   ReadsForm form a b r = MatchResult r (λ t. TakesForm form a b t)
       (λ e. Blames e (λ o. (st : State) → NeedsForm text form st a → Came text steps a (at st) o))
 
-  -- these words were read
+  -- these fixed tokens were read
   pub record GivesFixed (ws : List Fixed) (a b : Reader X I) : Type 0 where
     pub ready : IsReady can left b
     pub later : left_in left b ≤ left_in left a
     pub leads : (next : State) → Onward text steps a b (at (due ws next)) (at next)
 
-  -- these words were read, or the refusal is that to which the tokens lead
+  -- these fixed tokens were read, or the refusal is the machine's
   abbrev pub ReadsFixed : {U : Type 0} → List Fixed → Reader X I → Reader X I → Result U Fault → Type 0
   ReadsFixed ws a b r = MatchResult r (λ _. GivesFixed ws a b)
       (λ e. Blames e (λ o. (next : State) → Came text steps a (at (due ws next)) o))

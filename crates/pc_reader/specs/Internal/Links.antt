@@ -1,11 +1,11 @@
--- Operators as the token machine names them.
+-- Operators as the machine names them.
 use Rattle.std.specs.Prelude.{◌≡◌, Option, Some, None}
 use Rattle.pc_grammar.specs.Machine.Kinds.{Link as Joint, linking, denying, identifying, Follow, link}
 use Rattle.pc_reader.specs.declared.link.Link.{Link}
 use Rattle.pc_reader.specs.declared.link.Link.TheVariants as rust
 use Rattle.pc_reader.specs.Internal.Operands.{infix_of}
 
--- what begins an operator, as the token machine names it
+-- the beginning of an operator, as the machine names it
 abbrev pub link_view : Link → Joint
 link_view (rust.Infix operator) = linking (infix_of operator)
 link_view rust.Not = denying

@@ -1,4 +1,4 @@
--- What the functions promise that read literals.
+-- Results of the functions that read literals.
 use Rattle.std.specs.Prelude.{ℕ, ◌≡◌, ◌≤◌, ◌<◌, Bool, true, false, List, [], ◌∷◌, Option, Some, None, Result}
 use Rattle.std.specs.Prelude.{MatchResult}
 use Rattle.std.specs.Iterator.{Count}
@@ -34,42 +34,42 @@ abbrev pub literal_ahead : {X : Type 0} → Option (Token X) → Bool
 literal_ahead None = false
 literal_ahead (Some t) = is_literal_kind t.kind
 
--- the literal that a token is
+-- the literal that the token is
 abbrev pub IsLiteral : Lexeme → RustLiteral → Type 0
 IsLiteral t l = (c : LiteralContext) → literal_turn c t t.kind ≡ go (literal_read c (literal_of l))
 
--- `=` begins a literal, and any other token goes on so
+-- the turn where a default is optional: `=` begins it, any other token does what it does without one
 abbrev pub opens_literal : LiteralContext → (TokenKind → Turn) → TokenKind → Turn
 opens_literal c other k = on (same_kind k (kind.Operator sign.Equal)) (literal_due c) (other k)
 
--- what comes after a literal, or in its place
+-- the turn after an optional default
 abbrev pub or_literal : LiteralContext → (TokenKind → Turn) → Option Literal → TokenKind → Turn
 or_literal c other None k = other k
 or_literal c other (Some l) k = finish_literal c l k
 
 module _ {X I : Type 0} (text : X → List ℕ) (steps : I → Option (Result (Token X) Fault) → I → Type 0)
     (can : I → Type 0) (left : I → Count) where
-  -- a literal was read, from a state that waits for it
+  -- a literal was read, from a state where it is due
   pub record GivesLiteral (from : LiteralContext → State) (a b : Reader X I) (l : RustLiteral) : Type 0 where
     pub ready : IsReady can left b
     pub later : left_in left b < left_in left a
     pub leads : (c : LiteralContext) → Onward text steps a b (at (from c)) (at (literal_read c (literal_of l)))
 
-  -- a literal was read from such a state, or the refusal is that to which the tokens lead
+  -- a literal was read, from a state where it is due, or the refusal is the machine's
   abbrev pub ReadsLiteralFrom : (LiteralContext → State) → Reader X I → Reader X I → Result RustLiteral Fault → Type 0
   ReadsLiteralFrom from a b r =
       MatchResult r (λ l. GivesLiteral from a b l)
       (λ e. Blames e (λ o. (c : LiteralContext) → Came text steps a (at (from c)) o))
 
-  -- a literal was read where one is due, or the refusal is that to which the tokens lead
+  -- a literal was read, or the refusal is the machine's
   abbrev pub ReadsLiteral : Reader X I → Reader X I → Result RustLiteral Fault → Type 0
   ReadsLiteral a b r = ReadsLiteralFrom (λ c. literal_due c) a b r
 
-  -- after a `-` that begins at this byte
+  -- the number of a literal was read, after a `-` that begins at this byte, or the refusal is the machine's
   abbrev pub ReadsNegative : Reader X I → Reader X I → ℕ → Result RustLiteral Fault → Type 0
   ReadsNegative a b start r = (t : Lexeme) → t.place.start ≡ start → ReadsLiteralFrom (λ c. minus_read c (t ∷ [])) a b r
 
-  -- a default that may be left out was read
+  -- an optional default was read
   pub record GivesDefault (a b : Reader X I) (l : Option RustLiteral) : Type 0 where
     pub ready : IsReady can left b
     pub later : left_in left b ≤ left_in left a
@@ -77,7 +77,7 @@ module _ {X I : Type 0} (text : X → List ℕ) (steps : I → Option (Result (T
         → StandsBefore text a st (opens_literal c other)
         → LeadsTo text steps a b st (or_literal c other (option_literal_of l))
 
-  -- a default that may be left out was read, or the refusal is that to which the tokens lead
+  -- an optional default was read, or the refusal is the machine's
   abbrev pub ReadsDefault : Reader X I → Reader X I → Result (Option RustLiteral) Fault → Type 0
   ReadsDefault a b r = MatchResult r (λ l. GivesDefault a b l)
       (λ e. Blames e (λ o. (st : State) (c : LiteralContext) (other : TokenKind → Turn)

@@ -1,4 +1,4 @@
--- What an operand of the parser keeps of a part that the token machine has read.
+-- Operands of the parser, as they keep the parts that the machine reads.
 use Rattle.std.specs.Prelude.{ℕ, ◌≡◌, ◌≤◌, Bool, true, false, List, [], ◌∷◌, ◌++◌, min, map}
 use Rattle.pc_source.specs.declared.place.Place.{Place}
 use Rattle.pc_token.specs.Lexeme.{Lexeme}
@@ -14,14 +14,14 @@ use Rattle.pc_reader.specs.declared.operand.Infix.TheVariants as rust_infix
 use Rattle.pc_reader.specs.declared.operand.Prefix.{Prefix}
 use Rattle.pc_reader.specs.declared.operand.Prefix.TheVariants as rust_prefix
 
--- an operator between two operands, as the token machine names it
+-- an operator between two operands, as the machine names it
 abbrev pub infix_of : Infix → Operator
 infix_of (rust_infix.Arithmetic o) = arithmetic o
 infix_of (rust_infix.Comparison o) = comparison o
 infix_of rust_infix.And = both
 infix_of rust_infix.Or = either
 
--- a sign before an operand, as the token machine names it
+-- a sign before an operand, as the machine names it
 abbrev pub prefix_of : Prefix → Sign
 prefix_of rust_prefix.Minus = minus
 prefix_of rust_prefix.Not = denial
@@ -40,7 +40,7 @@ pub record Ends (ts : List Lexeme) (byte : ℕ) : Type 0 where
   pub is : ts ≡ before ++ (last ∷ [])
   pub end : last.place.end ≡ byte
 
--- what of the form of an expression decides what may follow it
+-- the form of an expression, as far as it decides what may follow
 pub data Form : Type 0 where
   a_name : (n : Name) → Form
   an_attribute : Form
@@ -54,7 +54,7 @@ form_of (attribute p e f) = an_attribute
 form_of (index p e i) = an_index
 form_of _ = another
 
--- all of a part, but for a tree that is too deep, of which its form and that it is too deep
+-- the operand keeps the part; of a tree that is too deep, only its form and that it is too deep
 pub record KeepsPart (o : Operand) (p : Part) : Type 0 where
   pub starts : Starts p.tokens o.start
   pub ends : Ends p.tokens o.end
@@ -64,7 +64,7 @@ pub record KeepsPart (o : Operand) (p : Part) : Type 0 where
   pub kept : o.depth ≤ 64 → expr_of o.expr ≡ p.tree
   pub form : form_of (expr_of o.expr) ≡ form_of p.tree
 
--- the operand of an expression at its place, in no parentheses
+-- the operand that is this expression at its place, without parentheses
 abbrev pub node_of : RustExpr → Place → ℕ → ℕ → Operand
 node_of expr place level depth = record {
   expr = expr;
@@ -76,16 +76,16 @@ node_of expr place level depth = record {
   depth = depth;
 }
 
--- the node that tokens between these bytes spell
+-- the operand is the node that any tokens between these bytes spell
 abbrev pub Builds : Operand → (Place → Expr) → ℕ → ℕ → Type 0
 Builds o make start end = (ts : List Lexeme) → Starts ts start → Ends ts end → KeepsPart o (part make ts)
 
--- signs before a part, the last of them nearest to it
+-- the part after these signs are applied to it, the last of them first
 abbrev pub applied_all : Sign → List Lexeme → Part → Part
 applied_all x [] p = p
 applied_all x (t ∷ ts) p = applied x (t ∷ []) (applied_all x ts p)
 
--- a stack with these signs open on it, the last of them on top
+-- the stack with these signs open on it, the last of them on top
 abbrev pub signs_on : Sign → List Lexeme → Stack → Stack
 signs_on x [] s = s
 signs_on x (t ∷ ts) s = signs_on x ts (applying x (t ∷ []) s)

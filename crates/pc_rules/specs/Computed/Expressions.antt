@@ -1,5 +1,5 @@
 -- The labels of an expression computed by recursion on it: the computed twin of the rules of Lawful.antt, which the law
--- `labels_are_lawful` ties to them. They are to be believed for that law alone; programs cite them in their contracts.
+-- `labels_are_lawful` ties to them. They have to be believed for that law alone; programs cite them in their contracts.
 -- Own rule of the profile.
 use Rattle.std.specs.Prelude.{ℕ, suc, List, [], ◌∷◌, map, Bool as Test, true, false, Option, Some, None}
 use Rattle.std.specs.List.{list_all}
@@ -29,14 +29,14 @@ use Rattle.pc_rules.specs.Lawful.{part_seat, list_label, key_seat, value_seat, i
 use Rattle.pc_rules.specs.Lawful.{compare_types}
 use Rattle.pc_rules.specs.Lawful.{callee_of, whole_call_label, whole_second_code, keyword_seat, Lawful}
 
--- the code of a flow that is static, or assignable alone, or neither
+-- the code of a flow, given whether it is static and whether it is assignable
 abbrev pub code_by : (static assignable : Test) → Option Code
 code_by true y = None
 code_by false true = Some A1
 code_by false false = Some E12
 
 module _ (static assignable : Tree → Tree → Test) where
-  -- the code of a flow; where E03 stands at what flows, none
+  -- the code of a flow; none if the expression that flows is E03
   abbrev pub code_unless : (early : Test) → Tree → Tree → Option Code
   code_unless true s t = None
   code_unless false s t = code_by (static s t) (assignable s t)
@@ -56,7 +56,7 @@ abbrev pub flows_of : Bases → Label → List Tree → FlowLabels
 flows_of bases m ts = flows_into (static_test bases) (assignable_test bases) m ts
 
 module _ (ctx : Context) (declared : List Tree) (static assignable : Tree → Tree → Test) where
-  -- the label of a dict display without an expected dict, whose keys are all int, or all str
+  -- the label of a dict display without an expected dict, given whether all keys are int and whether all are str
   abbrev pub keys_label : (int str : Test) → (values : List Tree) → Label
   keys_label true str values = display_label (DictOf Int (join_all ctx.bases values))
   keys_label false true values = display_label (DictOf Str (join_all ctx.bases values))
@@ -70,7 +70,7 @@ module _ (ctx : Context) (declared : List Tree) (static assignable : Tree → Tr
       keys_label (list_all (λ t. static t Int) (k ∷ ks)) (list_all (λ t. static t Str) (k ∷ ks)) values
 
   abbrev mutual
-    -- the labels of an expression, in an environment and with the type that is expected of it
+    -- the labels of an expression, in an environment and with its expected type
     pub labels : Env → (want : Option Tree) → (e : Expr) → Labels e
     labels env want (name n) = name_label ctx env (ctx.resolve n.text)
     labels env want (number p digits) = clean Int
@@ -145,7 +145,7 @@ module _ (ctx : Context) (declared : List Tree) (static assignable : Tree → Tr
           keywords = keywords_labels env (named_seat callee.offers) [] kws;
         }
 
-    -- of items, each for the seat at its position
+    -- the labels of items, each in the seat at its position
     pub items_labels : Env → (seat : ℕ → Seat) → (es : Exprs) → ItemsLabels es
     items_labels env seat no_exprs = tt
     items_labels env seat (more_exprs e es) =
@@ -156,7 +156,7 @@ module _ (ctx : Context) (declared : List Tree) (static assignable : Tree → Tr
           rest = items_labels env (λ i. seat (suc i)) es;
         }
 
-    -- of the entries of a dict, each key and each value for its seat
+    -- the labels of the entries of a dict, each key and each value in its seat
     pub entries_labels : Env → (key value : Seat) → (es : Entries) → EntriesLabels es
     entries_labels env x y no_entries = tt
     entries_labels env x y (more_entries key value es) =
@@ -170,7 +170,7 @@ module _ (ctx : Context) (declared : List Tree) (static assignable : Tree → Tr
           rest = entries_labels env x y es;
         }
 
-    -- of arguments by name
+    -- the labels of arguments by name
     pub keywords_labels : Env → (seat : List ℕ → Seat) → (before : List (List ℕ)) → (es : Keywords) → KeywordsLabels es
     keywords_labels env seat before no_keywords = tt
     keywords_labels env seat before (more_keywords parameter value es) =

@@ -1,6 +1,6 @@
--- What is found under the labels of an expression, as a list in the order in which a walk comes to it, each dynamic
--- flow with its two types: computed twin of what stands under labels, but for E02 and E03, which are found of scopes.
--- Own rule of the profile.
+-- The notes under the labels of an expression, as a list in the order of a walk, each dynamic flow with its two types:
+-- computed twin of the findings under labels, except E02 and E03, which scope analysis reports. Own rule of the
+-- profile.
 use Rattle.std.specs.Prelude.{◌≡◌, ◌↔◌, List, [], ◌∷◌, ◌++◌, flat_map, Bool as Test, true, false, if◌then◌else◌, Option}
 use Rattle.std.specs.Prelude.{Some, None, Contains, option_to_list, bytes_eq}
 use Rattle.std.specs.List.{list_any}
@@ -22,24 +22,24 @@ use Rattle.pc_rules.specs.Labels.{FlowLabels, Labels, ItemsLabels, EntriesLabels
 use Rattle.pc_rules.specs.Labels.{is_of_scopes}
 use Rattle.pc_rules.specs.Labels.{second_place, Finds}
 
--- the finding of a code at a place, none of a code that is found of scopes
+-- the finding of a code at a place, none for a code of scope analysis
 abbrev pub own_at : Place → Code → List Note
 own_at p c = if is_of_scopes c then [] else plain_note (finding p c) ∷ []
 
--- a code is one of these
+-- whether a code is among these codes
 abbrev pub has_code : List Code → Code → Test
 has_code cs c = list_any (λ d. bytes_eq (text_of c) (text_of d)) cs
 
--- codes with one more after them, unless it is one of them
+-- codes with one more appended, unless it is among them
 abbrev pub add_code : List Code → Code → List Code
 add_code cs c = if has_code cs c then cs else cs ++ c ∷ []
 
--- codes with others after them, each of those that is new, once
+-- codes with others appended, each new one once
 abbrev pub once_onto : List Code → List Code → List Code
 once_onto before [] = before
 once_onto before (c ∷ cs) = once_onto (add_code before c) cs
 
--- each code once, where it stands first
+-- each code once, at its first occurrence
 abbrev pub once : List Code → List Code
 once cs = once_onto [] cs
 
@@ -51,7 +51,7 @@ brief m = record { type = m.type; codes = once m.codes }
 abbrev pub codes_at : Place → List Code → List Note
 codes_at p codes = flat_map (own_at p) (once codes)
 
--- the finding of a code that there may be
+-- the finding of a code, if there is one
 abbrev pub notes_of_code : Place → Option Code → List Note
 notes_of_code p None = []
 notes_of_code p (Some c) = own_at p c
@@ -60,63 +60,63 @@ notes_of_code p (Some c) = own_at p c
 abbrev pub flow_codes : FlowLabels → List Code
 flow_codes flows = flat_map (λ f. option_to_list f.code) flows
 
--- what is found of a flow of a type into another, at the place of what flows: a dynamic one with its two types
+-- the note of a flow with this code, at the place of the expression that flows: a dynamic one with its two types
 abbrev pub flow_note : Place → (from into : Tree) → Code → Note
 flow_note p s t A1 = dynamic p s t
 flow_note p s t c = plain_note (finding p c)
 
--- what is found of a flow, without the codes that are found of scopes
+-- the note of a flow with this code, none for a code of scope analysis
 abbrev pub own_flow : Place → (from into : Tree) → Code → List Note
 own_flow p s t c = if is_of_scopes c then [] else flow_note p s t c ∷ []
 
--- what is found of a flow with this code, if it has one
+-- the note of a flow, if it has a code
 abbrev pub flow_at : Place → (from into : Tree) → Option Code → List Note
 flow_at p s t None = []
 flow_at p s t (Some c) = own_flow p s t c
 
--- what is found of one flow, unless its code is among these, and of others after it
+-- the note of one flow, unless its code is among these, followed by the notes of the rest
 abbrev pub flow_then : Place → (before : List Code) → (from into : Tree) → Option Code → (rest : List Code → List Note)
     → List Note
 flow_then p before s t None rest = rest before
 flow_then p before s t (Some c) rest = if has_code before c then rest before
     else own_flow p s t c ++ rest (before ++ c ∷ [])
 
--- what is found of flows whose codes are not among these, each code once, of the first flow that has it
+-- the notes of flows whose codes are not among these, each code once, for the first flow that has it
 abbrev pub flows_behind : Place → (before : List Code) → FlowLabels → List Note
 flows_behind p before [] = []
 flows_behind p before (f ∷ fs) = flow_then p before f.from f.into f.code (λ codes. flows_behind p codes fs)
 
--- the findings of flows at the place of what flows, each code once, of the first flow that has it
+-- the notes of flows at the place of the expression that flows, each code once, for the first flow that has it
 abbrev pub flows_at : Place → FlowLabels → List Note
 flows_at p flows = flows_behind p [] flows
 
--- the type of a label at its place, where types are kept
+-- the note of the type of a label at its place, if types are kept
 abbrev pub type_noted : (keeps shown : Test) → Place → Tree → List Note
 type_noted false shown p t = []
 type_noted true shown p t = typed shown p t ∷ []
 
--- what is noted of a label at its place: its type, where types are kept, and then the findings of its codes
+-- the notes of a label at its place: its type, if types are kept, and then the findings of its codes
 abbrev pub label_at : (keeps shown : Test) → Place → Label → List Note
 label_at keeps shown p m = type_noted keeps shown p m.type ++ codes_at p m.codes
 
--- the type of a callee is shown, but for a name and an attribute
+-- whether the type of a callee is shown: not for a name or an attribute
 abbrev pub shows : Expr → Test
 shows (name n) = false
 shows (attribute p e field) = false
 shows _ = true
 
 module _ (keeps : Test) where
-  -- the findings in the parts of an expression, with what is noted of its own label after them
+  -- the notes in the parts of an expression, followed by those of its own label
   abbrev pub whole : (e : Expr) → Labels e → List Note → List Note
   whole e m parts = parts ++ label_at keeps true (place_of e) (whole_label e m)
 
-  -- the same of a callee
+  -- the notes in the parts of a callee, followed by those of its own label
   abbrev pub called : (e : Expr) → Labels e → List Note → List Note
   called e m parts = parts ++ label_at keeps (shows e) (place_of e) (whole_label e m)
 
-  -- the findings in the parts of an expression, under the labels of items, of arguments, and of the entries of a dict
+  -- the notes in the parts of an expression, of items, of arguments, and of the entries of a dict
   abbrev mutual
-    -- what is found in the parts of an expression and of their flows
+    -- the notes in the parts of an expression, and of their flows
     pub found_in_parts : (e : Expr) → Labels e → List Note
     found_in_parts (name n) m = []
     found_in_parts (number p digits) m = []
@@ -146,20 +146,20 @@ module _ (keeps : Test) where
         ++ (found_in_arguments (is_instance_test callee arguments keywords) arguments m.arguments
         ++ (found_in_keywords keywords m.keywords ++ notes_of_code (second_place arguments p) m.second))
 
-    -- of items, each with its flows
+    -- the notes of items, each with its flows
     pub found_in_items : (es : Exprs) → ItemsLabels es → List Note
     found_in_items no_exprs m = []
     found_in_items (more_exprs e rest) m = whole e m.first (found_in_parts e m.first)
         ++ (flows_at (place_of e) m.flows ++ found_in_items rest m.rest)
 
-    -- of arguments; of a test of an instance what stands second is not looked at
+    -- the notes of arguments by position; of an instance test only those in the first argument
     pub found_in_arguments : (is_test : Test) → (es : Exprs) → ItemsLabels es → List Note
     found_in_arguments is_test no_exprs m = []
     found_in_arguments true (more_exprs e rest) m = whole e m.first (found_in_parts e m.first)
     found_in_arguments false (more_exprs e rest) m = whole e m.first (found_in_parts e m.first)
         ++ (flows_at (place_of e) m.flows ++ found_in_arguments false rest m.rest)
 
-    -- of the entries of a dict, each key and value with its flows
+    -- the notes of the entries of a dict, each key and value with its flows
     pub found_in_entries : (es : Entries) → EntriesLabels es → List Note
     found_in_entries no_entries m = []
     found_in_entries (more_entries key value rest) m =
@@ -168,26 +168,26 @@ module _ (keeps : Test) where
         ++ (whole value m.value (found_in_parts value m.value)
         ++ (flows_at (place_of value) m.value_flows ++ found_in_entries rest m.rest)))
 
-    -- of arguments by name, each with its flows
+    -- the notes of arguments by name, each with its flows
     pub found_in_keywords : (es : Keywords) → KeywordsLabels es → List Note
     found_in_keywords no_keywords m = []
     found_in_keywords (more_keywords parameter value rest) m = whole value m.first (found_in_parts value m.first)
         ++ (flows_at (place_of value) m.flows ++ found_in_keywords rest m.rest)
 
-  -- the findings under the labels of an expression: what is found in its parts, and then at it
+  -- the notes under the labels of an expression: those of its parts, and then its own
   abbrev pub notes_under : (e : Expr) → Labels e → List Note
   notes_under e m = whole e m (found_in_parts e m)
 
-  -- of a callee
+  -- the notes under the labels of a callee
   abbrev pub callee_notes_under : (e : Expr) → Labels e → List Note
   callee_notes_under e m = called e m (found_in_parts e m)
 
--- a finding under labels that is not found of scopes
+-- a finding under labels that scope analysis does not report
 pub record IsOwn (e : Expr) (m : Labels e) (f : Finding) : Type 0 where
   pub stands : Finds e m f
   pub own : is_of_scopes f.code ≡ false
 
--- the law that the list has just what stands under the labels and is not found of scopes
+-- the law that the list holds exactly the findings under the labels, except those of scope analysis
 abbrev pub LabelFindingsAreListed : Type 0
 LabelFindingsAreListed = (e : Expr) (m : Labels e) (f : Finding)
     → Contains (findings_of (notes_under false e m)) f ↔ IsOwn e m f

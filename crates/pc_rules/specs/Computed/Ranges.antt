@@ -1,5 +1,4 @@
--- What is found in a call of `range` as what a `for` goes over, in terms of the computed labels.
--- Own rule of the profile.
+-- The notes of a call of `range` as the iterable of a `for`, in terms of the computed labels. Own rule of the profile.
 use Rattle.std.specs.Prelude.{List, [], ◌++◌}
 use Rattle.pc_source.specs.declared.place.Place.{Place}
 use Rattle.pc_tree.specs.Tree.{Expr, Exprs, Keywords}
@@ -9,7 +8,7 @@ use Rattle.pc_rules.specs.Calls.{arguments_given, call_label, positional_seat, n
 use Rattle.pc_rules.specs.Computed.Findings.{codes_at}
 use Rattle.pc_rules.specs.Computed.Standing.{Standing, arguments_find, keywords_find}
 
--- what is found in a call of `range` as what a `for` goes over: in its arguments, which flow into int, and at the call
+-- the notes of a call of `range` as the iterable of a `for`: in its arguments, which flow into int, and at the call
 abbrev pub range_finds : Standing → Place → (callee : Expr) → Exprs → Keywords → List Note
 range_finds k p callee arguments keywords =
     let offers = range_offers (arguments_given arguments keywords) in

@@ -1,9 +1,8 @@
--- What is found of the signatures of a module and of its constants, as lists, and the types of the constants: computed
--- twin of the rules on annotations, defaults and initializers. What is found in the annotations of fields, and of
--- methods that bind their names, is not among it: that is `member_annotations` of pc_class. First what is found of
--- functions, which each initializer may come upon; then of classes and constants, in text order. What is bound already
--- is told by a test of texts.
--- Own rule of the profile.
+-- The notes of the signatures of a module and of its constants, as lists, and the types of the constants: computed twin
+-- of the rules on annotations, defaults and initializers. The findings in the annotations of fields, and of methods
+-- that bind their names, are not among them: those are `member_annotations` of pc_class. First come the notes of
+-- functions, since each initializer may name them; then those of classes and constants, in text order. Names already
+-- bound are given by a test of texts. Own rule of the profile.
 use Rattle.std.specs.Prelude.{ℕ, suc, List, [], ◌∷◌, ◌++◌, map, Bool as Test, true, false, ◌&&◌, ◌||◌, not, Option}
 use Rattle.std.specs.Prelude.{Some, None, is_some, codes, bytes_eq, String, if◌then◌else◌}
 use Rattle.std.specs.Global.{Global}
@@ -18,8 +17,8 @@ use Rattle.pc_scope.specs.Resolution.{is_one_of}
 use Rattle.pc_scope.specs.Internal.WalkViews.{texts_in}
 use Rattle.pc_types.specs.Tree.{Tree}
 use Rattle.pc_types.specs.Below.{Bases, base_of}
-use Rattle.pc_ann.specs.Annotations.{read_ann, read_option}
-use Rattle.pc_ann.specs.Listed.{option_findings}
+use Rattle.pc_annotations.specs.Annotations.{read_ann, read_option}
+use Rattle.pc_annotations.specs.Listed.{option_findings}
 use Rattle.pc_class.specs.Bases.{bases_of}
 use Rattle.pc_class.specs.Facts.{ClassFacts, field_by_name, method_by_name, base_facts, classes_of}
 use Rattle.pc_notes.specs.Notes.{Note, plain_note}
@@ -33,142 +32,143 @@ use Rattle.pc_rules.specs.Computed.Standing.{Standing, label_in, finds_in}
 
 -- ---- names that are bound already
 
--- no name is bound
+-- the test of no bound names
 abbrev pub no_name : List ℕ → Test
 no_name t = false
 
--- one more name is bound
+-- the test of one more bound name
 abbrev pub with_name : (bound : List ℕ → Test) → List ℕ → List ℕ → Test
 with_name bound name t = bytes_eq t name || bound t
 
--- the names that a set holds are bound
+-- the test of the names in a set
 abbrev pub bound_in : {S : Type 0} → IndexSet (String Global) S → List ℕ → Test
 bound_in s t = is_one_of t (texts_in s)
 
--- a text is bound as a name where it stands: not reserved, and not bound already
+-- whether a text is bound as a name here: it is not reserved, and not bound already
 abbrev pub binds_text : (bound : List ℕ → Test) → List ℕ → Test
 binds_text bound t = not (is_builtin_name t || bound t)
 
--- a base has a field or a method of a name
+-- whether a base has a field or a method of a name
 abbrev pub base_has_member : ClassFacts → List ℕ → Test
 base_has_member base name = is_some (field_by_name base.fields name) || is_some (method_by_name base.methods name)
 
--- a field binds its name: not reserved, not `mro`, not bound already, no field's or method's of an ancestor
+-- whether a field binds its name: it is not reserved, not `mro`, not bound already, and no field or method of an
+-- ancestor
 abbrev pub binds_as_field : ClassFacts → (bound : List ℕ → Test) → List ℕ → Test
 binds_as_field base bound name = not (is_builtin_name name || bytes_eq name (codes "mro"))
     && (not (bound name) && not (base_has_member base name))
 
--- a method binds its name: not reserved, not bound already, no field's of an ancestor
+-- whether a method binds its name: it is not reserved, not bound already, and no field of an ancestor
 abbrev pub binds_as_method : ClassFacts → (bound : List ℕ → Test) → List ℕ → Test
 binds_as_method base bound name = not (is_builtin_name name)
     && (not (bound name) && not (is_some (field_by_name base.fields name)))
 
 -- ---- defaults
 
--- what is found of the flow of a default's literal, at the literal
+-- the notes of the flow of a default's literal, at the literal
 abbrev pub literal_findings : Bases → Literal → Tree → List Note
 literal_findings bases l t = flows_at (literal_place l) (flows_of bases (clean (literal_type l)) (t ∷ []))
 
--- what is found at a default: the code of its flow; what binds nothing, nothing flows into
+-- the notes at a default: the code of its flow; none if its name is not bound
 abbrev pub default_findings : Bases → (binds : Test) → Option Literal → Tree → List Note
 default_findings bases binds None t = []
 default_findings bases false (Some l) t = []
 default_findings bases true (Some l) t = literal_findings bases l t
 
--- ---- what a walk over items comes to
+-- ---- the state of a walk over items
 
--- what a walk over items has come to: the types of the constants, the number of classes, the names that are bound
+-- the state of a walk over items: the types of the constants, the number of classes, and the bound names so far
 pub record ItemsReached : Type 0 where
   pub constants : List Tree
   pub classes : ℕ
   pub bound : List ℕ → Test
 
--- nothing is reached before the first item
+-- the state before the first item
 abbrev pub nothing_reached : ItemsReached
 nothing_reached = record { constants = []; classes = 0; bound = no_name }
 
 module _ (m : Module) where
   -- ---- functions
 
-  -- what is found at the default of a parameter
+  -- the notes at the default of a parameter
   abbrev pub param_default : (bound : List ℕ → Test) → Param → List Note
   param_default bound p = default_findings (bases_of m) (binds_text bound p.name.text) p.default
       (read_option m (bases_of m) p.annotation)
 
-  -- what is found of a parameter: in its annotation, and at its default
+  -- the notes of a parameter: in its annotation, and at its default
   abbrev pub param_findings : (bound : List ℕ → Test) → Param → List Note
   param_findings bound p = map plain_note (option_findings m (bases_of m) p.annotation) ++ param_default bound p
 
-  -- what is found of parameters, after names that are bound already
+  -- the notes of parameters, after names that are bound already
   abbrev pub params_findings : (bound : List ℕ → Test) → List Param → List Note
   params_findings bound [] = []
   params_findings bound (p ∷ ps) = param_findings bound p ++ params_findings (with_name bound p.name.text) ps
 
-  -- what is found of the signature of a function: of its parameters, and in the annotation of what it returns
+  -- the notes of the signature of a function: of its parameters, and in its return annotation
   abbrev pub def_findings : (bound : List ℕ → Test) → FuncDef → List Note
   def_findings bound f = params_findings bound f.params ++ map plain_note (option_findings m (bases_of m) f.returns)
 
-  -- what is found of the signature of an item that is a function
+  -- the notes of the signature of an item that is a function
   abbrev pub function_findings : Item → List Note
   function_findings (constant_item p c) = []
   function_findings (class_item p c) = []
   function_findings (def_item p f) = def_findings no_name f
 
-  -- what is found of the signatures of the functions among items
+  -- the notes of the signatures of the functions among items
   abbrev pub functions_findings : List Item → List Note
   functions_findings [] = []
   functions_findings (i ∷ is) = function_findings i ++ functions_findings is
 
   -- ---- classes
 
-  -- what is found at the default of a field
+  -- the notes at the default of a field
   abbrev pub field_default : ClassFacts → (bound : List ℕ → Test) → Field → List Note
   field_default base bound d = default_findings (bases_of m) (binds_as_field base bound d.name.text) d.default
       (read_ann m (bases_of m) d.annotation)
 
-  -- what is found at the defaults of parameters, after names that are bound already
+  -- the notes at the defaults of parameters, after names that are bound already
   abbrev pub params_defaults : (bound : List ℕ → Test) → List Param → List Note
   params_defaults bound [] = []
   params_defaults bound (p ∷ ps) = param_default bound p ++ params_defaults (with_name bound p.name.text) ps
 
-  -- what is found at the defaults of a method, after `self`
+  -- the notes at the defaults of a method, after `self`
   abbrev pub method_defaults : FuncDef → List Note
   method_defaults d = params_defaults (with_name no_name (codes "self")) d.params
 
-  -- what is found of a method beside the class table: at its defaults, and of one that binds no name in its annotations
+  -- the notes of a method apart from the class table: at its defaults, and in its annotations if it binds no name
   abbrev pub method_findings : (binds : Test) → FuncDef → List Note
   method_findings binds d = if binds then method_defaults d else def_findings (with_name no_name (codes "self")) d
 
-  -- what is found of a member beside the class table
+  -- the notes of a member apart from the class table
   abbrev pub member_findings : ClassFacts → (bound : List ℕ → Test) → Member → List Note
   member_findings base bound (field_member d) = field_default base bound d
   member_findings base bound (method_member d) = method_findings (binds_as_method base bound d.name.text) d
 
-  -- what is found of members beside the class table, after names that are bound already
+  -- the notes of members apart from the class table, after names that are bound already
   abbrev pub members_findings : ClassFacts → (bound : List ℕ → Test) → List Member → List Note
   members_findings base bound [] = []
   members_findings base bound (x ∷ xs) = member_findings base bound x
       ++ members_findings base (with_name bound (name_of_member x).text) xs
 
-  -- what the base of the class of a number has
+  -- the facts of the base of a class of this number
   abbrev pub base_at : ℕ → ClassFacts
   base_at c = base_facts (classes_of m) (base_of (bases_of m) c)
 
-  -- what is found of the members of a class of this number beside the class table
+  -- the notes of the members of a class of this number apart from the class table
   abbrev pub class_notes : ℕ → ClassDef → List Note
   class_notes c d = members_findings (base_at c) no_name d.members
 
-  -- the methods of a class as what is called
+  -- the signatures of the methods of a class
   abbrev pub class_methods : ClassDef → List Signature
   class_methods c = map (signature_of m) (methods_in c.members)
 
-  -- the methods of each class
+  -- the signatures of the methods of each class
   abbrev pub signatures_of_methods : List ClassDef → List (List Signature)
   signatures_of_methods cs = map class_methods cs
 
   -- ---- constants
 
-  -- what an initializer stands in, after constants of these types and so many classes
+  -- the standing of an initializer, after constants of these types and this number of classes
   abbrev pub initial : (keeps : Test) → (constants : List Tree) → (classes : ℕ) → Standing
   initial keeps constants classes = record {
     context = initializer_context m constants classes;
@@ -177,7 +177,7 @@ module _ (m : Module) where
     keeps = keeps;
   }
 
-  -- what an initializer flows into
+  -- the types that an initializer flows into
   abbrev pub initializer_types : ItemsReached → Constant → List Tree
   initializer_types r c = annotated_types m (binds_text r.bound c.name.text) c.annotation
 
@@ -190,21 +190,21 @@ module _ (m : Module) where
   abbrev pub type_of_constant : ItemsReached → Constant → Tree
   type_of_constant r c = constant_type m c.annotation (initializer_label r c).type
 
-  -- what is found of an initializer that flows into these types: in it, and of its flow
+  -- the notes of an initializer that flows into these types: in it, and of its flow
   abbrev pub value_findings : (keeps : Test) → ItemsReached → (into : List Tree) → Expr → List Note
   value_findings keeps r into e =
       finds_in (initial keeps r.constants r.classes) (first_of_types into) e
       ++ flows_at (place_of e)
       (flows_of (bases_of m) (label_in (initial false r.constants r.classes) (first_of_types into) e) into)
 
-  -- what is found of a constant: in its annotation, and of its initializer
+  -- the notes of a constant: in its annotation, and of its initializer
   abbrev pub constant_findings : (keeps : Test) → ItemsReached → Constant → List Note
   constant_findings keeps r c = map plain_note (option_findings m (bases_of m) c.annotation)
       ++ value_findings keeps r (initializer_types r c) c.value
 
   -- ---- items
 
-  -- what is reached after one more item
+  -- the state after one more item
   abbrev pub behind : ItemsReached → Item → ItemsReached
   behind r (constant_item p c) = record {
     constants = r.constants ++ type_of_constant r c ∷ [];
@@ -222,18 +222,18 @@ module _ (m : Module) where
     bound = with_name r.bound f.name.text;
   }
 
-  -- what is reached after items
+  -- the state after items
   abbrev pub behind_all : ItemsReached → List Item → ItemsReached
   behind_all r [] = r
   behind_all r (i ∷ is) = behind_all (behind r i) is
 
-  -- what is found of an item that is a constant, or of the members of one that is a class
+  -- the notes of an item that is a constant, or of the members of one that is a class
   abbrev pub item_findings : (keeps : Test) → ItemsReached → Item → List Note
   item_findings keeps r (constant_item p c) = constant_findings keeps r c
   item_findings keeps r (class_item p c) = class_notes r.classes c
   item_findings keeps r (def_item p f) = []
 
-  -- what is found of the constants and classes among items
+  -- the notes of the constants and classes among items
   abbrev pub items_findings : (keeps : Test) → ItemsReached → List Item → List Note
   items_findings keeps r [] = []
   items_findings keeps r (i ∷ is) = item_findings keeps r i ++ items_findings keeps (behind r i) is
@@ -244,10 +244,11 @@ module _ (m : Module) where
   unfoldable pub constants_of : List Tree
   constants_of = (behind_all nothing_reached m.items).constants
 
-  -- the methods of each class as what is called
+  -- the signatures of the methods of each class of the module
   unfoldable pub method_signatures : List (List Signature)
   method_signatures = signatures_of_methods (classes_in m.items)
 
-  -- what is found of the signatures and the constants of a module, but for what the class table finds in annotations
+  -- the notes of the signatures and the constants of a module, apart from those that the class table finds in
+  -- annotations
   unfoldable pub signatures_find : (keeps : Test) → List Note
   signatures_find keeps = functions_findings m.items ++ items_findings keeps nothing_reached m.items

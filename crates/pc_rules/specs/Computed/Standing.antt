@@ -1,5 +1,4 @@
--- What the program that types expressions is given and answers, in terms of the definitions.
--- Own rule of the profile.
+-- The inputs and results of the program that types expressions, in terms of the definitions. Own rule of the profile.
 use Rattle.std.specs.Prelude.{◌≡◌, ℕ, List, map, Bool as Test, true, Option, Some, None, All, option_to_list}
 use Rattle.std.specs.Option.{option_map}
 use Rattle.pc_tree.specs.Tree.{Expr, Exprs, Entries, Keywords}
@@ -21,22 +20,22 @@ use Rattle.pc_rules.specs.Labels.{key_types, value_types}
 use Rattle.pc_rules.specs.Computed.Expressions.{labels_of, items_labels, entries_labels, keywords_labels}
 use Rattle.pc_rules.specs.Computed.Findings.{brief, notes_under, found_in_parts, found_in_items, found_in_arguments}
 use Rattle.pc_rules.specs.Computed.Findings.{found_in_entries, found_in_keywords}
-use Rattle.pc_rules.specs.declared.setting.Setting.{Setting}
-use Rattle.pc_rules.specs.declared.setting.Signature.{Signature as RustSignature}
+use Rattle.pc_rules.specs.declared.expr_context.ExprContext.{ExprContext}
+use Rattle.pc_rules.specs.declared.expr_context.Signature.{Signature as RustSignature}
 use Rattle.pc_rules.specs.declared.label.Label.{Label as RustLabel}
 use Rattle.pc_rules.specs.declared.label.Offer.{Offer as RustOffer}
 
--- ---- what an expression stands in
+-- ---- the standing of an expression
 
--- what an expression stands in: what it may name, the declared types of the locals, the environment, and whether the
--- types of labels are noted
+-- the standing of an expression: its context, the declared types of the locals, the environment, and whether the types
+-- of labels are noted
 pub record Standing : Type 0 where
   pub context : Context
   pub declared : List Tree
   pub env : Env
   pub keeps : Test
 
--- with the environment as a condition leaves it
+-- a standing with its environment narrowed by a condition that holds or fails
 abbrev pub narrowed_standing : Standing → (holds : Test) → Expr → Standing
 narrowed_standing k holds e = record {
   context = k.context;
@@ -47,48 +46,48 @@ narrowed_standing k holds e = record {
 
 -- ---- the computed labels there
 
--- the label of an expression
+-- the computed label of an expression
 unfoldable pub label_in : Standing → (want : Option Tree) → Expr → Label
 label_in k want e = whole_label e (labels_of k.context k.declared k.env want e)
 
--- what is found in it and in its parts
+-- the notes of an expression and its parts
 unfoldable pub finds_in : Standing → (want : Option Tree) → Expr → List Note
 finds_in k want e = notes_under k.keeps e (labels_of k.context k.declared k.env want e)
 
--- what is found in its parts alone
+-- the notes of the parts of an expression
 unfoldable pub parts_find : Standing → (want : Option Tree) → Expr → List Note
 parts_find k want e = found_in_parts k.keeps e (labels_of k.context k.declared k.env want e)
 
 module _ (k : Standing) where
-  -- the labels of items, each with what is expected of it and what it flows into
+  -- the labels of items, each in its seat
   abbrev pub items_in : (seat : ℕ → Seat) → (es : Exprs) → ItemsLabels es
   items_in seat es = items_labels k.context k.declared (static_test k.context.bases)
       (assignable_test k.context.bases) k.env seat es
 
-  -- of the entries of a dict
+  -- the labels of the entries of a dict
   abbrev pub entries_in : (key value : Seat) → (es : Entries) → EntriesLabels es
   entries_in key value es =
       entries_labels k.context k.declared (static_test k.context.bases)
       (assignable_test k.context.bases) k.env key value es
 
-  -- of arguments by name, after arguments of these names
+  -- the labels of arguments by name, after arguments of these names
   abbrev pub keywords_in : (seat : List ℕ → Seat) → (before : List (List ℕ)) → (es : Keywords) → KeywordsLabels es
   keywords_in seat before es =
       keywords_labels k.context k.declared (static_test k.context.bases)
       (assignable_test k.context.bases) k.env seat before es
 
--- the types of items, and what is found in them
+-- the types of items, and their notes
 unfoldable pub types_in : Standing → (seat : ℕ → Seat) → Exprs → List Tree
 types_in k seat es = item_types es (items_in k seat es)
 
 unfoldable pub items_find : Standing → (seat : ℕ → Seat) → Exprs → List Note
 items_find k seat es = found_in_items k.keeps es (items_in k seat es)
 
--- what is found in arguments by position; of a test of an instance what stands second is not looked at
+-- the notes of arguments by position; of an instance test only those in the first argument
 unfoldable pub arguments_find : Standing → (is_test : Test) → (seat : ℕ → Seat) → Exprs → List Note
 arguments_find k is_test seat es = found_in_arguments k.keeps is_test es (items_in k seat es)
 
--- the types of the keys and of the values of a dict, and what is found in its entries
+-- the types of the keys and of the values of a dict, and the notes of its entries
 unfoldable pub keys_in : Standing → (key value : Seat) → Entries → List Tree
 keys_in k key value es = key_types es (entries_in k key value es)
 
@@ -98,14 +97,14 @@ values_in k key value es = value_types es (entries_in k key value es)
 unfoldable pub entries_find : Standing → (key value : Seat) → Entries → List Note
 entries_find k key value es = found_in_entries k.keeps es (entries_in k key value es)
 
--- what is found in arguments by name
+-- the notes of arguments by name
 unfoldable pub keywords_find : Standing → (seat : List ℕ → Seat) → (before : List (List ℕ)) → Keywords → List Note
 keywords_find k seat before es = found_in_keywords k.keeps es (keywords_in k seat before es)
 
 -- ---- values of the program
 
 module _ {Ty : Type 0} (tree : Ty → Tree) where
-  -- a signature with the types that it means
+  -- the signature that a program's signature means
   abbrev pub signature_with : RustSignature Ty → Signature
   signature_with s = record {
     parameters = parameters_with tree s.params;
@@ -113,11 +112,11 @@ module _ {Ty : Type 0} (tree : Ty → Tree) where
     takes_names = true;
   }
 
-  -- a label with the type that it means
+  -- the label that a program's label means
   abbrev pub label_with : RustLabel Ty → Label
   label_with l = record { type = tree l.ty; codes = l.codes.items }
 
-  -- an offer with the types that it means
+  -- the offer that a program's offer means
   abbrev pub offer_with : RustOffer Ty → Offer
   offer_with o = record {
     found = option_to_list o.found;
@@ -127,7 +126,7 @@ module _ {Ty : Type 0} (tree : Ty → Tree) where
 
 module _ {Ty : Type 0} (tree : Ty → Tree) where
   -- the context that a setting means
-  abbrev pub context_with : Setting Ty → Context
+  abbrev pub context_with : ExprContext Ty → Context
   context_with s = record {
     bases = s.globals.now.outline.now.parents.now;
     classes = classes_with tree s.globals.now.classes.now;
@@ -138,8 +137,8 @@ module _ {Ty : Type 0} (tree : Ty → Tree) where
     resolve = meanings s.names.now;
   }
 
-  -- what an expression stands in, by a setting and the types of an environment
-  abbrev pub standing_of : Setting Ty → List (Option Ty) → Standing
+  -- the standing that a setting and the types of an environment mean
+  abbrev pub standing_of : ExprContext Ty → List (Option Ty) → Standing
   standing_of s types = record {
     context = context_with s;
     declared = declared_of tree s.declared.now;
@@ -147,12 +146,12 @@ module _ {Ty : Type 0} (tree : Ty → Tree) where
     keeps = s.globals.now.keeps;
   }
 
--- a type is of the store, if there is one
+-- the store gave a type, if there is one
 abbrev pub HasIfAny : {Ty : Type 0} → (has : Ty → Type 0) → Option Ty → Type 0
 HasIfAny has None = Unit {0}
 HasIfAny has (Some ty) = has ty
 
--- the store gave what a signature takes and returns
+-- the store gave the types of a signature
 pub record HasSignature {Ty : Type 0} (has : Ty → Type 0) (s : RustSignature Ty) : Type 0 where
   pub params : All (HasParameter has) s.params
   pub ret : has s.ret
@@ -163,7 +162,7 @@ pub record HasOffer {Ty : Type 0} (has : Ty → Type 0) (o : RustOffer Ty) : Typ
   pub takes : HasIfAny has o.takes
 
 -- the store gave all types of a setting and of an environment; those of the locals are well-formed
-pub record HasGivenAll {Ty : Type 0} (has : Ty → Type 0) (tree : Ty → Tree) (s : Setting Ty)
+pub record HasGivenAll {Ty : Type 0} (has : Ty → Type 0) (tree : Ty → Tree) (s : ExprContext Ty)
     (types : List (Option Ty)) : Type 0 where
   pub classes : HasEntries has s.globals.now.classes.now
   pub functions : All (HasSignature has) s.globals.now.functions.now
@@ -174,7 +173,7 @@ pub record HasGivenAll {Ty : Type 0} (has : Ty → Type 0) (tree : Ty → Tree) 
   pub env_well_formed : IsWellFormedEnv s.globals.now.outline.now.parents.now (env_of tree types)
 
 module _ {Store Ty : Type 0} (has : Store → Ty → Type 0) (tree : Ty → Tree) where
-  -- a label with a type of the store, which means this one, but with each code once
+  -- a label with a type of the store means this label, with each code once
   pub record MeansLabel (store : Store) (l : RustLabel Ty) (m : Label) : Type 0 where
     pub given : has store l.ty
     pub is : label_with tree l ≡ brief m

@@ -1,12 +1,12 @@
--- Tests of a local for a list: where one is a dynamic place.
--- Typing specification, "Type narrowing"; own rule of the profile.
+-- The law that tests of a local for a list can be dynamic places. Typing specification, "Type narrowing"; own rule of
+-- the profile.
 use Rattle.std.specs.Prelude.{◌≡◌, ◌⊎◌, ℕ, List, Option, Some, Contains}
 use Rattle.pc_source.specs.declared.place.Place.{Place}
 use Rattle.pc_tree.specs.declared.code.Code.TheVariants.{A7}
 use Rattle.pc_tree.specs.Code.{finding}
 use Rattle.pc_tree.specs.Tree.{Name, Expr, name, call, no_exprs, more_exprs, no_keywords}
 use Rattle.pc_scope.specs.declared.resolution.Builtin.TheVariants as builtin
-use Rattle.pc_scope.specs.declared.resolution.Res.TheVariants as res
+use Rattle.pc_scope.specs.declared.resolution.NameMeaning.TheVariants as res
 use Rattle.pc_types.specs.Tree.{Tree, Any, Object}
 use Rattle.pc_types.specs.Shape.{members}
 use Rattle.pc_flow.specs.Environment.{Env, current}
@@ -29,8 +29,8 @@ pub record TestsForList (ctx : Context) (callee first second : Name) (x : ℕ) :
 abbrev pub HasAnyOrObject : Tree → Type 0
 HasAnyOrObject t = Contains (members t) Any ⊎ Contains (members t) Object
 
--- the law that a test of a local for a list is A7, under any lawful labels, where a member of its current type is Any
--- or object
+-- the law that a test of a local for a list is A7, under any lawful labels, if a member of its current type is Any or
+-- object
 abbrev pub ListTestsAreDynamicPlaces : Type 0
 ListTestsAreDynamicPlaces =
     (ctx : Context) (declared : List Tree) (env : Env) (want : Option Tree) (p : Place) (callee first second : Name)

@@ -18,17 +18,17 @@ use Rattle.pc_rules.specs.Labels.{FlowLabels, Labels, ItemsLabels, EntriesLabels
 use Rattle.pc_rules.specs.Lawful.{Lawful}
 use Rattle.pc_rules.specs.Signatures.{body_context, initializer_context}
 
--- the types of what is taken and returned are well-formed
+-- the parameter types and the return type of a signature are well-formed
 pub record SignatureWellFormed (bases : Bases) (s : Signature) : Type 0 where
   pub parameters : ParametersWellFormed bases s.parameters
   pub returns : IsWellFormed bases s.returns
 
--- the types of what each of these signatures takes and returns are well-formed
+-- the types of each of these signatures are well-formed
 abbrev pub SignaturesWellFormed : Bases → List Signature → Type 0
 SignaturesWellFormed bases [] = Unit {0}
 SignaturesWellFormed bases (s ∷ ss) = SignatureWellFormed bases s × SignaturesWellFormed bases ss
 
--- the types that a context knows are well-formed, and each class's base has a smaller number than the class
+-- the types in a context are well-formed, and each class's base has a smaller number than the class
 pub record ContextWellFormed (ctx : Context) : Type 0 where
   pub smaller : AreSmaller ctx.bases
   pub classes : ClassesWellFormed ctx.bases ctx.classes
@@ -42,7 +42,7 @@ FlowsWellFormed bases (f ∷ fs) = (IsWellFormed bases f.from × IsWellFormed ba
 
 -- every type in labels is well-formed
 abbrev mutual
-  -- in those of an expression, of its parts and of their flows
+  -- every type in the labels of an expression, of its parts and of their flows is well-formed
   pub LabelsWellFormed : Bases → (e : Expr) → Labels e → Type 0
   LabelsWellFormed bases (name n) m = IsWellFormed bases m.type
   LabelsWellFormed bases (number p digits) m = IsWellFormed bases m.type
@@ -70,13 +70,13 @@ abbrev mutual
   LabelsWellFormed bases (call p c args kws) m = IsWellFormed bases m.here.type × LabelsWellFormed bases c m.callee
       × ItemsWellFormed bases args m.arguments × KeywordsWellFormed bases kws m.keywords
 
-  -- in those of items and of arguments by position
+  -- every type in the labels of items and of arguments by position is well-formed
   pub ItemsWellFormed : Bases → (es : Exprs) → ItemsLabels es → Type 0
   ItemsWellFormed bases no_exprs m = Unit {0}
   ItemsWellFormed bases (more_exprs e rest) m = LabelsWellFormed bases e m.first × FlowsWellFormed bases m.flows
       × ItemsWellFormed bases rest m.rest
 
-  -- in those of the entries of a dict
+  -- every type in the labels of the entries of a dict is well-formed
   pub EntriesWellFormed : Bases → (es : Entries) → EntriesLabels es → Type 0
   EntriesWellFormed bases no_entries m = Unit {0}
   EntriesWellFormed bases (more_entries key value rest) m =
@@ -84,7 +84,7 @@ abbrev mutual
       × (LabelsWellFormed bases value m.value × FlowsWellFormed bases m.value_flows)
       × EntriesWellFormed bases rest m.rest
 
-  -- in those of arguments by name
+  -- every type in the labels of arguments by name is well-formed
   pub KeywordsWellFormed : Bases → (es : Keywords) → KeywordsLabels es → Type 0
   KeywordsWellFormed bases no_keywords m = Unit {0}
   KeywordsWellFormed bases (more_keywords parameter value rest) m = LabelsWellFormed bases value m.first
@@ -97,8 +97,8 @@ pub record HasLabels (ctx : Context) (declared : List Tree) (env : Env) (want : 
   pub well_formed : IsWellFormed ctx.bases (type_of e labels)
   pub each : LabelsWellFormed ctx.bases e labels
 
--- where the context, the declared types, the environment and the type that is expected are well-formed, each expression
--- has lawful labels
+-- the law that each expression has lawful labels, if the context, the declared types, the environment and the expected
+-- type are well-formed
 abbrev pub ExpressionsHaveLabels : Type 0
 ExpressionsHaveLabels =
     (ctx : Context) (declared : List Tree) (env : Env) (want : Option Tree) (e : Expr) →
@@ -108,7 +108,7 @@ ExpressionsHaveLabels =
     IsWellFormedIfAny ctx.bases want →
     HasLabels ctx declared env want e
 
--- every type in any lawful labels of an expression is well-formed there
+-- the law that every type in any lawful labels of an expression is well-formed there
 abbrev pub LawfulLabelsAreWellFormed : Type 0
 LawfulLabelsAreWellFormed =
     (ctx : Context) (declared : List Tree) (env : Env) (want : Option Tree) (e : Expr) (labels : Labels e) →
@@ -120,12 +120,12 @@ LawfulLabelsAreWellFormed =
     Lawful ctx declared env want e labels →
     LabelsWellFormed ctx.bases e labels
 
--- the context of a body is well-formed, if the types of the constants are
+-- the law that the context of a body is well-formed, if the types of the constants are
 abbrev pub BodyContextsAreWellFormed : Type 0
 BodyContextsAreWellFormed = (m : Module) (constants : List Tree) (names : List (List ℕ))
     → AreWellFormed (bases_of m) constants → ContextWellFormed (body_context m constants names)
 
--- the context of an initializer is well-formed, if the types of the constants are
+-- the law that the context of an initializer is well-formed, if the types of the constants are
 abbrev pub InitializerContextsAreWellFormed : Type 0
 InitializerContextsAreWellFormed = (m : Module) (constants : List Tree) (classes : ℕ)
     → AreWellFormed (bases_of m) constants → ContextWellFormed (initializer_context m constants classes)

@@ -1,4 +1,4 @@
--- The forms of calls and of what a `for` goes over, as the program tells them apart.
+-- The forms of calls and of a `for`'s iterable, as the program distinguishes them.
 -- Own rule of the profile.
 use Rattle.std.specs.Prelude.{List, Option, Some, None}
 use Rattle.pc_tree.specs.Lists.{exprs_of_list, keywords_of_list}
@@ -11,12 +11,12 @@ use Rattle.pc_tree.specs.declared.tree.Expr.{Expr as RustExpr}
 use Rattle.pc_tree.specs.declared.tree.KeywordArgument.{KeywordArgument as RustKeyword}
 use Rattle.pc_tree.specs.Tree.{name_of}
 
--- a call's form, and what a `for` goes over, as the program tells them apart
+-- the form of a call, as the program represents it
 abbrev pub form_seen : Option (Bor RustName × Bor RustExpr × Bor RustExpr) → CallForm
 form_seen None = ordinary
 form_seen (Some f) = instance_test (name_of f.0.now) (expr_of f.1.now) (expr_of f.2.now)
 
--- what a `for` goes over, as the program tells it: a call of `range` by its parts, or another expression
+-- the form of a `for`'s iterable, as the program represents it: a call of `range` by its parts, or another expression
 abbrev pub range_seen : Option (Place × Bor RustName × Bor (List RustExpr) × Bor (List RustKeyword)) → IterableForm
 range_seen None = any_iterable
 range_seen (Some f) = range_call f.0 (name_of f.1.now) (exprs_of_list f.2.now) (keywords_of_list f.3.now)

@@ -1,4 +1,4 @@
--- The items of a module in a plain run, as the tracer's functions follow them.
+-- The items of a module in a plain run, as the tracer's functions run them.
 -- Own rule of the profile.
 use Rattle.std.specs.Prelude.{ℕ, Bool, true, List, [], ◌∷◌, Option, Some, None, is_some}
 use Rattle.std.specs.List.{list_all}
@@ -17,29 +17,29 @@ items_in n imports_dataclass items = text.exec_items Step plain (plain_parts n) 
 abbrev pub item_in : ℕ → (imports_dataclass : Bool) → Item → Step (Unit {0})
 item_in n imports_dataclass item = text.exec_item Step plain (plain_parts n) imports_dataclass item
 
--- a class is made in a plain run
+-- the making of a class in a plain run
 abbrev pub class_made : (imports_dataclass : Bool) → ClassDef → Step (Unit {0})
 class_made imports_dataclass c = text.make_class Step plain imports_dataclass c
 
--- a default that has a value, or no default
+-- whether a default has a value or is absent
 abbrev pub has_value : Option Literal → Bool
 has_value None = true
 has_value (Some l) = is_some (literal_value l)
 
--- the default of a parameter has a value, if it has a default
+-- whether the default of a parameter has a value or is absent
 abbrev pub param_has_value : Param → Bool
 param_has_value p = has_value p.default
 
--- each default of a def has one
+-- whether each default of a def has a value
 abbrev pub have_values : List Param → Bool
 have_values ps = list_all param_has_value ps
 
--- each default of a member has a value
+-- whether each default of a member has a value
 abbrev pub member_has_values : Member → Bool
 member_has_values (field_member f) = has_value f.default
 member_has_values (method_member f) = have_values f.params
 
--- each default in a class has one
+-- whether each default in a class has a value
 abbrev pub members_have_values : List Member → Bool
 members_have_values ms = list_all member_has_values ms
 
@@ -52,12 +52,12 @@ with_field_member n default others =
 abbrev pub with_method : FuncDef → Members → Members
 with_method f others = record { fields = others.fields; methods = function_of f ∷ others.methods }
 
--- the fields and methods of a class that are its own, each in the order of the text
+-- the fields and methods that a class defines itself, each in the order of the text
 abbrev pub members_made : List Member → Members
 members_made [] = record { fields = []; methods = [] }
 members_made (field_member f ∷ rest) = with_field_member f.name.text f.default (members_made rest)
 members_made (method_member f ∷ rest) = with_method f (members_made rest)
 
--- the number of a base, as it is
+-- the number of a base, unchanged
 abbrev pub base_seen : Option ℕ → Option ℕ
 base_seen base = base

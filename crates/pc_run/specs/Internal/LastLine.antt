@@ -6,6 +6,6 @@ use Rattle.pc_machine.specs.Plain.{Step, plain}
 use Rattle.pc_machine.specs.Runs.{plain_parts}
 use Rattle.pc_machine.specs.Evaluation as text
 
--- `main` is entered
+-- the call of `main`
 abbrev pub main_entered : ℕ → Step Value
 main_entered n w = text.enter_main Step plain (plain_parts n) w

@@ -1,4 +1,4 @@
--- What a walk over the parts of an expression seeks, and what it finds among them.
+-- The aim of a search through the parts of an expression, and its findings.
 use Rattle.std.specs.Prelude.{List, [], ◌∷◌, ◌++◌, Bool, true, false, ◌&&◌}
 use Rattle.pc_tree.specs.declared.code.Code.TheVariants.{E02, E03}
 use Rattle.pc_tree.specs.declared.code.Finding.{Finding}
@@ -14,18 +14,18 @@ use Rattle.pc_scope_findings.specs.declared.parts.Sought.{Sought}
 use Rattle.pc_scope_findings.specs.declared.parts.Sought.TheVariants as sought
 use Rattle.pc_scope_findings.specs.Internal.FindingLists.{unknown_at, early_at, callee_at}
 
--- the second argument of a test of an instance is passed over
+-- a search skips the second argument of an `isinstance` test
 abbrev pub is_judged : Sought → Bool
 is_judged (sought.Unknown owner) = true
 is_judged (sought.Early constants classes) = false
 
--- what is found at an expression itself
+-- the findings of a search at an expression without its parts
 abbrev pub sought_at : Tables → Sought → Expr → List Finding
 sought_at t (sought.Unknown owner) e = at_code E02 (unknown_at (meaning_by_tables t owner) (name_of_tree e))
 sought_at t (sought.Early k c) e =
     at_code E03 (early_at k c (meaning_by_tables t owners.Module) (name_of_tree e) ++ callee_at (other_callee e))
 
--- what is found at these expressions
+-- the findings of a search at these expressions, without their parts
 abbrev pub sought_among : Tables → Sought → List Expr → List Finding
 sought_among t s [] = []
 sought_among t s (e ∷ es) = sought_at t s e ++ sought_among t s es
@@ -34,7 +34,7 @@ sought_among t s (e ∷ es) = sought_at t s e ++ sought_among t s es
 abbrev pub some_parts : (judged first_alone : Bool) → Exprs → List Expr
 some_parts j first_alone es = first_or_all (parts_in_first j es) (parts_in_all j es) first_alone
 
--- the parts of an expression without itself
+-- the parts of an expression without the expression itself
 abbrev pub inner_parts : (judged : Bool) → Expr → List Expr
 inner_parts j (name n) = []
 inner_parts j (number p digits) = []

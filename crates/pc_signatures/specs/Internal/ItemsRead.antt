@@ -1,20 +1,19 @@
--- What the items read so far give, in terms of the definitions.
--- Own rule of the profile.
+-- The state of reading items, in terms of the definitions. Own rule of the profile.
 use Rattle.std.specs.Prelude.{List, map, length, All, Vec}
 use Rattle.std.specs.Global.{Global}
 use Rattle.pc_types.specs.Tree.{Tree}
-use Rattle.pc_rules.specs.declared.setting.Signature.{Signature as RustSignature}
+use Rattle.pc_rules.specs.declared.expr_context.Signature.{Signature as RustSignature}
 use Rattle.pc_rules.specs.Context.{Signature}
 use Rattle.pc_rules.specs.Computed.Signatures.{ItemsReached, bound_in}
-use Rattle.pc_headers.specs.SignaturesRead.{HasSignatures, signatures_with}
+use Rattle.pc_callables.specs.SignaturesRead.{HasSignatures, signatures_with}
 use Rattle.pc_signatures.specs.declared.constants.ItemsRead.{ItemsRead}
 
 module _ {Ty : Type 0} (tree : Ty → Tree) where
-  -- the signatures of the methods of a class
+  -- the signatures that a program's methods of a class mean
   abbrev pub methods_with : Vec (RustSignature Ty) Global → List Signature
   methods_with v = signatures_with tree v.items
 
-  -- what the items read so far give
+  -- the state of a walk over items that the items read so far mean
   abbrev pub reached_with : ItemsRead Ty → ItemsReached
   reached_with w = record {
     constants = map tree w.constants.items;
@@ -23,7 +22,7 @@ module _ {Ty : Type 0} (tree : Ty → Tree) where
   }
 
 module _ {Ty : Type 0} (has : Ty → Type 0) where
-  -- the store gave what the methods of a class take and return
+  -- the store gave the types of the methods of a class
   abbrev pub HasMethods : Vec (RustSignature Ty) Global → Type 0
   HasMethods v = HasSignatures has v.items
 

@@ -1,4 +1,4 @@
--- Where a call fits, the module can be called under the heap typing that is found, and the arguments suit.
+-- If a call fits, the module can be called under the heap typing found, and the arguments match.
 use Rattle.std.proofs.Common.{◌≡◌, zero, suc, List, [], ◌∷◌, ◌++◌, refl, subst, inl, inr}
 use Rattle.std.specs.Prelude.{Bool as Test, true, false, ◌&&◌, if◌then◌else◌, Some, None}
 use Rattle.std.proofs.lemmas.Bool.{and_parts}
@@ -34,7 +34,7 @@ met bases k (d ∷ ds) e =
 
 module _ (m : Module) (labels : Labelling m) (k : HeapTyping) (s : State) (ready : IsReady m labels k s) (heap : Heap)
     (objects : List Demand) (params : List TypedParameter) (values : List Value) (named : List NamedValue) where
-  -- what is demanded of the constants
+  -- the demands on the constants
   abbrev OfConstants : List Demand
   OfConstants = constant_demands (constants_in m.items) (constant_types m m.items labels) s.globals
 

@@ -1,4 +1,4 @@
--- What is computed of values, heaps and arguments under a heap typing holds of them.
+-- The computed checks of values, heaps and arguments under a heap typing are right.
 use Rattle.std.proofs.Common.{◌≡◌, ℕ, zero, suc, List, [], ◌∷◌, length, refl, ap, subst, inl, inr}
 use Rattle.std.specs.Prelude.{◌==◌, true, ◌&&◌, not, bytes_eq, Option, Some, None, is_some}
 use Rattle.std.specs.Prelude.{slice_get}
@@ -13,7 +13,7 @@ use Rattle.pc_types.proofs.Descent.{reaches_below}
 use Rattle.pc_class.specs.Facts.{ClassFacts, TypedParameter, class_facts_at}
 use Rattle.pc_rules.specs.Calls.{parameter_names}
 use Rattle.pc_value.specs.Value.{Value, Values, whole, boolean, string, none, tuple_of, location, no_values}
-use Rattle.pc_value.specs.Value.{more_values, Entry, Slot, Cell, list_cell, dict_cell, instance_cell, Heap}
+use Rattle.pc_value.specs.Value.{more_values, DictEntry, Slot, Cell, list_cell, dict_cell, instance_cell, Heap}
 use Rattle.pc_machine.specs.Calls.{NamedValue, value_named}
 use Rattle.pc_sound.specs.Values.{HeapTyping, Recorded, a_list, a_dict, a_class, Equal, IsList, IsDict, IsInstance}
 use Rattle.pc_sound.specs.Values.{HasType, HaveTypes, AllHave, EntriesHave, SlotsHave, CellHas, CellAt, IsWell}
@@ -92,7 +92,7 @@ module _ (bases : Bases) (k : HeapTyping) where
   items_typed t (v ∷ vs) e =
       let h = and_parts (has_type bases k t v) (all_have bases k t vs) e in (typed t v h.0, items_typed t vs h.1)
 
-  entries_typed : (s t : Tree) (es : List Entry) → entries_have bases k s t es ≡ true → EntriesHave bases k s t es
+  entries_typed : (s t : Tree) (es : List DictEntry) → entries_have bases k s t es ≡ true → EntriesHave bases k s t es
   entries_typed s t [] e = tt
   entries_typed s t (x ∷ es) e =
       let h = and_parts (has_type bases k s x.key) (has_type bases k t x.value && entries_have bases k s t es) e in

@@ -29,7 +29,7 @@ ArgumentsHave bases k seat (more_exprs e rest) m (v ∷ vs) = (HasType bases k (
     × HasEach bases k (seat 0).into v) × ArgumentsHave bases k (λ i. seat (suc i)) rest m.rest vs
 ArgumentsHave bases k seat _ m vs = ⊥
 
--- so is each value of an argument by name, under that name
+-- each value of an argument by name is of its type and of each type of its seat, under that name
 abbrev pub KeywordsHave : Bases → HeapTyping → (seat : List ℕ → Seat) → (before : List (List ℕ)) → (es : Keywords)
     → KeywordsLabels es → List NamedValue → Type 0
 KeywordsHave bases k seat before no_keywords m [] = Unit {0}

@@ -12,8 +12,8 @@ use Rattle.pc_tree.specs.Tree.{Exprs, Keywords, FuncDef, Module}
 use Rattle.pc_tree.specs.Depth.{place_of}
 use Rattle.pc_scope.specs.declared.resolution.Owner.{Owner}
 use Rattle.pc_scope.specs.declared.resolution.Owner.TheVariants as owners
-use Rattle.pc_scope.specs.declared.resolution.Res.{Res}
-use Rattle.pc_scope.specs.declared.resolution.Res.TheVariants as res
+use Rattle.pc_scope.specs.declared.resolution.NameMeaning.{NameMeaning}
+use Rattle.pc_scope.specs.declared.resolution.NameMeaning.TheVariants as res
 use Rattle.pc_scope.specs.Expressions.{is_instance_test}
 use Rattle.pc_scope.specs.Bindings.{functions_in, classes_in}
 use Rattle.pc_scope.specs.Resolution.{index_of, locals, function_of, local_meaning, or_meaning, resolve_in_module}
@@ -60,17 +60,17 @@ use Rattle.pc_sound.proofs.Calls.ValueCalls.{with_own, ordinary_call, values_qui
 use Rattle.pc_sound.proofs.Calls.ValueCalls.{named_value_safe, arguments_covered}
 
 -- a name that is no local means what the module says
-outside_func : (o : Option ℕ) (r : Res) (i : ℕ) → or_meaning (local_meaning o) r ≡ res.Func i → r ≡ res.Func i
+outside_func : (o : Option ℕ) (r : NameMeaning) (i : ℕ) → or_meaning (local_meaning o) r ≡ res.Func i → r ≡ res.Func i
 outside_func None r i e = e
 outside_func (Some x) r i e = absurd (grind (arith, e))
 
--- so does one that is a class
+-- the signature with a number is that of the function with that number
 signature_at : (m : Module) (i : ℕ) (d : FuncDef) → slice_get (functions_in m.items) i ≡ Some d
     → slice_get (signatures_of m) i ≡ Some (signature_of m d)
 unfolding signatures_of
 signature_at m i d e = slice_get-map (signature_of m) (functions_in m.items) i ∙ ap (option_map (signature_of m)) e
 
--- what is known of a module whose labels are lawful and without silent errors, as calls need it
+-- the facts that calls need of a module whose labels are lawful and without silent errors
 pub record Facts (m : Module) (constants : List Tree) (listed : Place → Type 0) : Type 0 where
   pub inherits : Inherits (bases_of m) (classes_of m)
   pub dispatched : (d c : ℕ) → Below (bases_of m) (tree.Class d) (tree.Class c) → (word : List ℕ) (old : Method)
@@ -101,7 +101,7 @@ module _ (m : Module) (constants : List Tree) (listed : Place → Type 0) (facts
     abbrev Fit : IsContextOf (around_of m constants listed owner d lab) (context_of m constants listed owner d)
     Fit = fits_of m constants listed owner d lab
 
-    -- what a whole call is
+    -- a whole call is safe
     abbrev CallSafe : (p : Place) (c : Expr) (args : Exprs) (kws : Keywords) → Labels (call p c args kws) → Type 0
     CallSafe p c args kws k = IsSafe Here env (λ j. Unit {0}) (eval_node Step free parts (call p c args kws))
         (λ j v. HasType (bases_of m) j k.here.type v)
@@ -172,7 +172,7 @@ module _ (m : Module) (constants : List Tree) (listed : Place → Type 0) (facts
         let at : i ≡ n.at = omega arith in
         record { def = n.function; at = ap (slice_get (functions_in m.items)) at ∙ n.is; resolves = r }
 
-    no_local : (word : List ℕ) (r : Res) → Ctx.resolve word ≡ r → ((x : ℕ) → r ≡ res.Local x → ⊥) → (x : ℕ)
+    no_local : (word : List ℕ) (r : NameMeaning) → Ctx.resolve word ≡ r → ((x : ℕ) → r ≡ res.Local x → ⊥) → (x : ℕ)
         → Ctx.resolve word ≡ res.Local x → ⊥
     no_local word r e n x f = n x (sym e ∙ f)
 
@@ -263,7 +263,7 @@ module _ (m : Module) (constants : List Tree) (listed : Place → Type 0) (facts
               keyed.1.1.1)
 
       -- a value
-      named_node : (r : Res) → Ctx.resolve n.text ≡ r → name_callee Ctx env (arguments_given args kws)
+      named_node : (r : NameMeaning) → Ctx.resolve n.text ≡ r → name_callee Ctx env (arguments_given args kws)
           (Ctx.resolve n.text) ≡ value_callee (name_label Ctx env (Ctx.resolve n.text)) → CallSafe p (name n) args kws k
       named_node r e is =
           let own : k.callee ≡ name_label Ctx env (Ctx.resolve n.text) = law.callee ∙ ap (λ x. x.label) is in
@@ -285,7 +285,7 @@ module _ (m : Module) (constants : List Tree) (listed : Place → Type 0) (facts
       name_node : NotReserved Ctx (name n) → CallSafe p (name n) args kws k
       name_node unreserved = go (Ctx.resolve n.text) refl
         where
-          go : (r : Res) → Ctx.resolve n.text ≡ r → CallSafe p (name n) args kws k
+          go : (r : NameMeaning) → Ctx.resolve n.text ≡ r → CallSafe p (name n) args kws k
           go (res.Local x) e = named_node (res.Local x) e (ap (name_callee Ctx env (arguments_given args kws)) e
               ∙ ap (λ r. value_callee (name_label Ctx env r)) (sym e))
           go (res.Const i) e = named_node (res.Const i) e (ap (name_callee Ctx env (arguments_given args kws)) e

@@ -62,7 +62,7 @@ builtin_later bases x v _ _ (appends t h) = appends t (later bases x (ListOf t) 
 builtin_later bases x v _ _ (pops t h) = pops t (later bases x (ListOf t) v h)
 builtin_later bases x v _ _ (gets s t is h) = gets s t is (later bases x (DictOf s t) v h)
 
--- what `e.m` names on a list or a dict, where nothing is found at it
+-- the built-in method that `e.m` names on a list or a dict, where nothing is found at it
 pub record NamedBuiltin (bases : Bases) (k : HeapTyping) (s : State) (v : Value) (word : List ℕ) (g : GivenArguments)
     (offers : List CallOffer) : Type 0 where
   pub method : BuiltinMethod
@@ -251,7 +251,7 @@ none_suits r (more_exprs e rest) kws is = absurd (too_many (count_exprs rest) _ 
     too_many : (c : ℕ) (x : Test) → (nat_le (suc c) 0 && x) ≡ true → ⊥
     too_many c x e = absurd (grind (arith, nat_tests, e))
 
--- what an argument by position has of the parameter there
+-- a value with the types of a seat by position has the type of the parameter there
 abbrev pub HasSeat : Bases → HeapTyping → Seat → Signature → ℕ → Type 0
 HasSeat bases k seat s i = (w : Value) → HasEach bases k seat.into w
     → HasEach bases k (type_at (slice_get s.parameters i)) w

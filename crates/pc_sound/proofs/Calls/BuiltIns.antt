@@ -1,4 +1,4 @@
--- Calls of `print`, `str` and `len` are safe where their arguments are.
+-- Calls of `print`, `str` and `len` are safe if their arguments are.
 use Rattle.std.proofs.Math.Bool.{and-true}
 use Rattle.std.proofs.Common.{◌≡◌, ℕ, suc, List, [], ◌∷◌, map, refl, sym, ap, ◌∙◌, subst, inl, inr, arith}
 use Rattle.std.specs.Prelude.{Bool as Test, true, false, nat_eq, ◌&&◌, if◌then◌else◌, Option, codes, bytes_eq}
@@ -12,7 +12,7 @@ use Rattle.pc_tree.specs.Depth.{place_of}
 use Rattle.pc_tree.specs.Stopping.{has_none}
 use Rattle.pc_scope.specs.declared.resolution.Builtin.{Builtin}
 use Rattle.pc_scope.specs.declared.resolution.Builtin.TheVariants as builtin
-use Rattle.pc_scope.specs.declared.resolution.Res.TheVariants as res
+use Rattle.pc_scope.specs.declared.resolution.NameMeaning.TheVariants as res
 use Rattle.pc_scope.specs.Expressions.{is_instance_test, are_two}
 use Rattle.pc_types.specs.Tree.{Tree, Int, Str, NoneType, ListOf, DictOf, TupleOf}
 use Rattle.pc_types.specs.Below.{Bases}
@@ -238,7 +238,7 @@ module _ (around : Around) (ctx : Context) (fits : IsContextOf around ctx) (know
       (emits_safe around env _ n.place callee.codes (allowed around n.place callee.codes covered))
       λ w. impossible_safe around env _ _ _ λ k h. not_empty (sym found ∙ h.1)
 
-  -- so is a call of it, whatever its arguments are
+  -- a call of a callee with a finding is safe, whatever its arguments are
   pub callee_found_call_safe : (p : Place) (n : Name) (args : Exprs) (kws : Keywords)
       (m : Labels (call p (name n) args kws)) → is_instance_test (name n) args kws ≡ false
       → Covered around (Finds (call p (name n) args kws) m) → (code : Code) (rest : List Code)
@@ -278,7 +278,7 @@ module _ (around : Around) (ctx : Context) (fits : IsContextOf around ctx) (know
       h.1,
     )
 
-    -- what a reserved name does, where it is known to do this
+    -- a call of a reserved name is safe, where its operation is known
     does_safe : (w : List ℕ) (values : List Value) (more : List NamedValue) (r : ReservedCall) (P : HeapTyping → Value
         → Type 0) → ((k : HeapTyping) → Known values more k → reserved_call w values more ≡ Gives r)
         → IsSafe around env (Known values more) (do_reserved Step free r) P

@@ -1,5 +1,5 @@
--- Where nothing is found at a call, each signature that it offers is suited, what it gives is of the call's type, and
--- the arguments flow into it.
+-- If a call has no finding, the arguments match each signature that it offers, the signature's result is of the call's
+-- type, and the arguments flow into it.
 use Rattle.std.proofs.Common.{◌≡◌, List, [], ◌∷◌, ◌++◌, map, refl, sym, ap, ◌∙◌, subst, inl, inr}
 use Rattle.std.specs.Prelude.{◌⊎◌, Bool as Test, true, false, if◌then◌else◌, flat_map}
 use Rattle.pc_tree.specs.declared.code.Code.TheVariants.{E14}
@@ -118,7 +118,7 @@ module _ (bases : Bases) (smaller : AreSmaller bases) (k : HeapTyping) where
         inr (given_of o ps r v has)
   ]
 
-  -- what one of the offers gives is of the call's type
+  -- a value of the type that one of the offers gives is of the call's type
   pub gives_call_type : (o : CallOffer) (offers : List CallOffer) → IsOffer o offers → all_codes offers ≡ []
       → (v : Value) → HasType bases k o.gives v → HasType bases k (call_label bases offers).type v
   gives_call_type o offers h quiet v has = subst (λ codes. HasType bases k

@@ -1,4 +1,5 @@
--- Which rule a call has: a test of an instance is told by its text, which is reserved, as by what its name means.
+-- The rule of a call: a test of an instance is recognized by its text, which is reserved, just as by its name's
+-- meaning.
 use Rattle.std.proofs.Common.{◌≡◌, ℕ, suc, List, [], ◌∷◌, refl, sym, ap, ◌∙◌, arith}
 use Rattle.std.specs.Prelude.{true, false, ◌&&◌, if◌then◌else◌, nat_eq, Some, codes, bytes_eq}
 use Rattle.std.proofs.lemmas.Bool.{and_parts, false≢true}
@@ -8,7 +9,7 @@ use Rattle.pc_tree.specs.declared.code.Code.TheVariants.{E14}
 use Rattle.pc_tree.specs.Tree.{Expr, Exprs, Keywords, name, no_exprs, more_exprs, no_keywords, more_keywords}
 use Rattle.pc_tree.specs.Stopping.{has_none}
 use Rattle.pc_scope.specs.declared.resolution.Builtin.TheVariants as builtin
-use Rattle.pc_scope.specs.declared.resolution.Res.TheVariants as res
+use Rattle.pc_scope.specs.declared.resolution.NameMeaning.TheVariants as res
 use Rattle.pc_scope.specs.Reserved.{builtin_of}
 use Rattle.pc_scope.specs.Expressions.{is_instance_test, are_two}
 use Rattle.pc_flow.specs.Environment.{Env}

@@ -12,8 +12,8 @@ use Rattle.pc_tree.specs.Code.{finding}
 use Rattle.pc_tree.specs.Tree.{Name, FuncDef, Item, constant_item, class_item, def_item, Stmts, Module}
 use Rattle.pc_tree.specs.Stopping.{bound_by, loose_in}
 use Rattle.pc_scope.specs.declared.resolution.Owner.{Owner}
-use Rattle.pc_scope.specs.declared.resolution.Res.{Res}
-use Rattle.pc_scope.specs.declared.resolution.Res.TheVariants as res
+use Rattle.pc_scope.specs.declared.resolution.NameMeaning.{NameMeaning}
+use Rattle.pc_scope.specs.declared.resolution.NameMeaning.TheVariants as res
 use Rattle.pc_scope.specs.declared.resolution.Builtin.{Builtin}
 use Rattle.pc_scope.specs.Reserved.{builtin_of}
 use Rattle.pc_scope.specs.Bindings.{texts}
@@ -22,7 +22,7 @@ use Rattle.pc_scope.specs.Resolution.{builtin_meaning, bound_first, resolve_in_m
 use Rattle.pc_types.specs.Tree.{Tree, NoneType}
 use Rattle.pc_class.specs.Bases.{bases_of}
 use Rattle.pc_class.specs.Facts.{TypedParameter, return_type, classes_of}
-use Rattle.pc_ann.proofs.Earlier.{smaller}
+use Rattle.pc_annotations.proofs.Earlier.{smaller}
 use Rattle.pc_flow.specs.Environment.{Env, none_assigned}
 use Rattle.pc_module_rules.specs.StatementLabels.{breaks_in_suite}
 use Rattle.pc_rules.specs.Labels.{IsCodeAt}
@@ -77,13 +77,13 @@ bound_local k f c (class_item p i ∷ rest) word x e = go (λ r. bound_local k f
 pub module_local : (m : Module) (word : List ℕ) (x : ℕ) → resolve_in_module m word ≡ res.Local x → ⊥
 module_local m word x e = go (builtin_of word) (bound_first 0 0 0 m.items word) refl e
   where
-    go : (b : Option Builtin) (o : Option Res) → bound_first 0 0 0 m.items word ≡ o
+    go : (b : Option Builtin) (o : Option NameMeaning) → bound_first 0 0 0 m.items word ≡ o
         → or_meaning (builtin_meaning b) (or_meaning o res.None) ≡ res.Local x → ⊥
     go (Some b) o is e = grind (arith, e)
     go None None is e = grind (arith, e)
     go None (Some r) is e = bound_local 0 0 0 m.items word x (is ∙ ap Some e)
 
--- what was promised of a run of a body is promised of the call: the caller's frame is put back
+-- a promise on the run of a body is one on the call: the caller's frame is put back
 pub enter_safe : (caller callee : Around) (env inner : Env) (known : HeapTyping → Type 0) (frame : Frame)
     (body : Step StatementEnd) (ways : Ways) (P : HeapTyping → StatementEnd → Type 0)
     → callee.bases ≡ caller.bases → callee.classes ≡ caller.classes → callee.listed ≡ caller.listed

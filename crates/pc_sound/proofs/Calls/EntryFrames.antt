@@ -1,4 +1,4 @@
--- The frame of a function that is entered: it has the function's locals, and its parameters hold values of their types.
+-- The frame of a call: it has the function's locals, and its parameters hold values of their types.
 use Rattle.std.proofs.Common.{◌≡◌, ℕ, suc, List, [], ◌∷◌, ◌++◌, map, refl, sym, ap, ◌∙◌, subst, inl, inr, arith}
 use Rattle.std.specs.Prelude.{Bool as Test, true, false, not, ◌||◌, if◌then◌else◌, Option, Some, None, bytes_eq}
 use Rattle.std.specs.Option.{option_map}
@@ -8,8 +8,8 @@ use Rattle.pc_tree.specs.Tree.{Name, to_name, to_attribute, to_index, Stmt, pass
 use Rattle.pc_tree.specs.Tree.{annotated, assigns, evaluates, while_loop, for_loop, conditional, Stmts, no_stmts}
 use Rattle.pc_tree.specs.Tree.{more_stmts, Branches, no_branches, more_branches}
 use Rattle.pc_tree.specs.Stopping.{bound_by_stmt, bound_by, bound_by_branches}
-use Rattle.pc_scope.specs.declared.resolution.Res.{Res}
-use Rattle.pc_scope.specs.declared.resolution.Res.TheVariants as res
+use Rattle.pc_scope.specs.declared.resolution.NameMeaning.{NameMeaning}
+use Rattle.pc_scope.specs.declared.resolution.NameMeaning.TheVariants as res
 use Rattle.pc_scope.specs.Reserved.{is_builtin_name}
 use Rattle.pc_scope.specs.Bindings.{texts}
 use Rattle.pc_scope.specs.Resolution.{index_of, is_one_of, first_of_each}
@@ -72,7 +72,7 @@ pub texts_append : (xs ys : List Name) → texts (xs ++ ys) ≡ texts xs ++ text
 texts_append [] ys = refl
 texts_append (x ∷ xs) ys = ap (λ l. x.text ∷ l) (texts_append xs ys)
 
--- what a run takes as the names that statements bind is what scopes take
+-- the names that statements bind are the same in a run and in scopes
 mutual
   pub bound_names : (b : Stmts) → names_bound b ≡ texts (bound_by b)
   bound_names no_stmts = refl
@@ -221,7 +221,7 @@ pub record ParameterHas (bases : Bases) (k : HeapTyping) (p : TypedParameter) (l
   pub same : l.name ≡ p.name
   pub has : HasType bases k p.type value
 
--- so is each, in order
+-- each parameter holds a value of its type, in order
 abbrev pub ParametersHave : Bases → HeapTyping → List TypedParameter → List Local → Type 0
 ParametersHave bases k [] [] = Unit {0}
 ParametersHave bases k (p ∷ ps) (l ∷ ls) = ParameterHas bases k p l × ParametersHave bases k ps ls
@@ -234,7 +234,7 @@ parameters_named bases k [] (l ∷ ls) h = absurd h
 parameters_named bases k (p ∷ ps) [] h = absurd h
 parameters_named bases k (p ∷ ps) (l ∷ ls) h = λ i. h.0.same i ∷ parameters_named bases k ps ls h.1 i
 
-module _ (bases : Bases) (k : HeapTyping) (names : List (List ℕ)) (declared : List Tree) (resolve : List ℕ → Res)
+module _ (bases : Bases) (k : HeapTyping) (names : List (List ℕ)) (declared : List Tree) (resolve : List ℕ → NameMeaning)
     (local : (word : List ℕ) (x : ℕ) → resolve word ≡ res.Local x → index_of word names ≡ Some x) (frame : Frame) where
   -- after some of the parameters: what was assigned so far holds, and the others' values are those of the locals left
   entered_holds : (seen : NamesBound) (ps : List TypedParameter) (ls : List Local) (tail : Frame) (env : Env)
@@ -277,7 +277,7 @@ module _ (bases : Bases) (k : HeapTyping) (names : List (List ℕ)) (declared : 
             | inr o ↦ locals.each word y t named o.is
           ]
 
-      first : (b : Test) → is_one_of p.name seen ≡ b → (r : Res) → resolve p.name ≡ r
+      first : (b : Test) → is_one_of p.name seen ≡ b → (r : NameMeaning) → resolve p.name ≡ r
           → DeclaredEntry declared (not b) r p.type → HasLocals bases k names declared
           (assigned_at_entry (not b) r p.type env) frame
       first true e r is d = locals

@@ -1,4 +1,4 @@
--- Arguments that suit a signature fill its parameters, each with a value of its type.
+-- Arguments that match a signature fill its parameters, each with a value of its type.
 use Rattle.std.proofs.Common.{◌≡◌, ℕ, zero, suc, List, [], ◌∷◌, map, refl, sym, ap, ◌∙◌, subst, inl, inr, arith}
 use Rattle.std.specs.Prelude.{◌⊎◌, Bool as Test, true, false, ◌&&◌, ◌||◌, not, if◌then◌else◌, length, take, drop}
 use Rattle.std.specs.Prelude.{Option, Some, None, bytes_eq}
@@ -33,7 +33,7 @@ pub record Filled (bases : Bases) (k : HeapTyping) (ps : List TypedParameter) (o
   pub have : ParametersHave bases k ps locals
 
 module _ (bases : Bases) (k : HeapTyping) (named : List NamedValue) where
-  one_filled : (p : state.Parameter) (q : TypedParameter) (ps : List TypedParameter) (o : Option Value) (v : Value)
+  one_filled : (p : state.FormalParameter) (q : TypedParameter) (ps : List TypedParameter) (o : Option Value) (v : Value)
       (rest : Option (List Local)) → p.name ≡ q.name → o ≡ Some v → HasType bases k q.type v → Filled bases k ps rest
       → Filled bases k (q ∷ ps) (and_others p o rest)
   one_filled p q ps o v rest same is has others = record {
@@ -42,7 +42,7 @@ module _ (bases : Bases) (k : HeapTyping) (named : List NamedValue) where
     have = (record { value = v; is = refl; same = same; has = has }, others.have);
   }
 
-  by_name : (p : state.Parameter) (q : TypedParameter) (ps : List TypedParameter) (o : Option Value)
+  by_name : (p : state.FormalParameter) (q : TypedParameter) (ps : List TypedParameter) (o : Option Value)
       (rest : Option (List Local)) → p.name ≡ q.name → DefaultHas bases k q.type q.has_default p.default
       → TakesNamed bases k q o → Filled bases k ps rest → Filled bases k (q ∷ ps)
       (and_others p (value_taken p None o) rest)
@@ -55,7 +55,7 @@ module _ (bases : Bases) (k : HeapTyping) (named : List NamedValue) where
       go None e h = absurd h
       go (Some v) e h = one_filled p q ps p.default v rest same e h.1 others
 
-  pub fills : (ps : List state.Parameter) (qs : List TypedParameter) (vs : List Value) → DefaultsHave bases k ps qs
+  pub fills : (ps : List state.FormalParameter) (qs : List TypedParameter) (vs : List Value) → DefaultsHave bases k ps qs
       → Fills bases k qs vs named → Filled bases k qs (filled_parameters ps vs named)
   fills [] [] [] d f = record { locals = []; is = refl; have = tt }
   fills [] [] (v ∷ vs) d f = absurd f
@@ -70,7 +70,7 @@ module _ (bases : Bases) (k : HeapTyping) (named : List NamedValue) where
 
   -- ---- names
 
-  for_parameter : (word : List ℕ) (ps : List state.Parameter) (qs : List TypedParameter) → DefaultsHave bases k ps qs
+  for_parameter : (word : List ℕ) (ps : List state.FormalParameter) (qs : List TypedParameter) → DefaultsHave bases k ps qs
       → is_one_of word (parameter_names qs) ≡ true → is_parameter word ps ≡ true
   for_parameter word [] [] d e = e
   for_parameter word [] (q ∷ qs) d e = absurd d
@@ -84,13 +84,13 @@ module _ (bases : Bases) (k : HeapTyping) (named : List NamedValue) where
           (d.0 ∙ sym ((bytes_eq-Decides word q.name).0 t)))
       go false t e others = or_right (same_text p.name word) (is_parameter word ps) (others e)
 
-  all_parameters : (more : List NamedValue) (ps : List state.Parameter) (qs : List TypedParameter)
+  all_parameters : (more : List NamedValue) (ps : List state.FormalParameter) (qs : List TypedParameter)
       → DefaultsHave bases k ps qs → AllFor more qs → are_parameters more ps ≡ true
   all_parameters [] ps qs d h = refl
   all_parameters (a ∷ more) ps qs d h = (λ i. for_parameter a.name ps qs d h.0 i && all_parameters more ps qs d h.1 i)
 
   -- arguments that suit are bound
-  pub binds : (ps : List state.Parameter) (qs : List TypedParameter) (vs : List Value) → DefaultsHave bases k ps qs
+  pub binds : (ps : List state.FormalParameter) (qs : List TypedParameter) (vs : List Value) → DefaultsHave bases k ps qs
       → AllFor named qs → Fills bases k qs vs named → Filled bases k qs (bound_arguments ps vs named)
   binds ps qs vs d all f =
       let h = fills ps qs vs d f in
@@ -110,7 +110,7 @@ Distinct before (p ∷ ps) = (is_one_of p.name before ≡ false) × Distinct (p.
 
 -- ---- a call that suits
 
--- what is known of a value by name: of the first parameter of its name it has the type
+-- each value by name is of the type of the first parameter of its name
 abbrev pub NamedHave : Bases → HeapTyping → List TypedParameter → List NamedValue → Type 0
 NamedHave bases k params named = (word : List ℕ) (w : Value) (q : TypedParameter) → value_named word named ≡ Some w
     → field_by_name params word ≡ Some q → HasType bases k q.type w
@@ -347,7 +347,7 @@ module _ (bases : Bases) (k : HeapTyping) (named : List NamedValue) (words : Lis
   )
 
   -- a call that suits binds its arguments
-  pub suited_binds : (ps : List state.Parameter) (qs : List TypedParameter) (vs : List Value)
+  pub suited_binds : (ps : List state.FormalParameter) (qs : List TypedParameter) (vs : List Value)
       → DefaultsHave bases k ps qs → Distinct [] qs → PositionalHave bases k qs vs → NamedBehind bases k [] qs named
       → ((word : List ℕ) → is_one_of word words ≡ true → is_free (length vs) (position_of qs word) ≡ true)
       → are_filled words (parameter_names (take (length vs) qs)) (drop (length vs) qs) ≡ true

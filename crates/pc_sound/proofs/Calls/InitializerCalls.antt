@@ -1,5 +1,5 @@
--- Calls in initializers: of classes that are defined earlier, and of nothing else without E03 at what is called, whose
--- place is then evaluated first.
+-- Calls in initializers: of classes that are defined earlier; any other callee has an E03, whose place is evaluated
+-- first.
 use Rattle.std.proofs.Common.{◌≡◌, ℕ, List, [], ◌∷◌, refl, sym, ap, ◌∙◌, subst, inl, inr, arith, Contains}
 use Rattle.std.specs.Prelude.{Bool as Test, true, false, if◌then◌else◌, nat_lt, Option, None, slice_get}
 use Rattle.std.proofs.lemmas.Option.{none-some}
@@ -10,14 +10,14 @@ use Rattle.pc_tree.specs.Tree.{Name, Expr, name, number, text, truth, nothing, t
 use Rattle.pc_tree.specs.Tree.{binary, compare, is_none, is_not_none, conjunction, disjunction, attribute, index, call}
 use Rattle.pc_tree.specs.Tree.{Exprs, Keywords, FuncDef, Module}
 use Rattle.pc_tree.specs.Depth.{place_of}
-use Rattle.pc_scope.specs.declared.resolution.Res.{Res}
-use Rattle.pc_scope.specs.declared.resolution.Res.TheVariants as res
+use Rattle.pc_scope.specs.declared.resolution.NameMeaning.{NameMeaning}
+use Rattle.pc_scope.specs.declared.resolution.NameMeaning.TheVariants as res
 use Rattle.pc_scope.specs.Expressions.{is_name, is_instance_test}
 use Rattle.pc_scope.specs.Bindings.{classes_in}
 use Rattle.pc_types.specs.Tree.{Tree}
 use Rattle.pc_class.specs.Bases.{bases_of}
 use Rattle.pc_class.specs.Facts.{classes_of, class_facts_at}
-use Rattle.pc_ann.proofs.Earlier.{smaller}
+use Rattle.pc_annotations.proofs.Earlier.{smaller}
 use Rattle.pc_flow.specs.Environment.{Env}
 use Rattle.pc_rules.specs.Operations.{in_error}
 use Rattle.pc_rules.specs.Context.{Context, name_label}
@@ -69,7 +69,7 @@ module _ (m : Module) (listed : Place → Type 0) (types : List Tree) (defs : Li
   abbrev Ctx : Context
   Ctx = initializer_context m types n
 
-  -- what is around an initializer fits what it may name
+  -- the surroundings of an initializer fit its context
   pub items_fit : IsContextOf (around_items m listed types defs n names) (initializer_context m types n)
   items_fit = record {
     bases = refl;
@@ -109,7 +109,7 @@ module _ (m : Module) (listed : Place → Type 0) (types : List Tree) (defs : Li
           is = refl;
         }))))).0
 
-    -- so it is evaluated before anything is called
+    -- a callee that may not be named yet is evaluated before anything is called
     late_callee : (want : Option Tree) (p : Place) (c : Expr) (args : Exprs) (kws : Keywords)
         (k : Labels (call p c args kws)) (law : Lawful Ctx [] env want (call p c args kws) k) → is_name c ≡ false
         → callee_of Ctx env (arguments_given args kws) c law.value ≡ value_callee (in_error E03)
@@ -218,7 +218,7 @@ module _ (m : Module) (listed : Place → Type 0) (types : List Tree) (defs : Li
               keyed.1.1.1)
 
       -- a value
-      named_node : (r : Res) → Ctx.resolve w.text ≡ r → name_callee Ctx env (arguments_given args kws)
+      named_node : (r : NameMeaning) → Ctx.resolve w.text ≡ r → name_callee Ctx env (arguments_given args kws)
           (Ctx.resolve w.text) ≡ value_callee (name_label Ctx env (Ctx.resolve w.text)) → CallSafe p (name w) args kws k
       named_node r e is =
           let own : k.callee ≡ name_label Ctx env (Ctx.resolve w.text) = law.callee ∙ ap (λ x. x.label) is in
@@ -239,7 +239,7 @@ module _ (m : Module) (listed : Place → Type 0) (types : List Tree) (defs : Li
       name_node : NotReserved Ctx (name w) → CallSafe p (name w) args kws k
       name_node unreserved = go (Ctx.resolve w.text) refl
         where
-          go : (r : Res) → Ctx.resolve w.text ≡ r → CallSafe p (name w) args kws k
+          go : (r : NameMeaning) → Ctx.resolve w.text ≡ r → CallSafe p (name w) args kws k
           go (res.Local x) e = absurd (module_local m w.text x e)
           go (res.Const i) e = named_node (res.Const i) e (ap (name_callee Ctx env (arguments_given args kws)) e
               ∙ ap (λ r. value_callee (name_label Ctx env r)) (sym e))

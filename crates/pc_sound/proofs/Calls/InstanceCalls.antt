@@ -1,4 +1,5 @@
--- Tests of instances are safe: what stands second is `int`, `str`, `bool`, `list` or a class that the module has bound.
+-- Tests of instances are safe: the second argument is `int`, `str`, `bool`, `list` or a class that the module has
+-- bound.
 use Rattle.std.proofs.Common.{◌≡◌, ℕ, List, [], refl, sym, ap, ◌∙◌, subst, inl, inr}
 use Rattle.std.specs.Prelude.{Bool as Test, true, false, ◌&&◌, if◌then◌else◌, nat_lt, Option, Some, None, codes}
 use Rattle.std.specs.Prelude.{bytes_eq}
@@ -11,8 +12,8 @@ use Rattle.pc_tree.specs.Tree.{Expr, Exprs, Keywords, Name, name, call, no_exprs
 use Rattle.pc_tree.specs.Depth.{place_of}
 use Rattle.pc_scope.specs.declared.resolution.Builtin.{Builtin}
 use Rattle.pc_scope.specs.declared.resolution.Builtin.TheVariants as builtin
-use Rattle.pc_scope.specs.declared.resolution.Res.{Res}
-use Rattle.pc_scope.specs.declared.resolution.Res.TheVariants as res
+use Rattle.pc_scope.specs.declared.resolution.NameMeaning.{NameMeaning}
+use Rattle.pc_scope.specs.declared.resolution.NameMeaning.TheVariants as res
 use Rattle.pc_scope.specs.Expressions.{is_instance_test}
 use Rattle.pc_types.specs.Tree.{Tree, Bool}
 use Rattle.pc_flow.specs.Environment.{Env}
@@ -67,13 +68,13 @@ module _ (around : Around) (ctx : Context) (fits : IsContextOf around ctx) (know
       go true is e = is
       go false is e = absurd (false≢true (sym early ∙ ap (λ y. is_early y.codes) e))
 
-  -- what a name tests for is found
+  -- the type that a name tests for is found in a run
   name_tests : (word : List ℕ) (test : Tested) (m : Label) → test_named (ctx.resolve word) ≡ Some test
       → m ≡ name_label ctx env (ctx.resolve word) → is_early m.codes ≡ false → (k : HeapTyping) (s : State)
       → IsWellTyped around env k s → EndsWell (λ t. Unit {0}) (test_of_meaning word (meaning_in_run word s))
   name_tests word test m named law early k s st = go (ctx.resolve word) refl named law
     where
-      go : (r : Res) → ctx.resolve word ≡ r → test_named r ≡ Some test → m ≡ name_label ctx env r
+      go : (r : NameMeaning) → ctx.resolve word ≡ r → test_named r ≡ Some test → m ≡ name_label ctx env r
           → EndsWell (λ t. Unit {0}) (test_of_meaning word (meaning_in_run word s))
       go (res.Class c) is e law' = subst (λ x. EndsWell (λ t. Unit {0}) (test_of_meaning word x))
           (sym (means_a_class around ctx fits knows env word c is (class_known c m law' early) k s st)) tt

@@ -3,8 +3,8 @@ use Rattle.std.proofs.Common.{◌≡◌, ℕ, List, refl, sym, ap, ◌∙◌, su
 use Rattle.std.specs.Prelude.{true, Some, nat_lt, codes}
 use Rattle.std.proofs.lemmas.Option.{none-some, same_Some}
 use Rattle.pc_scope.specs.declared.resolution.Builtin.TheVariants as builtin
-use Rattle.pc_scope.specs.declared.resolution.Res.{Res}
-use Rattle.pc_scope.specs.declared.resolution.Res.TheVariants as res
+use Rattle.pc_scope.specs.declared.resolution.NameMeaning.{NameMeaning}
+use Rattle.pc_scope.specs.declared.resolution.NameMeaning.TheVariants as res
 use Rattle.pc_types.specs.Tree.{Int, Bool, Str}
 use Rattle.pc_types.specs.Tree as tree
 use Rattle.pc_flow.specs.Environment.{Env}
@@ -13,7 +13,7 @@ use Rattle.pc_rules.specs.Context.{Context}
 use Rattle.pc_value.specs.Value.{Gives}
 use Rattle.pc_machine.specs.State.{State, Class, Globals}
 use Rattle.pc_machine.specs.Names.{meaning_in_run}
-use Rattle.pc_machine.specs.Calls.{Test, tests_int, tests_str, tests_bool, tests_list, tests_class, test_of_meaning}
+use Rattle.pc_machine.specs.Calls.{InstanceTest, tests_int, tests_str, tests_bool, tests_list, tests_class, test_of_meaning}
 use Rattle.pc_machine.specs.Calls.{test_of_reserved}
 use Rattle.pc_sound.specs.Values.{HeapTyping}
 use Rattle.pc_sound.proofs.Steps.Judgment.{Around, IsWellTyped, IsContextOf}
@@ -37,12 +37,12 @@ module _ (around : Around) (ctx : Context) (fits : IsContextOf around ctx) (know
     where
       right : (env : Env) (k : HeapTyping) (s : State) → IsWellTyped around env k s → (local : List ℕ) (x : ℕ)
           → ctx.resolve local ≡ res.Local x → (word : List ℕ) (test : Tested) → test_named (ctx.resolve word)
-          ≡ Some test → (made : Test) → test_of_meaning word (meaning_in_run word s) ≡ Gives made
+          ≡ Some test → (made : InstanceTest) → test_of_meaning word (meaning_in_run word s) ≡ Gives made
           → IsRight around.bases s.classes test made
       right env k s st local x l word test named made comes = go (ctx.resolve word) refl named
         where
           -- it is this test in both
-          so : (t : Tested) (m : Test) → Some t ≡ Some test → test_of_meaning word (meaning_in_run word s) ≡ Gives m
+          so : (t : Tested) (m : InstanceTest) → Some t ≡ Some test → test_of_meaning word (meaning_in_run word s) ≡ Gives m
               → IsRight around.bases s.classes t m → IsRight around.bases s.classes test made
           so t m e is h = subst (λ y. IsRight around.bases s.classes y made) (same_Some _ _ e)
               (subst (λ y. IsRight around.bases s.classes t y) (gives_injective (sym is ∙ comes)) h)
@@ -51,7 +51,7 @@ module _ (around : Around) (ctx : Context) (fits : IsContextOf around ctx) (know
               ≡ test_of_reserved word
           reserved b e = ap (test_of_meaning word) (means_a_builtin around ctx fits knows env word b e k s st)
 
-          go : (r : Res) → ctx.resolve word ≡ r → test_named r ≡ Some test → IsRight around.bases s.classes test made
+          go : (r : NameMeaning) → ctx.resolve word ≡ r → test_named r ≡ Some test → IsRight around.bases s.classes test made
           go (res.Class c) e named = so (for_type (tree.Class c)) (tests_class c) named
               (ap (test_of_meaning word) (means_a_class around ctx fits knows env word c e
               (ancestors.known local x l word c e) k s st)) (

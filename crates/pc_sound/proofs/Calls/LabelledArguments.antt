@@ -1,5 +1,5 @@
--- The arguments of a call that is labelled lawfully, where it suits what is called: they are bound, each to a value of
--- its parameter's type.
+-- The arguments of a lawfully labelled call, if they match the callee: each is bound to a value of its parameter's
+-- type.
 use Rattle.std.proofs.Common.{◌≡◌, ℕ, suc, ◌≤◌, List, [], ◌∷◌, map, length, refl, sym, ap, ◌∙◌, subst, inl, inr, arith}
 use Rattle.std.specs.Prelude.{◌⊎◌, Bool as Test, true, false, ◌&&◌, ◌||◌, not, nat_le, if◌then◌else◌, flat_map, take}
 use Rattle.std.specs.Prelude.{drop, Option, Some, None, bytes_eq, slice_get}
@@ -295,7 +295,7 @@ module _ (bases : Bases) (k : HeapTyping) where
   default_untyped t false None h = h
   default_untyped t false (Some v) h = h
 
-  pub defaults_untyped : (ps : List state.Parameter) (qs : List TypedParameter) → DefaultsHave bases k ps qs
+  pub defaults_untyped : (ps : List state.FormalParameter) (qs : List TypedParameter) → DefaultsHave bases k ps qs
       → DefaultsHave bases k ps (map untyped qs)
   defaults_untyped [] [] h = h
   defaults_untyped [] (q ∷ qs) h = h
@@ -319,6 +319,6 @@ module _ (bases : Bases) (k : HeapTyping) where
   static_untyped (p ∷ ps) (q ∷ qs) = (same, static_untyped ps qs)
 
   -- arguments that suit the parameters of what was called are bound to what was made of them
-  pub suited_bound : (ps : List state.Parameter) (qs : List TypedParameter) (vs : List Value) (named : List NamedValue)
+  pub suited_bound : (ps : List state.FormalParameter) (qs : List TypedParameter) (vs : List Value) (named : List NamedValue)
       → DefaultsHave bases k ps qs → Suits bases k qs vs named → Filled bases k qs (bound_arguments ps vs named)
   suited_bound ps qs vs named d h = binds bases k named ps qs vs d h.all_for h.fills

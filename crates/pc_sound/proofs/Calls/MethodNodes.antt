@@ -206,7 +206,7 @@ module _ (m : Module) (inherits : Inherits (bases_of m) (classes_of m)) (constan
     object : HasType (bases_of m) k (tree.Class class) v
     fails : Fails offers
 
-  -- what was named
+  -- the callee that was named
   abbrev Names : List CallOffer → GivenArguments → Value → List ℕ → HeapTyping → Option Callee → Type 0
   Names offers g v word k (Some c) = Fails offers ⊎ CallsSo offers g k c
   Names offers g v word k None = CallsField offers k v word
@@ -344,7 +344,7 @@ module _ (m : Module) (inherits : Inherits (bases_of m) (classes_of m)) (constan
               (ap (λ o. (attribute_found o (method_by_name (class_facts_at (classes_of m) c.class).methods word)).found)
               c.is)
 
-      -- what `e.m` is, where nothing is found at it
+      -- a callee `e.m` is safe, where nothing is found at it
       pub callee_safe : (p : Place) (e : Expr) (w : Name) (g : GivenArguments) (om : Labels e) (codes : List Code)
           → Lawful ctx declared env None e om → Covered Here (Finds e om) → Keyed e om
           → codes ≡ CalleeCodes (flat_map (method_offers ctx g w.text) (members (type_of e om)))
@@ -415,7 +415,7 @@ module _ (m : Module) (inherits : Inherits (bases_of m) (classes_of m)) (constan
           keywords_later (bases_of m) x (named_seat offers) [] kws km more h.1,
         )
 
-        -- what a signature that is offered gives is of the call's type
+        -- a value of the type that an offered signature gives is of the call's type
         of_call : (s : Signature) → IsOffer (signature_offer (arguments_given args kws) s) offers
             → is_suited (arguments_given args kws) s ≡ true → (k : HeapTyping) (v : Value)
             → HasType (bases_of m) k s.returns v → HasType (bases_of m) k here.type v

@@ -40,7 +40,7 @@ impossible_safe around env known m P never = record { run = λ k s s' events o k
 module _ (around : Around) (ctx : Context) (fits : IsContextOf around ctx) (parts : Parts Step)
     (good : GoodEval around ctx parts.eval) (evaluates : (e : Expr) → Evaluates (place_of e) (parts.eval e))
     (env : Env) where
-  -- what is known before what is called runs: of the callee, of the arguments, and that no code stands at the call
+  -- the facts known before a call runs: of the callee, of the arguments, and that no code stands at the call
   abbrev pub KnownCall : (HeapTyping → Callee → Type 0) → (seat : ℕ → Seat) → (named : List ℕ → Seat) → (args : Exprs)
       → ItemsLabels args → (kws : Keywords) → KeywordsLabels kws → Label → Callee → List Value → List NamedValue
       → HeapTyping → Type 0

@@ -66,7 +66,7 @@ found_in (p ∷ ps) word q e = go (bytes_eq word p.name) refl e (λ e'. found_in
     go true is e rest = (inl (same_Some _ _ e), subst (λ r. bytes_eq word r.name ≡ true) (same_Some _ _ e) is)
     go false is e rest = let r = rest e in (inr r.0, r.1)
 
--- what holds of all that pass a test holds of one that does
+-- a fact of all methods that pass a test is a fact of each one that passes
 all_passing : (P : Method → Type 0) (test : Method → Test) (ps : List Method) (q : Method) → All P (filter test ps)
     → IsIn ps q → test q ≡ true → P q
 all_passing P test [] q all h e = absurd h

@@ -1,4 +1,4 @@
--- Methods at run time: the one that an object's own class has is entered, in place of the one that its type names.
+-- Methods at run time: the method of an object's own class is entered, in place of the one that its type names.
 use Rattle.std.proofs.Common.{◌≡◌, ℕ, List, [], ◌∷◌, map, refl, sym, ap, ◌∙◌, subst, inl, inr, arith}
 use Rattle.std.specs.Prelude.{◌⊎◌, Bool as Test, true, false, if◌then◌else◌, Option, Some, None, All, IsTrue, slice_get}
 use Rattle.std.specs.Prelude.{bytes_eq}
@@ -55,7 +55,7 @@ module _ (m : Module) where
     found : method_among word fs ≡ Some function
     is : MethodIs m k function q
 
-  -- what the facts find by a name was made of the def that they say
+  -- a method that the facts have under a name was made of the def that they say
   method_made : (k : HeapTyping) (word : List ℕ) (fs : List Function) (qs : List Method) (q : Method)
       → MethodsAre m k fs qs → method_by_name qs word ≡ Some q → Among k word fs q
   method_made k word [] [] q are e = absurd (grind (arith, e))

@@ -1,4 +1,4 @@
--- Calls of functions, methods and classes, where the arguments suit them.
+-- Calls of functions, methods and classes with arguments that match them.
 use Rattle.std.proofs.Common.{◌≡◌, ℕ, List, [], ◌∷◌, ◌++◌, map, refl, sym, ap, ◌∙◌, subst, inl, inr, arith, Contains}
 use Rattle.std.specs.Prelude.{◌⊎◌, Option, Some, None}
 use Rattle.std.proofs.lemmas.List.Elements.{Contains-append_left}
@@ -136,7 +136,7 @@ module _ (m : Module) (inherits : Inherits (bases_of m) (classes_of m)) (listed 
     (names : List (List ℕ)) (declared : List Tree) (outside : HeapTyping → List Class → Globals → Type 0)
     (outside_stays : (k k' : HeapTyping) (made : List Class) (globals : Globals) → Extends k k' → outside k made globals
     → outside k' made globals) where
-  -- what is around a caller
+  -- the surroundings of a caller
   abbrev pub Caller : Around
   Caller = record {
     bases = bases_of m;
@@ -220,7 +220,7 @@ module _ (m : Module) (inherits : Inherits (bases_of m) (classes_of m)) (listed 
           (gives_returned m constants listed (owners.Func i) d lab (lab.returned i refl)))
           λ flow. comes_safe Caller env _ (Gives (value_of_flow flow)) _ λ k h. h.1
 
-      -- so does a method, with its object as `self`; its name's place is evaluated as it is entered
+      -- a call of a method is safe, with its object as `self`; its name's place is evaluated as it is entered
       pub method_call_safe : (c i : ℕ) (d : FuncDef) (lab : Labelled m constants listed (owners.Method c i) d)
           → GoodExec (around_of m constants listed (owners.Method c i) d lab)
           (context_of m constants listed (owners.Method c i) d) m (return_type m d) parts.exec

@@ -1,5 +1,4 @@
--- Calls of values: a code stands at each, so where none is found no value comes to be called. And what an ordinary
--- call's labels say.
+-- Calls of values: each has a code, so without a finding no value is called. And the labels of an ordinary call.
 use Rattle.std.proofs.Common.{◌≡◌, ℕ, List, [], ◌∷◌, ◌++◌, map, refl, sym, ap, ◌∙◌, subst, inl, inr}
 use Rattle.std.specs.Prelude.{◌⊎◌, false, if◌then◌else◌, codes, None, bytes_eq}
 use Rattle.std.proofs.Math.Bool.{and-true}
@@ -137,7 +136,7 @@ value_callee_safe around ctx parts good env e m law covered keyed =
     (part around ctx parts good env _ None e m law covered keyed)
     λ v. comes_safe around env _ (Gives (calls_value v)) _ λ k h. values_fail around.bases k (type_of e m) v h.1
 
--- what a name that is no function, class or reserved name is as a callee
+-- the callee that a name means which is no function, class or reserved name
 meant : (around : Around) (k : HeapTyping) (word : List ℕ) (t : Tree) (m : Meaning)
     → EndsWell (λ v. HasType around.bases k t v) (value_of_meaning m)
     → EndsWell (λ c. Fails (value_offers t)) (callee_of_meaning word m)
@@ -156,7 +155,7 @@ named_value_safe around ctx fits knows env parts n m law covered =
     bind_safe around env _ _ _ (λ k u. Unit {0}) _ (λ k k' x h. tt) (may_stop_safe around env _)
     λ u. weaken around env _ (λ k. Unit {0}) _ _ _ (λ k h. tt) (λ k c h. h) (record { run = go })
   where
-    -- what came of the name as a value
+    -- the result of reading the name as a value
     as_value : (k : HeapTyping) (s s' : State) (events : List Place) (out : Out Value) (also : Out Callee)
         → IsWellTyped around env k s → (Emits n.place >>= λ u. look (λ st. value_of_meaning (meaning_in_run n.text st)))
         s events out s'
@@ -232,14 +231,14 @@ named_value_safe around ctx fits knows env parts n m law covered =
         stopped Other h = h
         stopped Cut h = h
 
--- what is found in the arguments of an ordinary call
+-- the findings in the arguments of an ordinary call are covered
 pub arguments_covered : (around : Around) (c : Expr) (args : Exprs) (kws : Keywords) (labels : ItemsLabels args)
     → is_instance_test c args kws ≡ false → Covered around (ArgumentsFind (is_instance_test c args kws) args labels)
     → Covered around (ItemsFind args labels)
 arguments_covered around c args kws labels no_test covered f h =
     covered f (subst (λ t. ArgumentsFind t args labels f) (sym no_test) (as_arguments args labels f h))
 
--- what stands under labels stands there for themselves, or under other labels for the expression itself
+-- a finding under labels is one at the expression itself, or one under labels that differ only there
 pub finds_under : (P : Finding → Type 0) (e : Expr) (m : Labels e) (own : Label)
     → ((f : Finding) → IsFoundAt (place_of e) (whole_label e m).codes f → P f)
     → ((f : Finding) → Finds e (with_label e m own) f → P f) → (f : Finding) → Finds e m f → P f

@@ -1,4 +1,4 @@
--- The lawful labelling of the module that names the target of a `for` after it, its finding, and its run.
+-- The lawful labelling of the module that reads the target of a `for` after the loop, its finding, and its run.
 use Rattle.std.proofs.Common.{[], ◌∷◌, refl}
 use Rattle.std.specs.Prelude.{Some, None}
 use Rattle.pc_tree.specs.declared.code.Code.TheVariants.{E04, E20}

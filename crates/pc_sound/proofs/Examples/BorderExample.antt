@@ -1,4 +1,4 @@
--- The module that takes two lists: its labelling, the run of its items, and what the border says of three calls.
+-- The module with a function of two lists: its labelling, the run of its items, and the border's answer to three calls.
 use Rattle.std.proofs.Common.{◌≡◌, [], ◌∷◌, refl, inl, inr}
 use Rattle.std.specs.Prelude.{◌⊎◌, Some, None}
 use Rattle.pc_scope.specs.Reserved.{builtin_of}

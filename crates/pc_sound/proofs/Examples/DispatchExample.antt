@@ -316,7 +316,7 @@ labelled = record { labels = labels; lawful = lawful }
 
 -- ---- the findings
 
--- what is judged of the only member of a class, a method
+-- the finding judged of the only member of a class, a method
 record Judged (m : Module) (base : facts.ClassFacts) (c : ℕ) (d : FuncDef) (f : Finding) : Type 0 where
   code : Code
   judged : Judges (bases_of m) (overridden base.methods d.name.text) (method_made m c 0 d) (Some code)
@@ -430,7 +430,7 @@ nothing_else = refl
 abbrev of_overrides : Listing (ClassFinds program)
 of_overrides = classes_listed program refl nothing_else findings overrides_into each_overrides
 
--- what is found of classes is all that is found
+-- the findings of classes are all findings
 pub found : FindsJust program findings
 unfolding labels builtin_of bases_of classes_of signatures_of
 found = finds_just program refl labels of_overrides lawful

@@ -17,8 +17,8 @@ use Rattle.pc_tree.specs.Tree.{Expr, ClassDef, Item, constant_item, class_item, 
 use Rattle.pc_tree.specs.NamesAlone.{name_of_tree}
 use Rattle.pc_scope.specs.declared.resolution.Owner.{Owner}
 use Rattle.pc_scope.specs.declared.resolution.Owner.TheVariants as owners
-use Rattle.pc_scope.specs.declared.resolution.Res.{Res}
-use Rattle.pc_scope.specs.declared.resolution.Res.TheVariants as res
+use Rattle.pc_scope.specs.declared.resolution.NameMeaning.{NameMeaning}
+use Rattle.pc_scope.specs.declared.resolution.NameMeaning.TheVariants as res
 use Rattle.pc_scope.specs.Bindings.{constants_in, classes_in, bodies}
 use Rattle.pc_scope.specs.Resolution.{resolve, resolve_in_module}
 use Rattle.pc_scope.specs.Expressions.{parts_in, other_callee, exprs_in_all}
@@ -128,18 +128,18 @@ no_class c of e = grind (arith, e)
 
 -- ---- names that mean nothing
 
-abbrev pub is_unknown : Res → Test
+abbrev pub is_unknown : NameMeaning → Test
 is_unknown res.None = true
 is_unknown _ = false
 
-pub known : (r : Res) → is_unknown r ≡ false → r ≡ res.None → ⊥
+pub known : (r : NameMeaning) → is_unknown r ≡ false → r ≡ res.None → ⊥
 known r e is = true≢false (sym (ap is_unknown is) ∙ e)
 
 -- it means nothing, and stands there
-abbrev pub IsNothing : Finding → Res → Finding → Type 0
+abbrev pub IsNothing : Finding → NameMeaning → Finding → Type 0
 IsNothing g r f = (r ≡ res.None) × (f ≡ g)
 
-abbrev pub nothing_meant : (r : Res) (g : Finding) → Listing (IsNothing g r)
+abbrev pub nothing_meant : (r : NameMeaning) (g : Finding) → Listing (IsNothing g r)
 nothing_meant res.None g = like (equal_listed g) (λ f h. (refl, h)) (λ f h. h.1)
 nothing_meant (res.Local x) g = none_listed (λ f h. known (res.Local x) refl h.0)
 nothing_meant (res.Const i) g = none_listed (λ f h. known (res.Const i) refl h.0)
@@ -197,14 +197,14 @@ module _ (m : Module) where
   is_past k i e l = grind (arith, nat_tests)
 
   -- it is early, and stands there
-  abbrev pub EarlyMeaningAt : (constants classes : ℕ) → Finding → Res → Finding → Type 0
+  abbrev pub EarlyMeaningAt : (constants classes : ℕ) → Finding → NameMeaning → Finding → Type 0
   EarlyMeaningAt k c g r f = IsEarlyMeaning k c r × (f ≡ g)
 
   abbrev pub early_from : (k i : ℕ) (g : Finding) (early : Test) → nat_le k i ≡ early → Listing (λ f. (k ≤ i) × (f ≡ g))
   early_from k i g true e = like (equal_listed g) (λ f h. (is_within k i e, h)) (λ f h. h.1)
   early_from k i g false e = none_listed (λ f h. is_past k i e h.0)
 
-  abbrev pub early_meaning_at : (k c : ℕ) (g : Finding) (r : Res) → Listing (EarlyMeaningAt k c g r)
+  abbrev pub early_meaning_at : (k c : ℕ) (g : Finding) (r : NameMeaning) → Listing (EarlyMeaningAt k c g r)
   early_meaning_at k c g (res.Func i) = like (equal_listed g) (λ f h. (tt, h)) (λ f h. h.1)
   early_meaning_at k c g (res.Const i) = early_from k i g (nat_le k i) refl
   early_meaning_at k c g (res.Class i) = early_from c i g (nat_le c i) refl
@@ -223,7 +223,7 @@ module _ (m : Module) where
       (λ f h. record { place = h.element; callee = h.among; is = h.found })
       (λ f h. record { element = h.place; among = h.callee; found = h.is })
 
-  -- what is found at an item
+  -- a finding of an early name at an item
   abbrev pub EarlyAt : ℕ → Option Item → Finding → Type 0
   EarlyAt at None f = ⊥
   EarlyAt at (Some (constant_item p c)) f = IsEarlyName m (length (constants_in (take at m.items)))
@@ -341,7 +341,7 @@ module _ (m : Module) where
       module_listed = both_listed scope_listed (both_listed classes
           (all_items_listed m (constant_types m m.items labels) nothing_before m.items labels))
 
-      -- what is found under one lawful labelling is found of the module
+      -- a finding under one lawful labelling is a finding of the module
       pub found_of_one : IsLawful m labels → (f : Finding) → Found f → IsFinding m f
       found_of_one lawful f (inl h) = record { labels = labels; lawful = lawful; found = inl h }
       found_of_one lawful f (inr (inl h)) = record { labels = labels; lawful = lawful; found = inr (inl h) }

@@ -8,7 +8,7 @@ use Rattle.pc_machine.specs.Plain.{begin}
 use Rattle.pc_machine.specs.Runs.{End, Run, Leaves, plain_module}
 use Rattle.pc_machine.proofs.Modules.{plain_is_run}
 
--- so many successors of a number
+-- the successor of a number, taken so many times
 abbrev pub sucs : ℕ → ℕ → ℕ
 sucs zero n = n
 sucs (suc k) n = suc (sucs k n)

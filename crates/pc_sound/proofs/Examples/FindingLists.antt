@@ -1,4 +1,4 @@
--- What is found, as a list: of each rule that says what is found the findings that are so, and no others.
+-- The findings as a list: for each rule exactly the findings that it gives.
 use Rattle.std.proofs.Common.{◌≡◌, ℕ, zero, suc, ◌<◌, List, [], ◌∷◌, ◌++◌, refl, sym, subst, inl, inr, arith, Contains}
 use Rattle.std.proofs.Common.{ap, ◌∙◌}
 use Rattle.std.specs.Prelude.{◌⊎◌, Bool as Test, true, false, nat_le, Option, Some, None, MatchOption, slice_index_or}
@@ -23,8 +23,8 @@ use Rattle.pc_tree.specs.Stopping.{bound_by_stmt, bound_by, bound_by_branches}
 use Rattle.pc_tree.specs.Depth.{place_of_ann, place_of}
 use Rattle.pc_scope.specs.declared.resolution.Owner.{Owner}
 use Rattle.pc_scope.specs.declared.resolution.Owner.TheVariants as owners
-use Rattle.pc_scope.specs.declared.resolution.Res.{Res}
-use Rattle.pc_scope.specs.declared.resolution.Res.TheVariants as res
+use Rattle.pc_scope.specs.declared.resolution.NameMeaning.{NameMeaning}
+use Rattle.pc_scope.specs.declared.resolution.NameMeaning.TheVariants as res
 use Rattle.pc_scope.specs.Bindings.{texts}
 use Rattle.pc_scope.specs.Resolution.{locals, resolve_in_module}
 use Rattle.pc_scope.specs.Reach.{completes}
@@ -32,9 +32,9 @@ use Rattle.pc_scope.specs.Expressions.{is_instance_test}
 use Rattle.pc_types.specs.Tree.{Tree}
 use Rattle.pc_types.specs.Below.{Bases}
 use Rattle.pc_types.specs.Shape.{nodes, node_limit}
-use Rattle.pc_ann.specs.Annotations as ann
-use Rattle.pc_ann.specs.Annotations.{named_type, applied_type, empty_type, union_type, reading, readings, PartFinds}
-use Rattle.pc_ann.specs.Annotations.{PartsFind, IsTooLarge, AnnFinds}
+use Rattle.pc_annotations.specs.Annotations as ann
+use Rattle.pc_annotations.specs.Annotations.{named_type, applied_type, empty_type, union_type, reading, readings, PartFinds}
+use Rattle.pc_annotations.specs.Annotations.{PartsFind, IsTooLarge, AnnFinds}
 use Rattle.pc_class.specs.Bases.{bases_of}
 use Rattle.pc_rules.specs.Operations.{FlowLabel}
 use Rattle.pc_rules.specs.Context.{Context}
@@ -50,7 +50,7 @@ use Rattle.pc_module_rules.specs.Modules.{FunctionLabels, FunctionFinds, names_e
 use Rattle.pc_module_rules.specs.Modules.{MembersFind, ItemLabels, BeforeItem, before_next, ItemFinds}
 use Rattle.pc_sound.proofs.Lists.{among_first, first_among, later_among, none_among}
 
--- what is found by a rule, as a list
+-- the findings of a rule, as a list
 pub record Listing (P : Finding → Type 0) : Type 0 where
   pub all : List Finding
   pub into : (f : Finding) → P f → Contains all f
@@ -123,7 +123,7 @@ found_from p (d ∷ cs) f c = elim (among_first (finding p d) (at_codes p cs) f 
 abbrev pub found_listed : (p : Place) (cs : List Code) → Listing (IsFoundAt p cs)
 found_listed p cs = record { all = at_codes p cs; into = found_into p cs; from = found_from p cs }
 
--- what is found of a flow with this code, before others
+-- the finding of a flow with this code, before others
 abbrev at_flow : Place → Option Code → List Finding → List Finding
 at_flow p None rest = rest
 at_flow p (Some c) rest = finding p c ∷ rest
@@ -311,7 +311,7 @@ module _ (m : Module) (ctx : Context) where
       (both_listed (flow_listed (place_of i) labels.key_flows) (both_listed (expr_listed o labels.object)
       (expr_listed i labels.key)))
 
-  abbrev pub annotation_listed : (r : Res) (first : Test) (n : Name) (a : Ann)
+  abbrev pub annotation_listed : (r : NameMeaning) (first : Test) (n : Name) (a : Ann)
       → Listing (AnnotationFinds m ctx r first n a)
   annotation_listed (res.Local x) false n a = equal_listed (finding n.place E24)
   annotation_listed r first n a = ann_listed m ctx.bases a

@@ -1,4 +1,4 @@
--- A constant that names a later one: its lawful labelling, its findings, and its run.
+-- A constant that reads a later one: its lawful labelling, its findings, and its run.
 use Rattle.std.proofs.Common.{List, [], ◌∷◌, refl, arith}
 use Rattle.std.specs.Prelude.{Some, None}
 use Rattle.pc_tree.specs.declared.code.Code.TheVariants.{E03, E20}

@@ -1,4 +1,4 @@
--- Conditions: their values, and what their truth tells of the locals.
+-- Conditions: their values, and the narrowing of locals by their truth.
 use Rattle.std.proofs.Common.{◌≡◌, ℕ, zero, suc, List, [], ◌∷◌, refl, sym, ap, ◌∙◌, subst, inl, inr}
 use Rattle.std.specs.Prelude.{◌⊎◌, Bool as Truth, true, false, not, if◌then◌else◌, codes, bytes_eq, Option, Some, None}
 use Rattle.std.specs.List.{list_any}
@@ -12,8 +12,8 @@ use Rattle.pc_tree.specs.Tree.{Exprs, Keywords, no_exprs, more_exprs, no_keyword
 use Rattle.pc_tree.specs.Tree.{truth, nothing, tuple, list, dict, negative, binary, compare, attribute, index, negation}
 use Rattle.pc_tree.specs.Tree.{is_none, is_not_none, conjunction, disjunction, call}
 use Rattle.pc_scope.specs.Expressions.{is_instance_test}
-use Rattle.pc_scope.specs.declared.resolution.Res.{Res}
-use Rattle.pc_scope.specs.declared.resolution.Res.TheVariants as res
+use Rattle.pc_scope.specs.declared.resolution.NameMeaning.{NameMeaning}
+use Rattle.pc_scope.specs.declared.resolution.NameMeaning.TheVariants as res
 use Rattle.pc_types.specs.Tree.{Tree, Any, Object, Int, Bool, Str}
 use Rattle.pc_types.specs.Tree as tree
 use Rattle.pc_types.specs.Shape.{members}
@@ -31,7 +31,7 @@ use Rattle.pc_value.specs.Value.{Value, boolean, Out, Gives, Stops, Cut, Heap, i
 use Rattle.pc_value.specs.Actions as action
 use Rattle.pc_machine.specs.State.{State, Frame, Class}
 use Rattle.pc_machine.specs.Names.{meaning_in_run, meaning_of_local, meaning_of_global, global_by_name, local_by_name}
-use Rattle.pc_machine.specs.Calls.{value_of_meaning, Test, tests_int, tests_str, tests_bool, tests_class}
+use Rattle.pc_machine.specs.Calls.{value_of_meaning, InstanceTest, tests_int, tests_str, tests_bool, tests_class}
 use Rattle.pc_machine.specs.Calls.{instance_test_of, passes}
 use Rattle.pc_machine.specs.Steps.{Parts, value_out}
 use Rattle.pc_machine.specs.Evaluation.{eval_node, eval_over, eval_call, instance_test, ordinary, call_form, steps}
@@ -88,7 +88,7 @@ charged s s' events u r = elim r [
   ]
 ]
 
--- what the state said, where it came to a value
+-- the answer of the state, where looking at it came to a value
 looked : {A : Type 0} (f : State → Out A) (s s' : State) (events : List Place) (a : A) → look f s events (Gives a) s'
     → Looks f s events (Gives a) s'
 looked f s s' events a r = elim r [
@@ -185,7 +185,7 @@ module _ (around : Around) (ctx : Context) (fits : IsContextOf around ctx) where
           (fits.local n.text x local) e (λ w is h. failing_keeps around.bases fits.smaller k test t (can t e) w h
           (λ p. a (subst (λ y. Passes around.bases k test y) (sym (is_it w is)) p))) st.locals
 
-  -- what a test tells of the local that an expression is, if it is one
+  -- the facts that a test tells of the local that an expression is, if it is one
   pub test_tells : (env : Env) (k : HeapTyping) (s : State) (e : Expr) (v : Value) (test : Tested) (holds : Truth)
       → IsWellTyped around env k s → IsReadAs e v s → ((n : Name) (x : ℕ) (t : Tree) → ctx.resolve n.text ≡ res.Local x
       → local_named ctx.resolve e ≡ Some x → current env x ≡ Some t → CanFollowAll test (members t))
@@ -193,7 +193,7 @@ module _ (around : Around) (ctx : Context) (fits : IsContextOf around ctx) where
       → Hold (narrow_local around.bases holds test (local_named ctx.resolve e) env) k s
   test_tells env k s (name n) v test holds st reads can answers = go (ctx.resolve n.text) refl
     where
-      go : (r : Res) → ctx.resolve n.text ≡ r → Hold (narrow_local around.bases holds test (as_local r) env) k s
+      go : (r : NameMeaning) → ctx.resolve n.text ≡ r → Hold (narrow_local around.bases holds test (as_local r) env) k s
       go (res.Local x) e = tested_holds env k s n x v test holds st e reads (λ t is. can n x t e (ap as_local e) is)
           (answers n x e)
       go _ e = st.locals
@@ -510,18 +510,18 @@ module _ (around : Around) (ctx : Context) (fits : IsContextOf around ctx) (part
   -- ---- tests of instances
 
   module _ (tests : RightTests around ctx) where
-    -- what a test of an instance came to
+    -- the operand and the outcome of an instance test
     record Tried (e t : Expr) (v : Value) (s : State) : Type 0 where
       operand : Value
       came : IsReadAs e operand s
-      test : Test
+      test : InstanceTest
       tested : instance_test_of t s ≡ Gives test
       is : v ≡ boolean (passes s operand test)
 
     abbrev Looking : Expr → Value → Step Value
     Looking t w = look (instance_test_of t) >>= λ test. look (λ s. Gives (boolean (passes s w test)))
 
-    tried_last : (e t : Expr) (w v : Value) (test : Test) (s m s' : State) → IsReadAs e w s
+    tried_last : (e t : Expr) (w v : Value) (test : InstanceTest) (s m s' : State) → IsReadAs e w s
         → instance_test_of t s ≡ Gives test → m ≡ s → Gives v ≡ Gives (boolean (passes m w test)) → s' ≡ m
         → Tried e t v s'
     tried_last e t w v test s m s' came tested early is late = record {
@@ -579,7 +579,7 @@ module _ (around : Around) (ctx : Context) (fits : IsContextOf around ctx) (part
     type_follows c is [] = tt
     type_follows c is (m ∷ ms) = (is, type_follows c is ms)
 
-    right_type : (made : List Class) (c : Tree) (test : Test) → IsRight around.bases made (for_type c) test
+    right_type : (made : List Class) (c : Tree) (test : InstanceTest) → IsRight around.bases made (for_type c) test
         → IsTestedType c
     right_type made Int tests_int r = tt
     right_type made Bool tests_bool r = tt
@@ -598,7 +598,7 @@ module _ (around : Around) (ctx : Context) (fits : IsContextOf around ctx) (part
         go true is found = absurd (not_empty (ap (λ b. if b then A7 ∷ [] else []) (sym is) ∙ found))
         go false is found = is
 
-    follows : (made : List Class) (test : Tested) (r : Test) → IsRight around.bases made test r
+    follows : (made : List Class) (test : Tested) (r : InstanceTest) → IsRight around.bases made test r
         → (o : Option ℕ) (x : ℕ) (t : Tree) → o ≡ Some x → current env x ≡ Some t → test_codes env o (Some test) ≡ []
         → CanFollowAll test (members t)
     follows made for_none r right o x t named e found = none_follows (members t)
@@ -614,7 +614,7 @@ module _ (around : Around) (ctx : Context) (fits : IsContextOf around ctx) (part
     Narrowed holds is_test x test k s = HasLocals around.bases k around.names around.declared
         (narrow_instance around.bases around.declared ctx.resolve holds is_test x test env) s.frame
 
-    -- what the truth of a test of an instance tells
+    -- the facts that the truth of an instance test tells
     instance_tells : (e t : Expr) (k : HeapTyping) (v : Value) (s : State) → IsWellTyped around env k s → Tried e t v s
         → test_codes env (local_named ctx.resolve e) (narrowing.test_of ctx.resolve t) ≡ [] → (holds : Truth)
         → is_true s.heap v ≡ holds → Narrowed holds true (local_named ctx.resolve e) (narrowing.test_of ctx.resolve t) k

@@ -1,4 +1,4 @@
--- Displays: tuples, lists and dicts are made of values of the types that their labels say.
+-- Displays: tuples, lists and dicts are made of values of the types in their labels.
 use Rattle.std.proofs.Common.{◌≡◌, ℕ, suc, List, [], ◌∷◌, refl, sym, ap, ◌∙◌, subst, inl, inr, arith}
 use Rattle.std.specs.Prelude.{Bool as Test, true, false, if◌then◌else◌, nat_le, Option, Some, None, All}
 use Rattle.pc_source.specs.declared.place.Place.{Place}
@@ -18,7 +18,7 @@ use Rattle.pc_rules.specs.Labels.{value_types, Finds, ItemsFind, EntriesFind}
 use Rattle.pc_rules.specs.Lawful.{Lawful, LawfulItems, LawfulEntries, KeyValue, list_item, dict_parts, tuple_parts}
 use Rattle.pc_rules.specs.Lawful.{members_of_expected, item_seat, part_seat, list_label, DictLabel, no_keys, int_keys}
 use Rattle.pc_rules.specs.Lawful.{str_keys, other_keys, DictRule, key_seat, value_seat}
-use Rattle.pc_value.specs.Value.{Value, Entry, Gives, tuple_of, values_of}
+use Rattle.pc_value.specs.Value.{Value, DictEntry, Gives, tuple_of, values_of}
 use Rattle.pc_value.specs.Actions as action
 use Rattle.pc_value.specs.Outcomes.{action_result}
 use Rattle.pc_machine.specs.Steps.{Parts}
@@ -85,7 +85,7 @@ module _ (bases : Bases) (k : HeapTyping) where
 -- ---- entries
 
 -- each key and value is of its expression's type and of each type of its seat
-abbrev EntriesMade : Bases → HeapTyping → (key value : Seat) → (es : Entries) → EntriesLabels es → List Entry → Type 0
+abbrev EntriesMade : Bases → HeapTyping → (key value : Seat) → (es : Entries) → EntriesLabels es → List DictEntry → Type 0
 EntriesMade bases k s t no_entries m [] = Unit {0}
 EntriesMade bases k s t (more_entries a b rest) m (e ∷ es) =
     ((HasType bases k (type_of a m.key) e.key × HasEach bases k s.into e.key)
@@ -94,7 +94,7 @@ EntriesMade bases k s t (more_entries a b rest) m (e ∷ es) =
 EntriesMade bases k s t _ m es = ⊥
 
 module _ (bases : Bases) {k k' : HeapTyping} (grows : Extends k k') where
-  made_later : (s t : Seat) (es : Entries) (m : EntriesLabels es) (made : List Entry)
+  made_later : (s t : Seat) (es : Entries) (m : EntriesLabels es) (made : List DictEntry)
       → EntriesMade bases k s t es m made → EntriesMade bases k' s t es m made
   made_later s t no_entries m [] h = tt
   made_later s t no_entries m (e ∷ made) h = absurd h
@@ -110,7 +110,7 @@ module _ (bases : Bases) {k k' : HeapTyping} (grows : Extends k k') where
 module _ (bases : Bases) (k : HeapTyping) where
   entries_all : (seat seat' : Seat) (es : Entries) (m : EntriesLabels es) (s t : Tree)
       → ((v : Value) → HasSome bases k (key_types es m) v → HasType bases k s v)
-      → ((v : Value) → HasSome bases k (value_types es m) v → HasType bases k t v) → (made : List Entry)
+      → ((v : Value) → HasSome bases k (value_types es m) v → HasType bases k t v) → (made : List DictEntry)
       → EntriesMade bases k seat seat' es m made → EntriesHave bases k s t made
   entries_all seat seat' no_entries m s t f g [] h = tt
   entries_all seat seat' no_entries m s t f g (e ∷ made) h = absurd h
@@ -122,7 +122,7 @@ module _ (bases : Bases) (k : HeapTyping) where
         (λ w x. g w (inr x)) made h.1,
   )
 
-  entries_into : (s t : Tree) (es : Entries) (m : EntriesLabels es) (made : List Entry)
+  entries_into : (s t : Tree) (es : Entries) (m : EntriesLabels es) (made : List DictEntry)
       → EntriesMade bases k (item_seat (Some s)) (item_seat (Some t)) es m made → EntriesHave bases k s t made
   entries_into s t no_entries m [] h = tt
   entries_into s t no_entries m (e ∷ made) h = absurd h
@@ -240,7 +240,7 @@ module _ (around : Around) (ctx : Context) (fits : IsContextOf around ctx) (part
       λ made. comes_safe around env _ (Gives (record { key = v; value = w } ∷ made)) _ λ k h. ((h.0.0.1, h.0.1), h.1)
 
   -- the entries of a new dict
-  record DictMade (here : Label) (k : HeapTyping) (made : List Entry) : Type 0 where
+  record DictMade (here : Label) (k : HeapTyping) (made : List DictEntry) : Type 0 where
     key_type : Tree
     value_type : Tree
     is : here.type ≡ DictOf key_type value_type
@@ -249,7 +249,7 @@ module _ (around : Around) (ctx : Context) (fits : IsContextOf around ctx) (part
 
   by_keys : (es : Entries) (m : EntriesLabels es) (keys : List Tree) (here : Label)
       → DictLabel around.bases (value_types es m) keys here → keys ≡ key_types es m → here.codes ≡ []
-      → (k : HeapTyping) (made : List Entry) → EntriesMade around.bases k nowhere nowhere es m made
+      → (k : HeapTyping) (made : List DictEntry) → EntriesMade around.bases k nowhere nowhere es m made
       → DictMade here k made
   by_keys es m _ _ no_keys is found k made h = absurd (not_empty found)
   by_keys es m _ _ (other_keys no_int no_str) is found k made h = absurd (not_empty found)
@@ -274,7 +274,7 @@ module _ (around : Around) (ctx : Context) (fits : IsContextOf around ctx) (part
 
   dict_made : (o : Option KeyValue) (es : Entries) (m : EntriesLabels es) (here : Label)
       → DictRule around.bases o (key_types es m) (value_types es m) here → IsKeyed here.type → here.codes ≡ []
-      → (k : HeapTyping) (made : List Entry) → EntriesMade around.bases k (key_seat o) (value_seat o) es m made
+      → (k : HeapTyping) (made : List DictEntry) → EntriesMade around.bases k (key_seat o) (value_seat o) es m made
       → DictMade here k made
   dict_made (Some kv) es m here law keyed found k made h = record {
     key_type = kv.key;

@@ -1,4 +1,4 @@
--- Each form of expression is safe where its parts are.
+-- Each form of expression is safe if its parts are.
 use Rattle.std.proofs.Common.{◌≡◌, refl, sym, ◌∙◌, arith}
 use Rattle.std.specs.Prelude.{Bool as Test, true, false, Option}
 use Rattle.pc_source.specs.declared.place.Place.{Place}
@@ -8,8 +8,8 @@ use Rattle.pc_tree.specs.Tree.{index, call}
 use Rattle.pc_tree.specs.Depth.{place_of}
 use Rattle.pc_scope.specs.declared.resolution.Builtin.{Builtin}
 use Rattle.pc_scope.specs.declared.resolution.Builtin.TheVariants as builtin
-use Rattle.pc_scope.specs.declared.resolution.Res.{Res}
-use Rattle.pc_scope.specs.declared.resolution.Res.TheVariants as res
+use Rattle.pc_scope.specs.declared.resolution.NameMeaning.{NameMeaning}
+use Rattle.pc_scope.specs.declared.resolution.NameMeaning.TheVariants as res
 use Rattle.pc_scope.specs.Expressions.{is_instance_test}
 use Rattle.pc_types.specs.Tree.{Tree}
 use Rattle.pc_flow.specs.Environment.{Env}
@@ -92,7 +92,7 @@ module _
               want args kws m no_test law covered keyed
           by_builtin b is = not_callable_error b is (λ g. refl)
 
-          by_name : (r : Res) → ctx.resolve n.text ≡ r → SafeCall env p (name n) args kws m
+          by_name : (r : NameMeaning) → ctx.resolve n.text ≡ r → SafeCall env p (name n) args kws m
           by_name (res.Builtin b) is = by_builtin b is
           by_name (res.Local x) is = other λ b e. absurd (grind (arith, sym is ∙ e))
           by_name (res.Const x) is = other λ b e. absurd (grind (arith, sym is ∙ e))

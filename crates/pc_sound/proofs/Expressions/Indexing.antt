@@ -1,5 +1,5 @@
--- Reads by index are safe where their parts are: the item is of the type that the label says, at a literal index into a
--- tuple of that very item's.
+-- Reads by index are safe if their parts are: the item is of the type in the label, at a literal index into a tuple of
+-- that very item's type.
 use Rattle.std.proofs.Common.{◌≡◌, ℕ, zero, suc, List, [], ◌∷◌, map, length, refl, sym, ap, ◌∙◌, subst}
 use Rattle.std.proofs.Common.{inl, inr, arith}
 use Rattle.std.specs.Prelude.{◌⊎◌, Bool as Test, true, false, if◌then◌else◌, nat_lt, Option, Some, None, unwrap_or}
@@ -46,7 +46,7 @@ use Rattle.pc_sound.proofs.Values.SeveralFlows.{flows_safe}
 
 -- ---- steps of which more is known
 
--- what holds of each value that a step comes to, beside what safety says
+-- a fact of each value that a step comes to, besides those that safety gives
 pub also_safe : (around : Around) (env : Env) {A : Type 0} (known : HeapTyping → Type 0) (m : Step A)
     (P : HeapTyping → A → Type 0) (Q : A → Type 0) → ((s s' : State) (events : List Place) (a : A)
     → m s events (Gives a) s' → Q a) → IsSafe around env known m P → IsSafe around env known m (λ k a. P k a × Q a)

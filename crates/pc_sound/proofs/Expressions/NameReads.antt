@@ -11,8 +11,8 @@ use Rattle.pc_tree.specs.declared.code.Code.TheVariants.{E02, E03, E20}
 use Rattle.pc_tree.specs.Tree.{Name, name}
 use Rattle.pc_scope.specs.declared.resolution.Builtin.{Builtin}
 use Rattle.pc_scope.specs.declared.resolution.Builtin.TheVariants as builtin
-use Rattle.pc_scope.specs.declared.resolution.Res.{Res}
-use Rattle.pc_scope.specs.declared.resolution.Res.TheVariants as res
+use Rattle.pc_scope.specs.declared.resolution.NameMeaning.{NameMeaning}
+use Rattle.pc_scope.specs.declared.resolution.NameMeaning.TheVariants as res
 use Rattle.pc_scope.specs.Reserved.{reserved_builtins, beside, builtin_of}
 use Rattle.pc_scope.specs.Resolution.{index_of}
 use Rattle.pc_types.specs.Tree.{Tree}
@@ -43,7 +43,7 @@ pub record BoundValue (bases : Bases) (k : HeapTyping) (word : List ℕ) (global
   pub is : global_by_name word globals ≡ Some (a_value value)
   pub has : HasType bases k t value
 
--- what is known outside of a body of the names that it may name
+-- the facts known outside of a body of the names that it may name
 pub record KnowsNames (around : Around) (ctx : Context) : Type 0 where
   pub constant : (word : List ℕ) (i : ℕ) (t : Tree) → ctx.resolve word ≡ res.Const i
       → slice_get ctx.constants i ≡ Some t → (k : HeapTyping) (made : List Class) (globals : Globals)
@@ -125,7 +125,7 @@ module _ (around : Around) (ctx : Context) (fits : IsContextOf around ctx) where
       go None e = st.frame.others word e
       go (Some x) e = absurd (other x (fits.named word x e))
 
-  -- what a name of the module means
+  -- the meaning of a name of the module
   pub meaning_outside : (word : List ℕ) → ((x : ℕ) → ctx.resolve word ≡ res.Local x → ⊥)
       → (env : Env) (k : HeapTyping) (s : State) → IsWellTyped around env k s
       → meaning_in_run word s ≡ meaning_of_global (is_reserved word) (global_by_name word s.globals)
@@ -206,7 +206,7 @@ module _ (around : Around) (ctx : Context) (fits : IsContextOf around ctx) where
         late_or true code is = name_found_safe parts n m code [] (ap (λ x. x.codes) is) covered
         late_or false code is = name_found_safe parts n m E03 [] (ap (λ x. x.codes) is) covered
 
-        go : (r : Res) → ctx.resolve n.text ≡ r → m ≡ name_label ctx env r
+        go : (r : NameMeaning) → ctx.resolve n.text ≡ r → m ≡ name_label ctx env r
             → IsSafe around env (λ k. Unit {0}) (eval_node Step free parts (name n))
             (λ k v. HasType around.bases k m.type v)
         go (res.Local x) is law' = local_safe around ctx parts env n x m is (fits.local n.text x is) law

@@ -1,4 +1,4 @@
--- Unary minus, binary operators and comparisons are safe where their operands are.
+-- Unary minus, binary operators and comparisons are safe if their operands are.
 use Rattle.std.proofs.Common.{◌≡◌, ℕ, List, [], ◌∷◌, ◌++◌, map, refl, sym, ap, ◌∙◌, subst, inl, inr, arith}
 use Rattle.std.specs.Prelude.{Bool as Test, true, false, not, ◌||◌, if◌then◌else◌, Option, Some, None, ℤ}
 use Rattle.std.proofs.lemmas.Grind.{flat_map-append}
@@ -25,7 +25,7 @@ use Rattle.pc_rules.specs.Context.{Context, FlowsInto}
 use Rattle.pc_rules.specs.Labels.{Labels, whole_label, type_of, Finds}
 use Rattle.pc_rules.specs.Lawful.{Lawful, compare_label, compare_types}
 use Rattle.pc_value.specs.Value as value
-use Rattle.pc_value.specs.Value.{Value, Out, whole, boolean, string, Values, tuple_of, location, Entry, Seen, a_number}
+use Rattle.pc_value.specs.Value.{Value, Out, whole, boolean, string, Values, tuple_of, location, DictEntry, Seen, a_number}
 use Rattle.pc_value.specs.Value.{a_text, Heap, seen}
 use Rattle.pc_value.specs.Actions as action
 use Rattle.pc_value.specs.Actions.{Outcome, Free}
@@ -49,7 +49,7 @@ use Rattle.pc_sound.proofs.Heap.SeenValues.{sees_list, sees_dict}
 use Rattle.pc_sound.proofs.Values.UnionMembers.{HasEach, each_later, chosen, one_offer_ends, offers_end}
 use Rattle.pc_sound.proofs.Values.SeveralFlows.{flows_safe}
 
--- what values of a kind are seen as
+-- values of a kind are seen in this form
 abbrev IsSeen : Kind → Seen → Type 0
 IsSeen whole_kind (a_number n) = Unit {0}
 IsSeen text_kind (a_text cs) = Unit {0}
@@ -64,7 +64,7 @@ found_left os ps e = front_empty (found_of os) (found_of ps) (found_both os ps e
 found_right : (os ps : List Offer) → found_of (os ++ ps) ≡ [] → found_of ps ≡ []
 found_right os ps e = rest_empty (found_of os) (found_of ps) (found_both os ps e)
 
--- what an operator comes to on a pair of members
+-- the offer of an operator on a pair of members
 abbrev Pair : (Kind → Test) → (Kind → Tree) → Tree → Tree → Offer
 Pair takes result m n = pair_found (row_of_kinds takes result (kind_of m) (kind_of n))
 
@@ -280,7 +280,7 @@ module _ (bases : Bases) (k : HeapTyping) (heap : Heap) where
     HoldsTruth o = EndsWell (λ x. HasType bases k Bool x) (value_out o)
         × EndsWell (λ x. HasType bases k Bool x) (value_out (opposite o))
 
-    key_contained : (v : Value) (entries : List Entry) → HasType bases k (Union Int (Union Str NoneType)) v
+    key_contained : (v : Value) (entries : List DictEntry) → HasType bases k (Union Int (Union Str NoneType)) v
         → HoldsTruth (contains_key (seen heap v) entries)
     key_contained (whole n) entries h = (tt, tt)
     key_contained (boolean b) entries h = (tt, tt)
@@ -305,7 +305,7 @@ module _ (bases : Bases) (k : HeapTyping) (heap : Heap) where
     in_tuple (a_text cs) items = (tt, tt)
     in_tuple _ items = (tt, tt)
 
-    in_dict : (s : Seen) (l : ℕ) (entries : List Entry) → HoldsTruth (contains_key s entries)
+    in_dict : (s : Seen) (l : ℕ) (entries : List DictEntry) → HoldsTruth (contains_key s entries)
         → HoldsTruth (membership_of answers s (value.a_dict l entries))
     in_dict (a_text cs) l entries h = h
     in_dict _ l entries h = h

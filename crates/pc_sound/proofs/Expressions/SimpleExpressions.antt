@@ -1,4 +1,4 @@
--- Literals, `not`, tests against None, and reads of locals are safe where their parts are.
+-- Literals, `not`, tests against None, and reads of locals are safe if their parts are.
 use Rattle.std.proofs.Common.{◌≡◌, ℕ, List, [], ◌∷◌, refl, sym, ap, subst, inl, inr, arith}
 use Rattle.std.specs.Prelude.{Bool as Test, not, Option, None, chars}
 use Rattle.pc_source.specs.declared.place.Place.{Place}

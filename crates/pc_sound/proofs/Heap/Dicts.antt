@@ -8,7 +8,7 @@ use Rattle.pc_types.specs.Normal.{IsKey}
 use Rattle.pc_class.specs.Facts.{ClassFacts}
 use Rattle.pc_value.specs.Value as value
 use Rattle.pc_value.specs.Value.{Value, whole, boolean, string, location, Cell, list_cell, dict_cell, instance_cell}
-use Rattle.pc_value.specs.Value.{Heap, Entry, seen, seen_cell}
+use Rattle.pc_value.specs.Value.{Heap, DictEntry, seen, seen_cell}
 use Rattle.pc_value.specs.Containers.{same_key, value_at, with_entry, with_entries, gives_item, value_or_none}
 use Rattle.pc_value.specs.Containers.{item_outcome, with_cell, store_outcome, key_fault, first_stop, first_key_fault}
 use Rattle.pc_value.specs.Containers.{dict_display, get_outcome}
@@ -18,7 +18,7 @@ use Rattle.pc_sound.proofs.Lists.{get_at_end}
 use Rattle.pc_sound.proofs.Values.ValuesFlow.{of_static, extends_refl}
 use Rattle.pc_sound.proofs.Heap.Heaps.{write_keeps, place_keeps, grown}
 
--- what a key is whose type is int or str
+-- a key of type int or str is such a value
 abbrev IsKeyValue : Value → Type 0
 IsKeyValue (whole n) = Unit {0}
 IsKeyValue (boolean b) = Unit {0}
@@ -36,7 +36,7 @@ module _ (bases : Bases) (k : HeapTyping) where
 
   -- ---- entries
 
-  entry_set : (s t : Tree) (key v : Value) (es : List Entry) → EntriesHave bases k s t es → HasType bases k s key
+  entry_set : (s t : Tree) (key v : Value) (es : List DictEntry) → EntriesHave bases k s t es → HasType bases k s key
       → HasType bases k t v → EntriesHave bases k s t (with_entry key v es)
   entry_set s t key v [] h hk hv = (hk, hv, tt)
   entry_set s t key v (e ∷ rest) h hk hv = go (same_key e.key key) (entry_set s t key v rest h.2 hk hv)
@@ -46,7 +46,7 @@ module _ (bases : Bases) (k : HeapTyping) where
       go true more = (h.0, hv, h.2)
       go false more = (h.0, h.1, more)
 
-  entries_set : (s t : Tree) (es : List Entry) (more : List Entry) → EntriesHave bases k s t es
+  entries_set : (s t : Tree) (es : List DictEntry) (more : List DictEntry) → EntriesHave bases k s t es
       → EntriesHave bases k s t more → EntriesHave bases k s t (with_entries es more)
   entries_set s t es [] h hm = h
   entries_set s t es (e ∷ rest) h hm = entries_set s t (with_entry e.key e.value es) rest
@@ -57,7 +57,7 @@ module _ (bases : Bases) (k : HeapTyping) where
   FoundHas t None = Unit {0}
   FoundHas t (Some v) = HasType bases k t v
 
-  found_has : (s t : Tree) (key : Value) (es : List Entry) → EntriesHave bases k s t es → FoundHas t (value_at key es)
+  found_has : (s t : Tree) (key : Value) (es : List DictEntry) → EntriesHave bases k s t es → FoundHas t (value_at key es)
   found_has s t key [] h = tt
   found_has s t key (e ∷ rest) h = go (same_key e.key key) (found_has s t key rest h.2)
     where
@@ -79,13 +79,13 @@ module _ (bases : Bases) (k : HeapTyping) where
   or_none t (Some v) h = inl h
 
   -- the key at a place of the order
-  pub key_at : (s t : Tree) (es : List Entry) (i : ℕ) (v : Value) → EntriesHave bases k s t es
-      → slice_get (map (λ (e : Entry). e.key) es) i ≡ Some v → HasType bases k s v
+  pub key_at : (s t : Tree) (es : List DictEntry) (i : ℕ) (v : Value) → EntriesHave bases k s t es
+      → slice_get (map (λ (e : DictEntry). e.key) es) i ≡ Some v → HasType bases k s v
   key_at s t [] i v h e = absurd (grind (arith, e))
   key_at s t (x ∷ es) zero v h e = subst (λ y. HasType bases k s y) (same_Some _ _ e) h.0
   key_at s t (x ∷ es) (suc i) v h e = key_at s t es i v h.2 e
 
-  no_fault : (heap : Heap) (s t : Tree) → IsKey s → (es : List Entry) → EntriesHave bases k s t es
+  no_fault : (heap : Heap) (s t : Tree) → IsKey s → (es : List DictEntry) → EntriesHave bases k s t es
       → first_key_fault heap es ≡ None
   no_fault heap s t is [] h = refl
   no_fault heap s t is (e ∷ rest) h = ap (λ o. first_stop o (first_key_fault heap rest))
@@ -100,9 +100,9 @@ module _ (bases : Bases) (k : HeapTyping) where
 -- ---- dicts in the heap
 
 module _ (bases : Bases) (classes : List ClassFacts) (k : HeapTyping) (heap : Heap) where
-  -- what lies at the location of a dict
+  -- the dict at a location
   pub record DictAt (l : ℕ) (s t : Tree) : Type 0 where
-    pub entries : List Entry
+    pub entries : List DictEntry
     pub is : slice_get heap l ≡ Some (dict_cell entries)
     pub have : EntriesHave bases k s t entries
 
@@ -119,7 +119,7 @@ module _ (bases : Bases) (classes : List ClassFacts) (k : HeapTyping) (heap : He
   dict_at s t l well h = dict_cell_at l h.keys h.values (well.each l (a_dict h.keys h.values) h.is)
 
   -- a new dict
-  pub dict_keeps : (s t : Tree) (es : List Entry) → IsKey s → IsWell bases classes k heap → EntriesHave bases k s t es
+  pub dict_keeps : (s t : Tree) (es : List DictEntry) → IsKey s → IsWell bases classes k heap → EntriesHave bases k s t es
       → ActsWell bases classes k (DictOf s t) (dict_display heap es (first_key_fault heap es))
   dict_keeps s t es is well h = subst (λ o. ActsWell bases classes k (DictOf s t) (dict_display heap es o))
       (sym (no_fault bases k heap s t is es h)) (record {
@@ -138,7 +138,7 @@ module _ (bases : Bases) (classes : List ClassFacts) (k : HeapTyping) (heap : He
         };
       })
 
-  values_back : (s t : Tree) (l : ℕ) (h : IsDict bases k l s t) (key : Value) (es : List Entry)
+  values_back : (s t : Tree) (l : ℕ) (h : IsDict bases k l s t) (key : Value) (es : List DictEntry)
       → EntriesHave bases k h.keys h.values es → FoundHas bases k t (value_at key es)
   values_back s t l h key es have = found_as bases k h.values t
       (λ v x. of_static bases k h.values t h.equal_values.to v x) (value_at key es)
@@ -179,7 +179,7 @@ module _ (bases : Bases) (classes : List ClassFacts) (k : HeapTyping) (heap : He
   dict_get_has s t _ key is well h hk = absurd h
 
   -- a key set, which is of the type that the dict was made with, as its value is
-  key_set : (l : ℕ) (s t : Tree) (es : List Entry) (key w : Value) → slice_get k l ≡ Some (a_dict s t)
+  key_set : (l : ℕ) (s t : Tree) (es : List DictEntry) (key w : Value) → slice_get k l ≡ Some (a_dict s t)
       → EntriesHave bases k s t es → HasType bases k s key → HasType bases k t w → IsWell bases classes k heap
       → ActsWell bases classes k NoneType (with_cell heap l (dict_cell (with_entry key w es)))
   key_set l s t es key w is have hk hw well =

@@ -1,5 +1,5 @@
--- A well-typed heap that has what values of a type and of the fields of all classes refer to; and so each flow that is
--- not static is needed.
+-- A well-typed heap that has everything that values of a type and of the fields of all classes refer to; thus each flow
+-- that is not static is needed.
 use Rattle.std.proofs.Common.{List, [], ◌∷◌, ◌++◌, length, map, refl, sym, ap, ◌∙◌}
 use Rattle.std.specs.Option.{option_map}
 use Rattle.std.proofs.lemmas.List.{length-map}
@@ -82,7 +82,7 @@ is_needed bases ordered classes without s t ns nt n dynamic =
       not_second = v.not_second;
     }
 
--- so with instances of the classes only, where the values refer to no others
+-- a flow is needed with instances of the classes only, where the values refer to no others
 pub is_needed_within :
     (bases : Bases) → AreSmaller bases → (classes : List ClassFacts) → FieldsHaveNoNever classes → (s t : Tree)
     → IsNormal s

@@ -1,4 +1,4 @@
--- Aliases: what is recorded of a location never changes, and each action on what lies there keeps the heap well typed.
+-- Aliases: the record of a location never changes, and each action on its cell keeps the heap well typed.
 use Rattle.std.proofs.Common.{◌≡◌, ℕ, zero, suc, List, [], ◌∷◌, ◌++◌, length, ◌+◌, refl, sym, ap, ◌∙◌, subst, inl, inr}
 use Rattle.std.proofs.Common.{length-append}
 use Rattle.std.specs.Prelude.{◌⊎◌, Option, Some, None, slice_get, slice_set}
@@ -7,7 +7,7 @@ use Rattle.pc_types.specs.Tree.{Tree, Int, NoneType, ListOf}
 use Rattle.pc_types.specs.Below.{Bases, same}
 use Rattle.pc_class.specs.Facts.{ClassFacts, TypedParameter, class_facts_at}
 use Rattle.pc_value.specs.Value.{Value, whole, boolean, location, Cell, list_cell, dict_cell, instance_cell, Heap}
-use Rattle.pc_value.specs.Value.{Entry, Slot, seen, seen_cell, number_of_truth}
+use Rattle.pc_value.specs.Value.{DictEntry, Slot, seen, seen_cell, number_of_truth}
 use Rattle.pc_value.specs.Containers.{with_new_cell, append_outcome, index_among, gives_item, store_outcome, store_at}
 use Rattle.pc_sound.specs.Values.{HeapTyping, Recorded, a_list, a_dict, a_class, Extends, HasType, AllHave, EntriesHave}
 use Rattle.pc_sound.specs.Values.{SlotsHave, CellHas, CellAt, IsWell}
@@ -33,7 +33,7 @@ length-set (x ∷ xs) (suc i) y = ap suc (length-set xs i y)
 -- ---- cells under later heap typings
 
 module _ (bases : Bases) (classes : List ClassFacts) where
-  entries_later : {k k' : HeapTyping} → Extends k k' → (s t : Tree) (es : List Entry) → EntriesHave bases k s t es
+  entries_later : {k k' : HeapTyping} → Extends k k' → (s t : Tree) (es : List DictEntry) → EntriesHave bases k s t es
       → EntriesHave bases k' s t es
   entries_later x s t [] h = tt
   entries_later x s t (e ∷ es) h = (later bases x s e.key h.0, later bases x t e.value h.1, entries_later x s t es h.2)

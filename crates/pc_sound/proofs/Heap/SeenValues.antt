@@ -1,4 +1,4 @@
--- What a value of a list, dict or class type is seen as in a well-typed heap.
+-- The kind of a value of a list, dict or class type in a well-typed heap.
 use Rattle.std.proofs.Common.{◌≡◌, ℕ, List, ap, ◌∙◌}
 use Rattle.std.specs.Prelude.{Some, slice_get}
 use Rattle.pc_types.specs.Tree.{Tree, Class}
@@ -6,7 +6,7 @@ use Rattle.pc_types.specs.Below.{Bases, Below}
 use Rattle.pc_class.specs.Facts as facts
 use Rattle.pc_class.specs.Facts.{class_facts_at}
 use Rattle.pc_value.specs.Value as value
-use Rattle.pc_value.specs.Value.{Value, location, Cell, list_cell, dict_cell, instance_cell, Heap, Entry, Slot, seen}
+use Rattle.pc_value.specs.Value.{Value, location, Cell, list_cell, dict_cell, instance_cell, Heap, DictEntry, Slot, seen}
 use Rattle.pc_value.specs.Value.{seen_cell}
 use Rattle.pc_sound.specs.Values.{HeapTyping, a_list, a_dict, a_class, Equal, IsList, IsDict, IsInstance, AllHave}
 use Rattle.pc_sound.specs.Values.{EntriesHave, SlotsHave, CellHas, CellAt, IsWell}
@@ -23,7 +23,7 @@ pub record SeesList (bases : Bases) (k : HeapTyping) (heap : Heap) (l : ℕ) (t 
 
 -- the dict at a location, with the types that its keys and values are recorded with
 pub record SeesDict (bases : Bases) (k : HeapTyping) (heap : Heap) (l : ℕ) (s t : Tree) : Type 0 where
-  pub entries : List Entry
+  pub entries : List DictEntry
   pub keys : Tree
   pub values : Tree
   pub recorded : slice_get k l ≡ Some (a_dict keys values)

@@ -1,9 +1,9 @@
--- All forms are safe in all bodies of a module, where names mean in runs what types take them to mean.
+-- All forms are safe in all bodies of a module, if names mean in runs what they mean in typing.
 use Rattle.std.proofs.Common.{◌≡◌, ℕ, List, refl}
 use Rattle.std.specs.Prelude.{codes, Some}
 use Rattle.pc_tree.specs.Tree.{Module}
 use Rattle.pc_scope.specs.declared.resolution.Builtin.TheVariants as builtin
-use Rattle.pc_scope.specs.declared.resolution.Res.TheVariants as res
+use Rattle.pc_scope.specs.declared.resolution.NameMeaning.TheVariants as res
 use Rattle.pc_scope.specs.Reserved.{builtin_of}
 use Rattle.pc_types.specs.Tree.{Tree}
 use Rattle.pc_module_rules.specs.Modules.{Labelling, constant_types}

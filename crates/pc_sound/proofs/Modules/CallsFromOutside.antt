@@ -5,7 +5,7 @@ use Rattle.std.proofs.lemmas.Option.{none-some, same_Some}
 use Rattle.pc_source.specs.declared.place.Place.{Place}
 use Rattle.pc_tree.specs.Tree.{FuncDef, Module}
 use Rattle.pc_scope.specs.declared.resolution.Owner.TheVariants as owners
-use Rattle.pc_scope.specs.declared.resolution.Res.TheVariants as res
+use Rattle.pc_scope.specs.declared.resolution.NameMeaning.TheVariants as res
 use Rattle.pc_scope.specs.Bindings.{functions_in, classes_in}
 use Rattle.pc_scope.specs.Resolution.{resolve_in_module}
 use Rattle.pc_types.specs.Tree.{Tree}
@@ -103,7 +103,7 @@ module _ (m : Module) (labels : Labelling m) (lawful : IsLawful m labels) (clean
 
     module _ (values : List Value) (named : List NamedValue) (n : ℕ) (events : List Place) (out : Out Value)
         (after : State) where
-      -- what is claimed of a callee that takes arguments of these types
+      -- a call of the callee with arguments of these types ends as promised, or a listed place was evaluated
       abbrev Ends : Callee → Tree → Type 0
       Ends callee gives = call_callee Step free (steps Step free n) callee values named s events out after
           → HasEvaluatedListed m events ⊎ EndsAsPromised m labels k s gives out after

@@ -1,5 +1,5 @@
--- In a module without silent errors `@dataclass` is known where a class stands, each base is an earlier class, and no
--- field without default stands after one with default.
+-- In a module without silent errors `@dataclass` is known at each class, each base is an earlier class, and no field
+-- without default follows one with default.
 use Rattle.std.proofs.Common.{◌≡◌, ℕ, zero, suc, ◌<◌, List, [], ◌∷◌, ◌++◌, length, take, append_assoc, refl, sym, ap}
 use Rattle.std.proofs.Common.{◌∙◌, subst, inl, inr, arith, Contains, append-nil}
 use Rattle.std.specs.Prelude.{Bool as Test, true, false, ◌||◌, ◌&&◌, not, codes, if◌then◌else◌, is_some, Option, Some}
@@ -20,7 +20,7 @@ use Rattle.pc_scope.specs.Bindings.{classes_in}
 use Rattle.pc_scope.specs.Resolution.{is_one_of}
 use Rattle.pc_scope_findings.specs.Findings as scope
 use Rattle.pc_types.specs.Tree.{Tree}
-use Rattle.pc_ann.specs.Annotations.{read_ann}
+use Rattle.pc_annotations.specs.Annotations.{read_ann}
 use Rattle.pc_class.specs.Bases.{bases_of, base_named}
 use Rattle.pc_class.specs.Facts as facts
 use Rattle.pc_class.specs.Facts.{TypedParameter, base_facts, classes_of, class_facts_at, field_by_name, method_by_name}

@@ -17,8 +17,8 @@ use Rattle.pc_tree.specs.Tree.{binary, compare, is_none, is_not_none, conjunctio
 use Rattle.pc_tree.specs.Tree.{Constant, Exprs, no_exprs, more_exprs, Entries, no_entries, more_entries, Keywords}
 use Rattle.pc_tree.specs.Tree.{no_keywords, more_keywords, Item, constant_item, class_item, def_item, Module}
 use Rattle.pc_tree.specs.NamesAlone.{name_of_tree}
-use Rattle.pc_scope.specs.declared.resolution.Res.{Res}
-use Rattle.pc_scope.specs.declared.resolution.Res.TheVariants as res
+use Rattle.pc_scope.specs.declared.resolution.NameMeaning.{NameMeaning}
+use Rattle.pc_scope.specs.declared.resolution.NameMeaning.TheVariants as res
 use Rattle.pc_scope.specs.Expressions.{is_instance_test, parts_in, parts_in_all, parts_in_entries, parts_in_keywords}
 use Rattle.pc_scope.specs.Bindings.{constants_in, classes_in}
 use Rattle.pc_scope.specs.Resolution.{resolve_in_module}
@@ -58,7 +58,7 @@ module _ (ctx : Context) (declared : List Tree) where
   abbrev pub InTime : Name → Type 0
   InTime n = (env : Env) → is_early (name_label ctx env (ctx.resolve n.text)).codes ≡ false
 
-  -- so does each name that a test of an instance among expressions tests for
+  -- each name that an instance test among expressions tests for reads in time
   abbrev pub TestsInTime : List Expr → Type 0
   TestsInTime xs = (p : Place) (c e : Expr) (n : Name)
       → Contains xs (call p c (more_exprs e (more_exprs (name n) no_exprs)) no_keywords)
@@ -193,7 +193,7 @@ past_end (x ∷ xs) zero e = absurd (none-some _ (sym e))
 past_end (x ∷ xs) (suc i) e = let h = past_end xs i e in omega (arith, h)
 
 -- a name of an initializer that is not early reads in time
-in_time : (m : Module) (constants : List Tree) (known : ℕ) (r : Res) → (IsEarlyMeaning (length constants) known r → ⊥)
+in_time : (m : Module) (constants : List Tree) (known : ℕ) (r : NameMeaning) → (IsEarlyMeaning (length constants) known r → ⊥)
     → (env : Env) → is_early (name_label (initializer_context m constants known) env r).codes ≡ false
 in_time m constants known (res.Local x) h env = of_local (current env x)
   where

@@ -1,4 +1,4 @@
--- What bodies and initializers know of the module's names and of the classes made.
+-- The knowledge, in bodies and initializers, of the module's names and of the classes made.
 use Rattle.std.proofs.Common.{◌≡◌, ℕ, suc, List, [], ◌∷◌, ◌++◌, length, refl, sym, ap, ◌∙◌, subst, arith}
 use Rattle.std.specs.Prelude.{Bool as Test, true, false, if◌then◌else◌, is_some, nat_lt, bytes_eq, Option, Some, None}
 use Rattle.std.specs.Prelude.{slice_get}
@@ -6,8 +6,8 @@ use Rattle.pc_source.specs.declared.place.Place.{Place}
 use Rattle.pc_tree.specs.Tree.{FuncDef, ClassDef, Item, constant_item, class_item, def_item, Module}
 use Rattle.pc_scope.specs.declared.resolution.Builtin.{Builtin}
 use Rattle.pc_scope.specs.declared.resolution.Owner.{Owner}
-use Rattle.pc_scope.specs.declared.resolution.Res.{Res}
-use Rattle.pc_scope.specs.declared.resolution.Res.TheVariants as res
+use Rattle.pc_scope.specs.declared.resolution.NameMeaning.{NameMeaning}
+use Rattle.pc_scope.specs.declared.resolution.NameMeaning.TheVariants as res
 use Rattle.pc_scope.specs.Reserved.{builtin_of}
 use Rattle.pc_tree.specs.Stopping.{bound_by}
 use Rattle.pc_scope.specs.Bindings.{texts, classes_in}
@@ -39,7 +39,7 @@ use Rattle.pc_sound.proofs.Modules.ModuleOrder.{around_items}
 builtin_inj : {b c : Builtin} → res.Builtin b ≡ res.Builtin c → b ≡ c
 builtin_inj e = grind arith
 
--- what the module binds is no built-in
+-- no name that the module binds is a built-in
 no_builtin : (k f c : ℕ) (items : List Item) (word : List ℕ) (b : Builtin) → or_meaning (bound_first k f c items word)
     res.None ≡ res.Builtin b → ⊥
 no_builtin k f c [] word b e = absurd (grind (arith, e))
@@ -80,12 +80,12 @@ module _ (m : Module) where
   reserved_means word b e = ap (λ o. or_meaning (builtin_meaning o)
       (or_meaning (bound_first 0 0 0 m.items word) res.None)) e
 
-  abbrev IsOuter : Res → Type 0
+  abbrev IsOuter : NameMeaning → Type 0
   IsOuter (res.Local x) = ⊥
   IsOuter _ = Unit {0}
 
-  -- what is no local to a body is the module's
-  outer : (names : List (List ℕ)) (word : List ℕ) (r : Res) → IsOuter r → resolve_among m names word ≡ r
+  -- a name that is no local of a body means what it means in the module
+  outer : (names : List (List ℕ)) (word : List ℕ) (r : NameMeaning) → IsOuter r → resolve_among m names word ≡ r
       → resolve_in_module m word ≡ r
   outer names word r is e = go (index_of word names) e
     where

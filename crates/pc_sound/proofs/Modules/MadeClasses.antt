@@ -12,8 +12,8 @@ use Rattle.pc_source.specs.ReservedNames.{is_reserved}
 use Rattle.pc_tree.specs.Stopping.{of_defs}
 use Rattle.pc_tree.specs.Tree.{Name, FuncDef, Member, field_member, method_member, ClassDef, class_item, Module}
 use Rattle.pc_scope.specs.declared.resolution.Owner.TheVariants as owners
-use Rattle.pc_scope.specs.declared.resolution.Res.{Res}
-use Rattle.pc_scope.specs.declared.resolution.Res.TheVariants as res
+use Rattle.pc_scope.specs.declared.resolution.NameMeaning.{NameMeaning}
+use Rattle.pc_scope.specs.declared.resolution.NameMeaning.TheVariants as res
 use Rattle.pc_scope.specs.Bindings.{classes_in, methods_in}
 use Rattle.pc_scope.specs.Reserved.{is_builtin_name as is_reserved_name}
 use Rattle.pc_scope.specs.Resolution.{function_of, method_at, is_one_of, resolve_in_module}
@@ -23,7 +23,7 @@ use Rattle.pc_types.specs.Below as subtyping
 use Rattle.pc_types.specs.Below.{Bases, Below, same, through}
 use Rattle.pc_types.proofs.Structural.{Chain, here, up, chain_below}
 use Rattle.pc_types.proofs.Descent.{chain_of}
-use Rattle.pc_ann.specs.Annotations.{read_ann}
+use Rattle.pc_annotations.specs.Annotations.{read_ann}
 use Rattle.pc_class.specs.Bases.{bases_of, base_named, earlier_class}
 use Rattle.pc_class.specs.Facts as facts
 use Rattle.pc_class.specs.Facts.{TypedParameter, Method, base_facts, classes_of, class_facts_at, binds_field}
@@ -77,7 +77,7 @@ module _ (bases : Bases) (k : HeapTyping) where
   has_same t true None h = absurd h
   has_same t false (Some v) h = absurd h
 
-  all_same : (ps : List state.Parameter) (qs : List TypedParameter) → DefaultsHave bases k ps qs
+  all_same : (ps : List state.FormalParameter) (qs : List TypedParameter) → DefaultsHave bases k ps qs
       → all_have_defaults ps ≡ all_default qs
   all_same [] [] h = refl
   all_same [] (q ∷ qs) h = absurd h
@@ -87,7 +87,7 @@ module _ (bases : Bases) (k : HeapTyping) where
       (all_same ps qs h.1.1)
 
   -- a run sees the same order of defaults
-  last_same : (ps : List state.Parameter) (qs : List TypedParameter) → DefaultsHave bases k ps qs
+  last_same : (ps : List state.FormalParameter) (qs : List TypedParameter) → DefaultsHave bases k ps qs
       → defaults_last ps ≡ fields_last qs
   last_same [] [] h = refl
   last_same [] (q ∷ qs) h = absurd h
@@ -101,7 +101,7 @@ module _ (bases : Bases) (k : HeapTyping) where
       go false rest = rest
 
   -- fields and methods after those of a base
-  fields_append : (ps ps' : List state.Parameter) (qs qs' : List TypedParameter) → DefaultsHave bases k ps qs
+  fields_append : (ps ps' : List state.FormalParameter) (qs qs' : List TypedParameter) → DefaultsHave bases k ps qs
       → DefaultsHave bases k ps' qs' → DefaultsHave bases k (ps ++ ps') (qs ++ qs')
   fields_append [] ps' [] qs' h g = g
   fields_append [] ps' (q ∷ qs) qs' h g = absurd h
@@ -118,11 +118,11 @@ methods_append m k (f ∷ fs) gs (q ∷ qs) rs h g = (h.0, methods_append m k fs
 -- ---- bases
 
 -- a class before the one of a number
-pub record EarlierClass (c b : ℕ) (r : Res) : Type 0 where
+pub record EarlierClass (c b : ℕ) (r : NameMeaning) : Type 0 where
   pub is : r ≡ res.Class b
   pub before : nat_lt b c ≡ true
 
-pub earlier_is : (c b : ℕ) (r : Res) → earlier_class c r ≡ Some b → EarlierClass c b r
+pub earlier_is : (c b : ℕ) (r : NameMeaning) → earlier_class c r ≡ Some b → EarlierClass c b r
 earlier_is c b (res.Class d) e = go (nat_lt d c) refl e
   where
     go : (x : Test) → nat_lt d c ≡ x → (if x then Some d else None) ≡ Some b → EarlierClass c b (res.Class d)
@@ -151,7 +151,7 @@ module _ (m : Module) where
     methods : MethodsAre m k class.methods (class_facts_at (classes_of m) n).methods
     ancestors : AncestorsAre (bases_of m) n class.ancestors
 
-  -- what a run has of a class's base
+  -- the base of a class as a run has made it
   record BaseMade (k : HeapTyping) (base : Option ℕ) (made : Option Class) : Type 0 where
     fields : DefaultsHave (bases_of m) k (fields_of made) (base_facts (classes_of m) base).fields
     methods : MethodsAre m k (methods_of made) (base_facts (classes_of m) base).methods
@@ -299,7 +299,7 @@ module _ (m : Module) (constants : List Tree) (listed : Place → Type 0) where
     pub number : ℕ
     pub is : base_named m c (Some n) ≡ Some number
 
-  -- what is known of each class before it runs
+  -- the facts known of each class before it runs
   pub record ClassesReady : Type 0 where
     pub imported : (c : ℕ) (class : ClassDef) → slice_get (classes_in m.items) c ≡ Some class
         → m.imports_dataclass ≡ true

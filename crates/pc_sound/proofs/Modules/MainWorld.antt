@@ -1,4 +1,4 @@
--- What is known, while `main` runs, of the names that the module has bound and of the classes that it has made.
+-- The knowledge, while `main` runs, of the names that the module has bound and of the classes that it has made.
 use Rattle.std.proofs.Common.{inl, inr, ◌≡◌, ℕ, List, [], ◌∷◌, ◌++◌, Contains}
 use Rattle.std.specs.Prelude.{Bool as Test, true, false, Option, Some, None}
 use Rattle.pc_source.specs.declared.place.Place.{Place}
@@ -56,7 +56,7 @@ module _ (m : Module) where
     default_again t false (Some v) h = absurd h
     default_again t false None h = tt
 
-    defaults_again : (ps : List state.Parameter) (qs : List TypedParameter) → DefaultsHave (bases_of m) k ps qs
+    defaults_again : (ps : List state.FormalParameter) (qs : List TypedParameter) → DefaultsHave (bases_of m) k ps qs
         → DefaultsHave (bases_of m) k' ps qs
     defaults_again [] [] h = tt
     defaults_again [] (q ∷ qs) h = absurd h
@@ -101,7 +101,7 @@ module _ (m : Module) where
     }
 
   module _ {k k' : HeapTyping} (grows : Extends k k') where
-    pub defaults_later : (ps : List state.Parameter) (qs : List TypedParameter) → DefaultsHave (bases_of m) k ps qs
+    pub defaults_later : (ps : List state.FormalParameter) (qs : List TypedParameter) → DefaultsHave (bases_of m) k ps qs
         → DefaultsHave (bases_of m) k' ps qs
     defaults_later ps qs h = defaults_again k k' ps qs h
 
@@ -138,7 +138,7 @@ module _ (m : Module) where
       pub free : (word : List ℕ) → is_one_of word (entry_texts owner d ++ texts (bound_by d.body)) ≡ true
           → is_builtin_name word ≡ false
 
-    -- what is around its body
+    -- the surroundings of the body
     abbrev pub around_of : (owner : Owner) (d : FuncDef) → Labelled owner d → Around
     around_of owner d lab = record {
       bases = bases_of m;

@@ -1,5 +1,5 @@
--- In a module without silent errors each member of a class binds its name: none is reserved, stands twice or clashes
--- with an ancestor's.
+-- In a module without silent errors each member of a class binds its name: none is reserved, repeated or clashes with
+-- an ancestor's.
 use Rattle.std.proofs.Common.{◌≡◌, ℕ, zero, suc, ◌+◌, ◌<◌, List, [], ◌∷◌, ◌++◌, map, refl, sym, ap, ◌∙◌, subst, inl}
 use Rattle.std.proofs.Common.{inr, arith, Contains, eq-or-lt_of_le, le_of_suc-le-suc}
 use Rattle.std.specs.Prelude.{◌⊎◌, Bool as Test, true, false, ◌||◌, ◌&&◌, not, cond, if◌then◌else◌, is_some, Option}
@@ -28,7 +28,7 @@ use Rattle.pc_scope.specs.Reserved.{builtin_of, is_builtin_name}
 use Rattle.pc_scope.specs.Bindings.{classes_in}
 use Rattle.pc_scope.specs.Resolution.{is_one_of, resolve_in_module}
 use Rattle.pc_scope_findings.specs.Findings as scope
-use Rattle.pc_ann.specs.Annotations.{read_ann}
+use Rattle.pc_annotations.specs.Annotations.{read_ann}
 use Rattle.pc_class.specs.Bases.{bases_of, base_named}
 use Rattle.pc_class.specs.Facts as facts
 use Rattle.pc_class.specs.Facts.{TypedParameter, Method, field_by_name, method_by_name, base_facts, classes_of}
@@ -101,7 +101,7 @@ held_texts : (hs : List HeldMember) (w : List ℕ) → stopping.is_among (map he
 held_texts [] w = refl
 held_texts (x ∷ hs) w = ap (λ z. bytes_eq x.text w || z) (held_texts hs w)
 
--- what is held has each field and each method of a class
+-- the held members have each field and each method of a class
 record Covers (hs : List HeldMember) (class : facts.ClassFacts) : Type 0 where
   fields : (w : List ℕ) → is_some (field_by_name class.fields w) ≡ true → HoldsField hs w
   methods : (w : List ℕ) → is_some (method_by_name class.methods w) ≡ true → HoldsName hs w
@@ -295,7 +295,7 @@ module _ (m : Module) where
       go None e = inr e
       go (Some p) e = inl refl
 
-  -- what is held of a base and of clear members covers the class over that base
+  -- the members held of a base and clear members cover the class over that base
   over_covers : (hs : List HeldMember) (c : ℕ) (class : ClassDef) (base : facts.ClassFacts) → Covers hs base
       → IsClear [] hs class.members → Covers (hs ++ own_members [] hs class.members) (class_over m c class base)
   over_covers hs c class base covers clear = record {
@@ -321,7 +321,7 @@ module _ (m : Module) where
   nothing_covers : (hs : List HeldMember) → Covers hs facts.empty_class
   nothing_covers hs = record { fields = λ w h. absurd (false≢true h); methods = λ w h. absurd (false≢true h) }
 
-  -- so does what is held of a base, where the classes before are covered
+  -- the members held of a base cover it, where the classes before are covered
   base_covers : (before : List Item) → ArePlaced before → (c : ClassDef) → slice_get (classes_in m.items) (count before)
       ≡ Some c → ((d : ℕ) (u : ClassDef) → d < count before → slice_get (classes_in m.items) d ≡ Some u
       → Covers (members_of before (Some u.name.text)) (class_facts_at (classes_of m) d))
@@ -349,7 +349,7 @@ module _ (m : Module) where
           (base_facts (classes_of m) (base_named m (count before) o))) (sym e)
           (by_number n e (base_named m (count before) (Some n)) refl)
 
-  -- what is held of each class among the items covers it
+  -- the members held of each class among the items cover it
   held_covers : (before : List Item) → ArePlaced before → (b : ℕ) (t : ClassDef) → b < count before
       → slice_get (classes_in m.items) b ≡ Some t → Covers (members_of before (Some t.name.text))
       (class_facts_at (classes_of m) b)

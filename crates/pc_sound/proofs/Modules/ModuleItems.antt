@@ -12,7 +12,7 @@ use Rattle.pc_tree.specs.Tree.{Name, Expr, ClassDef, FuncDef, Param, Item, const
 use Rattle.pc_tree.specs.Stopping.{of_defs, is_plain_def, has_none}
 use Rattle.pc_tree.specs.Depth.{place_of}
 use Rattle.pc_scope.specs.declared.resolution.Owner.TheVariants as owners
-use Rattle.pc_scope.specs.declared.resolution.Res.TheVariants as res
+use Rattle.pc_scope.specs.declared.resolution.NameMeaning.TheVariants as res
 use Rattle.pc_scope.specs.Reserved.{builtin_of, is_builtin_name}
 use Rattle.pc_scope.specs.Bindings.{constants_in, classes_in, functions_in}
 use Rattle.pc_scope.specs.Resolution.{is_one_of, bound_first, or_meaning, builtin_meaning, resolve_in_module}
@@ -64,8 +64,8 @@ binds_parts : (names : List (List ℕ)) (n : Name) → binds_name names n ≡ tr
 binds_parts names n e = let h = neither (is_builtin_name n.text) (is_one_of n.text names) e in (h.1, h.0)
 
 module _ (m : Module) (constants : List Tree) (listed : Place → Type 0) where
-  -- what is known of each item before it runs: its name is bound by nothing, its labels' dicts have int or str as key,
-  -- its parameters bind their names
+  -- the facts known of each item before it runs: its name is bound by nothing, its labels' dicts have int or str as
+  -- key, its parameters bind their names
   abbrev pub ItemReady : BeforeItem → (i : Item) → ItemLabels i → Type 0
   ItemReady b (constant_item p c) labels = (binds_name b.names c.name ≡ true) × Keyed c.value labels.value
   ItemReady b (class_item p c) labels = binds_name b.names c.name ≡ true
@@ -76,7 +76,7 @@ module _ (m : Module) (constants : List Tree) (listed : Place → Type 0) where
   ItemsReady b (i ∷ rest) labels = ItemReady b i labels.first × ItemsReady (before_next m b i labels.first) rest
       labels.rest
 
-  -- what stands before the end
+  -- the state before the end
   abbrev pub last_of : BeforeItem → (items : List Item) → ItemsLabels items → BeforeItem
   last_of b [] labels = b
   last_of b (i ∷ rest) labels = last_of (before_next m b i labels.first) rest labels.rest

@@ -1,11 +1,11 @@
--- The names of a module, item by item: what each means, and what is bound after it.
+-- The names of a module, item by item: the meaning of each, and the bindings after it.
 use Rattle.std.proofs.Common.{◌≡◌, ℕ, suc, ◌+◌, List, [], ◌∷◌, ◌++◌, refl, sym, ap, ◌∙◌, arith}
 use Rattle.std.specs.Prelude.{Bool as Test, true, false, if◌then◌else◌, Option, Some, None, slice_get, bytes_eq}
 use Rattle.std.proofs.lemmas.Slice.Eq.{bytes_eq-Decides}
 use Rattle.pc_tree.specs.Tree.{Constant, ClassDef, FuncDef, Item, constant_item, class_item, def_item, Module}
 use Rattle.pc_scope.specs.declared.resolution.Builtin.{Builtin}
-use Rattle.pc_scope.specs.declared.resolution.Res.{Res}
-use Rattle.pc_scope.specs.declared.resolution.Res.TheVariants as res
+use Rattle.pc_scope.specs.declared.resolution.NameMeaning.{NameMeaning}
+use Rattle.pc_scope.specs.declared.resolution.NameMeaning.TheVariants as res
 use Rattle.pc_scope.specs.Reserved.{builtin_of}
 use Rattle.pc_scope.specs.Bindings.{constants_in, classes_in, functions_in}
 use Rattle.pc_scope.specs.Resolution.{bound_first, or_meaning, local_meaning, builtin_meaning, resolve_in_module}
@@ -245,17 +245,17 @@ class_first k f c (class_item p x ∷ rest) word i e = go (bytes_eq x.name.text 
     go false t e others = let h = others e in let b = h.behind in
         record { at = suc h.at; class = h.class; behind = omega arith; is = h.is; named = h.named }
 
--- what a name means as a class where there are locals is what it means in the module
-pub outside_class : (o : Option ℕ) (r : Res) (i : ℕ) → or_meaning (local_meaning o) r ≡ res.Class i → r ≡ res.Class i
+-- a name that means a class where there are locals means the same class in the module
+pub outside_class : (o : Option ℕ) (r : NameMeaning) (i : ℕ) → or_meaning (local_meaning o) r ≡ res.Class i → r ≡ res.Class i
 outside_class None r i e = e
 outside_class (Some x) r i e = absurd (grind (arith, e))
 
--- what a module binds is bound first by an item
-bound_so : (m : Module) (word : List ℕ) (r : Res) → ((b : Builtin) → r ≡ res.Builtin b → ⊥) → (r ≡ res.None → ⊥)
+-- a name that the module binds is bound first by an item
+bound_so : (m : Module) (word : List ℕ) (r : NameMeaning) → ((b : Builtin) → r ≡ res.Builtin b → ⊥) → (r ≡ res.None → ⊥)
     → resolve_in_module m word ≡ r → bound_first 0 0 0 m.items word ≡ Some r
 bound_so m word r not_builtin not_none e = go (builtin_of word) (bound_first 0 0 0 m.items word) refl e
   where
-    go : (b : Option Builtin) (o : Option Res) → bound_first 0 0 0 m.items word ≡ o
+    go : (b : Option Builtin) (o : Option NameMeaning) → bound_first 0 0 0 m.items word ≡ o
         → or_meaning (builtin_meaning b) (or_meaning o res.None) ≡ r → bound_first 0 0 0 m.items word ≡ Some r
     go (Some b) o is e = absurd (not_builtin b (sym e))
     go None None is e = absurd (not_none (sym e))

@@ -18,12 +18,12 @@ use Rattle.pc_sound.specs.Silent.{default_places}
 use Rattle.pc_tree.specs.Tree.{Ann, Expr, Literal, number_literal, negative_literal, text_literal, truth_literal}
 use Rattle.pc_tree.specs.Tree.{none_literal, Param, Constant, ClassDef, FuncDef, constant_item, def_item, Module}
 use Rattle.pc_tree.specs.Depth.{place_of}
-use Rattle.pc_scope.specs.declared.resolution.Res.TheVariants as res
+use Rattle.pc_scope.specs.declared.resolution.NameMeaning.TheVariants as res
 use Rattle.pc_scope.specs.Reserved.{is_builtin_name}
 use Rattle.pc_scope.specs.Bindings.{classes_in}
 use Rattle.pc_scope.specs.Resolution.{is_one_of, resolve_in_module}
 use Rattle.pc_types.specs.Tree.{Tree}
-use Rattle.pc_ann.specs.Annotations.{read_ann, read_option}
+use Rattle.pc_annotations.specs.Annotations.{read_ann, read_option}
 use Rattle.pc_class.specs.Bases.{bases_of}
 use Rattle.pc_class.specs.Facts.{parameters_of, classes_of}
 use Rattle.pc_rules.specs.Labels.{FlowLabels, Labels, whole_label, type_of, Finds, IsFlowAt, IsCodeAt}
@@ -69,8 +69,8 @@ code_found p None c e = absurd (none-some _ e)
 code_found p (Some x) c e = ap (finding p) (sym (same_Some _ _ e))
 
 module _ (m : Module) where
-  -- what is known when some items have run: of the constants with these types, of these functions, of so many classes,
-  -- which have bound these names
+  -- the facts known when some items have run: of the constants with these types, of these functions, of so many
+  -- classes, which have bound these names
   pub record BoundSoFar (types : List Tree) (defs : List FuncDef) (n : ℕ) (names : List (List ℕ)) (k : HeapTyping)
       (made : List Class) (globals : Globals) : Type 0 where
     pub constant : (word : List ℕ) (i : ℕ) (t : Tree) → resolve_in_module m word ≡ res.Const i
@@ -252,7 +252,7 @@ module _ (m : Module) where
           ∙ ap (λ x. Some (a_class x)) (w.count ∙ sym here)
 
   module _ (listed : Place → Type 0) where
-    -- what is around an initializer
+    -- the surroundings of an initializer
     abbrev pub around_items : List Tree → List FuncDef → ℕ → List (List ℕ) → Around
     around_items types defs n names = record {
       bases = bases_of m;

@@ -5,8 +5,8 @@ use Rattle.pc_token.specs.Lexeme.{Lexeme}
 use Rattle.pc_tree.specs.Tree.{Module}
 use Rattle.pc_grammar.specs.Grammar.Modules.{SpellsModule}
 use Rattle.pc_types.specs.Tree.{Tree}
-use Rattle.pc_ann.specs.Bases.{bases_of}
-use Rattle.pc_ann.proofs.Earlier.{smaller}
+use Rattle.pc_annotations.specs.Bases.{bases_of}
+use Rattle.pc_annotations.proofs.Earlier.{smaller}
 use Rattle.pc_class.specs.Facts.{classes_of}
 use Rattle.pc_module_rules.specs.FlowsOfModules.{FlowsDynamically}
 use Rattle.pc_module_rules.proofs.StandingFlows.{flows_dynamic, flows_well_formed}

@@ -50,7 +50,7 @@ of_method_at function method (class_item q x ∷ rest) (suc j) class i d p e is 
     Contains-append_right (of_members method x.members) (of_defs function method rest) p
     (of_method_at function method rest j class i d p e is c)
 
--- what stands in a function or method stands in one of the module
+-- a place in a function or method is a place in the module
 pub function_places : (m : Module) (places : FuncDef → List Place) (owner : Owner) (d : FuncDef) (p : Place)
     → function_of m owner ≡ Some d → Contains (places d) p → Contains (of_defs places places m.items) p
 function_places m places owners.Module d p e c = absurd (none-some _ e)

@@ -1,4 +1,4 @@
--- What a module without silent errors establishes of the premises of the law, and what of them is left.
+-- The premises of the law that a module without silent errors establishes, and those that are left.
 use Rattle.std.proofs.Common.{◌≡◌, ℕ, zero, suc, List, [], ◌∷◌, ◌++◌, length, map, refl, sym, ap, ◌∙◌, subst, inl, inr}
 use Rattle.std.proofs.Common.{arith, append_assoc, append-nil}
 use Rattle.std.specs.Prelude.{true, ◌&&◌, not, take, Option, Some, None, is_some, slice_get}
@@ -15,8 +15,8 @@ use Rattle.pc_tree.specs.Tree.{def_item, Constant, Module}
 use Rattle.pc_tree.specs.Stopping.{name_of_item}
 use Rattle.pc_scope.specs.declared.resolution.Owner.{Owner}
 use Rattle.pc_scope.specs.declared.resolution.Owner.TheVariants as owners
-use Rattle.pc_scope.specs.declared.resolution.Res.{Res}
-use Rattle.pc_scope.specs.declared.resolution.Res.TheVariants as res
+use Rattle.pc_scope.specs.declared.resolution.NameMeaning.{NameMeaning}
+use Rattle.pc_scope.specs.declared.resolution.NameMeaning.TheVariants as res
 use Rattle.pc_scope.specs.Bindings.{as_method, constants_in, classes_in, functions_in, methods_in}
 use Rattle.pc_scope.specs.Reserved.{is_builtin_name}
 use Rattle.pc_scope.specs.Resolution.{is_one_of, index_of, locals, function_of, local_meaning, or_meaning}
@@ -64,7 +64,7 @@ use Rattle.pc_sound.proofs.Modules.LabelledBodies.{last_types_are, last_classes_
 use Rattle.pc_sound.proofs.Modules.UniqueNames.{AllBind, parameters_bind, parameters_distinct, items_bind}
 use Rattle.pc_sound.proofs.Modules.UniqueNames.{function_binds}
 
-outside_const : (o : Option ℕ) (r : Res) (i : ℕ) → or_meaning (local_meaning o) r ≡ res.Const i → r ≡ res.Const i
+outside_const : (o : Option ℕ) (r : NameMeaning) (i : ℕ) → or_meaning (local_meaning o) r ≡ res.Const i → r ≡ res.Const i
 outside_const None r i e = e
 outside_const (Some x) r i e = absurd (grind (arith, e))
 
@@ -115,7 +115,7 @@ module _ (m : Module) (labels : Labelling m) (lawful : IsLawful m labels) (clean
     abbrev Base : ClassFacts
     Base = base_class m c class
 
-    -- what is found of an override is a listed place, and not silent
+    -- a finding of an override is at a listed place, and not silent
     override_listed : (done rest : List Member) (d : FuncDef) (code : Code) → class.members ≡ done ++ method_member d
         ∷ rest → binds_method Base (names_behind [] done) d.name.text ≡ true
         → Judges (bases_of m) (overridden Base.methods d.name.text) (method_made m c (length (methods_in done)) d)

@@ -1,4 +1,4 @@
--- The law of a module, from what is left to be shown of its initializers, under its lawful labelling.
+-- The law of a module, given the remaining premises on its initializers, under its lawful labelling.
 use Rattle.std.proofs.Common.{refl, sym, subst}
 use Rattle.pc_tree.specs.declared.code.Code.{Code}
 use Rattle.pc_tree.specs.declared.code.Code.TheVariants.{E01, E05, E06, E07, E08, E25, E28, E29, E31}
@@ -19,7 +19,7 @@ use Rattle.pc_sound.proofs.Settled.SettledInitializers.{constants_are_settled}
 use Rattle.pc_sound.proofs.Modules.EarlyNames.{initializers_timely}
 use Rattle.pc_sound.proofs.Modules.Premises.{Left, sound_but_for}
 
--- what is left to be shown of a module without silent errors holds of it
+-- the facts left to be shown of a module without silent errors hold of it
 pub left_of : (m : Module) (labels : Labelling m) (lawful : IsLawful m labels) (clean : HasNoSilentError m)
     → Left m labels lawful clean
 left_of m labels lawful clean =

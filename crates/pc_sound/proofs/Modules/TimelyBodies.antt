@@ -9,8 +9,8 @@ use Rattle.pc_tree.specs.Tree.{dict, negative, negation, binary, compare, is_non
 use Rattle.pc_tree.specs.Tree.{disjunction, attribute, index, call, no_exprs, more_exprs, no_entries, more_entries}
 use Rattle.pc_tree.specs.Tree.{no_keywords, more_keywords}
 use Rattle.pc_scope.specs.Expressions.{is_instance_test}
-use Rattle.pc_scope.specs.declared.resolution.Res.{Res}
-use Rattle.pc_scope.specs.declared.resolution.Res.TheVariants as res
+use Rattle.pc_scope.specs.declared.resolution.NameMeaning.{NameMeaning}
+use Rattle.pc_scope.specs.declared.resolution.NameMeaning.TheVariants as res
 use Rattle.pc_types.specs.Tree.{Tree}
 use Rattle.pc_flow.specs.Environment.{Env, current}
 use Rattle.pc_rules.specs.Operations.{in_error}
@@ -22,7 +22,7 @@ use Rattle.pc_sound.proofs.Settled.SettledParts.{Asked, tests_in_time, classes_b
 use Rattle.pc_sound.proofs.Settled.SettledLabels.{SecondTimely, TestTimely, Timely, ItemsTimely, EntriesTimely}
 use Rattle.pc_sound.proofs.Settled.SettledLabels.{KeywordsTimely}
 
--- what the names of a body mean is there
+-- the constants and classes that the names of a body mean are there
 pub record NamesTimely (ctx : Context) : Type 0 where
   pub in_body : ctx.in_body ≡ true
   pub constants : (word : List ℕ) (i : ℕ) → ctx.resolve word ≡ res.Const i → (t : Tree)
@@ -80,7 +80,7 @@ module _ (ctx : Context) (declared : List Tree) where
     either_error true e = refl
     either_error false e = absurd (grind (arith, e))
 
-    name_timely : (env : Env) (word : List ℕ) (r : Res) → ctx.resolve word ≡ r → OnTime (name_label ctx env r).codes
+    name_timely : (env : Env) (word : List ℕ) (r : NameMeaning) → ctx.resolve word ≡ r → OnTime (name_label ctx env r).codes
     name_timely env word (res.Local x) is = go (current env x)
       where
         go : (o : Option Tree) → OnTime (local_label o).codes
@@ -99,7 +99,7 @@ module _ (ctx : Context) (declared : List Tree) where
     never_early env want e m law = own_timely e (λ n is env. name_timely env n.text (ctx.resolve n.text) refl) env want
         m law
 
-  -- so each test of an instance is timely, where that is asked
+  -- each instance test is timely, where that is asked
   module _ (asked : Asked) (there : TestsAsked asked (NamesTimely ctx)) where
     second_timely : NamesTimely ctx → (args : Exprs) → SecondTimely asked ctx declared args
     second_timely names no_exprs = tt

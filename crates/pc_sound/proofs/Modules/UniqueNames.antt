@@ -1,5 +1,5 @@
--- In a module without silent errors each item, and each parameter of a function, binds its name: it is not reserved, and
--- no earlier one's.
+-- In a module without silent errors each item, and each parameter of a function, binds its name: it is not reserved,
+-- and no earlier one's.
 use Rattle.std.proofs.Common.{◌≡◌, ℕ, List, [], ◌∷◌, ◌++◌, map, refl, sym, ap, ◌∙◌, subst, arith, Contains}
 use Rattle.std.proofs.Common.{append_assoc}
 use Rattle.std.specs.Prelude.{Bool as Test, true, false, ◌&&◌, ◌||◌, not, Option, Some, None, slice_get, bytes_eq}
@@ -61,7 +61,7 @@ all_bind before (n ∷ ns) again reserved = (
         (bound_again (n.text ∷ before) ns)))
     binds false e false f = λ i. not (e i || f i)
 
--- so parameters do
+-- parameters bind their names
 pub parameters_bind : (m : Module) (listed : Place → Type 0) (before : List (List ℕ)) (ps : List Param)
     → AllBind before (map name_of_param ps) → ParametersBind m listed before ps
 parameters_bind m listed before [] h = tt
@@ -88,7 +88,7 @@ fewer before less (p ∷ ps) within h m = (
         go true f = absurd (grind (arith, f))
         go false f = within word f
 
--- so they are distinct, also where `self` stands before them
+-- parameters have distinct names, also where `self` is before them
 pub parameters_distinct : (m : Module) (before : List (List ℕ)) (ps : List Param)
     → AllBind before (map name_of_param ps) → Distinct [] (parameters_of m ps)
 parameters_distinct m before ps h = fewer before [] ps (λ word e. refl) h m

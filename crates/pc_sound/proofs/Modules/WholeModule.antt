@@ -1,5 +1,4 @@
--- The whole: where each form is safe in each body, a run of a module that ends in a fault has evaluated a listed
--- place.
+-- The whole: if each form is safe in each body, a run of a module that ends in a fault has evaluated a listed place.
 use Rattle.std.proofs.Common.{◌≡◌, ℕ, List, [], length, refl, sym, subst, inl, inr, arith, Contains}
 use Rattle.std.specs.Prelude.{◌⊎◌, true, nat_lt, codes, Some}
 use Rattle.std.proofs.lemmas.Bool.Decides.{nat_tests}
@@ -15,7 +14,7 @@ use Rattle.pc_scope.specs.Resolution.{function_of}
 use Rattle.pc_types.specs.Tree.{Tree, NoneType}
 use Rattle.pc_class.specs.Bases.{bases_of}
 use Rattle.pc_class.specs.Facts.{return_type, classes_of}
-use Rattle.pc_ann.proofs.Earlier.{smaller}
+use Rattle.pc_annotations.proofs.Earlier.{smaller}
 use Rattle.pc_rules.specs.Context.{Context}
 use Rattle.pc_rules.specs.Signatures.{initializer_context}
 use Rattle.pc_module_rules.proofs.Scopes.{said_is_found}
@@ -82,11 +81,11 @@ module _ (m : Module) (labels : Labelling m) where
   abbrev pub bodies : Bodies
   bodies = record { Body = BodyOf; around = body_around; ctx = body_ctx; fits = body_fits; returned = body_returned }
 
-  -- what stands before `main`
+  -- the state before `main`
   abbrev pub Last : BeforeItem
   Last = last_of m (constant_types m m.items labels) (IsListedPlace m) nothing_before m.items labels
 
-  -- what is left to be shown of a module without silent errors: each form is safe in each body, classes are made as
+  -- the facts left to be shown of a module without silent errors: each form is safe in each body, classes are made as
   -- their facts say, and its labels are as runs need them
   pub record Premises : Type 1 where
     pub forms : FormsGood m bodies

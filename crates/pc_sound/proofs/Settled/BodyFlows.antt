@@ -8,15 +8,15 @@ use Rattle.pc_tree.specs.Tree.{Ann, Name, Expr, Exprs, Keywords, name, call, Tar
 use Rattle.pc_tree.specs.Tree.{to_index, Stmt, Stmts, Branches, pass, breaks, continues, returns, asserts, annotated}
 use Rattle.pc_tree.specs.Tree.{assigns, evaluates, while_loop, for_loop, conditional, no_stmts, more_stmts, no_branches}
 use Rattle.pc_tree.specs.Tree.{more_branches, Module}
-use Rattle.pc_scope.specs.declared.resolution.Res.{Res}
-use Rattle.pc_scope.specs.declared.resolution.Res.TheVariants as res
+use Rattle.pc_scope.specs.declared.resolution.NameMeaning.{NameMeaning}
+use Rattle.pc_scope.specs.declared.resolution.NameMeaning.TheVariants as res
 use Rattle.pc_scope.specs.Bindings.{texts}
 use Rattle.pc_scope.specs.Expressions.{is_instance_test}
 use Rattle.pc_scope.specs.Reach.{completes}
 use Rattle.pc_tree.specs.Stopping.{bound_by, bound_by_stmt, bound_by_branches}
 use Rattle.pc_types.specs.Tree.{Tree, NoneType}
 use Rattle.pc_types.specs.Shape.{members}
-use Rattle.pc_ann.specs.Annotations.{read_ann}
+use Rattle.pc_annotations.specs.Annotations.{read_ann}
 use Rattle.pc_flow.specs.Environment.{Env, declared_type}
 use Rattle.pc_flow.specs.Narrowing.{narrow}
 use Rattle.pc_rules.specs.Operations.{Label, clean, store_attribute_member, store_index_member, stored_types}
@@ -69,7 +69,7 @@ module _ (asked : Asked) where
         elsewhere value none = flows_append asked (dynamic_in e labels) (dynamic_at (place_of e) flows)
             (expression_flows asked ctx declared env None e labels k value) (no_flows asked (place_of e) flows none)
 
-        go : (r : Res) → LawfulBinding m ctx declared env seen n r annotation e labels flows after
+        go : (r : NameMeaning) → LawfulBinding m ctx declared env seen n r annotation e labels flows after
             → FlowsSettled asked (dynamic_in e labels ++ dynamic_at (place_of e) flows)
         go (res.Local x) law = value_and_flows asked ctx declared env
             (known_type m ctx declared (is_first seen n) x annotation) e labels (declared_type declared x ∷ []) flows k
@@ -135,7 +135,7 @@ module _ (asked : Asked) where
         go false law = expression_flows asked ctx declared env None (call p (name n) args kws) labels k law.0
     iterable_flows env e labels item k law = expression_flows asked ctx declared env None e labels k law.0
 
-    target_flows : (seen : NamesBound) (n : Name) (r : Res) (head : Env) (item : Label) (p : Place) (flows : FlowLabels)
+    target_flows : (seen : NamesBound) (n : Name) (r : NameMeaning) (head : Env) (item : Label) (p : Place) (flows : FlowLabels)
         (inside : Env) → IsSettled asked item.type → LawfulTarget m ctx declared seen n r head item flows inside
         → FlowsSettled asked (dynamic_at p flows)
     target_flows seen n (res.Local x) head item p flows inside k law = value_flows asked ctx.bases p (clean item.type)

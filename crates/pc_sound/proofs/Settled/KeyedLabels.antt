@@ -1,5 +1,5 @@
--- What the soundness law needs of labels: each dict in a type has int or str as its key, and each test of an instance
--- comes in time.
+-- The condition of the soundness law on labels: each dict in a type has int or str as its key, and each test of an
+-- instance is timely.
 use Rattle.std.specs.Prelude.{List, Option}
 use Rattle.pc_tree.specs.Tree.{Expr, Exprs, Entries, Keywords, Target, Stmt, Stmts, Branches, Item}
 use Rattle.pc_types.specs.Tree.{Tree}

@@ -14,7 +14,7 @@ use Rattle.pc_scope.specs.Bindings.{classes_in}
 use Rattle.pc_scope.specs.Resolution.{receiver, locals, resolve_in_module}
 use Rattle.pc_types.specs.Tree.{Tree}
 use Rattle.pc_types.specs.Below.{Bases}
-use Rattle.pc_ann.specs.Annotations.{read_ann, read_option}
+use Rattle.pc_annotations.specs.Annotations.{read_ann, read_option}
 use Rattle.pc_class.specs.Bases.{bases_of}
 use Rattle.pc_class.specs.Facts.{ClassFacts, class_facts_behind, classes_behind, classes_of, return_type, binds_field}
 use Rattle.pc_class.specs.Findings.{base_class}
@@ -115,7 +115,7 @@ module _ (asked : Asked) where
         (body_flows (owners.Method c number) there f labels.method law.method)
         (methods_flows base c there (suc number) (f.name.text ∷ before) rest labels.rest law.others)
 
-    -- what is asked of an item: the labels of an initializer are settled, and a class is as asked
+    -- the demands on an item: the labels of an initializer are settled, and a class is as asked
     abbrev ItemAsked : BeforeItem → (i : Item) → ItemLabels i → Type 0
     ItemAsked b (constant_item p c) labels = Settled asked c.value labels.value
     ItemAsked b (class_item p c) labels = ClassAsked asked b.classes

@@ -12,8 +12,8 @@ use Rattle.pc_tree.specs.Tree.{binary, compare, is_none, is_not_none, conjunctio
 use Rattle.pc_tree.specs.Stopping.{has_none}
 use Rattle.pc_scope.specs.declared.resolution.Builtin.{Builtin}
 use Rattle.pc_scope.specs.declared.resolution.Builtin.TheVariants as builtin
-use Rattle.pc_scope.specs.declared.resolution.Res.{Res}
-use Rattle.pc_scope.specs.declared.resolution.Res.TheVariants as res
+use Rattle.pc_scope.specs.declared.resolution.NameMeaning.{NameMeaning}
+use Rattle.pc_scope.specs.declared.resolution.NameMeaning.TheVariants as res
 use Rattle.pc_scope.specs.Expressions.{is_name}
 use Rattle.pc_types.specs.Tree.{Tree, Any, Never, Int, Bool, Str, NoneType, Class, ListOf, DictOf, TupleOf}
 use Rattle.pc_types.specs.Below.{Bases}
@@ -50,7 +50,7 @@ Heard (c ∷ cs) = (¬ (IsSilentCode c)) × Heard cs
 no : ⊥ → ⊥
 no h = h
 
--- so each of them
+-- none of the codes in such a list is silent everywhere
 pub heard_code : (cs : List Code) (c : Code) → Heard cs → Contains cs c → ¬ (IsSilentCode c)
 heard_code [] c h among = absurd (none_among c among)
 heard_code (d ∷ cs) c h among = elim (among_first d cs c among) [
@@ -263,7 +263,7 @@ module _ (ctx : Context) (early : ctx.in_body ≡ false) where
   field_heard word Any = (no, tt)
   field_heard word _ = (no, tt)
 
-  name_callee_heard : (env : Env) (g : GivenArguments) (r : Res) → AllCalls (name_callee ctx env g r).offers
+  name_callee_heard : (env : Env) (g : GivenArguments) (r : NameMeaning) → AllCalls (name_callee ctx env g r).offers
   name_callee_heard env g (res.Func i) = subst (λ x. AllCalls (if x then good_callee (function_offer g
       (slice_get ctx.functions i) ∷ []) else value_callee (in_error E03)).offers) (sym early) ((tt, (no, tt)), tt)
   name_callee_heard env g (res.Class c) = go (nat_lt c ctx.known)

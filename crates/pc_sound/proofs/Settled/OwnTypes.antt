@@ -5,8 +5,8 @@ use Rattle.std.specs.Prelude.{Bool as Test, true, false, if◌then◌else◌, na
 use Rattle.pc_tree.specs.declared.code.Code.TheVariants.{E03}
 use Rattle.pc_tree.specs.Tree.{Expr, Exprs, name, number, text, truth, nothing, tuple, list, dict, negative, negation}
 use Rattle.pc_tree.specs.Tree.{binary, compare, is_none, is_not_none, conjunction, disjunction, attribute, index, call}
-use Rattle.pc_scope.specs.declared.resolution.Res.{Res}
-use Rattle.pc_scope.specs.declared.resolution.Res.TheVariants as res
+use Rattle.pc_scope.specs.declared.resolution.NameMeaning.{NameMeaning}
+use Rattle.pc_scope.specs.declared.resolution.NameMeaning.TheVariants as res
 use Rattle.pc_scope.specs.Expressions.{is_name}
 use Rattle.pc_types.specs.Tree.{Tree, Any, Class, TupleOf}
 use Rattle.pc_types.specs.Shape.{members, trees}
@@ -40,7 +40,7 @@ module _ (asked : Asked) (ctx : Context) (declared : List Tree) (early : ctx.in_
   late_offers : OffersSettled asked (value_callee (in_error E03)).offers
   late_offers = values_settled asked (members (in_error E03).type)
 
-  name_offers : (g : GivenArguments) (r : Res) → ((c : ℕ) → r ≡ res.Class c → ClassAsked asked c)
+  name_offers : (g : GivenArguments) (r : NameMeaning) → ((c : ℕ) → r ≡ res.Class c → ClassAsked asked c)
       → OffersSettled asked (name_callee ctx env g r).offers
   name_offers g (res.Func i) meant = subst (λ x. OffersSettled asked (if x then good_callee (function_offer g
       (slice_get ctx.functions i) ∷ []) else value_callee (in_error E03)).offers) (sym early) late_offers

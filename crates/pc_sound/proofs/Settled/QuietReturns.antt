@@ -1,4 +1,4 @@
--- Where no E12 is found at a `return` without a value, the labels of statements are quiet there.
+-- If no E12 is found at a `return` without a value, the labels of statements are quiet there.
 use Rattle.std.proofs.Common.{◌≡◌, List, ◌∷◌, ◌++◌, refl, inl, inr, arith, Contains}
 use Rattle.std.specs.Prelude.{Bool as Test, true, false, Some, None}
 use Rattle.std.proofs.lemmas.List.Elements.{Contains-append_left, Contains-append_right}
@@ -20,7 +20,7 @@ use Rattle.pc_sound.specs.Silent.{bare_returns_in_stmt, bare_returns_in, bare_re
 use Rattle.pc_sound.proofs.Settled.SettledParts.{Asked, tests_in_time, classes_below, TestsAsked}
 use Rattle.pc_sound.proofs.Settled.SettledStatements.{StmtQuiet, SuiteQuiet, BranchesQuiet}
 
--- what is asked follows from what else is asked
+-- a demand follows from another demand
 asked_from : {A B : Type 0} (asked : Asked) → (A → B) → TestsAsked asked A → TestsAsked asked B
 asked_from tests_in_time f h = f h
 asked_from (classes_below bound) f h = tt
@@ -30,7 +30,7 @@ abbrev pub NoneWrongAt : (Finding → Type 0) → List Place → Type 0
 NoneWrongAt finds places = (f : Finding) → finds f → f.code ≡ E12 → Contains places f.place → ⊥
 
 module _ (asked : Asked) where
-  -- so where it is asked
+  -- no E12 is found at these places, where that is asked
   abbrev pub AskedRight : (Finding → Type 0) → List Place → Type 0
   AskedRight finds places = TestsAsked asked (NoneWrongAt finds places)
 

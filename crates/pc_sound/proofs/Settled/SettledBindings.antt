@@ -1,5 +1,5 @@
--- What assignments, targets, iterables and annotated names bind is settled: in text order each local's declared type is
--- one of an annotation, of a label after which it stands, or Any.
+-- The bindings of assignments, targets, iterables and annotated names are settled: in text order each local's declared
+-- type is one of an annotation, of an earlier label, or Any.
 use Rattle.std.proofs.Common.{◌≡◌, ℕ, List, [], ◌∷◌, ◌++◌, map, refl, sym, ◌∙◌, subst, arith}
 use Rattle.std.specs.Prelude.{Bool as Test, true, false, not, ◌||◌, if◌then◌else◌, Option, Some, None, bytes_eq}
 use Rattle.std.specs.Prelude.{flat_map}
@@ -10,8 +10,8 @@ use Rattle.pc_tree.specs.declared.code.Code.{Code}
 use Rattle.pc_tree.specs.declared.code.Code.TheVariants.{A5}
 use Rattle.pc_tree.specs.Tree.{Name, Expr, Exprs, Keywords, name, call, Target, to_name, to_attribute, to_index}
 use Rattle.pc_tree.specs.Tree.{Module}
-use Rattle.pc_scope.specs.declared.resolution.Res.{Res}
-use Rattle.pc_scope.specs.declared.resolution.Res.TheVariants as res
+use Rattle.pc_scope.specs.declared.resolution.NameMeaning.{NameMeaning}
+use Rattle.pc_scope.specs.declared.resolution.NameMeaning.TheVariants as res
 use Rattle.pc_scope.specs.Bindings.{texts}
 use Rattle.pc_scope.specs.Resolution.{is_one_of, resolve_in_module}
 use Rattle.pc_types.specs.Tree.{Tree, Any, Object, Int, Str, Class, ListOf, DictOf, TupleOf, Union}
@@ -44,7 +44,7 @@ use Rattle.pc_sound.proofs.Steps.Frames.{local_injective}
 -- ---- names
 
 -- two locals that one meaning is are the same
-pub local_same : {r : Res} {x y : ℕ} → r ≡ res.Local x → r ≡ res.Local y → x ≡ y
+pub local_same : {r : NameMeaning} {x y : ℕ} → r ≡ res.Local x → r ≡ res.Local y → x ≡ y
 local_same f g = local_injective (sym f ∙ g)
 
 module _ (asked : Asked) where
@@ -83,7 +83,7 @@ module _ (asked : Asked) where
     undeclared_settled seen (n ∷ ns) k u = let h = one (is_one_of n.text seen) refl (ctx.resolve n.text) refl u.0 in
         (h, undeclared_settled (n.text ∷ seen) ns (seen_more n seen h k) u.1)
       where
-        one : (b : Test) → is_one_of n.text seen ≡ b → (r : Res) → ctx.resolve n.text ≡ r
+        one : (b : Test) → is_one_of n.text seen ≡ b → (r : NameMeaning) → ctx.resolve n.text ≡ r
             → UndeclaredName m ctx declared (not b) r → NameSettled n.text
         one true e r is u = k n.text e
         one false e (res.Local x) is u = λ y i. subst (λ z. IsSettled asked (declared_type declared z))
@@ -119,7 +119,7 @@ module _ (asked : Asked) where
       pub name_settled : NameSettled m ctx declared n.text
       pub env_settled : EnvSettled asked declared after
 
-    -- what is expected where the declared type is known
+    -- the expected type is settled, where the declared type is known
     known_settled : (first : Test) (x : ℕ) (annotation : Option Tree) (from : Tree) → OptionSettled asked annotation
         → (first ≡ false → IsSettled asked (declared_type declared x)) → DeclaredAt m ctx declared first x annotation
         from → OptionSettled asked (known_type m ctx declared first x annotation)
@@ -149,7 +149,7 @@ module _ (asked : Asked) where
         (ctx.resolve n.text) annotation e labels flows after → BoundSettled n e labels after
     binding_settled env seen n annotation e labels flows after ek sk ak law = go (ctx.resolve n.text) refl law
       where
-        elsewhere : (r : Res) → ctx.resolve n.text ≡ r → ((x : ℕ) → r ≡ res.Local x → ⊥)
+        elsewhere : (r : NameMeaning) → ctx.resolve n.text ≡ r → ((x : ℕ) → r ≡ res.Local x → ⊥)
             → Lawful ctx declared env None e labels → after ≡ env → BoundSettled n e labels after
         elsewhere r is other law same = record {
           settled_labels = labels_settled asked ctx declared settled env ek None tt e (timely e) labels law;
@@ -157,7 +157,7 @@ module _ (asked : Asked) where
           env_settled = subst (EnvSettled asked declared) (sym same) ek;
         }
 
-        go : (r : Res) → ctx.resolve n.text ≡ r → LawfulBinding m ctx declared env seen n r annotation e labels flows
+        go : (r : NameMeaning) → ctx.resolve n.text ≡ r → LawfulBinding m ctx declared env seen n r annotation e labels flows
             after → BoundSettled n e labels after
         go (res.Local x) is law =
             let settled_labels = labels_settled asked ctx declared settled env ek
@@ -335,7 +335,7 @@ module _ (asked : Asked) where
         → LawfulTarget m ctx declared seen n (ctx.resolve n.text) head item flows inside → TargetBound n inside
     for_target_settled seen n head item flows inside ek sk ik law = go (ctx.resolve n.text) refl law
       where
-        elsewhere : (r : Res) → ctx.resolve n.text ≡ r → ((x : ℕ) → r ≡ res.Local x → ⊥) → inside ≡ head
+        elsewhere : (r : NameMeaning) → ctx.resolve n.text ≡ r → ((x : ℕ) → r ≡ res.Local x → ⊥) → inside ≡ head
             → TargetBound n inside
         elsewhere r is other same = record {
           name_settled = no_local_named m ctx declared n
@@ -343,7 +343,7 @@ module _ (asked : Asked) where
           env_settled = subst (EnvSettled asked declared) (sym same) ek;
         }
 
-        go : (r : Res) → ctx.resolve n.text ≡ r → LawfulTarget m ctx declared seen n r head item flows inside
+        go : (r : NameMeaning) → ctx.resolve n.text ≡ r → LawfulTarget m ctx declared seen n r head item flows inside
             → TargetBound n inside
         go (res.Local x) is law =
             let d = declared_settled (is_first seen n) x None item.type tt ik (seen_first seen n x sk is)
@@ -366,7 +366,7 @@ module _ (asked : Asked) where
         → NameSettled m ctx declared n.text
     declaration_settled seen n t sk tk law = go (ctx.resolve n.text) refl law
       where
-        go : (r : Res) → ctx.resolve n.text ≡ r → LawfulDeclaration m ctx declared seen n r t
+        go : (r : NameMeaning) → ctx.resolve n.text ≡ r → LawfulDeclaration m ctx declared seen n r t
             → NameSettled m ctx declared n.text
         go (res.Local x) is law = local_named m ctx declared n x is
             (declared_settled (is_first seen n) x (Some t) t tk tk (seen_first seen n x sk is) law)

@@ -1,4 +1,4 @@
--- What an expression is labelled from, and what calls come to, are settled.
+-- The types that an expression's label is computed from, and the results of calls, are settled.
 use Rattle.std.proofs.Common.{◌≡◌, ℕ, zero, suc, List, [], ◌∷◌, ◌++◌, map}
 use Rattle.std.specs.Prelude.{Bool as Test, true, false, if◌then◌else◌, Option, Some, None, slice_get, flat_map}
 use Rattle.std.specs.Prelude.{bytes_eq, codes}

@@ -1,4 +1,4 @@
--- What is expected of the parts of a display, and the types of displays, of lengths and of comparisons, are settled.
+-- The expected types of the parts of a display, and the types of displays, lengths and comparisons, are settled.
 use Rattle.std.proofs.Common.{ℕ, List, [], ◌∷◌, sym, subst}
 use Rattle.std.specs.Prelude.{Bool as Test, true, false, if◌then◌else◌, nat_eq, Option, Some, None}
 use Rattle.pc_tree.specs.declared.tree.ComparisonOperator.{ComparisonOperator}

@@ -7,8 +7,8 @@ use Rattle.std.proofs.lemmas.Slice.Eq.{bytes_eq-Decides}
 use Rattle.pc_tree.specs.Tree.{FuncDef, Module}
 use Rattle.pc_scope.specs.declared.resolution.Owner.{Owner}
 use Rattle.pc_scope.specs.declared.resolution.Owner.TheVariants as owners
-use Rattle.pc_scope.specs.declared.resolution.Res.{Res}
-use Rattle.pc_scope.specs.declared.resolution.Res.TheVariants as res
+use Rattle.pc_scope.specs.declared.resolution.NameMeaning.{NameMeaning}
+use Rattle.pc_scope.specs.declared.resolution.NameMeaning.TheVariants as res
 use Rattle.pc_scope.specs.Resolution.{is_one_of, locals, resolve_in_module}
 use Rattle.pc_types.specs.Tree.{Tree}
 use Rattle.pc_class.specs.Facts.{TypedParameter, return_type}
@@ -31,7 +31,7 @@ use Rattle.pc_sound.proofs.Modules.TimelyBodies.{NamesTimely, all_timely}
 use Rattle.pc_sound.proofs.Steps.Frames.{none_current}
 
 module _ (asked : Asked) where
-  module _ (resolve : List ℕ → Res) (declared : List Tree) where
+  module _ (resolve : List ℕ → NameMeaning) (declared : List Tree) where
     abbrev WordSettled : List ℕ → Type 0
     WordSettled word = (x : ℕ) → resolve word ≡ res.Local x → IsSettled asked (declared_type declared x)
 
@@ -51,7 +51,7 @@ module _ (asked : Asked) where
 
     -- a parameter is declared with its type, or was bound before
     one_settled : (seen : NamesBound) (w : List ℕ) (t : Tree) (env : Env) → WordsSettled seen
-        → EnvSettled asked declared env → IsSettled asked t → (b : Test) → is_one_of w seen ≡ b → (r : Res)
+        → EnvSettled asked declared env → IsSettled asked t → (b : Test) → is_one_of w seen ≡ b → (r : NameMeaning)
         → resolve w ≡ r → DeclaredEntry declared (not b) r t → EntrySettled w (assigned_at_entry (not b) r t env)
     one_settled seen w t env sk ek tk true a r is law = record { word = sk w a; env_settled = ek }
     one_settled seen w t env sk ek tk false a (res.Local x) is law = record {
@@ -84,7 +84,7 @@ module _ (asked : Asked) where
         entry_settled (p.name ∷ seen) ps (assigned_at_entry (not (is_one_of p.name seen)) (resolve p.name) p.type env)
         (words_more p.name seen o.word sk) o.env_settled pk.1 law.1
 
-  -- what is asked of the class of a method
+  -- the demand on the class of a method
   abbrev pub OwnerAsked : Owner → Type 0
   OwnerAsked owners.Module = Unit {0}
   OwnerAsked (owners.Func i) = Unit {0}

@@ -1,5 +1,5 @@
 -- The labels of a lawfully labelled expression have types whose dicts have int or str as key and whose classes are as
--- asked, where those that it is labelled from have.
+-- asked, if the labels that they are computed from have.
 use Rattle.std.proofs.Common.{◌≡◌, ℕ, suc, List, [], ◌∷◌, refl, sym, subst}
 use Rattle.std.specs.Prelude.{Bool as Test, true, false, if◌then◌else◌, nat_lt, Option, Some, None, slice_get, flat_map}
 use Rattle.pc_tree.specs.declared.code.Code.TheVariants.{E03, E20}
@@ -7,8 +7,8 @@ use Rattle.pc_tree.specs.Tree.{Name, Expr, Exprs, Entries, Keywords, name, numbe
 use Rattle.pc_tree.specs.Tree.{dict, negative, negation, binary, compare, is_none, is_not_none, conjunction}
 use Rattle.pc_tree.specs.Tree.{disjunction, attribute, index, call, no_exprs, more_exprs, no_entries, more_entries}
 use Rattle.pc_tree.specs.Tree.{no_keywords, more_keywords}
-use Rattle.pc_scope.specs.declared.resolution.Res.{Res}
-use Rattle.pc_scope.specs.declared.resolution.Res.TheVariants as res
+use Rattle.pc_scope.specs.declared.resolution.NameMeaning.{NameMeaning}
+use Rattle.pc_scope.specs.declared.resolution.NameMeaning.TheVariants as res
 use Rattle.pc_scope.specs.Expressions.{is_instance_test}
 use Rattle.pc_types.specs.Tree.{Tree, Any, Class, ListOf, DictOf, TupleOf}
 use Rattle.pc_types.specs.Shape.{members, trees}
@@ -89,11 +89,11 @@ module _ (asked : Asked) where
     SecondTimely (more_exprs e (more_exprs f rest)) = (env : Env) (want : Option Tree) (m : Labels f)
         → Lawful ctx declared env want f m → is_early (whole_label f m).codes ≡ false
 
-    -- so where the call is a test of an instance, and tests are asked to come in time
+    -- the second argument of an instance test has no E03, where tests are asked to come in time
     abbrev pub TestTimely : Expr → Exprs → Keywords → Type 0
     TestTimely c args kws = TestsAsked asked (is_instance_test c args kws ≡ true → SecondTimely args)
 
-    -- so each call in an expression
+    -- each instance test in an expression comes in time, where that is asked
     abbrev mutual
       pub Timely : Expr → Type 0
       Timely (name n) = Unit {0}
@@ -160,7 +160,7 @@ module _ (asked : Asked) where
       error_settled true = tt
       error_settled false = tt
 
-      name_settled : (env : Env) → EnvSettled asked declared env → (r : Res)
+      name_settled : (env : Env) → EnvSettled asked declared env → (r : NameMeaning)
           → IsSettled asked (name_label ctx env r).type
       name_settled env h (res.Local x) = local_label_settled (current env x)
           (some_settled (current env x) (λ t e. (h x t e).0))
@@ -179,7 +179,7 @@ module _ (asked : Asked) where
       function_settled g None h = ((tt, tt), tt)
       function_settled g (Some s) h = called_settled asked g s (h s refl)
 
-      name_callee_settled : (env : Env) → EnvSettled asked declared env → (g : GivenArguments) (r : Res)
+      name_callee_settled : (env : Env) → EnvSettled asked declared env → (g : GivenArguments) (r : NameMeaning)
           → ((c : ℕ) → r ≡ res.Class c → ClassAsked asked c) → CalleeSettled asked (name_callee ctx env g r)
       name_callee_settled env h g (res.Func i) meant = go ctx.in_body
         where

@@ -10,15 +10,15 @@ use Rattle.pc_scope.specs.Resolution.{index_of, resolve_in_module, resolve_among
 use Rattle.pc_scope.specs.Bindings.{functions_in, classes_in}
 use Rattle.pc_scope.specs.declared.resolution.Builtin.{Builtin}
 use Rattle.pc_scope.specs.declared.resolution.Builtin.TheVariants as builtin
-use Rattle.pc_scope.specs.declared.resolution.Res.{Res}
-use Rattle.pc_scope.specs.declared.resolution.Res.TheVariants as res
+use Rattle.pc_scope.specs.declared.resolution.NameMeaning.{NameMeaning}
+use Rattle.pc_scope.specs.declared.resolution.NameMeaning.TheVariants as res
 use Rattle.pc_types.specs.Tree.{Tree, Any, Int, Str}
 use Rattle.pc_types.specs.Below.{Bases}
 use Rattle.pc_types.specs.Shape.{nodes, node_limit, union}
 use Rattle.pc_types.specs.Join.{is_before}
-use Rattle.pc_ann.specs.Annotations.{atom, named_type, dict_type, built_type, applied_type, empty_type, is_union}
-use Rattle.pc_ann.specs.Annotations.{insert_member, in_union_order, union_type, reading, readings, read_ann}
-use Rattle.pc_ann.specs.Annotations.{read_option}
+use Rattle.pc_annotations.specs.Annotations.{atom, named_type, dict_type, built_type, applied_type, empty_type, is_union}
+use Rattle.pc_annotations.specs.Annotations.{insert_member, in_union_order, union_type, reading, readings, read_ann}
+use Rattle.pc_annotations.specs.Annotations.{read_option}
 use Rattle.pc_class.specs.Bases.{bases_of, base_named}
 use Rattle.pc_class.specs.Facts.{TypedParameter, Method, ClassFacts, class_facts_at, base_facts, binds_field}
 use Rattle.pc_class.specs.Facts.{binds_method, parameters_of, return_type, own_fields, own_methods, class_facts_behind}
@@ -41,7 +41,7 @@ module _ (asked : Asked) where
   atom_settled false builtin.Any = tt
   atom_settled imports _ = tt
 
-  named_settled : (imports : Test) (r : Res) → ((c : ℕ) → r ≡ res.Class c → ClassAsked asked c)
+  named_settled : (imports : Test) (r : NameMeaning) → ((c : ℕ) → r ≡ res.Class c → ClassAsked asked c)
       → OptionSettled asked (named_type imports r)
   named_settled imports (res.Builtin b) meant = atom_settled imports b
   named_settled imports (res.Class c) meant = meant c refl
@@ -58,11 +58,11 @@ module _ (asked : Asked) where
   built_settled builtin.Tuple (t ∷ ts) h = trees_settled asked (t ∷ ts) h
   built_settled _ _ h = tt
 
-  applied_settled : (r : Res) (ts : List Tree) → EachSettled asked ts → OptionSettled asked (applied_type r ts)
+  applied_settled : (r : NameMeaning) (ts : List Tree) → EachSettled asked ts → OptionSettled asked (applied_type r ts)
   applied_settled (res.Builtin b) ts h = built_settled b ts h
   applied_settled _ ts h = tt
 
-  empty_settled : (r : Res) → OptionSettled asked (empty_type r)
+  empty_settled : (r : NameMeaning) → OptionSettled asked (empty_type r)
   empty_settled (res.Builtin builtin.Tuple) = tt
   empty_settled _ = tt
 

@@ -1,4 +1,4 @@
--- Lists of types that are settled, and what operations come to on them.
+-- Lists of settled types, and the results of operations on them.
 use Rattle.std.proofs.Common.{ℕ, zero, suc, List, [], ◌∷◌, ◌++◌, map}
 use Rattle.std.specs.Prelude.{Bool as Test, true, false, ◌||◌, if◌then◌else◌, nat_le, Option, Some, None, unwrap_or}
 use Rattle.std.specs.Prelude.{slice_get}

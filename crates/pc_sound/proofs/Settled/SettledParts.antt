@@ -1,6 +1,6 @@
--- What is proved of the types of labels: they are such as annotations and displays make, so each dict in them has int
--- or str as its key. And beside it what is asked for: that no test of an instance tests for what is not defined yet, or
--- that each class in them is one of the module's.
+-- The property proved of the types of labels: annotations and displays make such types only, so each dict in them has
+-- int or str as its key. Beside it the property asked for: that no test of an instance tests for a class not defined
+-- yet, or that each class in them is one of the module's.
 use Rattle.std.specs.Prelude.{◌≡◌, ◌<◌, ℕ, List, true, false}
 use Rattle.pc_tree.specs.Tree.{Expr, Exprs, Entries, Keywords, name, number, text, truth, nothing, tuple, list, dict}
 use Rattle.pc_tree.specs.Tree.{negative, negation, binary, compare, is_none, is_not_none, conjunction, disjunction}
@@ -10,25 +10,25 @@ use Rattle.pc_types.specs.Tree.{Tree, Trees, Any, Object, Never, Int, Bool, Str,
 use Rattle.pc_types.specs.Tree.{TupleOf, Union, end, more}
 use Rattle.pc_types.specs.Normal.{IsKey}
 use Rattle.pc_types.specs.Shape.{members}
-use Rattle.pc_scope.specs.declared.resolution.Res.{Res}
-use Rattle.pc_scope.specs.declared.resolution.Res.TheVariants as res
+use Rattle.pc_scope.specs.declared.resolution.NameMeaning.{NameMeaning}
+use Rattle.pc_scope.specs.declared.resolution.NameMeaning.TheVariants as res
 use Rattle.pc_scope.specs.Expressions.{is_instance_test}
 use Rattle.pc_rules.specs.Labels.{Labels, ItemsLabels, EntriesLabels, KeywordsLabels, type_of}
 use Rattle.pc_rules.specs.Lawful.{early_second}
 use Rattle.pc_sound.proofs.Values.UnionMembers.{AllOf}
 
--- what is asked of labels beside the keys of dicts: that tests of an instance come in time, as the soundness law needs
+-- the demands on labels besides the keys of dicts: that tests of an instance come in time, as the soundness law needs
 -- it, or that each class is one of so many, as a heap of the module's instances needs it
 pub data Asked : Type 0 where
   tests_in_time : Asked
   classes_below : (bound : ℕ) → Asked
 
--- what is asked of a class that a type names
+-- the demand on a class that a type names
 abbrev pub ClassAsked : Asked → ℕ → Type 0
 ClassAsked tests_in_time c = Unit {0}
 ClassAsked (classes_below bound) c = c < bound
 
--- what is asked of tests of an instance: this, where they are asked to come in time
+-- the demand on instance tests: this fact, where they are asked to come in time
 abbrev pub TestsAsked : Asked → Type 0 → Type 0
 TestsAsked tests_in_time A = A
 TestsAsked (classes_below bound) A = Unit {0}
@@ -44,13 +44,13 @@ module _ (asked : Asked) where
     IsSettled (Union a b) = IsSettled a × IsSettled b
     IsSettled _ = Unit {0}
 
-    -- so each part of a tuple
+    -- each part of a tuple is settled
     pub AreSettled : Trees → Type 0
     AreSettled end = Unit {0}
     AreSettled (more t ts) = IsSettled t × AreSettled ts
 
   -- each class that a name means is as asked
-  abbrev pub NamesAsked : (List ℕ → Res) → Type 0
+  abbrev pub NamesAsked : (List ℕ → NameMeaning) → Type 0
   NamesAsked resolve = (word : List ℕ) (c : ℕ) → resolve word ≡ res.Class c → ClassAsked asked c
 
   -- the second argument of a test of an instance has no E03, where tests are asked to come in time

@@ -1,5 +1,5 @@
 -- The labels of the expressions of statements and of initializers have types whose dicts have int or str as key and
--- whose classes are as asked, and so have the items that a `for` goes over.
+-- whose classes are as asked, and so have the items of a `for`.
 use Rattle.std.specs.Prelude.{◌≡◌, List, [], ◌∷◌, Option, Some, None, Contains}
 use Rattle.pc_tree.specs.declared.code.Code.TheVariants.{E12}
 use Rattle.pc_tree.specs.Tree.{Expr, Target, to_name, to_attribute, to_index, Stmt, pass, breaks, continues, returns}
@@ -28,7 +28,7 @@ module _ (asked : Asked) where
   abbrev pub IsQuietReturn : FlowLabels → Type 0
   IsQuietReturn flows = TestsAsked asked ((x : FlowLabel) → Contains flows x → x.code ≡ Some E12 → ⊥)
 
-  -- so each in statements
+  -- no `return` without a value in statements has E12, where the soundness law asks
   abbrev mutual
     pub StmtQuiet : (s : Stmt) → StmtLabels s → Type 0
     StmtQuiet (returns p None) m = IsQuietReturn m.flows

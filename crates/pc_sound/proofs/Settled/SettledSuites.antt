@@ -12,7 +12,7 @@ use Rattle.pc_scope.specs.Reach.{completes}
 use Rattle.pc_scope.specs.Resolution.{resolve_in_module}
 use Rattle.pc_types.specs.Tree.{Tree}
 use Rattle.pc_types.specs.Below.{Bases}
-use Rattle.pc_ann.specs.Annotations.{read_ann}
+use Rattle.pc_annotations.specs.Annotations.{read_ann}
 use Rattle.pc_flow.specs.Environment.{Env, current, declared_type, join_env, join_envs_onto, join_ways, head_local}
 use Rattle.pc_flow.specs.Environment.{loop_head}
 use Rattle.pc_flow.specs.Narrowing.{narrow}
@@ -210,7 +210,7 @@ module _ (asked : Asked) where
         }
 
     module _ (returned : Tree) (rk : IsSettled asked returned) where
-      -- what stands after a statement
+      -- a statement and those after it are settled
       record BehindResult (s : Stmt) (rest : Stmts) (first : StmtLabels s) (b : Test)
           (behind : Behind b (Following (SuiteLabels rest))) (out : Option Env) : Type 0 where
         settled_labels : StmtSettled asked s first × BehindRule b behind (λ r. SuiteSettled asked rest r.rest)

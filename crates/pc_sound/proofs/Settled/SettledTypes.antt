@@ -7,8 +7,8 @@ use Rattle.std.specs.Option.{option_map, option_and_then}
 use Rattle.std.proofs.lemmas.Option.{none-some, same_Some}
 use Rattle.pc_tree.specs.Tree.{Expr, name, negation, is_none, is_not_none, conjunction, disjunction, call}
 use Rattle.pc_scope.specs.declared.resolution.Builtin.TheVariants as builtin
-use Rattle.pc_scope.specs.declared.resolution.Res.{Res}
-use Rattle.pc_scope.specs.declared.resolution.Res.TheVariants as res
+use Rattle.pc_scope.specs.declared.resolution.NameMeaning.{NameMeaning}
+use Rattle.pc_scope.specs.declared.resolution.NameMeaning.TheVariants as res
 use Rattle.pc_scope.specs.Expressions.{is_instance_test}
 use Rattle.pc_types.specs.Tree.{Tree, Trees, Any, Object, Never, NoneType, ListOf, TupleOf, Union, end, more}
 use Rattle.pc_types.specs.Below.{Bases}
@@ -263,7 +263,7 @@ module _ (asked : Asked) where
   TestOptionSettled None = Unit {0}
   TestOptionSettled (Some test) = IsSettledTest test
 
-  test_named_settled : (r : Res) → ((c : ℕ) → r ≡ res.Class c → ClassAsked asked c) → TestOptionSettled (test_named r)
+  test_named_settled : (r : NameMeaning) → ((c : ℕ) → r ≡ res.Class c → ClassAsked asked c) → TestOptionSettled (test_named r)
   test_named_settled (res.Class c) h = h c refl
   test_named_settled (res.Builtin builtin.Int) h = tt
   test_named_settled (res.Builtin builtin.Str) h = tt
@@ -281,7 +281,7 @@ module _ (asked : Asked) where
         l.1,
       )
 
-  module _ (bases : Bases) (declared : List Tree) (resolve : List ℕ → Res) (meant : NamesAsked asked resolve) where
+  module _ (bases : Bases) (declared : List Tree) (resolve : List ℕ → NameMeaning) (meant : NamesAsked asked resolve) where
     test_settled : (e : Expr) → TestOptionSettled (test_of resolve e)
     test_settled (name n) = test_named_settled (resolve n.text) (meant n.text)
     test_settled _ = tt

@@ -1,4 +1,4 @@
--- `if`, `elif`, `else`: whichever branch runs, the join of the ways holds.
+-- `if`, `elif`, `else`: whichever branch runs, the environment where the paths join holds.
 use Rattle.std.proofs.Common.{◌≡◌, List, [], ◌∷◌, ◌++◌, refl, sym, ◌∙◌, subst, inl, inr, arith, Contains}
 use Rattle.std.specs.Prelude.{true, false, Option, Some, option_to_list}
 use Rattle.std.proofs.lemmas.List.Elements.{Contains-append_left, Contains-append_right}

@@ -1,4 +1,4 @@
--- Stores into fields go on with the next statement, and keep the heap well typed.
+-- Stores into fields continue with the next statement, and keep the heap well typed.
 use Rattle.std.proofs.Common.{◌≡◌, ℕ, List, [], map, refl, sym, ap, ◌∙◌, subst, inl, inr}
 use Rattle.std.specs.Prelude.{◌⊎◌, if◌then◌else◌, flat_map, Option, Some, None}
 use Rattle.pc_source.specs.declared.place.Place.{Place}

@@ -1,4 +1,4 @@
--- `for` loops: each turn binds the target to an item of the type that the head's labels say.
+-- `for` loops: each turn binds the target to an item of the type in the head's labels.
 use Rattle.std.proofs.Common.{◌≡◌, ℕ, suc, List, [], ◌∷◌, refl, sym, ap, ◌∙◌, subst, inl, inr, arith}
 use Rattle.std.specs.Prelude.{Option, Some, None}
 use Rattle.std.proofs.lemmas.List.Elements.{Contains-append_right}
@@ -8,7 +8,7 @@ use Rattle.pc_tree.specs.Code.{finding}
 use Rattle.pc_tree.specs.Tree.{Name, Expr, for_loop, Stmts, Module}
 use Rattle.pc_tree.specs.Stopping.{bound_by, loose_in}
 use Rattle.pc_tree.specs.Depth.{place_of}
-use Rattle.pc_scope.specs.declared.resolution.Res.TheVariants as res
+use Rattle.pc_scope.specs.declared.resolution.NameMeaning.TheVariants as res
 use Rattle.pc_types.specs.Tree.{Tree}
 use Rattle.pc_types.specs.Below.{Bases}
 use Rattle.pc_flow.specs.Environment.{Env, declared_type, assign, assigned_type, loop_head}
@@ -74,7 +74,7 @@ target_has bases t d None (static below) quiet k v h = let to = of_static bases 
 target_has bases t d (Some c) flow quiet k v h = absurd (not_empty quiet)
 
 module _ (around : Around) (ctx : Context) (fits : IsContextOf around ctx) (m : Module) (returned : Tree) where
-  -- what a `for` goes over is as its labels say, and its place is evaluated
+  -- the iterable of a `for` is as its labels say, and its place is evaluated
   pub record GoodIterables (parts : Parts Step) : Type 0 where
     pub safe : (env : Env) (e : Expr) (labels : Labels e) (item : Label) → LawfulIterable m ctx around.declared env e
         labels item → Covered around (Finds e labels) → Covered around (IsFoundAt (place_of e) item.codes)
@@ -125,7 +125,7 @@ module _ (around : Around) (ctx : Context) (fits : IsContextOf around ctx) (m : 
           ))
           turn
         where
-          -- what lasts, and what is gone over
+          -- the facts that last still last with the value iterated over
           over_lasts : Lasts around ctx (n ∷ bound_by b) (λ k frame. more k frame × GoesOver around.bases k t over)
           over_lasts = record {
             local = lasts.local;
@@ -200,7 +200,7 @@ module _ (around : Around) (ctx : Context) (fits : IsContextOf around ctx) (m : 
                   (further.runs seen n x t u b bm out env head over (suc i) resolves is has law covered keyed
                   (λ j frame. more j frame × GoesOver around.bases j t over) over_lasts)
 
-  -- what it goes over, and then its turns from the head
+  -- a `for` runs its iterable, and then its turns from the head
   pub for_runs : (parts : Parts Step) → GoodIterables parts → GoodTurns parts.turns
       → (p : Place) (n : Name) (e : Expr) (b : Stmts) → GoodStmt around ctx m returned (for_loop p n e b)
       (exec_node Step free parts (for_loop p n e b))

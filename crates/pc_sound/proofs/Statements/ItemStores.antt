@@ -1,4 +1,4 @@
--- Stores of items into lists and dicts go on with the next statement, and keep the heap well typed.
+-- Stores of items into lists and dicts continue with the next statement, and keep the heap well typed.
 use Rattle.std.proofs.Common.{◌≡◌, List, [], ◌∷◌, map, refl, sym, ap, ◌∙◌, subst, inl, inr}
 use Rattle.std.specs.Prelude.{◌⊎◌, if◌then◌else◌, flat_map}
 use Rattle.pc_source.specs.declared.place.Place.{Place}

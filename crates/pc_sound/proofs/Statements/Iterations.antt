@@ -1,5 +1,4 @@
--- What a `for` goes over: each turn gives a value of the item type, or there is none, whatever the body did to the
--- heap.
+-- The items of a `for`: each turn gives a value of the item type, or there is none, whatever the body did to the heap.
 use Rattle.std.proofs.Common.{◌≡◌, ℕ, zero, suc, List, [], ◌∷◌, map, refl, sym, ap, ◌∙◌, subst, inl, inr}
 use Rattle.std.specs.Prelude.{ℤ, pos, Bool as Test, true, false, nat_eq, if◌then◌else◌, length, Option, Some, None}
 use Rattle.std.specs.Prelude.{slice_get}
@@ -11,7 +10,7 @@ use Rattle.pc_class.specs.Facts as facts
 use Rattle.pc_flow.specs.Environment.{join_all}
 use Rattle.pc_rules.specs.Operations.{Label, Offer, found_of, offers_label, has_error, iterate_member}
 use Rattle.pc_value.specs.Value.{Value, Values, whole, string, tuple_of, location, no_values, more_values, list_of}
-use Rattle.pc_value.specs.Value.{Cell, list_cell, dict_cell, instance_cell, Entry, Heap, seen, seen_cell, Other}
+use Rattle.pc_value.specs.Value.{Cell, list_cell, dict_cell, instance_cell, DictEntry, Heap, seen, seen_cell, Other}
 use Rattle.pc_value.specs.Actions.{Iteration, over_list, over_dict, over_text, over_tuple, over_range, gives, finished}
 use Rattle.pc_value.specs.Actions.{stops}
 use Rattle.pc_value.specs.Iteration.{iterate_outcome, turn_outcome, turn_item, turn_character, list_turn, dict_turn}
@@ -80,8 +79,8 @@ module _ (bases : Bases) where
   all_into k s t into [] h = tt
   all_into k s t into (v ∷ vs) h = (into v h.0, all_into k s t into vs h.1)
 
-  keys_have : (k : HeapTyping) (s t : Tree) (es : List Entry) → EntriesHave bases k s t es
-      → AllHave bases k s (map (λ (e : Entry). e.key) es)
+  keys_have : (k : HeapTyping) (s t : Tree) (es : List DictEntry) → EntriesHave bases k s t es
+      → AllHave bases k s (map (λ (e : DictEntry). e.key) es)
   keys_have k s t [] h = tt
   keys_have k s t (e ∷ es) h = (h.0, keys_have k s t es h.2)
 
@@ -111,11 +110,11 @@ module _ (bases : Bases) where
       at : CellAt bases classes k heap l (a_dict h.keys h.values)
       at = well.each l (a_dict h.keys h.values) h.is
 
-      sized : (entries : List Entry) (b : Test) → EntriesHave bases k h.keys h.values entries
+      sized : (entries : List DictEntry) (b : Test) → EntriesHave bases k h.keys h.values entries
           → EndsWell (ItemHas bases k t)
-          (item_out (if b then turn_item (slice_get (map (λ (e : Entry). e.key) entries) i) else stops Other))
-      sized entries true has = item_at k t (map (λ (e : Entry). e.key) entries) i
-          (all_into k h.keys t (h.into k) (map (λ (e : Entry). e.key) entries)
+          (item_out (if b then turn_item (slice_get (map (λ (e : DictEntry). e.key) entries) i) else stops Other))
+      sized entries true has = item_at k t (map (λ (e : DictEntry). e.key) entries) i
+          (all_into k h.keys t (h.into k) (map (λ (e : DictEntry). e.key) entries)
           (keys_have k h.keys h.values entries has))
       sized entries false has = tt
 

@@ -1,4 +1,5 @@
--- Loops: at the head each local that the body binds has its declared type, so each turn finds what the head says.
+-- Loops: at the head each local that the body binds has its declared type, so the head's environment holds in each
+-- turn.
 use Rattle.std.proofs.Common.{◌≡◌, ℕ, zero, suc, List, [], ◌∷◌, refl, sym, ◌∙◌, subst, inl, inr, arith}
 use Rattle.std.specs.Prelude.{◌⊎◌, Bool as Test, true, false, Option, Some, None}
 use Rattle.std.proofs.lemmas.Option.{same_Some}
@@ -13,7 +14,7 @@ use Rattle.pc_sound.specs.Values.{HeapTyping, HasType, Extends}
 use Rattle.pc_sound.proofs.Steps.BoundLocals.{HasLocal, HasLocals}
 use Rattle.pc_sound.proofs.Values.ValuesFlow.{later}
 
--- what a local is at a head: assigned before; of its declared type where the body binds it, else of the type before
+-- the type of a local at a head: assigned before; the declared type where the body binds it, else the type before
 record AtHead (bound : Test) (d : Tree) (before : Option Tree) (t : Tree) : Type 0 where
   type : Tree
   assigned : before ≡ Some type

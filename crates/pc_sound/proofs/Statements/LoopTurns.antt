@@ -7,8 +7,8 @@ use Rattle.std.proofs.lemmas.Bool.{or_right}
 use Rattle.pc_source.specs.declared.place.Place.{Place}
 use Rattle.pc_tree.specs.Tree.{Name, Expr, while_loop, Stmts, no_stmts, more_stmts, Module}
 use Rattle.pc_tree.specs.Stopping.{bound_by, loose_in}
-use Rattle.pc_scope.specs.declared.resolution.Res.{Res}
-use Rattle.pc_scope.specs.declared.resolution.Res.TheVariants as res
+use Rattle.pc_scope.specs.declared.resolution.NameMeaning.{NameMeaning}
+use Rattle.pc_scope.specs.declared.resolution.NameMeaning.TheVariants as res
 use Rattle.pc_scope.specs.Resolution.{index_of}
 use Rattle.pc_types.specs.Tree.{Tree}
 use Rattle.pc_flow.specs.Environment.{Env, declared_type, join_envs_onto, loop_head}
@@ -44,7 +44,7 @@ use Rattle.pc_sound.proofs.Statements.SimpleStatements.{decided}
 use Rattle.pc_sound.proofs.Statements.Branches.{some_holds, stands_with}
 
 -- a local that is bound in the body is told by its number
-pub number_bound : (resolve : List ℕ → Res) (names : List Name) (n : Name) (x : ℕ) → Contains names n
+pub number_bound : (resolve : List ℕ → NameMeaning) (names : List Name) (n : Name) (x : ℕ) → Contains names n
     → resolve n.text ≡ res.Local x → binds_number resolve names x ≡ true
 number_bound resolve [] n x among is = absurd (none_among n among)
 number_bound resolve (y ∷ ys) n x among is = elim (among_first y ys n among) [
@@ -55,7 +55,7 @@ number_bound resolve (y ∷ ys) n x among is = elim (among_first y ys n among) [
 ]
 
 module _ (around : Around) (ctx : Context) (fits : IsContextOf around ctx) where
-  -- what a turn keeps of the locals that the loop found at its head
+  -- a turn keeps the locals that the loop found at its head
   pub record Kept (bound : ℕ → Test) (k : HeapTyping) (old : Frame) (k' : HeapTyping) (new : Frame) : Type 0 where
     pub grows : Extends k k'
     pub each : (word : List ℕ) (x : ℕ) (v : Value) → index_of word around.names ≡ Some x
@@ -112,7 +112,7 @@ module _ (around : Around) (ctx : Context) (fits : IsContextOf around ctx) where
               let kept = local_kept word w v new (differs_not word w t) in
               record { value = i.value; is = kept ∙ i.is; always = i.always; same = λ e. kept ∙ i.same e }
 
-  -- what is known at a head lasts, and so does what the turn keeps
+  -- the facts known at a head, and those that the turn keeps
   abbrev pub AlsoKept : (bound : ℕ → Test) (k : HeapTyping) (old : Frame) (more : HeapTyping → Frame → Type 0)
       → HeapTyping → Frame → Type 0
   AlsoKept bound k old more k' new = more k' new × Kept bound k old k' new

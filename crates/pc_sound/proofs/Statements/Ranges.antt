@@ -1,4 +1,4 @@
--- What a `for` goes over: values, and `range(..)`, of which the argument is an int.
+-- The iterable of a `for`: a value, or `range(..)` with an int as its argument.
 use Rattle.std.proofs.Common.{◌≡◌, ℕ, List, [], ◌∷◌, map, refl, sym, ap, ◌∙◌, subst, inl, inr, arith, Contains}
 use Rattle.std.proofs.Common.{true≢false}
 use Rattle.std.specs.Prelude.{◌⊎◌, Bool as Test, true, false, if◌then◌else◌, flat_map, slice_get, codes}
@@ -11,8 +11,8 @@ use Rattle.pc_tree.specs.Tree.{Expr, Exprs, Keywords, Name, name, call, no_exprs
 use Rattle.pc_tree.specs.Tree.{more_keywords, Module}
 use Rattle.pc_tree.specs.Depth.{place_of}
 use Rattle.pc_scope.specs.declared.resolution.Builtin.TheVariants as builtin
-use Rattle.pc_scope.specs.declared.resolution.Res.{Res}
-use Rattle.pc_scope.specs.declared.resolution.Res.TheVariants as res
+use Rattle.pc_scope.specs.declared.resolution.NameMeaning.{NameMeaning}
+use Rattle.pc_scope.specs.declared.resolution.NameMeaning.TheVariants as res
 use Rattle.pc_scope.specs.Expressions.{is_instance_test}
 use Rattle.pc_types.specs.Tree.{Tree, Any, Int, Object}
 use Rattle.pc_types.specs.Below.{Bases}
@@ -78,11 +78,11 @@ listed_safe around env {A} known m P Q p here evaluates safe = record { run = go
       })
     ]
 
-range_resolved : (r : Res) → is_range r ≡ true → r ≡ res.Builtin builtin.Range
+range_resolved : (r : NameMeaning) → is_range r ≡ true → r ≡ res.Builtin builtin.Range
 range_resolved (res.Builtin builtin.Range) e = refl
 range_resolved _ e = absurd (true≢false (sym e))
 
--- what `range` takes
+-- the signature of `range`
 abbrev range_signature : Signature
 range_signature = builtin_signature (Int ∷ []) Object
 
@@ -221,7 +221,7 @@ module _ (around : Around) (ctx : Context) (fits : IsContextOf around ctx) (m : 
         limit_ends k s (boolean b) t int h = λ j y. subst (λ u. HasType around.bases j u (whole y)) (sym int) tt
         limit_ends k s _ t int h = absurd h
 
-  -- what a `for` goes over
+  -- the iterable of a `for` is safe
   iterable_safe : KnowsNames around ctx → ctx.resolve (codes "range") ≡ res.Builtin builtin.Range
       → (e : Expr) (labels : Labels e) (item : Label) → LawfulIterable m ctx around.declared env e labels item
       → Covered around (Finds e labels) → Covered around (IsFoundAt (place_of e) item.codes) → Keyed e labels

@@ -1,11 +1,11 @@
--- Simple statements: assignments, `return`, `assert`, expressions, and those that only say where to go on.
+-- Simple statements: assignments, `return`, `assert`, expressions, and those that only say where to continue.
 use Rattle.std.proofs.Common.{◌≡◌, ℕ, List, [], ◌∷◌, refl, sym, ap, ◌∙◌, subst, inl, inr, Contains}
 use Rattle.std.specs.Prelude.{◌⊎◌, Bool as Test, true, false, Option, Some, None}
 use Rattle.pc_source.specs.declared.place.Place.{Place}
 use Rattle.pc_tree.specs.Tree.{Name, Expr, Ann, Target, to_name, to_attribute, to_index, pass, breaks, continues}
 use Rattle.pc_tree.specs.Tree.{returns, asserts, annotated, assigns, evaluates, Module}
 use Rattle.pc_tree.specs.Depth.{place_of}
-use Rattle.pc_scope.specs.declared.resolution.Res.TheVariants as res
+use Rattle.pc_scope.specs.declared.resolution.NameMeaning.TheVariants as res
 use Rattle.pc_types.specs.Tree.{Tree, NoneType}
 use Rattle.pc_types.specs.Below.{Static}
 use Rattle.pc_flow.specs.Environment.{Env, declared_type, assign, assigned_type}

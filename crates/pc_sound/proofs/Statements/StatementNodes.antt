@@ -1,4 +1,4 @@
--- Each statement runs as it is labelled, where what it stands on does.
+-- Each statement runs according to its labels, if its parts do.
 use Rattle.std.specs.Prelude.{Some, None}
 use Rattle.pc_tree.specs.Tree.{Expr, Stmt, pass, breaks, continues, returns, asserts, annotated, assigns, evaluates}
 use Rattle.pc_tree.specs.Tree.{while_loop, for_loop, conditional, Module}
@@ -20,7 +20,7 @@ use Rattle.pc_sound.proofs.Statements.Branches.{conditional_runs}
 use Rattle.pc_sound.proofs.Statements.LoopTurns.{GoodAgain, while_runs}
 use Rattle.pc_sound.proofs.Statements.ForLoops.{GoodIterables, GoodTurns, for_runs}
 
--- what statements stand on
+-- the parts of a step that statements are run with are good
 pub record GoodParts (around : Around) (ctx : Context) (fits : IsContextOf around ctx) (m : Module) (returned : Tree)
     (parts : Parts Step) : Type 1 where
   pub eval : GoodEval around ctx parts.eval

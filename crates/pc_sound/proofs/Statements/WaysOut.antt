@@ -1,4 +1,4 @@
--- Statements lead to their ways out, where their parts do.
+-- Statements lead to the environments of their exits, if their parts do.
 use Rattle.std.proofs.Common.{◌≡◌, List, [], ◌++◌, refl, sym, subst, inl, inr, Contains}
 use Rattle.std.specs.Prelude.{◌⊎◌, Bool as Test, true, false, Option, Some, None}
 use Rattle.std.proofs.lemmas.List.Elements.{Contains-append_left, Contains-append_right}

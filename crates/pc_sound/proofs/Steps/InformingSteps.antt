@@ -1,4 +1,4 @@
--- Steps of expressions, one after another, where what a step tells of the state is used by the steps after it.
+-- Steps of expressions, one after another, where later steps use the knowledge of the state from earlier ones.
 use Rattle.std.proofs.Common.{◌≡◌, List, [], ◌∷◌, refl, sym, ap, ◌∙◌, subst, inl, inr, arith, Contains}
 use Rattle.std.specs.Prelude.{◌⊎◌}
 use Rattle.pc_source.specs.declared.place.Place.{Place}
@@ -25,7 +25,7 @@ pub record Shows (around : Around) (before : Known) {A : Type 0} (m : Step A) (a
       ⊎ KeepsState around (λ k a. after k a s') k s out s'
 
 module _ (around : Around) where
-  -- what is kept where something else is told of the end
+  -- a kept state is kept for another promise on the end, too
   pub kept_as : {A B : Type 0} (P : HeapTyping → A → Type 0) (Q : HeapTyping → B → Type 0) (k : HeapTyping)
       (s s' : State) (out : Out A) (out' : Out B) → (h : KeepsState around P k s out s') → EndsWell (Q h.typing) out'
       → KeepsState around Q k s out' s'
@@ -103,7 +103,7 @@ module _ (around : Around) where
   kept_ended P k s s' events out well (inr r) = kept_still P k s s' out well r.same
       (subst (EndsWell (P k)) (sym r.is) tt)
 
-  -- what the state says
+  -- looking at the state shows the facts that its answer has
   pub shows_looks : {A : Type 0} (before : Known) (f : State → Out A) (after : Promised A)
       → ((k : HeapTyping) (s : State) → before k s → EndsWell (λ a. after k a s) (f s))
       → Shows around before (look f) after

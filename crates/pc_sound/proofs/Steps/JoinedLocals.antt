@@ -1,4 +1,5 @@
--- Where ways meet, each local that all of them assign has its type in the joined environment, whichever way was taken.
+-- Where paths join, each local that all of them assign has its type in the joined environment, whichever path was
+-- taken.
 use Rattle.std.proofs.Common.{◌≡◌, ℕ, zero, suc, List, [], ◌∷◌, ◌++◌, refl, subst, inl, inr, arith}
 use Rattle.std.specs.Prelude.{◌⊎◌, Option, Some, None, unwrap_or}
 use Rattle.std.proofs.lemmas.Option.{same_Some}
@@ -12,7 +13,7 @@ use Rattle.pc_sound.specs.Values.{HeapTyping, HasType}
 use Rattle.pc_sound.proofs.Steps.BoundLocals.{HasLocal, HasLocals}
 use Rattle.pc_sound.proofs.Values.Joins.{join_or_holds}
 
--- what a local is where two ways meet
+-- the type of a local where two ways meet
 pub record Met (bases : Bases) (d : Tree) (left right : Option Tree) (t : Tree) : Type 0 where
   pub first : Tree
   pub second : Tree

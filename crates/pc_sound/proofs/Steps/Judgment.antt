@@ -1,5 +1,4 @@
--- The judgment: from a state that is well typed each run of a step evaluates a listed place, or keeps all that is
--- known.
+-- The judgment: from a well-typed state each run of a step evaluates a listed place, or keeps all that is known.
 -- Own rule of the profile.
 use Rattle.std.specs.Prelude.{◌≡◌, ◌⊎◌, ℕ, List, [], ◌∷◌, Bool as Test, Option, Some, None, Contains}
 use Rattle.pc_source.specs.declared.place.Place.{Place}
@@ -7,7 +6,7 @@ use Rattle.pc_tree.specs.declared.code.Code.{Code}
 use Rattle.pc_types.specs.Tree.{Tree}
 use Rattle.pc_tree.specs.Tree.{Name, Expr}
 use Rattle.pc_types.specs.Below.{Bases, AreSmaller}
-use Rattle.pc_scope.specs.declared.resolution.Res.TheVariants as res
+use Rattle.pc_scope.specs.declared.resolution.NameMeaning.TheVariants as res
 use Rattle.pc_scope.specs.Resolution.{index_of}
 use Rattle.pc_class.specs.Facts as facts
 use Rattle.pc_flow.specs.Environment.{Env, declared_type}
@@ -33,8 +32,8 @@ abbrev pub AreListedCodes : (Place → Type 0) → Place → List Code → Type 
 AreListedCodes listed p [] = Unit {0}
 AreListedCodes listed p (c ∷ cs) = listed p
 
--- what is around a body: types, class facts, its locals with their declared types, the listed places,
--- and what is known of the classes made and of the names that the module has bound
+-- the surroundings of a body: types, class facts, its locals with their declared types, the listed places, and the
+-- facts known of the classes made and of the names that the module has bound
 pub record Around : Type 1 where
   pub bases : Bases
   pub classes : List facts.ClassFacts
@@ -92,7 +91,7 @@ pub record IsContextOf (around : Around) (ctx : Context) : Type 0 where
 
 -- ---- conditions
 
--- what the truth of a condition's value tells of the locals
+-- the facts that the truth of a condition's value tells of the locals
 pub record TellsLocals (around : Around) (ctx : Context) (env : Env) (e : Expr) (k : HeapTyping) (v : Value)
     (s : State) : Type 0 where
   pub by : (holds : Test) → is_true s.heap v ≡ holds → HasLocals around.bases k around.names around.declared
@@ -100,8 +99,8 @@ pub record TellsLocals (around : Around) (ctx : Context) (env : Env) (e : Expr) 
 
 -- ---- statements
 
--- how a step may go: the heap stays well typed, the module's names and the classes stay, and what is promised of an end
--- in a value holds after it
+-- a step goes well: the heap stays well typed, the module's names and the classes stay, and the promise on an end in a
+-- value holds after it
 pub record Goes (around : Around) {A : Type 0} (after : HeapTyping → A → State → Type 0) (k : HeapTyping) (s : State)
     (out : Out A) (s' : State) : Type 0 where
   pub typing : HeapTyping
@@ -124,7 +123,7 @@ pub record IsWellTypedAnd (around : Around) (env : Env) (more : HeapTyping → F
   pub stands : IsWellTyped around env k s
   pub known : more k s.frame
 
--- what is said of the ways out of a statement: the environments after it and at its `break` statements, the places of
+-- the promises on the ways out of a statement: the environments after it and at its `break` statements, the places of
 -- `break` and `continue`, the return type
 pub record Ways : Type 1 where
   pub out : Env → Type 0
@@ -156,8 +155,8 @@ pub record IsLocal (around : Around) (ctx : Context) (word : List ℕ) : Type 0 
   pub resolves : ctx.resolve word ≡ res.Local number
   pub is : index_of word around.names ≡ Some number
 
--- what is known of a frame stays known when the heap typing grows, and when one of these names is bound to a value of
--- its declared type
+-- a fact of a frame stays known when the heap typing grows, and when one of these names is bound to a value of its
+-- declared type
 pub record Lasts (around : Around) (ctx : Context) (names : List Name) (more : HeapTyping → Frame → Type 0) : Type
     0 where
   pub local : (n : Name) → Contains names n → IsLocal around ctx n.text

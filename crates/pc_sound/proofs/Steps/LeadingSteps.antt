@@ -21,7 +21,7 @@ pub ends_as : {A : Type 0} (P Q : A → Type 0) (out : Out A) → ((a : A) → P
 ends_as P Q (Gives a) f h = f a h
 ends_as P Q (Stops stop) f h = stopped_as P Q stop h
 
--- what is known of states, of a state and a value
+-- the facts known of states, and of a state and a value
 abbrev pub Known : Type 1
 Known = HeapTyping → State → Type 0
 
@@ -104,7 +104,7 @@ module _ (around : Around) where
   goes_ended after k s s' events out well (inr r) = goes_still after k s s' out well r.same
       (subst (EndsWell (λ a. after k a s)) (sym r.is) tt)
 
-  -- what the state says
+  -- looking at the state leads to the facts that its answer has
   pub leads_looks : {A : Type 0} (before : Known) (f : State → Out A) (after : Promised A)
       → ((k : HeapTyping) (s : State) → before k s → EndsWell (λ a. after k a s) (f s))
       → Leads around before (look f) after

@@ -1,5 +1,5 @@
--- Nested steps, one more at a time: where each form of expression is safe over parts that are, so is each number of
--- nested steps.
+-- Nested steps, one more at a time: if each form of expression is safe over safe parts, any number of nested steps is
+-- safe.
 use Rattle.std.proofs.Common.{ℕ, zero, suc}
 use Rattle.pc_tree.specs.Tree.{Module}
 use Rattle.pc_types.specs.Tree.{Tree}
@@ -89,7 +89,7 @@ module _ (m : Module) (bodies : Bodies) where
           ((forms.eval n good b).safe env want e labels law covered keyed);
     }
 
-    -- what statements of one step more stand on
+    -- the parts of one step more, with which statements are run, are good
     parts_good : (n : ℕ) → AllGood n → (b : bodies.Body) → GoodParts (bodies.around b) (bodies.ctx b) (bodies.fits b) m
         (bodies.returned b) (steps Step free n)
     parts_good n good b = record {

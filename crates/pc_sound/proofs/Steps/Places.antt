@@ -47,7 +47,7 @@ module _ (parts : Parts Step) where
   node_evaluates (call p callee arguments by_name) = call_evaluates p callee arguments by_name
       (call_form callee arguments by_name)
 
-  -- so do steps over these parts
+  -- steps over these parts evaluate the place of each expression
   pub over_evaluates : (e : Expr) → Evaluates (place_of e) (eval_over Step free parts e)
   over_evaluates e = later_evaluates (place_of e) _ _ λ u. node_evaluates e
 

@@ -11,7 +11,7 @@ use Rattle.pc_value.specs.Value.{Stop, Out, Gives, Stops, Raised, Other, Outside
 use Rattle.pc_value.specs.Actions.{Action, Outcome, Free}
 use Rattle.pc_value.specs.Outcomes.{action_result}
 use Rattle.pc_machine.specs.State.{State, Frame}
-use Rattle.pc_machine.specs.Free.{Step, ◌>>=◌, comes, may_end, may_stop, Emits, GoesOn, look, act}
+use Rattle.pc_machine.specs.Free.{Step, ◌>>=◌, comes, may_end, may_stop, Emits, KeepsGoing, look, act}
 use Rattle.pc_sound.specs.Values.{HeapTyping, Extends, IsWell}
 use Rattle.pc_sound.specs.Ends.{EndsWell}
 use Rattle.pc_sound.proofs.Steps.BoundLocals.{HasLocals}
@@ -35,15 +35,15 @@ locals_later {bases} {k} {k'} {names} {declared} {env} {frame} {frame'} x e h =
           };
     })
 
--- what stays known when the heap typing grows
+-- a fact stays known when the heap typing grows
 abbrev pub Stays : (HeapTyping → Type 0) → Type 0
 Stays known = (k k' : HeapTyping) → Extends k k' → known k → known k'
 
--- what gives a value does not stop
+-- a run that gives a value does not stop
 pub gives_not_stops : {A : Type 0} {a : A} {stop : Stop} → Gives a ≡ Stops stop → ⊥
 gives_not_stops e = grind arith
 
--- what is given is one value
+-- a run gives one value only
 pub gives_injective : {A : Type 0} {a b : A} → Gives a ≡ Gives b → a ≡ b
 gives_injective e = grind arith
 
@@ -56,7 +56,7 @@ stopped_as P Q Other h = h
 stopped_as P Q Cut h = h
 
 -- where a step goes on, what holds then is promised of how it ends
-pub goes_well : (P : Unit {0} → Type 0) (out : Out (Unit {0})) → GoesOn out → P tt → EndsWell P out
+pub goes_well : (P : Unit {0} → Type 0) (out : Out (Unit {0})) → KeepsGoing out → P tt → EndsWell P out
 goes_well P (Gives u) g h = h
 goes_well P (Stops (Raised e)) g h = g
 goes_well P (Stops Outside) g h = g
@@ -158,7 +158,7 @@ module _ (around : Around) (env : Env) where
   ended P k s s' events out st (inl r) = still P k s s' out r.same st (subst (EndsWell (P k)) (sym r.is) tt)
   ended P k s s' events out st (inr r) = still P k s s' out r.same st (subst (EndsWell (P k)) (sym r.is) tt)
 
-  -- what the state says
+  -- looking at the state is safe
   pub looks_safe : {A : Type 0} (known : HeapTyping → Type 0) (f : State → Out A) (P : HeapTyping → A → Type 0)
       → ((k : HeapTyping) (s : State) → known k → IsWellTyped around env k s → EndsWell (P k) (f s))
       → IsSafe around env known (look f) P
@@ -194,7 +194,7 @@ module _ (around : Around) (env : Env) where
         inl (record { place = p; is = allowed; event = here_is p events r.event });
   }
 
-  -- what is known where less is
+  -- a step that is safe where less is known is safe where more is known
   pub weaken : {A : Type 0} (known known' : HeapTyping → Type 0) (m : Step A) (P Q : HeapTyping → A → Type 0)
       → ((k : HeapTyping) → known k → known' k) → ((k : HeapTyping) (a : A) → P k a → Q k a)
       → IsSafe around env known' m P → IsSafe around env known m Q

@@ -1,5 +1,5 @@
--- Where a type is not static to another one, some value of the first is not of the second, under each heap typing that
--- records what values of the first refer to.
+-- If a type is not static to another one, some value of the first is not of the second, under each heap typing that
+-- records everything that values of the first refer to.
 use Rattle.std.proofs.Common.{◌≡◌, suc, sym, inl, inr, arith}
 use Rattle.pc_types.specs.Tree.{Tree, Trees, Any, Object, Never, Int, Bool, Str, NoneType, Class, ListOf, DictOf}
 use Rattle.pc_types.specs.Tree.{TupleOf, Union, end, more, erase_each}

@@ -1,4 +1,4 @@
--- A flow: where it is static the value is of the type; where it is dynamic its place is listed, and was evaluated.
+-- A flow: if it is static the value is of the type; if it is dynamic its place is listed, and was evaluated.
 use Rattle.std.proofs.Common.{◌≡◌, List, [], ◌∷◌, refl, sym, subst, inl, inr, arith, Contains}
 use Rattle.std.specs.Prelude.{◌⊎◌, Bool as Test, true, false, Option, Some}
 use Rattle.std.proofs.lemmas.List.Elements.{Contains-append_left, Contains-append_right}

@@ -91,7 +91,7 @@ module _ (bases : Bases) (k : HeapTyping) where
         let v = any_value a n.0 (records_first (required a) (required b) r) in
         record { value = v.value; has = inl v.has }
 
-    -- so have the parts of a tuple
+    -- the parts of a tuple have values of their types
     pub any_values : (ts : Trees) → HaveNoNever ts → Records k (required_by_each ts) → ValuesOf ts
     any_values end n r = record { values = no_values; have = tt }
     any_values (more t ts) n r =

@@ -1,8 +1,9 @@
--- Tests of instances: what a run tests for where types see a test; a value passes the one where it passes the other.
+-- Tests of instances: the test of a run and the test in typing agree; a value passes one exactly if it passes the
+-- other.
 use Rattle.std.proofs.Common.{◌≡◌, ℕ, zero, suc, List, [], ◌∷◌, length, refl, sym, ap, ◌∙◌, subst, arith}
 use Rattle.std.specs.Prelude.{Bool as Truth, true, false, Option, Some, None, slice_get}
 use Rattle.std.proofs.lemmas.Option.{none-some, same_Some}
-use Rattle.pc_scope.specs.declared.resolution.Res.TheVariants as res
+use Rattle.pc_scope.specs.declared.resolution.NameMeaning.TheVariants as res
 use Rattle.pc_types.specs.Tree.{Int, Bool, Str}
 use Rattle.pc_types.specs.Tree as tree
 use Rattle.pc_types.specs.Below.{Bases, Below}
@@ -15,7 +16,7 @@ use Rattle.pc_value.specs.Value.{instance_cell, Heap, is_list, seen_cell, class_
 use Rattle.pc_value.specs.Value as value
 use Rattle.pc_machine.specs.State.{State, Class}
 use Rattle.pc_machine.specs.Names.{meaning_in_run}
-use Rattle.pc_machine.specs.Calls.{Test, tests_int, tests_str, tests_bool, tests_list, tests_class, test_of_meaning}
+use Rattle.pc_machine.specs.Calls.{InstanceTest, tests_int, tests_str, tests_bool, tests_list, tests_class, test_of_meaning}
 use Rattle.pc_machine.specs.Calls.{descends_from, class_at, passes}
 use Rattle.pc_sound.specs.Values.{HeapTyping, Recorded, a_list, a_dict, a_class, IsInstance, CellHas, IsWell}
 use Rattle.pc_sound.specs.KeptHeaps.{IsRecordedList, Passes}
@@ -29,7 +30,7 @@ pub record Descends (bases : Bases) (made : List Class) (c : ℕ) : Type 0 where
   pub reached : (d : ℕ) → Below bases (tree.Class d) (tree.Class c) → descends_from c (class_at made (Some d)) ≡ true
 
 -- a run tests for what types see
-abbrev pub IsRight : Bases → List Class → Tested → Test → Type 0
+abbrev pub IsRight : Bases → List Class → Tested → InstanceTest → Type 0
 IsRight bases made (for_type Int) tests_int = Unit {0}
 IsRight bases made (for_type Bool) tests_bool = Unit {0}
 IsRight bases made (for_type Str) tests_str = Unit {0}
@@ -44,7 +45,7 @@ pub record RightTests (around : Around) (ctx : Context) : Type 0 where
   pub means : MeansTest ctx
   pub right : (env : Env) (k : HeapTyping) (s : State) → IsWellTyped around env k s → (local : List ℕ) (x : ℕ)
       → ctx.resolve local ≡ res.Local x → (word : List ℕ) (test : Tested) → test_named (ctx.resolve word) ≡ Some test
-      → (made : Test) → test_of_meaning word (meaning_in_run word s) ≡ Gives made
+      → (made : InstanceTest) → test_of_meaning word (meaning_in_run word s) ≡ Gives made
       → IsRight around.bases s.classes test made
 
 -- a fact holds, or fails
@@ -67,7 +68,7 @@ got_too (x ∷ xs) (z ∷ ys) (suc i) y e is = let g = got_too xs ys i y (omega 
 
 module _ (bases : Bases) (classes : List facts.ClassFacts) (k : HeapTyping) (heap : Heap)
     (well : IsWell bases classes k heap) where
-  -- what is recorded of a cell
+  -- the type recorded of a cell
   record Typed (l : ℕ) (c : Cell) : Type 0 where
     recorded : Recorded
     is : slice_get k l ≡ Some recorded
@@ -142,7 +143,7 @@ module _ (bases : Bases) (classes : List facts.ClassFacts) (k : HeapTyping) (hea
 
 -- a value passes a test in a run where it does as types see it
 pub passes_agree : (bases : Bases) (classes : List facts.ClassFacts) (k : HeapTyping) (s : State)
-    → IsWell bases classes k s.heap → (test : Tested) (made : Test) (v : Value) → IsRight bases s.classes test made
+    → IsWell bases classes k s.heap → (test : Tested) (made : InstanceTest) (v : Value) → IsRight bases s.classes test made
     → (holds : Truth) → passes s v made ≡ holds → AsTold holds (Passes bases k test v)
 passes_agree bases classes k s well (for_type Int) tests_int (whole n) right true e = tt
 passes_agree bases classes k s well (for_type Int) tests_int (whole n) right false e = absurd (not_both refl e)

@@ -1,5 +1,5 @@
--- A value of either side of a join is one of the join: of classes it is needed that each base has a smaller number, and
--- of the two types nothing, normal or not.
+-- A value of either side of a join is one of the join, for any two types; of classes it is needed that each base has a
+-- smaller number.
 use Rattle.std.proofs.Common.{◌≡◌, ◌<◌, ◌≤◌, ℕ, zero, suc, List, [], ◌∷◌, filter, refl, sym, ap, ◌∙◌, subst, inl, inr}
 use Rattle.std.proofs.Common.{arith}
 use Rattle.std.specs.Prelude.{◌⊎◌, Bool as Test, true, false, ◌==◌, ◌||◌, not, if◌then◌else◌, Option, Some, None}
@@ -52,7 +52,7 @@ mutual
 
 -- ---- absorption
 
--- what absorbs is of less weight
+-- the weight of a type: an absorbing one weighs less than those that it absorbs
 abbrev weight : Tree → ℕ
 weight Bool = 1
 weight (Class c) = suc c
@@ -297,7 +297,7 @@ within_is (Some t) u e = go (nat_le (nodes t) node_limit) e
 -- ---- the members of one type put among those of another
 
 module _ (bases : Bases) (ordered : AreSmaller bases) (k : HeapTyping) where
-  -- what lies among the members before still does, and what a part of the type holds does where nothing absorbs it
+  -- values of the members before are values of the list, and so are those of each part of the type that nothing absorbs
   abbrev Keeps : (other s : Tree) → List Tree → List Tree → Type 0
   Keeps other s ms l = (v : Value) → HasSome bases k ms v → HasSome bases k l v
 

@@ -1,4 +1,4 @@
--- What a test leaves of a type has the values that pass it, and what it leaves where it fails has those that fail.
+-- A type narrowed where a test is true has the values that pass it, and narrowed where it is false those that fail.
 use Rattle.std.proofs.Common.{◌≡◌, ◌≢◌, ℕ, List, [], ◌∷◌, refl, sym, ap, ◌∙◌, subst, inl, inr, arith}
 use Rattle.std.specs.Prelude.{◌⊎◌, Bool as Test, true, false, ◌==◌, ◌&&◌, ◌||◌, not, if◌then◌else◌, Option, Some, None}
 use Rattle.std.specs.Prelude.{filter_map, ℤ}
@@ -126,7 +126,7 @@ IsFollowed (Union a b) = ⊥
 IsFollowed _ = Unit {0}
 
 module _ (bases : Bases) (ordered : AreSmaller bases) (k : HeapTyping) where
-  -- what a member is that has a value of a kind
+  -- a member with a value of a kind is the type of that kind
   number_member : (m : Tree) (n : ℤ) → HasType bases k m (whole n) → IsFollowed m → m ≡ Int
   number_member Int n h f = refl
   number_member Any n h f = absurd f
@@ -326,7 +326,7 @@ module _ (bases : Bases) (ordered : AreSmaller bases) (k : HeapTyping) where
   failing_has for_list (DictOf s u) t v h n = h
   failing_has for_list (TupleOf us) t v h n = h
 
-  -- what a test leaves of a type has the values of the type that pass it
+  -- the part of a type that passes a test has all values of the type that pass it
   pub passing_keeps : (test : Tested) (t : Tree) → CanFollowAll test (members t) → (v : Value) → HasType bases k t v
       → Passes bases k test v → HasType bases k (type_where_true bases test t) v
   passing_keeps test t can v h p = of_union bases k (filter_map (member_passing bases test) (members t)) v

@@ -1,4 +1,4 @@
--- The types that the annotations of a text are read as have no Never, and so have the fields of its classes.
+-- The types read from the annotations of a text have no Never, and neither have the fields of its classes.
 use Rattle.std.proofs.Common.{◌++◌, ℕ, suc, Bool as Test, true, List, [], ◌∷◌, Option, Some, None, refl, sym, subst}
 use Rattle.std.proofs.Common.{inl, inr}
 use Rattle.std.proofs.lemmas.Bool.{cond_both}
@@ -12,17 +12,17 @@ use Rattle.pc_grammar.specs.Grammar.Annotations.{AreSeveral, SpellsAnn, Separate
 use Rattle.pc_grammar.specs.Grammar.Modules.{SpellsMembers, ClassBody, SpellsItems, SpellsModule}
 use Rattle.pc_scope.specs.declared.resolution.Builtin.{Builtin}
 use Rattle.pc_scope.specs.declared.resolution.Builtin.TheVariants as builtin
-use Rattle.pc_scope.specs.declared.resolution.Res.{Res}
-use Rattle.pc_scope.specs.declared.resolution.Res.TheVariants as res
+use Rattle.pc_scope.specs.declared.resolution.NameMeaning.{NameMeaning}
+use Rattle.pc_scope.specs.declared.resolution.NameMeaning.TheVariants as res
 use Rattle.pc_scope.specs.Resolution.{resolve_in_module}
 use Rattle.pc_scope.specs.Bindings.{classes_in}
 use Rattle.pc_types.specs.Tree.{Tree, Any, Never, Int, Str}
 use Rattle.pc_types.specs.Below.{Bases}
 use Rattle.pc_types.specs.Shape.{nodes, node_limit, trees, ahead, union}
 use Rattle.pc_types.specs.Join.{is_before}
-use Rattle.pc_ann.specs.Annotations.{atom, named_type, dict_type, built_type, applied_type, empty_type, is_union}
-use Rattle.pc_ann.specs.Annotations.{insert_member, in_union_order, union_type, reading, readings, read_ann}
-use Rattle.pc_ann.specs.Bases.{bases_of, base_named}
+use Rattle.pc_annotations.specs.Annotations.{atom, named_type, dict_type, built_type, applied_type, empty_type, is_union}
+use Rattle.pc_annotations.specs.Annotations.{insert_member, in_union_order, union_type, reading, readings, read_ann}
+use Rattle.pc_annotations.specs.Bases.{bases_of, base_named}
 use Rattle.pc_class.specs.Facts as facts
 use Rattle.pc_class.specs.Facts.{TypedParameter, class_facts_at, base_facts, binds_field, own_fields}
 use Rattle.pc_class.specs.Facts.{class_facts_behind, classes_behind, classes_of}
@@ -31,7 +31,7 @@ use Rattle.pc_sound.proofs.Values.Requirements.{fields_without}
 
 -- ---- types
 
--- what is made, if anything is, has no Never
+-- the type made, if any, has no Never
 abbrev HasNoNeverIfAny : Option Tree → Type 0
 HasNoNeverIfAny None = Unit {0}
 HasNoNeverIfAny (Some t) = HasNoNever t
@@ -62,12 +62,12 @@ atom_without x builtin.Object = tt
 atom_without x builtin.Any = cond_both x (Some Any) None HasNoNeverIfAny (λ e. tt) (λ e. tt)
 atom_without x _ = tt
 
-named_without : (x : Test) (r : Res) → HasNoNeverIfAny (named_type x r)
+named_without : (x : Test) (r : NameMeaning) → HasNoNeverIfAny (named_type x r)
 named_without x (res.Builtin b) = atom_without x b
 named_without x (res.Class c) = tt
 named_without x _ = tt
 
-empty_without : (r : Res) → HasNoNeverIfAny (empty_type r)
+empty_without : (r : NameMeaning) → HasNoNeverIfAny (empty_type r)
 empty_without (res.Builtin builtin.Tuple) = tt
 empty_without _ = tt
 
@@ -86,7 +86,7 @@ built_without builtin.Dict (k ∷ v ∷ []) n = dict_without k v n.1.0
 built_without builtin.Tuple (t ∷ ts) n = trees_without (t ∷ ts) n
 built_without _ _ n = tt
 
-applied_without : (r : Res) (ts : List Tree) → AllHaveNone ts → HasNoNeverIfAny (applied_type r ts)
+applied_without : (r : NameMeaning) (ts : List Tree) → AllHaveNone ts → HasNoNeverIfAny (applied_type r ts)
 applied_without (res.Builtin b) ts n = built_without b ts n
 applied_without _ ts n = tt
 

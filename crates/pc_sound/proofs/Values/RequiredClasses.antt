@@ -1,4 +1,4 @@
--- What values of types refer to has classes below a bound only, where the types name such classes only.
+-- Values of types that name only classes below a bound refer only to such classes.
 use Rattle.std.proofs.Common.{◌≡◌, ◌<◌, ℕ, zero, suc, List, [], ◌∷◌, ◌++◌, subst}
 use Rattle.std.specs.Prelude.{Some, slice_get}
 use Rattle.std.proofs.lemmas.Option.{none-some, same_Some}
@@ -16,7 +16,7 @@ module _ (bound : ℕ) where
   RecordBelow (a_list t) = Unit {0}
   RecordBelow (a_dict s t) = Unit {0}
 
-  -- so is each that is recorded
+  -- each recorded class is below the bound
   abbrev pub AllBelow : List Recorded → Type 0
   AllBelow [] = Unit {0}
   AllBelow (r ∷ rs) = RecordBelow r × AllBelow rs

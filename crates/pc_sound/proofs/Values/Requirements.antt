@@ -1,4 +1,5 @@
--- What a heap typing has to record so that a type has a value: the classes, lists and dicts that the value refers to.
+-- The records that a heap typing needs so that a type has a value: the classes, lists and dicts that the value refers
+-- to.
 use Rattle.std.proofs.Common.{◌≡◌, ℕ, zero, suc, List, [], ◌∷◌, ◌++◌, refl, ap, ◌∙◌, arith, Contains}
 use Rattle.std.specs.Prelude.{Some, slice_get}
 use Rattle.std.proofs.lemmas.List.Elements.{Contains-append_left, Contains-append_right}
@@ -9,7 +10,7 @@ use Rattle.pc_class.specs.Facts.{TypedParameter, class_facts_at}
 use Rattle.pc_sound.specs.Values.{HeapTyping, Recorded, a_list, a_dict, a_class}
 use Rattle.pc_sound.specs.Needed.{NoneHasNever, FieldsHaveNoNever}
 
--- what a value of the type refers to
+-- the records that a value of the type refers to
 abbrev mutual
   pub required : Tree → List Recorded
   required (Class c) = a_class c ∷ []
@@ -19,17 +20,17 @@ abbrev mutual
   required (Union a b) = required a ++ required b
   required _ = []
 
-  -- what values of the types refer to
+  -- the records that values of the types refer to
   pub required_by_each : Trees → List Recorded
   required_by_each end = []
   required_by_each (more t ts) = required t ++ required_by_each ts
 
--- what the values of fields refer to
+-- the records that the values of fields refer to
 abbrev pub required_by_fields : List TypedParameter → List Recorded
 required_by_fields [] = []
 required_by_fields (f ∷ fs) = required f.type ++ required_by_fields fs
 
--- what the fields of all classes refer to
+-- the records that the fields of all classes refer to
 abbrev pub required_by_classes : List facts.ClassFacts → List Recorded
 required_by_classes [] = []
 required_by_classes (c ∷ cs) = required_by_fields c.fields ++ required_by_classes cs

@@ -11,7 +11,7 @@ use Rattle.pc_types.specs.Normal.{IsNormal, AreNormal, IsAfter}
 use Rattle.pc_value.specs.Value.{Values, none, tuple_of, no_values, more_values}
 use Rattle.pc_sound.specs.Values.{HeapTyping, HasType, HaveTypes}
 
--- how many items a tuple has
+-- the number of items of a tuple
 abbrev pub size : Values → ℕ
 size no_values = 0
 size (more_values v vs) = size vs + 1

@@ -1,5 +1,5 @@
--- Operations member by member: a value of a type is of one of its members, and what the operation gives on that member
--- is of the join of what it gives on all.
+-- Operations member by member: a value of a type is of one of its members, and the result on that member is of the join
+-- of the results on all.
 use Rattle.std.proofs.Common.{◌≡◌, List, [], ◌∷◌, ◌++◌, map, refl, sym, ap, ◌∙◌, subst, inl, inr}
 use Rattle.std.specs.Prelude.{◌⊎◌, if◌then◌else◌, flat_map}
 use Rattle.pc_types.specs.Tree.{Tree, Any}

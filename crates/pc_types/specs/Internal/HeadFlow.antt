@@ -1,12 +1,13 @@
--- What the code decides of two types, head by head: private to this crate, tied to the definitions in proofs/.
+-- The relations on two types that the code decides head by head: private to this crate; proofs/ tie them to the
+-- definitions.
 use Rattle.std.specs.Prelude.{◌≡◌, ℕ, Bool as Test, true, false, cond}
 use Rattle.pc_types.specs.Tree.{Tree, Trees, Any, Object, Never, Int, Bool, Str, NoneType, Class, ListOf, DictOf}
 use Rattle.pc_types.specs.Tree.{TupleOf, Union, end, more}
 use Rattle.pc_types.specs.Below.{Bases, Below}
 use Rattle.pc_types.specs.Shape.{count}
 
--- each member of the first has in the second a member of its head, or an atom or a class above it; parts are not looked
--- at
+-- each member of the first type has a counterpart in the second: a member with its head, an atom or class above it, Any
+-- or object; parts are ignored
 pub data Covers (bases : Bases) : Tree → Tree → Type 0 where
   c_from_any : {t : Tree} → Covers bases Any t
   c_to_any : {s : Tree} → Covers bases s Any
@@ -25,14 +26,15 @@ pub data Covers (bases : Bases) : Tree → Tree → Type 0 where
   c_left : {s a b : Tree} → Covers bases s a → Covers bases s (Union a b)
   c_right : {s a b : Tree} → Covers bases s b → Covers bases s (Union a b)
 
--- where both directions are wanted, the second covers the first
+-- if both directions are wanted, the second is covered by the first
 abbrev pub CoversBack : Bases → Test → Tree → Tree → Type 0
 CoversBack bases true s t = Covers bases t s
 CoversBack bases false s t = Unit {0}
 
--- flows of types, and of the parts of tuples
+-- flow of types, and of the parts of tuples
 mutual
-  -- the first flows into the second; where both directions are wanted, the parts of tuples are covered back
+  -- the first flows into the second; if both directions are wanted, each part of a tuple in the second must also be
+  -- covered by its counterpart in the first
   pub data HeadFlow (bases : Bases) : Test → Tree → Tree → Type 0 where
     w_from_any : {both : Test} {t : Tree} → HeadFlow bases both Any t
     w_to_any : {both : Test} {s : Tree} → HeadFlow bases both s Any
@@ -54,17 +56,17 @@ mutual
     w_left : {both : Test} {s a b : Tree} → HeadFlow bases both s a → HeadFlow bases both s (Union a b)
     w_right : {both : Test} {s a b : Tree} → HeadFlow bases both s b → HeadFlow bases both s (Union a b)
 
-  -- each part of the first tuple flows into that of the second; both have one length
+  -- each part of the first tuple flows into the same part of the second; both have the same length
   pub data EachFlow (bases : Bases) : Test → Trees → Trees → Type 0 where
     w_end : {both : Test} → EachFlow bases both end end
     w_more : {both : Test} {s t : Tree} {ss ts : Trees} → HeadFlow bases both s t → CoversBack bases both s t
         → EachFlow bases both ss ts → EachFlow bases both (more s ss) (more t ts)
 
--- the first flows into the second and, where both directions are wanted, is covered by it
+-- the first flows into the second and, if both directions are wanted, the second is covered by the first
 abbrev pub FlowsBack : Bases → Test → Tree → Tree → Type 0
 FlowsBack bases both s t = HeadFlow bases both s t × CoversBack bases both s t
 
--- a type as a test sees it, which takes Any as it is, or as object
+-- a type as a test reads it: with each Any as it is if the test is gradual, else as object
 abbrev mutual
   pub seen : Test → Tree → Tree
   seen gradual Any = cond gradual Any Object
@@ -80,12 +82,12 @@ abbrev mutual
   seen gradual (TupleOf ts) = TupleOf (seen_each gradual ts)
   seen gradual (Union a b) = Union (seen gradual a) (seen gradual b)
 
-  -- the parts of a tuple as a test sees them
+  -- the parts of a tuple as a test reads them
   pub seen_each : Test → Trees → Trees
   seen_each gradual end = end
   seen_each gradual (more t ts) = more (seen gradual t) (seen_each gradual ts)
 
--- the heads of two types that are no unions fit
+-- the heads of two types other than unions fit
 abbrev pub HeadFits : Bases → Tree → Tree → Type 0
 HeadFits bases Int Int = Unit {0}
 HeadFits bases Bool Bool = Unit {0}
@@ -98,7 +100,7 @@ HeadFits bases (DictOf j v) (DictOf k w) = Unit {0}
 HeadFits bases (TupleOf ss) (TupleOf ts) = count ss ≡ count ts
 HeadFits bases _ _ = ⊥
 
--- the heads of two types that are no unions fit, and their parts with them
+-- the heads of two types other than unions fit, and so do their parts
 abbrev pub FlowFits : Bases → Test → Tree → Tree → Type 0
 FlowFits bases both Int Int = Unit {0}
 FlowFits bases both Bool Bool = Unit {0}

@@ -9,6 +9,6 @@ use Rattle.pc_types.specs.declared.parents.Rung.{Rung}
 abbrev pub IsLeap : Bases → ℕ → Rung → Type 0
 IsLeap bases c r = reaches bases c c r.leap ≡ true
 
--- each class that has a rung leaps to itself or to an ancestor
+-- each class with a rung leaps to itself or to an ancestor
 abbrev pub AreLeaps : Bases → List Rung → Type 0
 AreLeaps bases rungs = (c : ℕ) (r : Rung) → slice_get rungs c ≡ Some r → IsLeap bases c r

@@ -1,4 +1,4 @@
--- A type from its head and its parts.
+-- A type built from its head and its parts.
 -- Own rule of the profile.
 use Rattle.std.specs.Prelude.{ℕ, List, [], ◌∷◌}
 use Rattle.pc_types.specs.Tree.{Tree, Any, Object, Never, Int, Bool, Str, NoneType, Class, ListOf, DictOf, TupleOf}

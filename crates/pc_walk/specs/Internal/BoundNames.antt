@@ -4,7 +4,7 @@ use Rattle.std.specs.Prelude.{ℕ, List, [], ◌∷◌}
 use Rattle.pc_types.specs.Tree.{Any}
 use Rattle.pc_module_rules.specs.Computed.Statements.{Table, with_declared, bound_type}
 
--- each of these locals that has no declared type so far has Any
+-- a table with Any for each of these locals that has no declared type yet
 abbrev pub unreached_numbers : Table → List ℕ → Table
 unreached_numbers table [] = table
 unreached_numbers table (x ∷ xs) = unreached_numbers (with_declared (bound_type table x) table x Any) xs

@@ -4,7 +4,7 @@ use Rattle.pc_class.specs.Tables.{parameters_with}
 use Rattle.pc_flow.specs.Stored.{env_of}
 use Rattle.pc_notes.specs.Notes.{notes_of}
 use Rattle.pc_module_rules.specs.Computed.Statements.{enter_parameters}
-use Rattle.pc_walk.specs.Walks.{GoesOn, Stands}
+use Rattle.pc_walk.specs.Walks.{WalkKept, Stands}
 use Rattle.pc_check.proofs.entering.enter.Given as goal
 
 abbrev pub invariant-loop-param : goal.invariant-loop-param
@@ -15,7 +15,7 @@ invariant-loop-param g l =
     let rest = parameters_with tree (drop l.param-index l.params) in
     let all = parameters_with tree l.params in
     record {
-      goes_on : GoesOn g.S.TypeStore l.fn.walk l.walk;
+      goes_on : WalkKept g.S.TypeStore l.fn.walk l.walk;
       stands : Stands g.S.TypeStore l.walk l.env;
       is : enter_parameters resolve (env_of tree l.walk.declared.now) (env_of tree l.env) rest
           ≡ enter_parameters first (env_of tree l.fn.walk.declared.now) (env_of tree l.fn.env) all;

@@ -1,5 +1,5 @@
 use Rattle.std.proofs.Common.{◌∙◌, sym, ap}
-use Rattle.pc_scope.specs.declared.resolution.Res.{Res}
+use Rattle.pc_scope.specs.declared.resolution.NameMeaning.{NameMeaning}
 use Rattle.pc_flow.specs.Stored.{env_of}
 use Rattle.pc_notes.specs.Notes.{notes_of}
 use Rattle.pc_module_rules.specs.Computed.Statements.{enter_name}
@@ -22,7 +22,7 @@ returns-clause-bound g c =
     c.args.env.now x c.args.ty.now
     c.in_ok-first.first c.in_ok-current.current h.declared h.current c.requires.ty c.in_ok-first.ensures
     c.in_ok-current.ensures none in
-    let is = entry.is ∙ ap (λ (r : Res). enter_name table env r (tree c.args.ty.now))
+    let is = entry.is ∙ ap (λ (r : NameMeaning). enter_name table env r (tree c.args.ty.now))
     (sym c.in-Local.is ∙ c.resolve.ensures) in
     rw (c.declare.ensures, c.in_ok-assign.ensures.assigned) (record {
       is = ap (λ e. entered e found) is;

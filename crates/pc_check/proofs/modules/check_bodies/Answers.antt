@@ -7,7 +7,7 @@ use Rattle.pc_check.specs.Internal.ModuleWalk.{module_in, IsModuleBodies}
 use Rattle.pc_module_rules.specs.Computed.Modules.{bodies_find}
 use Rattle.pc_check.proofs.CheckedModules.{ItemsAt, items_next, class_here, def_here, constant_passed, class_passed}
 use Rattle.pc_check.proofs.CheckedModules.{def_passed}
-use Rattle.pc_rules.specs.declared.checker.Checker.{Checker}
+use Rattle.pc_rules.specs.declared.typing_state.TypingState.{TypingState}
 use Rattle.pc_rules.proofs.Checkers.{goes_further}
 use Rattle.pc_check.proofs.ModuleBodies.{bodies_kept}
 use Rattle.pc_check.proofs.modules.check_bodies.Goals as goal
@@ -79,13 +79,13 @@ loop-item-preserved g c =
     ] in
     record {
       bodies = elim c.match-item.branch [
-        | in-Constant w ↦ subst (λ (k : Checker _ _). IsModuleBodies (has k.store.now) tree c.args.bodies.now)
+        | in-Constant w ↦ subst (λ (k : TypingState _ _). IsModuleBodies (has k.store.now) tree c.args.bodies.now)
             (sym w.checker-is) v.bodies
-        | in-Class+in_ok-check_methods-in-Class w ↦ subst (λ (k : Checker _ _). IsModuleBodies (has k.store.now) tree
+        | in-Class+in_ok-check_methods-in-Class w ↦ subst (λ (k : TypingState _ _). IsModuleBodies (has k.store.now) tree
             c.args.bodies.now)
             (sym w.checker-is) (bodies_kept has tree c.loop-item.checker.store.now w.check_methods.new.checker.store.now
             w.check_methods.ensures.goes_on.kept c.args.bodies.now v.bodies)
-        | in-Def+in_ok-check_owned-in-Def w ↦ subst (λ (k : Checker _ _). IsModuleBodies (has k.store.now) tree
+        | in-Def+in_ok-check_owned-in-Def w ↦ subst (λ (k : TypingState _ _). IsModuleBodies (has k.store.now) tree
             c.args.bodies.now)
             (sym w.checker-is) (bodies_kept has tree c.loop-item.checker.store.now w.check_owned.new.checker.store.now
             w.check_owned.ensures.goes_on.kept c.args.bodies.now v.bodies)

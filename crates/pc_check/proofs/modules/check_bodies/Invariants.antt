@@ -2,7 +2,7 @@ use Rattle.std.proofs.Common.{◌≡◌, ◌≤◌, map, drop}
 use Rattle.pc_tree.specs.Tree.{item_of}
 use Rattle.pc_scope.specs.Bindings.{classes_in, functions_in}
 use Rattle.pc_notes.specs.Notes.{notes_of}
-use Rattle.pc_rules.specs.Computed.Checkers.{GoesOn}
+use Rattle.pc_rules.specs.Computed.Checkers.{CheckerKept}
 use Rattle.pc_rules.specs.Computed.Signatures.{constants_of}
 use Rattle.pc_check.specs.Internal.ModuleWalk.{module_in, IsModuleBodies}
 use Rattle.pc_module_rules.specs.Computed.Modules.{bodies_find}
@@ -23,5 +23,5 @@ invariant-loop-item g l = record {
       (map item_of (drop l.item-index l.items)) (notes_of l.checker.found.now)
       ≡ bodies_find l.bodies.globals.now.keeps (module_in l.bodies)
       (constants_of (module_in l.bodies)) 0 0 (map item_of l.items) (notes_of l.fn.checker.found.now);
-  goes_on : GoesOn g.S.TypeStore l.fn.checker l.checker;
+  goes_on : CheckerKept g.S.TypeStore l.fn.checker l.checker;
 }

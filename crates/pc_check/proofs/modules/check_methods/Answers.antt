@@ -7,7 +7,7 @@ use Rattle.pc_rules.specs.Computed.Signatures.{constants_of}
 use Rattle.pc_check.specs.Internal.ModuleWalk.{module_in, IsModuleBodies}
 use Rattle.pc_module_rules.specs.Computed.Modules.{methods_find}
 use Rattle.pc_check.proofs.CheckedModules.{MembersAt, members_next, method_here, field_passed, method_passed}
-use Rattle.pc_rules.specs.declared.checker.Checker.{Checker}
+use Rattle.pc_rules.specs.declared.typing_state.TypingState.{TypingState}
 use Rattle.pc_rules.proofs.Checkers.{goes_further}
 use Rattle.pc_check.proofs.ModuleBodies.{bodies_kept}
 use Rattle.pc_check.proofs.modules.check_methods.Goals as goal
@@ -56,9 +56,9 @@ loop-member-preserved g c =
     ] in
     record {
       bodies = elim c.match-member.branch [
-        | in-Field w ↦ subst (λ (k : Checker _ _). IsModuleBodies (has k.store.now) tree c.args.bodies.now)
+        | in-Field w ↦ subst (λ (k : TypingState _ _). IsModuleBodies (has k.store.now) tree c.args.bodies.now)
             (sym w.checker-is) v.bodies
-        | in-Method+in_ok-check_owned-in-Method w ↦ subst (λ (k : Checker _ _). IsModuleBodies (has k.store.now) tree
+        | in-Method+in_ok-check_owned-in-Method w ↦ subst (λ (k : TypingState _ _). IsModuleBodies (has k.store.now) tree
             c.args.bodies.now)
             (sym w.checker-is) (bodies_kept has tree c.loop-member.checker.store.now w.check_owned.new.checker.store.now
             w.check_owned.ensures.goes_on.kept c.args.bodies.now v.bodies)

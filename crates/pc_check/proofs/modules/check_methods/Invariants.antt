@@ -2,7 +2,7 @@ use Rattle.std.proofs.Common.{◌≡◌, ◌≤◌, map, drop}
 use Rattle.pc_tree.specs.Tree.{class_of, member_of}
 use Rattle.pc_scope.specs.Bindings.{methods_in}
 use Rattle.pc_notes.specs.Notes.{notes_of}
-use Rattle.pc_rules.specs.Computed.Checkers.{GoesOn}
+use Rattle.pc_rules.specs.Computed.Checkers.{CheckerKept}
 use Rattle.pc_rules.specs.Computed.Signatures.{constants_of}
 use Rattle.pc_check.specs.Internal.ModuleWalk.{module_in, IsModuleBodies}
 use Rattle.pc_module_rules.specs.Computed.Modules.{methods_find}
@@ -20,5 +20,5 @@ invariant-loop-member g l = record {
       (map member_of (drop l.member-index l.members)) (notes_of l.checker.found.now)
       ≡ methods_find l.bodies.globals.now.keeps (module_in l.bodies)
       (constants_of (module_in l.bodies)) l.class 0 (map member_of l.members) (notes_of l.fn.checker.found.now);
-  goes_on : GoesOn g.S.TypeStore l.fn.checker l.checker;
+  goes_on : CheckerKept g.S.TypeStore l.fn.checker l.checker;
 }

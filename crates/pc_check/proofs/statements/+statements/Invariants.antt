@@ -6,7 +6,7 @@ use Rattle.pc_flow.specs.Environment.{Env}
 use Rattle.pc_flow.specs.Naming.{meanings}
 use Rattle.pc_module_rules.specs.Computed.Statements.{walk_suite, walk_branches}
 use Rattle.pc_walk.specs.Touched.{touched_by, touched_by_branches}
-use Rattle.pc_walk.specs.Walks.{GoesOn, HoldsWay, body_context_in}
+use Rattle.pc_walk.specs.Walks.{WalkKept, HoldsWay, body_context_in}
 use Rattle.pc_check.specs.Internal.StatementWalk.{IsLong, ForkSettles, BreaksSettle}
 use Rattle.pc_check.specs.Internal.Walked.{StandsIn, Settles, reached, forked}
 use Rattle.pc_check.proofs.statements.+statements.Given as goal
@@ -20,7 +20,7 @@ invariant-check_suite-loop-statement g l =
     let bases = l.walk.context.globals.now.outline.now.parents.now in
     let resolve = meanings l.walk.context.names.now in
     record {
-      goes_on : GoesOn S l.fn.walk l.walk;
+      goes_on : WalkKept S l.fn.walk l.walk;
       stands : StandsIn S l.walk l.env l.broken;
       long : IsLong (reached S l.walk l.env l.broken);
       breaks : Settles S l.walk l.breaking.items l.env l.broken;
@@ -41,7 +41,7 @@ invariant-check_branches-loop-branch g l =
     let bases = l.walk.context.globals.now.outline.now.parents.now in
     let resolve = meanings l.walk.context.names.now in
     record {
-      goes_on : GoesOn S l.fn.walk l.walk;
+      goes_on : WalkKept S l.fn.walk l.walk;
       stands : StandsIn S l.walk (Some l.fork.last) l.broken;
       ways : HoldsWay S l.walk l.fork.ways.met;
       settled : ForkSettles l.walk.context.globals.now.outline.now.parents.now l.fork.ways.unsettled.items here;

@@ -6,17 +6,17 @@ use Rattle.pc_tree.specs.declared.code.Code.TheVariants.{E06, E08}
 use Rattle.pc_tree.specs.declared.code.Finding.{Finding}
 use Rattle.pc_tree.specs.Code.{at_code}
 use Rattle.pc_types.specs.Below.{Bases, base_of}
-use Rattle.pc_ann.specs.Bases.{base_named, bases_of}
-use Rattle.pc_class.specs.declared.entries.Entry.{Entry as RustEntry}
+use Rattle.pc_annotations.specs.Bases.{base_named, bases_of}
+use Rattle.pc_class.specs.declared.entries.ClassMember.{ClassMember as RustEntry}
 use Rattle.pc_class.specs.declared.parts.ClassNode.{ClassNode}
-use Rattle.pc_class.specs.declared.parts.TableParts.{TableParts}
+use Rattle.pc_class.specs.declared.parts.ClassArena.{ClassArena}
 use Rattle.pc_class.specs.Entries.{MemberEntry, HasMaps, inherited_in, inherited_by, entries_of, entry_seen}
 use Rattle.pc_class.specs.Entries.{class_entries, clash_places, late_places, defaulted_in}
 use Rattle.pc_class.specs.Outlines.{IsMapOf, field_name, method_name as class_method_name, own_field, own_method}
 use Rattle.pc_class.specs.Outlines.{all_own, AreNew}
 use Rattle.pc_class.specs.Tables.{inherited_entry, HasParameter, HasMethod, parameter_with, method_with}
 use Rattle.pc_class.specs.Parts.{parameter_name, stored_method_name, inherited_node, entries_in}
-use Rattle.pc_ann.specs.ModuleOutlines.{module_in}
+use Rattle.pc_annotations.specs.ModuleOutlines.{module_in}
 use Rattle.pc_class.specs.Annotated.{fields_annotated, methods_annotated}
 use Rattle.pc_class.specs.Built.{Added, members_of_entries}
 use Rattle.pc_class.proofs.Annotations.{members_are}
@@ -163,7 +163,7 @@ returns-clause-table g c =
     let me = c.places_from-2.ensures.end ∙ ap length c.deref-8.ensures.value in
     let n_is = node_same base c.in_ok-fields.fields c.in_ok-methods.methods c.in_ok-defaulted.defaulted _ _ _ _ _ _ _ _
     fs fe ms me in
-    let q : TableParts _ = record {
+    let q : ClassArena _ = record {
       named = c.add_methods.new.named;
       classes = c.push.new.self;
       fields =
@@ -239,7 +239,7 @@ returns-clause-given g c =
     let me = c.places_from-2.ensures.end ∙ ap length c.deref-8.ensures.value in
     let n_is = node_same base c.in_ok-fields.fields c.in_ok-methods.methods c.in_ok-defaulted.defaulted _ _ _ _ _ _ _ _
     fs fe ms me in
-    let q : TableParts _ = record {
+    let q : ClassArena _ = record {
       named = c.add_methods.new.named;
       classes = c.push.new.self;
       fields =
@@ -316,7 +316,7 @@ returns-clause-classes g c =
     let me = c.places_from-2.ensures.end ∙ ap length c.deref-8.ensures.value in
     let n_is = node_same base c.in_ok-fields.fields c.in_ok-methods.methods c.in_ok-defaulted.defaulted _ _ _ _ _ _ _ _
     fs fe ms me in
-    let q : TableParts _ = record {
+    let q : ClassArena _ = record {
       named = c.add_methods.new.named;
       classes = c.push.new.self;
       fields =

@@ -1,6 +1,6 @@
 use Rattle.std.proofs.Common.{◌≡◌, ◌∙◌, ◌++◌, ◌∷◌, [], List, ℕ, length, sym, ap, subst, rules}
 use Rattle.std.specs.Prelude.{Some, if◌then◌else◌, bytes_eq}
-use Rattle.pc_maps.specs.NameMaps.{named_at}
+use Rattle.pc_shared_maps.specs.NameMaps.{named_at}
 use Rattle.pc_class.specs.Outlines.{IsMapOf}
 use Rattle.pc_class.specs.Parts.{parameter_name}
 use Rattle.pc_class.proofs.Holding.{held_more, named_ahead}

@@ -1,12 +1,12 @@
 use Rattle.std.proofs.Common.{◌+◌, List, map, drop, refl, subst}
 use Rattle.std.proofs.Math.ListN.{drop_of_length-le}
 use Rattle.pc_tree.proofs.Stops.{cons_at}
-use Rattle.pc_class.specs.declared.entries.Entry.{Entry as RustEntry}
+use Rattle.pc_class.specs.declared.entries.ClassMember.{ClassMember as RustEntry}
 use Rattle.pc_class.specs.Entries.{entry_seen}
 use Rattle.pc_class.specs.Outlines.{field_name, own_field}
 use Rattle.pc_class.specs.Tables.{HasParameter, parameter_with}
 use Rattle.pc_class.specs.Parts.{parameter_name}
-use Rattle.pc_ann.specs.ModuleOutlines.{module_in}
+use Rattle.pc_annotations.specs.ModuleOutlines.{module_in}
 use Rattle.pc_class.proofs.Holding.{named_on, named_same}
 use Rattle.pc_class.proofs.Walking.{Walk, walk_start, walk_next, walk_end}
 use Rattle.pc_class.proofs.Annotations.{lent_same, lent_on, stepped, fields_next}

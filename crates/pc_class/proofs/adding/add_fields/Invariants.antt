@@ -3,12 +3,12 @@ use Rattle.pc_types.specs.Store.{KeepsTypes}
 use Rattle.pc_class.specs.Internal.Readers.{IsLentSame}
 use Rattle.pc_class.specs.Annotated.{fields_annotated}
 use Rattle.pc_class.specs.Built.{members_of_entries}
-use Rattle.pc_maps.specs.NameMaps.{IsMap, KeepsNamed}
+use Rattle.pc_shared_maps.specs.NameMaps.{IsMap, KeepsNamed}
 use Rattle.pc_class.specs.Entries.{entry_seen}
 use Rattle.pc_class.specs.Outlines.{IsMapOf, field_name, own_field, AreNew}
 use Rattle.pc_class.specs.Tables.{HasParameter, parameter_with}
 use Rattle.pc_class.specs.Parts.{parameter_name}
-use Rattle.pc_ann.specs.ModuleOutlines.{module_in}
+use Rattle.pc_annotations.specs.ModuleOutlines.{module_in}
 use Rattle.pc_class.proofs.Walking.{Walk}
 use Rattle.pc_class.proofs.adding.add_fields.Given as goal
 

@@ -2,12 +2,12 @@ use Rattle.std.proofs.Common.{◌≡◌, ◌++◌, List, map, drop}
 use Rattle.pc_types.specs.Store.{KeepsTypes}
 use Rattle.pc_class.specs.Internal.Readers.{IsLentSame}
 use Rattle.pc_class.specs.Annotated.{methods_annotated}
-use Rattle.pc_maps.specs.NameMaps.{IsMap, KeepsNamed}
+use Rattle.pc_shared_maps.specs.NameMaps.{IsMap, KeepsNamed}
 use Rattle.pc_class.specs.Entries.{entry_seen}
 use Rattle.pc_class.specs.Outlines.{IsMapOf, method_name as class_method_name, own_method, AreNew}
 use Rattle.pc_class.specs.Tables.{HasMethod, method_with}
 use Rattle.pc_class.specs.Parts.{stored_method_name}
-use Rattle.pc_ann.specs.ModuleOutlines.{module_in}
+use Rattle.pc_annotations.specs.ModuleOutlines.{module_in}
 use Rattle.pc_class.proofs.Walking.{Walk}
 use Rattle.pc_class.proofs.adding.add_methods.Given as goal
 

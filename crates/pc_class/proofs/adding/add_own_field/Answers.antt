@@ -4,7 +4,7 @@ use Rattle.pc_class.specs.Entries.{entry_seen}
 use Rattle.pc_class.specs.Outlines.{field_name, own_field}
 use Rattle.pc_class.specs.Tables.{HasParameter, parameter_with}
 use Rattle.pc_class.specs.Parts.{parameter_name}
-use Rattle.pc_ann.specs.ModuleOutlines.{module_in}
+use Rattle.pc_annotations.specs.ModuleOutlines.{module_in}
 use Rattle.pc_class.proofs.Annotations.{field_bound}
 use Rattle.pc_class.proofs.Walking.{added_one}
 use Rattle.pc_class.proofs.adding.add_own_field.Goals as goal

@@ -4,7 +4,7 @@ use Rattle.pc_class.specs.Entries.{entry_seen}
 use Rattle.pc_class.specs.Outlines.{method_name as class_method_name, own_method}
 use Rattle.pc_class.specs.Tables.{HasMethod, method_with}
 use Rattle.pc_class.specs.Parts.{stored_method_name}
-use Rattle.pc_ann.specs.ModuleOutlines.{module_in}
+use Rattle.pc_annotations.specs.ModuleOutlines.{module_in}
 use Rattle.pc_class.proofs.Annotations.{method_bound, no_method, unbound_method}
 use Rattle.pc_class.proofs.Walking.{added_one, added_none}
 use Rattle.pc_class.proofs.adding.add_own_method.Goals as goal

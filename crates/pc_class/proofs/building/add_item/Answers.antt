@@ -7,7 +7,7 @@ use Rattle.pc_scope.specs.Bindings.{as_class}
 use Rattle.pc_class.specs.Facts.{classes_behind}
 use Rattle.pc_class.specs.Tables.{classes_with}
 use Rattle.pc_class.specs.Parts.{entries_in}
-use Rattle.pc_ann.specs.ModuleOutlines.{module_in}
+use Rattle.pc_annotations.specs.ModuleOutlines.{module_in}
 use Rattle.pc_class.specs.Built.{found_behind, annotated_behind}
 use Rattle.pc_class.proofs.building.add_item.Goals as goal
 

@@ -10,7 +10,7 @@ use Rattle.pc_class.specs.Annotated.{class_annotated}
 use Rattle.pc_class.specs.Outlines.{found_over}
 use Rattle.pc_class.specs.Tables.{HasParameter, HasMethod, classes_with}
 use Rattle.pc_class.specs.Parts.{entries_in, entries_behind}
-use Rattle.pc_ann.specs.ModuleOutlines.{module_in}
+use Rattle.pc_annotations.specs.ModuleOutlines.{module_in}
 use Rattle.pc_class.specs.Built.{found_behind, annotated_behind}
 use Rattle.pc_class.proofs.Annotations.{lent_same, lent_on}
 use Rattle.pc_class.proofs.ClassAdded.{entries_are_behind}

@@ -6,7 +6,7 @@ use Rattle.pc_class.specs.Internal.Readers.{IsLentSame}
 use Rattle.pc_class.specs.Facts.{classes_behind}
 use Rattle.pc_class.specs.Tables.{classes_with}
 use Rattle.pc_class.specs.Parts.{entries_in, IsClassTable, HasParts}
-use Rattle.pc_ann.specs.ModuleOutlines.{module_in}
+use Rattle.pc_annotations.specs.ModuleOutlines.{module_in}
 use Rattle.pc_class.specs.Built.{found_behind, annotated_behind}
 use Rattle.pc_class.proofs.ItemsBuilt.{AreAhead}
 use Rattle.pc_class.proofs.building.all_classes.Given as goal

@@ -1,12 +1,12 @@
 use Rattle.std.proofs.Common.{◌∙◌, [], ap}
-use Rattle.pc_class.specs.declared.parts.TableParts.{TableParts}
+use Rattle.pc_class.specs.declared.parts.ClassArena.{ClassArena}
 use Rattle.pc_class.specs.Parts.{entries_in, entries_behind}
 use Rattle.pc_class.proofs.ClassAdded.{entries_are_behind, no_nodes}
 use Rattle.pc_class.proofs.building.no_classes.Goals as goal
 
 pub returns-clause-table : goal.returns-clause-table
 returns-clause-table g c =
-    let p : TableParts _ = record {
+    let p : ClassArena _ = record {
       named = c.in_ok-named.named;
       classes = c.new-2.result;
       fields = c.new-3.result;

@@ -1,7 +1,7 @@
 use Rattle.std.proofs.Common.{◌≡◌, ◌≤◌, ◌+◌, ◌∙◌, sym, ap, arith, add-one}
 use Rattle.pc_tree.specs.Tree.{Name, member_of}
 use Rattle.pc_scope.specs.Internal.WalkViews.{texts_in}
-use Rattle.pc_maps.specs.NameMaps.{with_text}
+use Rattle.pc_shared_maps.specs.NameMaps.{with_text}
 use Rattle.pc_class.specs.Entries.{inherited_in, number_after}
 use Rattle.pc_class.proofs.EntryWalk.{entry_more}
 use Rattle.pc_class.proofs.entries.entries.Goals as goal

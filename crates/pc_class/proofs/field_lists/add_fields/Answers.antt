@@ -1,6 +1,6 @@
 use Rattle.std.proofs.Common.{◌≡◌, ◌<◌, ◌++◌, ◌∷◌, [], List, length, refl, sym, subst, arith}
 use Rattle.std.proofs.lemmas.Option.{slice_get_read}
-use Rattle.pc_maps.specs.SharedLists.{AreNamed}
+use Rattle.pc_shared_maps.specs.SharedLists.{AreNamed}
 use Rattle.pc_class.specs.declared.table.Parameter.{Parameter as RustParameter}
 use Rattle.pc_class.specs.FieldLists.{IsListOf}
 use Rattle.pc_class.specs.Parts.{part}

@@ -1,5 +1,5 @@
 use Rattle.std.proofs.Common.{◌≤◌, ◌++◌, List}
-use Rattle.pc_maps.specs.SharedLists.{HasRoom, KeepsLists}
+use Rattle.pc_shared_maps.specs.SharedLists.{HasRoom, KeepsLists}
 use Rattle.pc_class.specs.declared.table.Parameter.{Parameter as RustParameter}
 use Rattle.pc_class.specs.FieldLists.{IsListOf}
 use Rattle.pc_class.specs.Parts.{part}

@@ -6,7 +6,7 @@ use Rattle.pc_tree.specs.declared.tree.Param.{Param as RustParam}
 use Rattle.pc_tree.specs.Tree.{param_of}
 use Rattle.pc_tree.proofs.Stops.{cons_at}
 use Rattle.pc_class.specs.Facts.{TypedParameter, parameters_of}
-use Rattle.pc_ann.specs.ModuleOutlines.{module_in}
+use Rattle.pc_annotations.specs.ModuleOutlines.{module_in}
 use Rattle.pc_class.specs.Tables.{HasParameter, parameter_with, parameters_with}
 use Rattle.pc_class.proofs.Annotations.{lent_same, lent_on, stepped, params_next}
 use Rattle.pc_class.proofs.reading.read_params.Goals as goal

@@ -4,7 +4,7 @@ use Rattle.pc_types.specs.Store.{KeepsTypes}
 use Rattle.pc_class.specs.Internal.Readers.{IsLentSame}
 use Rattle.pc_class.specs.Annotated.{params_annotated}
 use Rattle.pc_class.specs.Facts.{parameters_of}
-use Rattle.pc_ann.specs.ModuleOutlines.{module_in}
+use Rattle.pc_annotations.specs.ModuleOutlines.{module_in}
 use Rattle.pc_class.specs.Tables.{HasParameter, parameters_with}
 use Rattle.pc_class.proofs.reading.read_params.Given as goal
 

@@ -1,16 +1,20 @@
-use Rattle.std.proofs.Common.{rules, ◌≡◌, ◌++◌, ◌∷◌, [], List, map, refl, sym, ap, ◌∙◌, subst, Contains}
+use Rattle.std.proofs.Common.{rules, ◌≡◌, ℕ, ◌++◌, ◌∷◌, [], List, map, refl, sym, ap, ◌∙◌, subst, Contains}
+use Rattle.std.specs.Prelude.{IfSome}
+use Rattle.std.specs.Ordering.{is_eq, nat_cmp}
+use Rattle.std.specs.Map.{lookup}
 use Rattle.std.specs.List.{AllByRecursion}
 use Rattle.std.specs.List.Sorted.{IsStrictlySortedBy}
 use Rattle.std.specs.Borrow.{Bor}
 use Rattle.pc_source.specs.declared.place.Place.{Place}
 use Rattle.pc_tree.specs.Tree.{module_of}
-use Rattle.pc_notes.specs.declared.notes.Flow.{Flow}
-use Rattle.pc_notes.specs.Texts.{FlowText, IsFlowText, place_cmp, places_of}
+use Rattle.pc_notes.specs.declared.notes.NotedFlow.{NotedFlow}
+use Rattle.pc_notes.specs.declared.sharing.NamedType.{NamedType}
+use Rattle.pc_notes.specs.Texts.{FlowText, IsFlowText, IsNamed, place_cmp, places_of}
 use Rattle.pc_notes.proofs.FirstFlows.{IsPairOf, text_of_pair, all_more, places_more, pairs_found, place_found}
 use Rattle.pc_notes.proofs.notes.texts_of.Goals as goal
 
 abbrev Pair : Type 0
-Pair = Place × Bor Flow
+Pair = Place × Bor NotedFlow
 
 pub loop-entry-init : goal.loop-entry-init
 loop-entry-init c =
@@ -18,12 +22,14 @@ loop-entry-init c =
     c.into_iter-entry-iterator.ensures.into_iter_gives ∙ c.iter-entry-items.ensures.rest in
     record {
       places = ap (λ (l : List FlowText). places_of l ++ map (λ (e : Pair). e.0) c.into_iter-entry-iterator.result)
-          c.new-texts.ensures.items ∙ ap (map (λ (e : Pair). e.0)) all;
+          c.in_ok-texts.ensures.items ∙ ap (map (λ (e : Pair). e.0)) all;
       each = λ notes has. subst (AllByRecursion (IsFlowText (module_of c.args.tree.now) notes))
-          (sym c.new-texts.ensures.items) tt;
+          (sym c.in_ok-texts.ensures.items) tt;
       left = subst (AllByRecursion (IsPairOf c.args.flows.now)) (sym all)
           (pairs_found c.args.flows.now c.args.flows.now.entries c.iter-entry-items.ensures.found);
       given = c.requires;
+      named = λ mark. subst (λ (es : List (ℕ × NamedType)). IfSome (lookup (λ k. is_eq (nat_cmp mark k)) es)
+          (IsNamed (module_of c.args.tree.now))) (sym c.new-known.ensures.empty) tt;
     }
 
 pub loop-entry-preserved : goal.loop-entry-preserved
@@ -44,10 +50,11 @@ loop-entry-preserved c =
           ∙ c.loop-entry.invariant.places;
       each = λ notes has. subst (AllByRecursion (IsFlowText (module_of c.args.tree.now) notes)) (sym after)
           (all_more (IsFlowText (module_of c.args.tree.now) notes) before text (c.loop-entry.invariant.each notes has)
-          (text_of_pair (module_of c.args.tree.now) flows notes has pair pairs.0 text refl c.in_ok-from.ensures
-          c.in_ok-into.ensures));
+          (text_of_pair (module_of c.args.tree.now) flows notes has pair pairs.0 text refl c.in_ok-from.ensures.text
+          c.in_ok-into.ensures.text));
       left = pairs.1;
       given = c.requires;
+      named = c.in_ok-into.ensures.named;
     }
 
 pub returns : goal.returns

@@ -2,7 +2,7 @@ use Rattle.std.proofs.Common.{◌≡◌, ◌++◌, map, List}
 use Rattle.std.specs.List.{AllByRecursion}
 use Rattle.pc_tree.specs.Tree.{module_of}
 use Rattle.pc_notes.specs.Notes.{Note}
-use Rattle.pc_notes.specs.Texts.{IsFlowText, HasFirstFlows, HasGivenFlows, places_of}
+use Rattle.pc_notes.specs.Texts.{IsFlowText, HasFirstFlows, HasGivenFlows, AreNamed, places_of}
 use Rattle.pc_notes.proofs.FirstFlows.{IsPairOf}
 use Rattle.pc_notes.proofs.notes.texts_of.Given as goal
 
@@ -13,4 +13,5 @@ invariant-loop-entry l = record {
       l.texts.items;
   left : AllByRecursion (IsPairOf l.flows) l.entry-iterator;
   given : HasGivenFlows l.flows;
+  named : AreNamed (module_of l.tree) l.known;
 }

@@ -4,7 +4,7 @@ use Rattle.std.proofs.Math.ListN.{drop_of_length-le}
 use Rattle.pc_tree.specs.Tree.{module_of}
 use Rattle.pc_scope.specs.Bindings.{classes_in}
 use Rattle.pc_types.specs.Below.{base_of}
-use Rattle.pc_ann.specs.Bases.{base_named}
+use Rattle.pc_annotations.specs.Bases.{base_named}
 use Rattle.pc_class.specs.declared.table.Method.{Method as RustMethod}
 use Rattle.pc_class.specs.Facts.{Method, base_facts, own_methods, classes_of}
 use Rattle.pc_overrides.specs.Internal.OverrideTests.{methods_above}

@@ -3,7 +3,7 @@ use Rattle.std.specs.Prelude.{Bool, true, false, Some, None}
 use Rattle.std.specs.List.{list_all}
 use Rattle.std.proofs.lemmas.Option.{same_Some}
 use Rattle.pc_types.specs.Below.{Bases}
-use Rattle.pc_ann.specs.Bases.{bases_of}
+use Rattle.pc_annotations.specs.Bases.{bases_of}
 use Rattle.pc_class.specs.Overrides.{overridden}
 use Rattle.pc_class.specs.OverrideFindings.{is_good_to, is_static_to, code_where}
 use Rattle.pc_class.specs.Tables.{method_with}

@@ -4,7 +4,7 @@ use Rattle.std.specs.Borrow.{Bor}
 use Rattle.std.specs.List.{list_all}
 use Rattle.pc_tree.specs.Tree.{module_of}
 use Rattle.pc_types.specs.Below.{base_of}
-use Rattle.pc_ann.specs.Bases.{bases_of}
+use Rattle.pc_annotations.specs.Bases.{bases_of}
 use Rattle.pc_class.specs.OverrideFindings.{is_good_to, is_static_to, code_where, override_code}
 use Rattle.pc_class.specs.Tables.{method_with, IsMethodIfAny}
 use Rattle.pc_class.specs.Parts.{bases_in}

@@ -1,6 +1,6 @@
 use Rattle.std.proofs.Common.{◌∙◌, ap}
 use Rattle.pc_types.specs.Below.{base_of}
-use Rattle.pc_ann.specs.Bases.{bases_of}
+use Rattle.pc_annotations.specs.Bases.{bases_of}
 use Rattle.pc_class.specs.Overrides.{overridden}
 use Rattle.pc_class.specs.OverrideFindings.{override_code}
 use Rattle.pc_class.specs.Tables.{method_with}

@@ -1,7 +1,7 @@
 use Rattle.std.proofs.Common.{◌∙◌, List, sym, ap, arith}
 use Rattle.std.specs.Prelude.{slice_get}
 use Rattle.std.proofs.lemmas.Option.{slice_get_within}
-use Rattle.pc_ann.specs.Bases.{bases_of}
+use Rattle.pc_annotations.specs.Bases.{bases_of}
 use Rattle.pc_overrides.specs.declared.overriding.Demand.{Demand}
 use Rattle.pc_overrides.specs.Internal.OverrideTests.{meets_demand, module_judged}
 use Rattle.pc_overrides.proofs.ClassOverrides.{entries_keep}

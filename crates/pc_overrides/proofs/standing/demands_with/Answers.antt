@@ -1,5 +1,5 @@
 use Rattle.std.proofs.Common.{◌≡◌, sym, subst}
-use Rattle.pc_ann.specs.Bases.{bases_of}
+use Rattle.pc_annotations.specs.Bases.{bases_of}
 use Rattle.pc_class.specs.Tables.{method_with}
 use Rattle.pc_overrides.specs.Internal.OverrideTests.{module_judged}
 use Rattle.pc_overrides.specs.Internal.Standing.{AreListed}

@@ -1,6 +1,6 @@
 use Rattle.std.proofs.Common.{take}
 use Rattle.pc_types.specs.Store.{KeepsTypes}
-use Rattle.pc_ann.specs.Bases.{bases_of}
+use Rattle.pc_annotations.specs.Bases.{bases_of}
 use Rattle.pc_class.specs.Tables.{method_with}
 use Rattle.pc_overrides.specs.Internal.OverrideTests.{module_judged}
 use Rattle.pc_overrides.specs.Internal.Standing.{AreListed, AreWith}

@@ -1,5 +1,5 @@
 use Rattle.std.specs.Prelude.{string_bytes}
-use Rattle.pc_ann.specs.Bases.{bases_of}
+use Rattle.pc_annotations.specs.Bases.{bases_of}
 use Rattle.pc_class.specs.Overrides.{overridden}
 use Rattle.pc_class.specs.Tables.{method_with}
 use Rattle.pc_overrides.specs.Internal.OverrideTests.{module_judged, methods_above}

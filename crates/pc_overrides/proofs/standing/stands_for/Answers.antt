@@ -1,7 +1,7 @@
 use Rattle.std.proofs.Common.{◌∙◌, sym, ap}
 use Rattle.pc_tree.specs.Tree.{module_of}
-use Rattle.pc_ann.specs.Bases.{bases_of}
-use Rattle.pc_ann.proofs.Earlier.{smaller}
+use Rattle.pc_annotations.specs.Bases.{bases_of}
+use Rattle.pc_annotations.proofs.Earlier.{smaller}
 use Rattle.pc_class.specs.Tables.{method_with}
 use Rattle.pc_overrides.specs.declared.overriding.Relation.TheVariants as relations
 use Rattle.pc_overrides.specs.Internal.OverrideTests.{meets}

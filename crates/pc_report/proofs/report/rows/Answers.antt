@@ -17,7 +17,7 @@ loop-finding-preserved c =
     let i = c.loop-finding.finding-index in
     let none : Finding = record { place = record { start = 0; end = 0 }; code = A1 } in
     let finding : Finding = get_or xs i none in
-    let position = c.position_of-position.result in
+    let position = c.row_position-position.result in
     let row : Row = record {
       finding = finding;
       line = position.line;
@@ -28,9 +28,9 @@ loop-finding-preserved c =
     let after : c.push.new.self.items ≡ before ++ row ∷ [] = c.in_ok-push.ensures.items in
     let more : take (i + 1) xs ≡ take i xs ++ finding ∷ [] = take_more xs i none (omega arith) in
     let line = subst (λ (t : List ℕ). position.line ≡ line_of t finding.place.start) c.loop-finding.invariant.text
-    c.position_of-position.ensures.line in
+    c.row_position-position.ensures.line in
     let column = subst (λ (t : List ℕ). position.column ≡ column_of t finding.place.start) c.loop-finding.invariant.text
-    c.position_of-position.ensures.column in
+    c.row_position-position.ensures.column in
     record {
       findings = ap row_findings after ∙ (map-append (λ (r : Row). r.finding) before (row ∷ [])
           ∙ (ap (λ (l : List Finding). l ++ finding ∷ []) c.loop-finding.invariant.findings ∙ sym more));

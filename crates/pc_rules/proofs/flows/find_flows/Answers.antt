@@ -5,7 +5,7 @@ use Rattle.pc_notes.specs.Notes.{notes_of}
 use Rattle.pc_rules.specs.Computed.Findings.{flows_at}
 use Rattle.pc_rules.specs.Computed.Expressions.{flows_of}
 use Rattle.pc_rules.specs.Computed.Standing.{label_with}
-use Rattle.pc_rules.specs.Computed.Checkers.{GoesOn}
+use Rattle.pc_rules.specs.Computed.Checkers.{CheckerKept}
 use Rattle.pc_rules.proofs.Checkers.{goes_further}
 use Rattle.pc_rules.proofs.Flowing.{IsFound, found_none, found_again, found_new, found_all, flows_alike}
 use Rattle.pc_rules.proofs.flows.find_flows.Goals as goal
@@ -41,7 +41,7 @@ loop-ty-preserved g c =
           (notes_of c.loop-ty.checker.found.now) c.ty-item.result c.flow_code.result c.loop-ty-test.true
           c.ty-item.is c.flow_code.ensures.value w.in_default.is v.found)
     ] in
-    let on : GoesOn g.S.TypeStore c.loop-ty.checker
+    let on : CheckerKept g.S.TypeStore c.loop-ty.checker
     (record {
       store = record {
         ref_ptr = c.loop-ty.checker.store.ref_ptr;
@@ -53,7 +53,7 @@ loop-ty-preserved g c =
       found =
           c.loop-ty.checker.found;
     }) = record { kept = k; same_store = refl; same_notes = refl } in
-    let goes : GoesOn g.S.TypeStore c.args.checker.now c.match-flow_code.checker = elim c.match-flow_code.branch [
+    let goes : CheckerKept g.S.TypeStore c.args.checker.now c.match-flow_code.checker = elim c.match-flow_code.branch [
       | in-Some+then-not-has_code+in_ok-push+in_ok-note_flow w ↦
           rw w.checker-is (goes_further (goes_further v.goes_on on) w.note_flow.ensures.goes_on)
       | in-Some+else-not-has_code w ↦ rw w.checker-is (goes_further v.goes_on on)

@@ -1,9 +1,10 @@
-use Rattle.std.proofs.Common.{◌≡◌, ◌++◌, map, take}
 use Rattle.std.specs.Prelude.{filter}
+use Rattle.std.proofs.Common.{◌≡◌, ◌++◌, map, take}
 use Rattle.serde_json.specs.View.{view}
-use Rattle.pc_session.specs.Checked.{is_sent}
+use Rattle.pc_documents.specs.Agreed.{agreed_of}
+use Rattle.pc_documents.specs.Checked.{is_sent}
+use Rattle.pc_documents.specs.Documents.{opened_of}
 use Rattle.pc_session.specs.Sessions.{unknown_of}
-use Rattle.pc_session.specs.States.{agreed_of, opened_of}
 use Rattle.pc_session.proofs.steps.add_all_unknown.Given as goal
 
 abbrev pub invariant-loop-document : goal.invariant-loop-document

@@ -2,12 +2,12 @@ use Rattle.std.proofs.Common.{◌≡◌, ◌∙◌, List, length, map, ap, sym, 
 use Rattle.pc_tree.specs.declared.tree.Member.{Member as RustMember}
 use Rattle.pc_tree.specs.Tree.{class_of, member_of}
 use Rattle.pc_types.specs.Below.{Bases, base_of}
-use Rattle.pc_ann.specs.Bases.{bases_of}
-use Rattle.pc_ann.specs.ModuleOutlines.{module_in}
+use Rattle.pc_annotations.specs.Bases.{bases_of}
+use Rattle.pc_annotations.specs.ModuleOutlines.{module_in}
 use Rattle.pc_class.specs.Facts.{base_facts, classes_of}
 use Rattle.pc_rules.specs.Computed.Signatures.{no_name}
-use Rattle.pc_headers.specs.MembersHeld.{AreHeld}
-use Rattle.pc_headers.proofs.MembersHeld.{members_held}
+use Rattle.pc_callables.specs.MembersHeld.{AreHeld}
+use Rattle.pc_callables.proofs.MembersHeld.{members_held}
 use Rattle.pc_signatures.proofs.constants.add_class.Goals as goal
 
 pub read_members-requires-clause-table : goal.read_members-requires-clause-table

@@ -2,7 +2,7 @@ use Rattle.std.proofs.Common.{◌≡◌, OnOk, sym, subst}
 use Rattle.pc_tree.specs.declared.tree.ItemKind.{ItemKind}
 use Rattle.pc_tree.specs.Tree.{item_of_kind}
 use Rattle.pc_rules.specs.Computed.Signatures.{behind}
-use Rattle.pc_ann.specs.ModuleOutlines.{module_in}
+use Rattle.pc_annotations.specs.ModuleOutlines.{module_in}
 use Rattle.pc_signatures.specs.Internal.ItemsRead.{reached_with}
 use Rattle.pc_signatures.proofs.constants.add_item.Goals as goal
 

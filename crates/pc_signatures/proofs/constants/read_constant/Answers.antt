@@ -1,4 +1,4 @@
-use Rattle.pc_headers.proofs.HeldSignatures.{globals_kept}
+use Rattle.pc_callables.proofs.HeldSignatures.{globals_kept}
 use Rattle.pc_signatures.proofs.constants.read_constant.Goals as goal
 
 pub check_annotated-requires-clause-globals : goal.check_annotated-requires-clause-globals

@@ -7,10 +7,10 @@ use Rattle.pc_class.proofs.ItemsBuilt.{item_ahead, items_ahead}
 use Rattle.pc_notes.specs.Notes.{notes_of}
 use Rattle.pc_rules.specs.Computed.Signatures.{ItemsReached}
 use Rattle.pc_rules.proofs.Checkers.{goes_further}
-use Rattle.pc_ann.specs.ModuleOutlines.{module_in}
+use Rattle.pc_annotations.specs.ModuleOutlines.{module_in}
 use Rattle.pc_signatures.specs.Internal.ItemsRead.{methods_with, reached_with}
-use Rattle.pc_headers.proofs.HeldSignatures.{globals_kept}
-use Rattle.pc_headers.proofs.SignatureWalks.{stepped}
+use Rattle.pc_callables.proofs.HeldSignatures.{globals_kept}
+use Rattle.pc_callables.proofs.SignatureWalks.{stepped}
 use Rattle.pc_signatures.proofs.ItemWalks.{classes_apart, classes_more, reached_next, items_found}
 use Rattle.pc_signatures.proofs.constants.read_items.Goals as goal
 

@@ -4,9 +4,9 @@ use Rattle.pc_scope.specs.Bindings.{classes_in}
 use Rattle.pc_class.proofs.ItemsBuilt.{AreAhead}
 use Rattle.pc_notes.specs.Notes.{notes_of}
 use Rattle.pc_rules.specs.Computed.Signatures.{nothing_reached, signatures_of_methods, behind_all, items_findings}
-use Rattle.pc_rules.specs.Computed.Checkers.{GoesOn}
-use Rattle.pc_ann.specs.ModuleOutlines.{module_in}
-use Rattle.pc_headers.specs.SignaturesRead.{AreGlobals}
+use Rattle.pc_rules.specs.Computed.Checkers.{CheckerKept}
+use Rattle.pc_annotations.specs.ModuleOutlines.{module_in}
+use Rattle.pc_callables.specs.SignaturesRead.{AreGlobals}
 use Rattle.pc_signatures.specs.Internal.ItemsRead.{HasReached, methods_with, reached_with}
 use Rattle.pc_signatures.proofs.constants.read_items.Given as goal
 
@@ -27,5 +27,5 @@ invariant-loop-item g l = record {
       ≡ (notes_of l.fn.checker.found.now) ++ items_findings (module_in l.globals.outline.now) l.globals.keeps
       nothing_reached
       (map item_of l.items);
-  goes_on : GoesOn g.S.TypeStore l.fn.checker l.checker;
+  goes_on : CheckerKept g.S.TypeStore l.fn.checker l.checker;
 }

@@ -6,7 +6,7 @@ use Rattle.pc_tree.specs.Tree.{expr_of}
 use Rattle.pc_flow.specs.Stored.{env_of, declared_of}
 use Rattle.pc_notes.specs.Notes.{notes_of}
 use Rattle.pc_rules.specs.Computed.Standing.{Standing, MeansLabel, label_in, finds_in}
-use Rattle.pc_ann.specs.ModuleOutlines.{module_in}
+use Rattle.pc_annotations.specs.ModuleOutlines.{module_in}
 use Rattle.pc_signatures.proofs.InitializerStanding.{module_names, standing_is}
 use Rattle.pc_signatures.proofs.constants.type_initializer.Goals as goal
 
@@ -21,9 +21,9 @@ returns-clause-labelled g c =
     globals.outline.parents globals.classes globals.functions.are (ap (map tree) c.deref.ensures.value)
     (c.len.ensures ∙ c.args.read.now.methods.ok.0) (module_names m _ globals.outline.scopes.tables)
     (ap (declared_of tree) c.in_ok-declared.ensures) (ap (env_of tree) c.in_ok-env.ensures) in
-    subst (λ (k : Standing). IfOk c.type_expr.result (λ l. MeansLabel g.S.TypeStore.has tree
-    c.type_expr.new.checker.store.now l (label_in k (option_map tree c.args.want.now) (expr_of c.args.value.now))))
-    is c.type_expr.ensures.labelled
+    subst (λ (k : Standing). IfOk c.check_expr.result (λ l. MeansLabel g.S.TypeStore.has tree
+    c.check_expr.new.checker.store.now l (label_in k (option_map tree c.args.want.now) (expr_of c.args.value.now))))
+    is c.check_expr.ensures.labelled
 
 pub returns-clause-found : goal.returns-clause-found
 unfolding meanings
@@ -36,6 +36,6 @@ returns-clause-found g c =
     globals.outline.parents globals.classes globals.functions.are (ap (map tree) c.deref.ensures.value)
     (c.len.ensures ∙ c.args.read.now.methods.ok.0) (module_names m _ globals.outline.scopes.tables)
     (ap (declared_of tree) c.in_ok-declared.ensures) (ap (env_of tree) c.in_ok-env.ensures) in
-    subst (λ (k : Standing). OnOk c.type_expr.result ((notes_of c.type_expr.new.checker.found.now)
+    subst (λ (k : Standing). OnOk c.check_expr.result ((notes_of c.check_expr.new.checker.found.now)
     ≡ (notes_of c.args.checker.now.found.now) ++ finds_in k (option_map tree c.args.want.now)
-    (expr_of c.args.value.now))) is c.type_expr.ensures.found
+    (expr_of c.args.value.now))) is c.check_expr.ensures.found

@@ -1,5 +1,5 @@
-use Rattle.pc_ann.specs.Bases.{bases_of}
-use Rattle.pc_ann.proofs.Earlier.{smaller}
+use Rattle.pc_annotations.specs.Bases.{bases_of}
+use Rattle.pc_annotations.proofs.Earlier.{smaller}
 use Rattle.pc_class.specs.Facts.{classes_of}
 use Rattle.pc_sound.proofs.Heap.FurnishedHeaps.{is_needed}
 use Rattle.pc_sound.proofs.Values.ReadTypes.{module_fields_without}

@@ -1,10 +1,10 @@
 use Rattle.pc_flow.specs.Naming.{meanings}
 use Rattle.std.proofs.Common.{◌≡◌, ◌∙◌, ◌++◌, List, Option, Some, sym, ap, subst}
 use Rattle.std.specs.Option.{option_map}
-use Rattle.pc_scope.specs.declared.resolution.Res.{Res}
+use Rattle.pc_scope.specs.declared.resolution.NameMeaning.{NameMeaning}
 use Rattle.pc_tree.specs.Tree.{ann_of, expr_of, name_of, module_of, option_expr_of}
 use Rattle.pc_types.specs.Tree.{Tree}
-use Rattle.pc_ann.specs.Annotations.{read_ann}
+use Rattle.pc_annotations.specs.Annotations.{read_ann}
 use Rattle.pc_flow.specs.Stored.{env_of}
 use Rattle.pc_notes.specs.Notes.{Note, notes_of}
 use Rattle.pc_module_rules.specs.Computed.Statements.{BindingResult, annotation_finds, bound_name, declared_alone}
@@ -48,7 +48,7 @@ returns-in-None-clause-bound g c =
     let alone = alone_gives S.has tree bases mid.store.now F old.declared.now meaning ty t a.typed.1 held
     (types_kept S.has tree bases old.store.now mid.store.now c.annotated_type.ensures.goes_on.kept old.declared.now
     c.requires.declared) in
-    let made : Res → BindingResult = λ r. record {
+    let made : NameMeaning → BindingResult = λ r. record {
       table = declared_alone F T r t;
       env = E;
       found = found ++ annotation_finds F (bound_name F T r) name annotation;
@@ -90,7 +90,7 @@ returns-in_ok-behind-in-Some-clause-bound g c =
     let meaning = c.resolve-meaning.result in
     let ty = option_map tree c.in_ok-ty.ty in
     let e = expr_of c.deref.result.now in
-    let inside : Res → List Note = λ r. found ++ annotation_finds F (bound_name F T r) name annotation in
+    let inside : NameMeaning → List Note = λ r. found ++ annotation_finds F (bound_name F T r) name annotation in
     let meaning_is = c.resolve-meaning.ensures ∙ ap (meanings old.context.names.now) c.as_str.ensures.value in
     record {
       is = b.is
@@ -101,7 +101,7 @@ returns-in_ok-behind-in-Some-clause-bound g c =
           ∙ ap (λ (ns : List Note). bind_value F T E meaning ty e ns) a.pushed
           ∙ ap (λ (o : Option Tree). bind_value F T E meaning o e (inside meaning)) a.typed.1
           ∙ value_unless F T E meaning t e (inside meaning)
-          ∙ ap (λ (r : Res). bind_value F T E r (Some t) e (inside r)) meaning_is
+          ∙ ap (λ (r : NameMeaning). bind_value F T E r (Some t) e (inside r)) meaning_is
           ∙ ap (λ x. bind_annotated F T E name annotation (Some (expr_of x)) found) c.deref.ensures
           ∙ ap (λ v. bind_annotated F T E name annotation (option_expr_of v) found) (sym c.in-Some.is);
       stands = b.stands;

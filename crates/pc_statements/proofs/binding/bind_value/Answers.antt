@@ -1,7 +1,7 @@
 use Rattle.std.proofs.Common.{◌∙◌, ◌++◌, Option, sym, ap}
 use Rattle.std.specs.Option.{option_map}
 use Rattle.pc_source.specs.declared.place.Place.{Place}
-use Rattle.pc_scope.specs.declared.resolution.Res.{Res}
+use Rattle.pc_scope.specs.declared.resolution.NameMeaning.{NameMeaning}
 use Rattle.pc_tree.specs.Tree.{expr_of}
 use Rattle.pc_tree.specs.Depth.{place_of}
 use Rattle.pc_types.specs.Tree.{Tree}
@@ -60,6 +60,6 @@ returns-in_ok-behind-in-Local-clause-bound g c =
           ∙ ap (λ (p : Place). bind_label F T E x want p m (found ++ finds_in K want e)) c.place.ensures
           ∙ ap (λ (w : Option Tree). bind_label F T E x w (place_of e) (label_in K w e) (found ++ finds_in K w e))
           c.in_ok-want-in-Local.ensures.is
-          ∙ ap (λ (r : Res). bind_value F T E r annotation e found) (sym c.in-Local.is);
+          ∙ ap (λ (r : NameMeaning). bind_value F T E r annotation e found) (sym c.in-Local.is);
       stands = bound.stands;
     }

@@ -12,7 +12,7 @@ use Rattle.pc_module_rules.specs.Computed.Statements.{BodyContext, stored_finds,
 use Rattle.pc_module_rules.proofs.StoredTypes.{fields_stored}
 use Rattle.pc_walk.specs.declared.context.BodyContext.{BodyContext as RustBodyContext}
 use Rattle.pc_walk.specs.StatementsHeld.{body_context_with}
-use Rattle.pc_walk.specs.Walks.{GoesOn, body_context_in, standing_in}
+use Rattle.pc_walk.specs.Walks.{WalkKept, body_context_in, standing_in}
 use Rattle.pc_walk.proofs.Walks.{grown, goes_further, found_quiet, found_then}
 use Rattle.pc_statements.proofs.stores.find_attribute_store.Goals as goal
 
@@ -55,7 +55,7 @@ returns-clause-finds g c =
     c.type_in.ensures.goes_on.context
     ∙ ap (λ (m : Label). attribute_stores F field m.type) c.in_ok-label.ensures.labelled.label.is in
     let offered = record mid { store = record mid.store { now = c.store_offers.new.store } } in
-    let on : GoesOn S mid offered = grown c.store_offers.ensures.kept in
+    let on : WalkKept S mid offered = grown c.store_offers.ensures.kept in
     found_then S old offered c.find_stored.new.walk env env _ stored _ (goes_further c.type_in.ensures.goes_on on)
     c.find_stored.ensures.goes_on (found_quiet S old mid offered env _ c.in_ok-label.ensures.finds on refl refl)
     c.in_ok-find_stored.ensures.finds

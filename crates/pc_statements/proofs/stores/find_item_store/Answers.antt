@@ -16,7 +16,7 @@ use Rattle.pc_statements.proofs.Storing.{all_stores_kept}
 use Rattle.pc_module_rules.specs.Computed.Statements.{BodyContext, stored_finds, store_finds, index_stores}
 use Rattle.pc_module_rules.proofs.StoredTypes.{items_stored}
 use Rattle.pc_walk.specs.declared.context.BodyContext.{BodyContext as RustBodyContext}
-use Rattle.pc_walk.specs.Walks.{GoesOn, body_context_in, standing_in}
+use Rattle.pc_walk.specs.Walks.{WalkKept, body_context_in, standing_in}
 use Rattle.pc_walk.proofs.Walks.{grown, goes_further, same_standing, stands_on, found_by, found_quiet, found_then}
 use Rattle.pc_statements.proofs.stores.find_item_store.Goals as goal
 
@@ -56,7 +56,7 @@ find_stored-requires-clause-well_formed g c =
     (items_stored c.type_in.new.walk.context.globals.now.outline.now.parents.now ty
     c.in_ok-label.ensures.labelled.well_formed))
 
--- what is found in a store to an item
+-- the findings in a store to an item
 item_as : (f : BodyContext) (k : Standing) (place p : Place) (o i v : Expr) (m : Label) (types : List Tree)
     (offers : List StoreOffer) → m ≡ label_in k None i → types ≡ store_index_types offers
     → offers ≡ index_stores f (label_in k None o).type → p ≡ place_of i →
@@ -107,10 +107,10 @@ returns-clause-finds g c =
     let offered = record first { store = record first.store { now = c.store_offers.new.store } } in
     let flown = c.find_flows_in.new.walk in
     let to_first = c.type_in.ensures.goes_on in
-    let first_on : GoesOn S first offered = grown c.store_offers.ensures.kept in
+    let first_on : WalkKept S first offered = grown c.store_offers.ensures.kept in
     let to_offered = goes_further to_first first_on in
     let to_second = goes_further to_offered c.type_in-2.ensures.goes_on in
-    let second_on : GoesOn S second flown = c.find_flows_in.ensures.goes_on in
+    let second_on : WalkKept S second flown = c.find_flows_in.ensures.goes_on in
     let flowing = subst (λ (f : RustBodyContext _). notes_of flown.found.now ≡ notes_of second.found.now
     ++ flows_at c.place.result (flows_of f.globals.now.outline.now.parents.now m types)) to_second.context
     (c.in_ok-find_flows_in.ensures.found m c.in_ok-at.ensures.labelled.label.is) in

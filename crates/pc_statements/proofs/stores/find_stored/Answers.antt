@@ -16,7 +16,7 @@ use Rattle.pc_rules.specs.Computed.Standing.{Standing, label_in, finds_in}
 use Rattle.pc_statements.specs.Storing.{store_offer_with}
 use Rattle.pc_module_rules.specs.Computed.Statements.{BodyContext, stored_finds}
 use Rattle.pc_walk.specs.declared.context.BodyContext.{BodyContext as RustBodyContext}
-use Rattle.pc_walk.specs.Walks.{GoesOn, body_context_in, standing_in}
+use Rattle.pc_walk.specs.Walks.{WalkKept, body_context_in, standing_in}
 use Rattle.pc_statements.proofs.FoundStores.{want_holds}
 use Rattle.pc_walk.proofs.Walks.{grown, goes_further, found_by, found_then}
 use Rattle.pc_statements.proofs.stores.find_stored.Goals as goal
@@ -35,7 +35,7 @@ find_flows_in-requires-clause-into g c = all_kept g.S.TypeStore.has _ _ c.type_i
     c.deref-3.result.now (subst (All (g.S.TypeStore.has c.args.walk.now.store.now))
     (sym c.deref-3.ensures.value) c.in_ok-types.ensures.held)
 
--- what is found of a stored value
+-- the findings of a stored value
 stored_as : (f : BodyContext) (k : Standing) (offers : List StoreOffer) (place p : Place) (e : Expr)
     (want : Option Tree) (types : List Tree) → want ≡ only_type offers types → types ≡ stored_types offers
     → p ≡ place_of e → (codes_at place (store_codes offers) ++ finds_in k want e) ++ flows_at p
@@ -79,7 +79,7 @@ returns-clause-finds g c =
     c.type_in.ensures.goes_on.context
     (c.in_ok-find_flows_in.ensures.found (label_in K want e) c.in_ok-label.ensures.labelled.label.is) in
     let told = record old { found = record old.found { now = c.find_codes.new.found } } in
-    let first : GoesOn S old told = grown (λ ty h. h) in
+    let first : WalkKept S old told = grown (λ ty h. h) in
     found_then S old mid _ env env both flowed _ (goes_further first c.type_in.ensures.goes_on)
     c.find_flows_in.ensures.goes_on
     (found_then S old told mid env env coded typed both first c.type_in.ensures.goes_on

@@ -12,8 +12,8 @@ use Rattle.pc_walk.proofs.Held.{want_given}
 use Rattle.pc_walk.proofs.Walks.{grown, found_by}
 use Rattle.pc_statements.proofs.typing.type_in.Goals as goal
 
-pub type_expr-requires-clause-given : goal.type_expr-requires-clause-given
-type_expr-requires-clause-given g c =
+pub check_expr-requires-clause-given : goal.check_expr-requires-clause-given
+check_expr-requires-clause-given g c =
     let w = c.args.walk.now in
     let h = c.requires.stands in
     record {
@@ -28,8 +28,8 @@ type_expr-requires-clause-given g c =
       env_well_formed = h.current.well_formed;
     }
 
-pub type_expr-requires-clause-want : goal.type_expr-requires-clause-want
-type_expr-requires-clause-want g c = want_given _ g.S.TypeStore.tree
+pub check_expr-requires-clause-want : goal.check_expr-requires-clause-want
+check_expr-requires-clause-want g c = want_given _ g.S.TypeStore.tree
     c.args.walk.now.context.globals.now.outline.now.parents.now c.args.want.now
     c.requires.want
 
@@ -43,7 +43,7 @@ returns-clause-labelled g c =
     let k = standing_in S w c.args.env.now in
     let want = option_map tree c.args.want.now in
     let e = expr_of c.args.e.now in
-    let store = c.type_expr.new.checker.store.now in
+    let store = c.check_expr.new.checker.store.now in
     let l = c.in_ok-label.label in
     let new = record w { store = record w.store { now = store } } in
     let label = subst (λ (ds : List Tree). MeansLabel S.has tree store l (label_in
@@ -67,8 +67,8 @@ returns-clause-finds g c =
     let w = c.args.walk.now in
     let want = option_map tree c.args.want.now in
     let e = expr_of c.args.e.now in
-    let store = c.type_expr.new.checker.store.now in
-    let found = c.type_expr.new.checker.found.now in
+    let store = c.check_expr.new.checker.store.now in
+    let found = c.check_expr.new.checker.found.now in
     let new = record w { store = record w.store { now = store }; found = record w.found { now = found } } in
     let pushed = subst (λ (ds : List Tree). notes_of found ≡ notes_of w.found.now ++ finds_in
     (record {
@@ -79,5 +79,5 @@ returns-clause-finds g c =
     })
     want e) (declared_is tree w.declared.now) c.in_ok-label.ensures.found in
     let all : Found S w c.args.env.now new (λ f k. finds_in k want e) =
-    found_by S w new c.args.env.now _ c.requires.stands (grown c.type_expr.ensures.goes_on.kept) refl pushed in
+    found_by S w new c.args.env.now _ c.requires.stands (grown c.check_expr.ensures.goes_on.kept) refl pushed in
     search (rules, all)

@@ -5,7 +5,7 @@ use Rattle.pc_class.specs.Annotated.{member_annotations}
 use Rattle.pc_class.specs.Built.{class_findings}
 use Rattle.pc_class.specs.OverrideFindings.{override_findings}
 use Rattle.pc_overrides.proofs.ClassOverrides.{entries_keep}
-use Rattle.pc_notes.specs.declared.notes.Entry.{Entry}
+use Rattle.pc_notes.specs.declared.notes.NoteEntry.{NoteEntry}
 use Rattle.pc_notes.specs.Notes.{plain_note, notes_of, findings_of}
 use Rattle.pc_module_rules.specs.Computed.Modules.{module_finds}
 use Rattle.pc_top.proofs.BesideErrors.{beside_errors}
@@ -21,7 +21,7 @@ returns g c =
     let m = module_of c.args.module.now in
     let of_scopes = c.in_ok-of_scopes.of_scopes.items in
     let noted : notes_of c.check_module.new.found ≡ module_finds m [] = c.in_ok-check_module.ensures.found
-    ∙ ap (λ (l : List Entry). module_finds m (notes_of l)) c.new-found.ensures in
+    ∙ ap (λ (l : List NoteEntry). module_finds m (notes_of l)) c.new-found.ensures in
     let classes : c.override_findings.new.found.items ≡ of_tables m ++ override_findings m =
     c.in_ok-override_findings.ensures.found ∙ ap (λ (l : List Finding). l ++ override_findings m)
     c.requires.of_classes in

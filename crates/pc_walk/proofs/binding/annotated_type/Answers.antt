@@ -1,6 +1,6 @@
 use Rattle.std.proofs.Common.{◌≡◌, ◌∙◌, ◌++◌, List, Some, map, sym, ap, subst}
-use Rattle.pc_ann.specs.Listed.{ann_findings}
-use Rattle.pc_ann.proofs.Readings.{read_ann_well_formed}
+use Rattle.pc_annotations.specs.Listed.{ann_findings}
+use Rattle.pc_annotations.proofs.Readings.{read_ann_well_formed}
 use Rattle.pc_tree.specs.declared.code.Finding.{Finding}
 use Rattle.pc_tree.specs.Tree.{name_of, ann_of, module_of}
 use Rattle.pc_types.specs.WellFormed.{IsWellFormed}

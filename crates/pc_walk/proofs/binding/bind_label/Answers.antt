@@ -6,7 +6,7 @@ use Rattle.pc_walk.specs.declared.context.BodyContext.{BodyContext as RustBodyCo
 use Rattle.pc_walk.specs.StatementsHeld.{HoldsContext, HoldsTypes}
 use Rattle.pc_types.specs.declared.store.TypeStore.{Ghosts as StoreOf}
 use Rattle.pc_walk.specs.declared.walk.Walk.{Walk}
-use Rattle.pc_walk.specs.Walks.{GoesOn, body_context_in}
+use Rattle.pc_walk.specs.Walks.{WalkKept, body_context_in}
 use Rattle.pc_walk.proofs.Bound.{flow_found, label_bound, or_well_formed}
 use Rattle.pc_walk.proofs.Held.{types_kept, want_well_formed, context_kept}
 use Rattle.pc_walk.proofs.Walks.{in_body_context}
@@ -14,7 +14,7 @@ use Rattle.pc_walk.proofs.binding.bind_label.Goals as goal
 
 -- types that the context of a walk holds, the context of a later one holds
 types_there : {Store Ty : Type 0} (S : StoreOf Store Ty) (old new : Walk Store Ty) (store : Store)
-    {types : List (Option Ty)} → GoesOn S old new → HoldsTypes (S.has store) S.tree
+    {types : List (Option Ty)} → WalkKept S old new → HoldsTypes (S.has store) S.tree
     old.context.globals.now.outline.now.parents.now types
     → HoldsTypes (S.has store) S.tree new.context.globals.now.outline.now.parents.now types
 types_there S old new store {types = types} g h =
@@ -52,7 +52,7 @@ returns-clause-bound g c = λ m e.
     (flow_found tree bases c.args.place l m ty c.in_ok-code.code before after e code.value code.found)
     (types_kept has tree bases _ _ k w.declared.now h.declared)
     (types_kept has tree bases _ _ k c.args.env h.current) in
-    rw (c.settle.ensures, c.in_ok-assign.ensures.assigned, c.find_flow_in.ensures.declared) (record {
+    rw (c.declare.ensures, c.in_ok-assign.ensures.assigned, c.find_flow_in.ensures.declared) (record {
       is = bound.is;
       stands = record {
         context = in_body_context S w new (λ (f : RustBodyContext _). HoldsContext (has store) tree f) goes

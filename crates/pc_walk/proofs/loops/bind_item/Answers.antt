@@ -1,8 +1,8 @@
 use Rattle.std.proofs.Common.{◌≡◌, ◌∙◌, Option, None, ap, sym}
 use Rattle.std.specs.Option.{option_map}
 use Rattle.pc_tree.specs.Tree.{name_of}
-use Rattle.pc_scope.specs.declared.resolution.Res.{Res}
-use Rattle.pc_scope.specs.declared.resolution.Res.TheVariants as res
+use Rattle.pc_scope.specs.declared.resolution.NameMeaning.{NameMeaning}
+use Rattle.pc_scope.specs.declared.resolution.NameMeaning.TheVariants as res
 use Rattle.pc_types.specs.Tree.{Tree}
 use Rattle.pc_flow.specs.Stored.{env_of}
 use Rattle.pc_notes.specs.Notes.{notes_of}
@@ -39,7 +39,7 @@ returns-in_ok-inside-in-Local-clause-bound g c =
     record {
       is = bound.is
           ∙ ap (λ (o : Option Tree). bind_label context table head x o c.args.place (clean item) found) want
-          ∙ ap (λ (r : Res). bind_item context table head r c.args.place item found) (sym local);
+          ∙ ap (λ (r : NameMeaning). bind_item context table head r c.args.place item found) (sym local);
       stands = bound.stands;
     }
 
@@ -56,6 +56,6 @@ returns-in_default-clause-bound g c =
     record {
       is = sym (item_elsewhere context table head c.resolve.result c.args.place item found
           (λ x i. c.in_default.not-Local x i))
-          ∙ ap (λ (r : Res). bind_item context table head r c.args.place item found) meaning;
+          ∙ ap (λ (r : NameMeaning). bind_item context table head r c.args.place item found) meaning;
       stands = c.requires.stands;
     }

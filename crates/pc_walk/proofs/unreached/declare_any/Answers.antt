@@ -8,6 +8,6 @@ returns-clause-declared g c =
     let w = c.args.walk.now in
     let bases = w.context.globals.now.outline.now.parents.now in
     let any = c.in_ok-any.ensures.value in
-    rw c.settle.ensures (settled_any S.has S.tree bases c.any.new.self w.declared.now c.args.local c.in_ok-any.any any.0
+    rw c.declare.ensures (settled_any S.has S.tree bases c.any.new.self w.declared.now c.args.local c.in_ok-any.any any.0
     any.1
     (types_kept S.has S.tree bases _ _ c.any.ensures.kept w.declared.now c.requires))

@@ -1,6 +1,6 @@
 use Rattle.std.proofs.Common.{◌≡◌, ◌<◌, ℕ, [], length}
 use Rattle.std.specs.Prelude.{slice_index_or}
-use Rattle.pc_maps.specs.SharedLists.{empty_list}
+use Rattle.pc_shared_maps.specs.SharedLists.{empty_list}
 use Rattle.pc_class.specs.FieldLists.{IsListOf, fields_in}
 use Rattle.pc_class.specs.Parts.{entries_in}
 use Rattle.pc_class.proofs.field_lists.ClassLists.new.Given as goal

@@ -1,7 +1,7 @@
 use Rattle.std.proofs.Common.{◌∙◌, List, ap, sym, subst}
 use Rattle.std.specs.Prelude.{Some, slice_get}
-use Rattle.pc_maps.specs.declared.lists.SharedList.{SharedList}
-use Rattle.pc_maps.specs.SharedLists.{seat_at, HasRoom}
+use Rattle.pc_shared_maps.specs.declared.lists.SharedList.{SharedList}
+use Rattle.pc_shared_maps.specs.SharedLists.{seat_at, HasRoom}
 use Rattle.pc_class.specs.FieldLists.{fields_in, list_in}
 use Rattle.pc_class.specs.Parts.{entries_in}
 use Rattle.pc_class.specs.Tables.{ClassEntry}

@@ -1,5 +1,5 @@
 use Rattle.std.proofs.Common.{◌∙◌, List, length, ap}
-use Rattle.pc_maps.specs.declared.lists.SharedList.{SharedList}
+use Rattle.pc_shared_maps.specs.declared.lists.SharedList.{SharedList}
 use Rattle.pc_class.specs.FieldLists.{fields_in}
 use Rattle.pc_class.specs.Tables.{ClassEntry}
 use Rattle.std.specs.Prelude.{Some}

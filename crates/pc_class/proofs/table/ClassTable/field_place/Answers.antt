@@ -1,8 +1,8 @@
 use Rattle.std.proofs.Common.{◌∙◌, List, ap, sym, subst}
 use Rattle.std.specs.Prelude.{Some}
 use Rattle.pc_scope.specs.Resolution.{index_of}
-use Rattle.pc_maps.specs.declared.lists.SharedList.{SharedList}
-use Rattle.pc_maps.specs.SharedLists.{place_at, HasRoom}
+use Rattle.pc_shared_maps.specs.declared.lists.SharedList.{SharedList}
+use Rattle.pc_shared_maps.specs.SharedLists.{place_at, HasRoom}
 use Rattle.pc_class.specs.FieldLists.{fields_in}
 use Rattle.pc_class.specs.Listed.{names_listed}
 use Rattle.pc_class.specs.Tables.{ClassEntry}

@@ -1,7 +1,7 @@
 use Rattle.std.proofs.Common.{◌∙◌, ◌≤◌, List, length, ap, sym, subst}
 use Rattle.std.specs.Prelude.{Some}
-use Rattle.pc_maps.specs.declared.lists.SharedList.{SharedList}
-use Rattle.pc_maps.specs.SharedLists.{needed_at, HasRoom}
+use Rattle.pc_shared_maps.specs.declared.lists.SharedList.{SharedList}
+use Rattle.pc_shared_maps.specs.SharedLists.{needed_at, HasRoom}
 use Rattle.pc_class.specs.FieldLists.{fields_in, list_in}
 use Rattle.pc_class.specs.Listed.{needed_in}
 use Rattle.pc_class.specs.Parts.{entries_in}

@@ -3,7 +3,7 @@ use Rattle.std.specs.List.{slice_get}
 use Rattle.std.proofs.lemmas.List.{length-map}
 use Rattle.std.proofs.lemmas.Option.{slice_get_read}
 use Rattle.pc_types.specs.declared.boxed.BoxType.{BoxType}
-use Rattle.pc_intern.specs.declared.table.Node.{Node}
+use Rattle.pc_intern.specs.declared.table.TypeNode.{TypeNode}
 use Rattle.pc_intern.proofs.Places.{pair_at}
 use Rattle.pc_intern.proofs.table.Table.parts.Goals as goal
 
@@ -13,11 +13,11 @@ returns c = λ b e.
     let node = c.index-as_slice-number in
     let keys = c.as_slice.ensures ∙ c.keys.ensures.rest in
     let all : length c.args.self.now ≡ length es = ap length (sym c.self.view_is)
-    ∙ length-map es (λ (e : Node × BoxType). e.1) in
+    ∙ length-map es (λ (e : TypeNode × BoxType). e.1) in
     let as_many : length c.as_slice.result.now ≡ length es = ap length keys
-    ∙ length-map es (λ (e : Node × BoxType). e.0) in
+    ∙ length-map es (λ (e : TypeNode × BoxType). e.0) in
     let within : c.args.number < length c.as_slice.result.now = omega (arith, all, as_many, c.requires) in
-    let key : slice_get (map (λ (e : Node × BoxType). e.0) es) c.args.number ≡ Some node.result =
+    let key : slice_get (map (λ (e : TypeNode × BoxType). e.0) es) c.args.number ≡ Some node.result =
     ap (λ ks. slice_get ks c.args.number) (sym keys)
     ∙ slice_get_read c.as_slice.result.now (length c.as_slice.result.now) c.args.number node.result refl within
     node.is in

@@ -1,6 +1,7 @@
 use Rattle.std.proofs.Common.{◌∙◌, sym, ap, Some, Bor}
 use Rattle.std.specs.Prelude.{option_map}
-use Rattle.pc_notes.specs.declared.notes.Flow.{Flow}
+use Rattle.pc_types.specs.Boxed.{tree_of}
+use Rattle.pc_notes.specs.declared.notes.NotedFlow.{NotedFlow}
 use Rattle.pc_notes.proofs.Noted.{later_flow, this_flow, no_flow}
 use Rattle.pc_notes.proofs.notes.Notes.explain.Goals as goal
 
@@ -13,13 +14,14 @@ returns-in_err-into-clause-kept g c =
 
 pub returns-in-Some-clause-value : goal.returns-in-Some-clause-value
 returns-in-Some-clause-value g c =
-    let s = sym c.flow_at.ensures ∙ ap (option_map (λ (f : Bor Flow). f.now)) c.in-Some.is in
+    let s = sym c.flow_at.ensures ∙ ap (option_map (λ (f : Bor NotedFlow). f.now)) c.in-Some.is in
     let e = this_flow c.args.place c.deref-entry-items.result.now c.loop-entry.entry-index c.entry-item.result
-    c.loop-entry-test.true c.entry-item.is c.in-Some.flow.now s in (
+    c.loop-entry-test.true c.entry-item.is c.in-Some.flow.now s in
+    let from = c.in_ok-from.ensures.value.1 ∙ ap tree_of c.deref.ensures in
+    let into = c.in_ok-into.ensures.value.1 ∙ ap tree_of c.deref-in-Some.ensures in (
       c.in_ok-into.ensures.kept _ c.in_ok-from.ensures.value.0,
       c.in_ok-into.ensures.value.0,
-      c.loop-entry.invariant.same ∙ e
-          ∙ sym (λ i. Some (c.in_ok-from.ensures.value.1 i, c.in_ok-into.ensures.value.1 i)),
+      c.loop-entry.invariant.same ∙ e ∙ sym (λ i. Some (from i, into i)),
     )
 
 pub returns-in-Some-clause-kept : goal.returns-in-Some-clause-kept
@@ -28,7 +30,7 @@ returns-in-Some-clause-kept g c =
 
 pub loop-entry-preserved : goal.loop-entry-preserved
 loop-entry-preserved g c =
-    let n = sym c.flow_at.ensures ∙ ap (option_map (λ (f : Bor Flow). f.now)) c.in_default.is in
+    let n = sym c.flow_at.ensures ∙ ap (option_map (λ (f : Bor NotedFlow). f.now)) c.in_default.is in
     record {
       same = c.loop-entry.invariant.same ∙ later_flow c.args.place c.deref-entry-items.result.now
           c.loop-entry.entry-index c.entry-item.result c.loop-entry-test.true c.entry-item.is n;

@@ -1,5 +1,0 @@
-use Rattle.pc_ann.proofs.Walking.{IsWalked}
-use Rattle.pc_ann.proofs.marks.are_unrelated.Given as goal
-
-abbrev pub invariant-loop-class : goal.invariant-loop-class
-invariant-loop-class l = IsWalked l.parents l.initial.within.items l.within.items l.class

@@ -1,3 +1,0 @@
--- What only the contracts of private functions say: the public contracts speak of the files beside this folder.
-pub mod Marks
-pub mod TypesRead

@@ -1,0 +1,3 @@
+-- Definitions that only the contracts of private functions use: the public contracts use the files beside this folder.
+pub mod Marks
+pub mod TypesRead

@@ -1,0 +1,6 @@
+pub mod CallMisfits
+pub mod Clashes
+pub mod Lacking
+pub mod Misfits
+pub mod NameMisfits
+pub mod OverrideFaults

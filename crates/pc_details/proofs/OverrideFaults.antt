@@ -1,0 +1,90 @@
+-- A method is good against one above, or static to it, exactly if no part differs.
+use Rattle.std.proofs.Common.{◌≡◌, ℕ, suc, List, [], ◌∷◌, length, Bool, true, false, refl, sym, ap, ◌∙◌}
+use Rattle.std.proofs.Math.Dec.{eqb-suc-zero, eqb-zero-suc, eqb-suc-suc}
+use Rattle.std.specs.Prelude.{not, ◌&&◌, ◌||◌, if◌then◌else◌, Option, Some, None, is_none, nat_eq, bytes_eq}
+use Rattle.std.specs.List.{list_all}
+use Rattle.pc_types.specs.Tree.{Tree}
+use Rattle.pc_types.specs.Computed.{static_test, assignable_test}
+use Rattle.pc_class.specs.Facts.{TypedParameter, Method}
+use Rattle.pc_class.specs.Overrides.{TypeFlow, has_shape_of, parameter_flows, override_flows}
+use Rattle.pc_code_texts.specs.Details.{OverrideFault, other_count, other_name, no_default, other_parameter}
+use Rattle.pc_code_texts.specs.Details.{other_return}
+use Rattle.pc_details.specs.Overrides.{fault_or, shape_fault, parameter_fault, return_fault, fault_against}
+use Rattle.pc_details.specs.Overrides.{OverrideFaultsAreExact}
+
+-- ---- the shape
+
+shape_step : (same above here rest long short : Bool) (o : Option (OverrideFault Tree)) (x y : OverrideFault Tree)
+    → long ≡ short → rest ≡ (short && is_none o)
+    → (same && ((not above || here) && rest))
+    ≡ (long && is_none (if not same then Some x else (if above && not here then Some y else o)))
+shape_step false above here rest true short o x y e h = refl
+shape_step false above here rest false short o x y e h = refl
+shape_step true true true rest long short o x y e h = h ∙ ap (λ (b : Bool). b && is_none o) (sym e)
+shape_step true true false rest true short o x y e h = refl
+shape_step true true false rest false short o x y e h = refl
+shape_step true false here rest long short o x y e h = h ∙ ap (λ (b : Bool). b && is_none o) (sym e)
+
+-- the shapes agree exactly if there are as many parameters, and none differs by name or default
+shape_exact : (k : ℕ) (above here : List TypedParameter)
+    → has_shape_of above here ≡ (nat_eq (length above) (length here) && is_none (shape_fault k above here))
+shape_exact k [] [] = refl
+shape_exact k [] (q ∷ qs) = ap (λ (b : Bool). b && true) (sym (eqb-zero-suc (length qs)))
+shape_exact k (p ∷ ps) [] = ap (λ (b : Bool). b && true) (sym (eqb-suc-zero (length ps)))
+shape_exact k (p ∷ ps) (q ∷ qs) = shape_step (bytes_eq p.name q.name) p.has_default q.has_default
+    (has_shape_of ps qs) (nat_eq (suc (length ps)) (suc (length qs))) (nat_eq (length ps) (length qs))
+    (shape_fault (suc k) ps qs) (other_name k p.name q.name) (no_default p.name)
+    (eqb-suc-suc (length ps) (length qs)) (shape_exact (suc k) ps qs)
+
+-- ---- the types
+
+flow_step : (fits all : Bool) (o : Option (OverrideFault Tree)) (x : OverrideFault Tree) → all ≡ is_none o
+    → (fits && all) ≡ is_none (if fits then o else Some x)
+flow_step true all o x h = h
+flow_step false all o x h = refl
+
+-- the parameters fit exactly if none differs by its type
+parameters_exact : (fits : Tree → Tree → Bool) (above here : List TypedParameter)
+    → list_all (λ (f : TypeFlow). fits f.from f.into) (parameter_flows above here)
+    ≡ is_none (parameter_fault fits above here)
+parameters_exact fits [] [] = refl
+parameters_exact fits [] (q ∷ qs) = refl
+parameters_exact fits (p ∷ ps) [] = refl
+parameters_exact fits (p ∷ ps) (q ∷ qs) = flow_step (fits p.type q.type)
+    (list_all (λ (f : TypeFlow). fits f.from f.into) (parameter_flows ps qs)) (parameter_fault fits ps qs)
+    (other_parameter q.name p.type q.type) (parameters_exact fits ps qs)
+
+return_step : (fits : Bool) (x : OverrideFault Tree) → fits ≡ is_none (if fits then None else Some x)
+return_step true x = refl
+return_step false x = refl
+
+-- ---- all parts
+
+parts_step : (count shape returns parameters : Bool) (s r p : Option (OverrideFault Tree)) (x : OverrideFault Tree)
+    → shape ≡ (count && is_none s) → returns ≡ is_none r → parameters ≡ is_none p
+    → (shape && (returns && parameters))
+    ≡ is_none (if not count then Some x else fault_or s (fault_or r p))
+parts_step false shape returns parameters s r p x h i j = rw h refl
+parts_step true shape returns parameters (Some y) r p x h i j = rw h refl
+parts_step true shape returns parameters None (Some y) p x h i j = rw (h, i) refl
+parts_step true shape returns parameters None None p x h i j = rw (h, i) j
+
+-- a method fits one above exactly if no part differs, whatever it means that types fit
+fits_exact : (fits : Tree → Tree → Bool) (above here : Method)
+    → (has_shape_of above.parameters here.parameters
+    && list_all (λ (f : TypeFlow). fits f.from f.into) (override_flows above here))
+    ≡ is_none (fault_against fits above here)
+fits_exact fits above here =
+    let ps = above.parameters in
+    let qs = here.parameters in
+    let different = other_return above.returns here.returns in
+    parts_step (nat_eq (length ps) (length qs)) (has_shape_of ps qs) (fits here.returns above.returns)
+    (list_all (λ (f : TypeFlow). fits f.from f.into) (parameter_flows ps qs)) (shape_fault 1 ps qs)
+    (return_fault fits above.returns here.returns) (parameter_fault fits ps qs) (other_count (length ps) (length qs))
+    (shape_exact 1 ps qs) (return_step (fits here.returns above.returns) different) (parameters_exact fits ps qs)
+
+pub override_faults_exact : OverrideFaultsAreExact
+override_faults_exact = record {
+  good = λ bases above here. fits_exact (assignable_test bases) above here;
+  static = λ bases above here. fits_exact (static_test bases) above here;
+}

@@ -1,0 +1,99 @@
+-- The details of annotations: why one is no type, which members make no union, and the number of nodes.
+-- Own rule of the profile.
+use Rattle.std.specs.Prelude.{◌≡◌, ℕ, List, [], ◌∷◌, if◌then◌else◌, Option, Some, None, is_none, length, slice_get}
+use Rattle.std.specs.Option.{option_map}
+use Rattle.pc_tree.specs.Tree.{Name, Ann, named, applied, applied_empty, union, Module}
+use Rattle.pc_scope.specs.declared.resolution.Builtin.{Builtin}
+use Rattle.pc_scope.specs.declared.resolution.Builtin.TheVariants as builtin
+use Rattle.pc_scope.specs.declared.resolution.NameMeaning.{NameMeaning}
+use Rattle.pc_scope.specs.declared.resolution.NameMeaning.TheVariants as res
+use Rattle.pc_scope.specs.Bindings.{constants_in, functions_in}
+use Rattle.pc_scope.specs.Resolution.{resolve_in_module}
+use Rattle.pc_types.specs.Tree.{Tree}
+use Rattle.pc_types.specs.Below.{Bases}
+use Rattle.pc_types.specs.Shape.{nodes}
+use Rattle.pc_annotations.specs.Annotations.{reading, readings, is_member, are_apart, is_union}
+use Rattle.pc_annotations.specs.Bases.{bases_of}
+use Rattle.pc_code_texts.specs.Details as detail
+use Rattle.pc_code_texts.specs.Details.{Detail, AnnotationFault, Clash}
+
+-- ---- E10
+
+-- the first of some parts that cannot be in one union with this one
+abbrev pub clash_with : Bases → Tree → List Tree → Option (Clash Tree)
+clash_with bases t [] = None
+clash_with bases t (u ∷ us) = if are_apart bases t u then clash_with bases t us else Some (detail.two t u)
+
+-- a clash if there is one, else the next
+abbrev pub clash_or : Option (Clash Tree) → Option (Clash Tree) → Option (Clash Tree)
+clash_or None other = other
+clash_or (Some x) other = Some x
+
+-- the first part that is no member of a union, or the first two that cannot be in one
+abbrev pub clash_among : Bases → List Tree → Option (Clash Tree)
+clash_among bases [] = None
+clash_among bases (t ∷ ts) = if is_member t then clash_or (clash_with bases t ts) (clash_among bases ts)
+    else Some (detail.no_member t)
+
+-- the law that parts make a union exactly if there is no clash among them
+abbrev pub ClashesAreExact : Type 0
+ClashesAreExact = (bases : Bases) (parts : List Tree) → is_union bases parts ≡ is_none (clash_among bases parts)
+
+-- E10: the first clash among the parts of the union
+abbrev pub union_detail : Module → Ann → Option (Detail Tree)
+union_detail m (union p parts) = option_map detail.union (clash_among (bases_of m) (readings m (bases_of m) parts))
+union_detail m a = None
+
+-- ---- E26
+
+-- E26 at an annotation: the number of nodes of its type
+abbrev pub annotation_size : Module → Ann → Detail Tree
+annotation_size m a = detail.size (nodes (reading m (bases_of m) a))
+
+-- ---- E09
+
+-- a name of the module that is no class, at its place, if there is one
+abbrev pub no_class : (name : List ℕ) → Option Name → AnnotationFault Tree
+no_class word None = detail.unknown_type word
+no_class word (Some n) = detail.no_type word n.place
+
+-- why a reserved name alone is no type: a container needs types, `Any` its header; no other is a type
+abbrev pub fault_of_builtin : (name : List ℕ) → Builtin → AnnotationFault Tree
+fault_of_builtin word builtin.List = detail.bare word
+fault_of_builtin word builtin.Dict = detail.bare word
+fault_of_builtin word builtin.Tuple = detail.bare word
+fault_of_builtin word builtin.Any = detail.any_not_imported
+fault_of_builtin word b = detail.reserved_no_type word
+
+-- why a name of this meaning alone is no type
+abbrev pub fault_of_name : Module → (name : List ℕ) → NameMeaning → AnnotationFault Tree
+fault_of_name m word (res.Const i) =
+    no_class word (option_map (λ c. c.name) (slice_get (constants_in m.items) i))
+fault_of_name m word (res.Func i) =
+    no_class word (option_map (λ f. f.name) (slice_get (functions_in m.items) i))
+fault_of_name m word (res.Builtin b) = fault_of_builtin word b
+fault_of_name m word r = detail.unknown_type word
+
+-- why a container takes no types like these: another number of them, or a key that is neither int nor str
+abbrev pub fault_of_applied : (name : List ℕ) → Builtin → List Tree → AnnotationFault Tree
+fault_of_applied word builtin.List ts = detail.takes_types word 1 (length ts)
+fault_of_applied word builtin.Dict (k ∷ v ∷ []) = detail.key_type k
+fault_of_applied word builtin.Dict ts = detail.takes_types word 2 (length ts)
+fault_of_applied word b ts = detail.takes_none word
+
+-- why a name of this meaning takes no types like these: it is no type itself, or takes none
+abbrev pub fault_of_types : Module → (name : List ℕ) → NameMeaning → List Tree → AnnotationFault Tree
+fault_of_types m word (res.Builtin b) ts = fault_of_applied word b ts
+fault_of_types m word (res.Class c) ts = detail.takes_none word
+fault_of_types m word r ts = fault_of_name m word r
+
+-- E09: why the annotation is no type
+abbrev pub annotation_detail : Module → Ann → Option (Detail Tree)
+annotation_detail m (named n) =
+    Some (detail.annotation (fault_of_name m n.text (resolve_in_module m n.text)))
+annotation_detail m (applied p head arguments) =
+    Some (detail.annotation (fault_of_types m head.text (resolve_in_module m head.text)
+    (readings m (bases_of m) arguments)))
+annotation_detail m (applied_empty p head) =
+    Some (detail.annotation (fault_of_types m head.text (resolve_in_module m head.text) []))
+annotation_detail m a = None

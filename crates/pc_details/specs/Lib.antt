@@ -1,0 +1,11 @@
+pub mod Annotations
+pub mod CallLaws
+pub mod Calls
+pub mod Explains
+pub mod Facts
+pub mod Names
+pub mod Nodes
+pub mod Operations
+pub mod Overrides
+pub mod Sinks
+pub mod Statements

@@ -1,0 +1,5 @@
+pub mod Finding
+pub mod Keeping
+pub mod Limits
+pub mod Rulesets
+pub mod Saying

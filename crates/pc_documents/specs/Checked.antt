@@ -1,0 +1,28 @@
+-- The diagnostics of a text and of a document. Own rule of the server.
+use Rattle.std.specs.Prelude.{◌≡◌, ℕ, ◌&&◌, Bool, true, false, not, List, [], ◌∷◌, Option, None, Some}
+use Rattle.serde_json.specs.Data.{Data}
+use Rattle.pc_documents.specs.declared.checker.CheckOutcome.{CheckOutcome}
+use Rattle.pc_documents.specs.Agreed.{Agreed}
+use Rattle.pc_documents.specs.Diagnostics.{found_data, unknown_data}
+use Rattle.pc_documents.specs.Documents.{OpenDocument}
+
+-- the diagnostics of a document are sent: it is Python, and the client does not pull them
+abbrev pub is_sent : Agreed → OpenDocument → Bool
+is_sent agreed document = document.python && not agreed.pulls
+
+module _ (finds : List ℕ → CheckOutcome → Type 0) (agreed : Agreed) where
+  -- the diagnostics are exactly those of what is found in the text
+  pub record AreDiagnostics (text : List ℕ) (diagnostics : List Data) : Type 0 where
+    pub found : CheckOutcome
+    pub finds_it : finds text found
+    pub are : diagnostics ≡ found_data agreed text found
+
+  -- the diagnostics of a text: those of its findings, or one that says that the text is not known
+  abbrev pub IsChecked : Option (List ℕ) → List Data → Type 0
+  IsChecked None diagnostics = diagnostics ≡ unknown_data ∷ []
+  IsChecked (Some text) diagnostics = AreDiagnostics text diagnostics
+
+  -- the diagnostics of a document: those of its text, or none if it is not Python
+  abbrev pub IsCheckedAs : Bool → Option (List ℕ) → List Data → Type 0
+  IsCheckedAs false text diagnostics = diagnostics ≡ []
+  IsCheckedAs true text diagnostics = IsChecked text diagnostics

@@ -1,0 +1,133 @@
+-- Diagnostics as data. Language Server Protocol 3.17, "Diagnostic".
+use Rattle.std.specs.List.{suffix_len}
+use Rattle.std.specs.Prelude.{ℕ, ◌+◌, ◌-◌, ◌==◌, ◌&&◌, nat_le, nat_lt, Bool, List, [], ◌∷◌, ◌++◌, length, map, take}
+use Rattle.std.specs.Prelude.{Option, None, Some, codes, decimal, string_bytes, slice_get, if◌then◌else◌}
+use Rattle.serde_json.specs.Data.{Data, number, string, object, unsigned, no_members, member}
+use Rattle.pc_source.specs.declared.fault.Refusal.{Refusal}
+use Rattle.pc_source.specs.Refusals.{code_text}
+use Rattle.pc_position.specs.declared.positions.Encoding.{Encoding}
+use Rattle.pc_position.specs.declared.positions.Position.{Position}
+use Rattle.pc_position.specs.Positions.{line_at, character_at}
+use Rattle.pc_tree.specs.declared.code.Code.{Code}
+use Rattle.pc_tree.specs.Code.{text_of, is_error}
+use Rattle.pc_code_texts.specs.Findings.{meaning_of}
+use Rattle.pc_code_texts.specs.Refusals.{refusal_meaning_of}
+use Rattle.pc_documents.specs.declared.checker.CheckOutcome.{CheckOutcome}
+use Rattle.pc_documents.specs.declared.checker.CheckOutcome.TheVariants.{Items, Refused}
+use Rattle.pc_documents.specs.declared.checker.FlowTypes.{FlowTypes}
+use Rattle.pc_documents.specs.declared.checker.ReportedFinding.{ReportedFinding}
+use Rattle.pc_documents.specs.Agreed.{Agreed}
+use Rattle.pc_documents.specs.Anchors.{anchor_of, refusal_anchor_of, entry_at}
+
+-- the position of a byte
+abbrev pub position_at : Encoding → List ℕ → ℕ → Position
+position_at encoding text byte = record { line = line_at text byte; character = character_at encoding text byte }
+
+-- a position
+abbrev pub position_data : Position → Data
+position_data position =
+    object (member (codes "character") (number (unsigned position.character))
+    (member (codes "line") (number (unsigned position.line)) no_members))
+
+-- from the position of a byte to that of another
+abbrev pub range_data : Encoding → List ℕ → ℕ → ℕ → Data
+range_data encoding text start end =
+    object (member (codes "end") (position_data (position_at encoding text end))
+    (member (codes "start") (position_data (position_at encoding text start)) no_members))
+
+-- the severity of a code: 1, an error, or what was agreed for dynamic places
+abbrev pub severity_of : ℕ → Code → ℕ
+severity_of dynamic code = if is_error code then 1 else dynamic
+
+-- the meaning of a code, after the two types of its flow
+abbrev pub message_text : Code → Option FlowTypes → List ℕ
+message_text code None = meaning_of code
+message_text code (Some flow) = string_bytes flow.from
+    ++ (codes " -> " ++ (string_bytes flow.to ++ (codes ": " ++ meaning_of code)))
+
+-- a diagnostic, with a link to the entry of its code if the client named a page
+abbrev pub diagnostic_data : Option (List ℕ) → Data → ℕ → List ℕ → List ℕ → Data
+diagnostic_data None range severity code message =
+    object (member (codes "code") (string code)
+    (member (codes "message") (string message)
+    (member (codes "range") range
+    (member (codes "severity") (number (unsigned severity))
+    (member (codes "source") (string (codes "pycheck")) no_members)))))
+diagnostic_data (Some entry) range severity code message =
+    object (member (codes "code") (string code)
+    (member (codes "codeDescription") (object (member (codes "href") (string entry) no_members))
+    (member (codes "message") (string message)
+    (member (codes "range") range
+    (member (codes "severity") (number (unsigned severity))
+    (member (codes "source") (string (codes "pycheck")) no_members))))))
+
+-- the diagnostic of a finding
+abbrev pub item_data : Agreed → List ℕ → ReportedFinding → Data
+item_data agreed text item = diagnostic_data (entry_at agreed.codes_page (anchor_of item.finding.code))
+    (range_data agreed.encoding text item.finding.place.start item.finding.place.end)
+    (severity_of agreed.dynamic_severity item.finding.code)
+    (text_of item.finding.code) (message_text item.finding.code item.flow)
+
+-- the number of bytes of the character that begins with this byte; 2 for a carriage return with its line feed
+abbrev pub width_of : ℕ → ℕ
+width_of byte = if byte == 13 then 2 else (if nat_lt byte 192 then 1 else (if nat_lt byte 224 then 2 else (
+    if nat_lt byte 240 then 3 else 4)))
+
+-- a continuation byte of UTF-8
+abbrev pub is_continuation : ℕ → Bool
+is_continuation byte = nat_le 128 byte && nat_lt byte 192
+
+-- the end of the character at a byte, given its first byte
+abbrev pub end_after : ℕ → Option ℕ → ℕ
+end_after byte None = byte
+end_after byte (Some first) = byte + width_of first
+
+-- the start of the character at a byte, or of the last character if the byte is past the end of the text
+abbrev pub start_of : List ℕ → ℕ → ℕ
+start_of text byte =
+    if nat_lt byte (length text) then byte else length text - (1 + suffix_len is_continuation text)
+
+-- the end of the character at a byte
+abbrev pub end_of : List ℕ → ℕ → ℕ
+end_of text byte = end_after (start_of text byte) (slice_get text (start_of text byte))
+
+-- the diagnostic of a refusal, at the character of its byte
+abbrev pub refusal_data : Agreed → List ℕ → Refusal → Data
+refusal_data agreed text refusal = diagnostic_data (entry_at agreed.codes_page (refusal_anchor_of refusal.code))
+    (range_data agreed.encoding text (start_of text refusal.byte) (end_of text refusal.byte))
+    1 (code_text refusal.code) (refusal_meaning_of refusal.code)
+
+-- a position in the first line
+abbrev pub first_line : ℕ → Data
+first_line character = position_data (record { line = 0; character = character })
+
+-- a diagnostic without a code, about the whole text: a warning at its first character
+abbrev pub note_data : List ℕ → Data
+note_data message =
+    object (member (codes "message") (string message)
+    (member (codes "range")
+    (object (member (codes "end") (first_line 1) (member (codes "start") (first_line 0) no_members)))
+    (member (codes "severity") (number (unsigned 2))
+    (member (codes "source") (string (codes "pycheck")) no_members))))
+
+-- the only diagnostic of a document whose text is not known
+abbrev pub unknown_data : Data
+unknown_data = note_data (codes "not checked: the text of this document is not known until it changes")
+
+-- the maximum number of diagnostics of a text
+abbrev pub diagnostics_limit : ℕ
+diagnostics_limit = 1000
+
+-- the diagnostic that says how many findings are not shown
+abbrev pub more_data : ℕ → Data
+more_data left = note_data (decimal left ++ codes " more findings are not shown")
+
+-- all diagnostics if they are within the limit; otherwise the first ones, and one that says how many are not shown
+abbrev pub limited : List Data → List Data
+limited all = if nat_le (length all) diagnostics_limit then all
+    else take 999 all ++ more_data (length all - 999) ∷ []
+
+-- the diagnostics of a text: one for each finding, in order and within the limit, or exactly one for its refusal
+abbrev pub found_data : Agreed → List ℕ → CheckOutcome → List Data
+found_data agreed text (Items items) = limited (map (item_data agreed text) items.items)
+found_data agreed text (Refused refusal) = refusal_data agreed text refusal ∷ []

@@ -1,0 +1,82 @@
+-- Hover texts: explanations of the findings at a position, in Markdown. Own rule of the server.
+use Rattle.std.specs.Prelude.{◌≡◌, ℕ, ◌==◌, ◌&&◌, ◌||◌, Bool, not, nat_lt, List, [], ◌∷◌, ◌++◌, codes, filter, fold}
+use Rattle.std.specs.Prelude.{string_bytes, true, false, Option, None, Some, if◌then◌else◌}
+use Rattle.pc_source.specs.declared.fault.Refusal.{Refusal}
+use Rattle.pc_source.specs.Refusals.{code_text}
+use Rattle.pc_position.specs.declared.positions.Encoding.{Encoding}
+use Rattle.pc_position.specs.declared.positions.Position.{Position}
+use Rattle.pc_position.specs.Positions.{line_at}
+use Rattle.pc_tree.specs.Code.{text_of, label_of}
+use Rattle.pc_code_texts.specs.Findings.{meaning_of, mending_of}
+use Rattle.pc_code_texts.specs.Refusals.{refusal_title_of, refusal_meaning_of, refusal_mending_of}
+use Rattle.pc_documents.specs.declared.checker.CheckOutcome.{CheckOutcome}
+use Rattle.pc_documents.specs.declared.checker.CheckOutcome.TheVariants.{Items, Refused}
+use Rattle.pc_documents.specs.declared.checker.FlowTypes.{FlowTypes}
+use Rattle.pc_documents.specs.declared.checker.ReportedFinding.{ReportedFinding}
+use Rattle.pc_documents.specs.Agreed.{Agreed}
+use Rattle.pc_documents.specs.Diagnostics.{position_at, start_of}
+
+-- a position is before another
+abbrev pub is_before : Position → Position → Bool
+is_before first other =
+    nat_lt first.line other.line || ((first.line == other.line) && nat_lt first.character other.character)
+
+-- a position is between two others, or equal to one of them
+abbrev pub is_within : Position → Position → Position → Bool
+is_within start position end = not (is_before position start) && not (is_before end position)
+
+-- the place of a finding covers the position
+abbrev pub has_position : Encoding → List ℕ → Position → ReportedFinding → Bool
+has_position encoding text position item = is_within (position_at encoding text item.finding.place.start) position
+    (position_at encoding text item.finding.place.end)
+
+-- the two types of a flow
+abbrev pub flow_text : Option FlowTypes → List ℕ
+flow_text None = []
+flow_text (Some flow) =
+    codes ": `" ++ (string_bytes flow.from ++ (codes "` to `" ++ (string_bytes flow.to ++ codes "`")))
+
+-- the explanation of a finding: its code, its label, the two types of its flow, its meaning, and how to mend it
+abbrev pub item_text : ReportedFinding → List ℕ
+item_text item = codes "**" ++ (text_of item.finding.code ++ (codes "** " ++ (label_of item.finding.code
+    ++ (flow_text item.flow ++ (codes "\n\n" ++ (meaning_of item.finding.code
+    ++ (codes "\n\n" ++ mending_of item.finding.code)))))))
+
+-- the explanation of a refusal: its code, its title, its meaning, and how to mend it
+abbrev pub refusal_text : Refusal → List ℕ
+refusal_text refusal = codes "**" ++ (code_text refusal.code ++ (codes "** " ++ (refusal_title_of refusal.code
+    ++ (codes "\n\n" ++ (refusal_meaning_of refusal.code ++ (codes "\n\n" ++ refusal_mending_of refusal.code))))))
+
+-- a text, with a horizontal rule below it unless it is empty
+abbrev pub ruled : List ℕ → List ℕ
+ruled [] = []
+ruled (byte ∷ bytes) = (byte ∷ bytes) ++ codes "\n\n---\n\n"
+
+-- a text, followed by the explanation of one more finding
+abbrev pub said_after : List ℕ → ReportedFinding → List ℕ
+said_after told item = ruled told ++ item_text item
+
+-- the hover text at a position: the explanation of each finding whose place covers it, in order, or of the refusal on
+-- the line of its character
+abbrev pub hover_text : Agreed → List ℕ → CheckOutcome → Position → List ℕ
+hover_text agreed text (Items items) position =
+    fold said_after [] (filter (has_position agreed.encoding text position) items.items)
+hover_text agreed text (Refused refusal) position =
+    if line_at text (start_of text refusal.byte) == position.line then refusal_text refusal else []
+
+module _ (finds : List ℕ → CheckOutcome → Type 0) where
+  -- this is said of what is found in the text
+  pub record IsSaidOf (text : List ℕ) (position : Position) (agreed : Agreed) (told : List ℕ) : Type 0 where
+    pub found : CheckOutcome
+    pub finds_it : finds text found
+    pub are : told ≡ hover_text agreed text found position
+
+  -- what is said at a position of a text: nothing of one that is not known
+  abbrev pub IsToldOf : Option (List ℕ) → Position → Agreed → List ℕ → Type 0
+  IsToldOf None position agreed told = told ≡ []
+  IsToldOf (Some text) position agreed told = IsSaidOf text position agreed told
+
+  -- what is said at a position of a document: nothing where it is not Python
+  abbrev pub IsToldAs : Bool → Option (List ℕ) → Position → Agreed → List ℕ → Type 0
+  IsToldAs false text position agreed told = told ≡ []
+  IsToldAs true text position agreed told = IsToldOf text position agreed told

@@ -1,0 +1,21 @@
+-- The result of checking a text, by what it says. Own rule of the server.
+use Rattle.std.specs.Prelude.{◌≡◌, ℕ, List, map, Option, option_map, string_bytes}
+use Rattle.pc_tree.specs.declared.code.Finding.{Finding}
+use Rattle.pc_documents.specs.declared.checker.CheckOutcome.{CheckOutcome}
+use Rattle.pc_documents.specs.declared.checker.CheckOutcome.TheVariants.{Items, Refused}
+use Rattle.pc_documents.specs.declared.checker.FlowTypes.{FlowTypes}
+use Rattle.pc_documents.specs.declared.checker.ReportedFinding.{ReportedFinding}
+
+-- the texts of the two types of a flow
+abbrev pub texts_of : FlowTypes → List ℕ × List ℕ
+texts_of flow = (string_bytes flow.from, string_bytes flow.to)
+
+-- what an item says: its finding, and the texts of the two types of its flow, where it has one
+abbrev pub said_by : ReportedFinding → Finding × Option (List ℕ × List ℕ)
+said_by item = (item.finding, option_map texts_of item.flow)
+
+-- the same is said: items that say the same in the same order, or the same refusal
+abbrev pub SayTheSame : CheckOutcome → CheckOutcome → Type 0
+SayTheSame (Items items) (Items others) = map said_by items.items ≡ map said_by others.items
+SayTheSame (Refused refusal) (Refused other) = refusal ≡ other
+SayTheSame one other = ⊥

@@ -1,0 +1,331 @@
+//! Diagnostics of findings and refusals.
+
+ghost use Rattle.std.specs.List.{suffix_len};
+ghost use Rattle.std.specs.Prelude.{◌≡◌, ◌≤◌, ◌∷◌, [], IfOk, length, map, option_map, string_bytes, take};
+ghost use Rattle.serde_json.specs.View.{view};
+ghost use Rattle.pc_position.specs.Positions.{IsPositionOf};
+ghost use Rattle.pc_documents.specs.Agreed.{agreed_of};
+ghost use Rattle.pc_documents.specs.Diagnostics.{position_data, range_data, severity_of, message_text, diagnostic_data};
+ghost use Rattle.pc_documents.specs.Diagnostics.{item_data, refusal_data, found_data, width_of, is_continuation};
+ghost use Rattle.pc_documents.specs.Diagnostics.{start_of, end_of, first_line, note_data, unknown_data, more_data};
+ghost use Rattle.pc_documents.specs.Diagnostics.{limited};
+
+use crate::anchors::{anchor, entry, refusal_anchor};
+use crate::checker::{CheckOutcome, ReportedFinding};
+use crate::settings::Settings;
+use pc_code_texts::{meaning, refusal_meaning};
+use pc_position::{Encoding, Mark, Position, mark_after};
+use pc_source::Refusal;
+use pc_tree::Code;
+use serde_json::{Value, json};
+use std::alloc::{AllocError, Global};
+
+/// Returns a position as JSON.
+fn position_value(alloc: Global, position: Position) -> Result<Value, AllocError>
+    ensures { IfOk result (λ v. view v ≡ position_data position) }
+{
+    json!(in alloc; {"character": position.character, "line": position.line})
+}
+
+/// Returns a range between two positions as JSON.
+fn range_value(alloc: Global, start: Position, end: Position) -> Result<Value, AllocError>
+    ensures { IfOk result (λ v. (encoding : _) (text : _) (from : _) (to : _)
+        → IsPositionOf encoding text from start → IsPositionOf encoding text to end
+        → view v ≡ range_data encoding text from to) }
+{
+    let start = position_value(alloc, start)?;
+    let end = position_value(alloc, end)?;
+    json!(in alloc; {"end": end, "start": start})
+}
+
+/// Returns the severity of a code: 1 for an error, `dynamic` for a dynamic place.
+fn severity(dynamic: u64, code: Code) -> u64
+    ensures { result ≡ severity_of dynamic code }
+{
+    if code.is_error() { 1 } else { dynamic }
+}
+
+/// Returns the message of a finding: the two types of its flow, if any, and the meaning of its code.
+fn message_of(alloc: Global, item: &ReportedFinding) -> Result<String, AllocError>
+    ensures { IfOk result (λ s. string_bytes s ≡ message_text item.now.finding.code item.now.flow) }
+{
+    let text = meaning(item.finding.code);
+    match &item.flow {
+        None => String::from_str(alloc, text),
+        Some(flow) => {
+            let from = flow.from.as_str();
+            let to = flow.to.as_str();
+            format!(in alloc; "{from} -> {to}: {text}")
+        }
+    }
+}
+
+/// Returns a diagnostic, with a link to the entry of its code if there is one.
+fn diagnostic(
+    alloc: Global,
+    entry: &Option<String>,
+    range: Value,
+    severity: u64,
+    code: &str,
+    message: &str,
+) -> Result<Value, AllocError>
+    ensures { IfOk result (λ v. view v
+        ≡ diagnostic_data (option_map string_bytes entry.now) (view range) severity code.now message.now) }
+{
+    match entry {
+        None => json!(in alloc; {
+            "code": code,
+            "message": message,
+            "range": range,
+            "severity": severity,
+            "source": "pycheck"
+        }),
+        Some(entry) => json!(in alloc; {
+            "code": code,
+            "codeDescription": {"href": entry.as_str()},
+            "message": message,
+            "range": range,
+            "severity": severity,
+            "source": "pycheck"
+        }),
+    }
+}
+
+/// Returns the marks of the start and the end of a place. Counts from the mark `known`.
+pub(crate) fn ends_of(
+    text: &[u8],
+    encoding: Encoding,
+    known: Mark,
+    start: usize,
+    end: usize,
+) -> (Mark, Mark)
+    requires { IsPositionOf encoding text.now known.byte known.position }
+    ensures start { IsPositionOf encoding text.now start result.0.position }
+    ensures start_byte { result.0.byte ≡ start }
+    ensures end { IsPositionOf encoding text.now end result.1.position }
+{
+    let start = mark_after(text, encoding, known, start);
+    let end = mark_after(text, encoding, start, end);
+    (start, end)
+}
+
+/// Returns the diagnostic of a finding, and the mark of its start. Counts from the mark `known`.
+fn item_value(
+    alloc: Global,
+    settings: &Settings,
+    text: &[u8],
+    known: Mark,
+    item: &ReportedFinding,
+) -> Result<(Value, Mark), AllocError>
+    requires { IsPositionOf settings.now.encoding text.now known.byte known.position }
+    ensures value { IfOk result (λ r. view r.0 ≡ item_data (agreed_of settings.now) text.now item.now) }
+    ensures mark { IfOk result (λ r. IsPositionOf settings.now.encoding text.now r.1.byte r.1.position) }
+{
+    let place = item.finding.place;
+    let (start, end) = ends_of(text, settings.encoding, known, place.start, place.end);
+    let range = range_value(alloc, start.position, end.position)?;
+    let message = message_of(alloc, item)?;
+    let code = item.finding.code;
+    let severity = severity(settings.dynamic_severity, code);
+    let anchor = anchor(alloc, code)?;
+    let entry = entry(alloc, &settings.codes_page, anchor.as_str())?;
+    let value = diagnostic(
+        alloc,
+        &entry,
+        range,
+        severity,
+        code.text(),
+        message.as_str(),
+    )?;
+    Ok((value, start))
+}
+
+/// Returns the diagnostics of findings, in order.
+fn item_values(
+    alloc: Global,
+    settings: &Settings,
+    text: &[u8],
+    items: &[ReportedFinding],
+) -> Result<Vec<Value>, AllocError>
+    ensures { IfOk result (λ v. map view v.items ≡ map (item_data (agreed_of settings.now) text.now) items.now) }
+{
+    let mut values = Vec::with_capacity(alloc, items.len())?;
+    let mut known = Mark::start();
+    for item in items {
+        let (value, start) = item_value(alloc, settings, text, known, item)?;
+        values.push(value)?;
+        known = start;
+    }
+    Ok(values)
+}
+
+/// Maximum number of diagnostics of a text.
+const DIAGNOSTICS_LIMIT: usize = 1000;
+
+/// Number of findings that are shown if there are more than the maximum.
+const SHOWN: usize = 999;
+
+/// Returns a position in the first line as JSON.
+fn first_line(alloc: Global, character: u64) -> Result<Value, AllocError>
+    ensures { IfOk result (λ v. view v ≡ first_line character) }
+{
+    position_value(alloc, Position { line: 0, character })
+}
+
+/// Returns a warning about the whole text, at its first character.
+fn note(alloc: Global, message: &str) -> Result<Value, AllocError>
+    ensures { IfOk result (λ v. view v ≡ note_data message.now) }
+{
+    let start = first_line(alloc, 0)?;
+    let end = first_line(alloc, 1)?;
+    json!(in alloc; {
+        "message": message,
+        "range": {"end": end, "start": start},
+        "severity": 2u64,
+        "source": "pycheck"
+    })
+}
+
+/// Returns the diagnostics of a document whose text is not known: a single one that says so.
+pub fn unknown_values(alloc: Global) -> Result<Vec<Value>, AllocError>
+    ensures { IfOk result (λ v. map view v.items ≡ unknown_data ∷ []) }
+{
+    let text = "not checked: the text of this document is not known until it changes";
+    let mut values = Vec::with_capacity(alloc, 1)?;
+    values.push(note(alloc, text)?)?;
+    Ok(values)
+}
+
+/// Returns the diagnostic that says how many findings are not shown.
+fn more(alloc: Global, left: usize) -> Result<Value, AllocError>
+    ensures { IfOk result (λ v. view v ≡ more_data left) }
+{
+    let text = format!(in alloc; "{left} more findings are not shown")?;
+    note(alloc, text.as_str())
+}
+
+/// Returns the diagnostics of the first `most` findings, in order.
+fn first_values(
+    alloc: Global,
+    settings: &Settings,
+    text: &[u8],
+    items: &[ReportedFinding],
+    most: usize,
+) -> Result<Vec<Value>, AllocError>
+    requires { most ≤ length items.now }
+    ensures { IfOk result (λ v. map view v.items
+        ≡ map (item_data (agreed_of settings.now) text.now) (take most items.now)) }
+{
+    let first = &items[..most];
+    item_values(alloc, settings, text, first)
+}
+
+/// Returns the diagnostics of findings, in order. Past the maximum, the last one says how many are not shown.
+#[tactic(auto, using(crate::proofs::Limits::within, crate::proofs::Limits::beyond))]
+fn limited_values(
+    alloc: Global,
+    settings: &Settings,
+    text: &[u8],
+    items: &[ReportedFinding],
+) -> Result<Vec<Value>, AllocError>
+    ensures { IfOk result (λ v. map view v.items
+        ≡ limited (map (item_data (agreed_of settings.now) text.now) items.now)) }
+{
+    if items.len() <= DIAGNOSTICS_LIMIT {
+        return item_values(alloc, settings, text, items);
+    }
+    let mut values = first_values(alloc, settings, text, items, SHOWN)?;
+    values.push(more(alloc, items.len() - SHOWN)?)?;
+    Ok(values)
+}
+
+/// Returns the number of bytes of the character that begins with `byte`; 2 for a carriage return with its line feed.
+fn width_of(byte: u8) -> usize
+    ensures width { result ≡ width_of byte }
+    ensures small { result ≤ 4 }
+{
+    match byte {
+        b'\r' => 2,
+        0..=191 => 1,
+        192..=223 => 2,
+        224..=239 => 3,
+        240..=255 => 4,
+    }
+}
+
+/// Returns whether a byte is a continuation byte of UTF-8.
+fn is_continuation(byte: u8) -> bool
+    ensures { result ≡ is_continuation byte }
+{
+    byte >= 128 && byte < 192
+}
+
+/// Returns the number of continuation bytes at the end of a text.
+fn continued(text: &[u8]) -> usize
+    ensures count { result ≡ suffix_len is_continuation text.now }
+    ensures within { result ≤ length text.now }
+{
+    text.iter()
+        .rev()
+        .take_while(|b| is_continuation(**b))
+        .count()
+}
+
+/// Returns the start of the character at a byte, or of the last character if the byte is past the end.
+pub(crate) fn start_of(text: &[u8], byte: usize) -> usize
+    ensures { result ≡ start_of text.now byte }
+{
+    if byte < text.len() {
+        byte
+    } else {
+        text.len().saturating_sub(1 + continued(text))
+    }
+}
+
+/// Returns the end of the character at a byte.
+fn end_of(text: &[u8], byte: usize) -> usize
+    ensures { result ≡ end_of text.now byte }
+{
+    let start = start_of(text, byte);
+    match text.get(start) {
+        None => start,
+        Some(first) => start + width_of(*first),
+    }
+}
+
+/// Returns the diagnostic of a refusal, at the character of its byte.
+fn refusal_value(
+    alloc: Global,
+    settings: &Settings,
+    text: &[u8],
+    refusal: Refusal,
+) -> Result<Value, AllocError>
+    ensures { IfOk result (λ v. view v ≡ refusal_data (agreed_of settings.now) text.now refusal) }
+{
+    let start = start_of(text, refusal.byte);
+    let end = end_of(text, refusal.byte);
+    let (start, end) = ends_of(text, settings.encoding, Mark::start(), start, end);
+    let range = range_value(alloc, start.position, end.position)?;
+    let message = refusal_meaning(refusal.code);
+    let entry = entry(alloc, &settings.codes_page, refusal_anchor(refusal.code))?;
+    diagnostic(alloc, &entry, range, 1, refusal.code.text(), message)
+}
+
+/// Returns the diagnostics of the findings in a text, or of its refusal.
+pub(crate) fn found_values(
+    alloc: Global,
+    settings: &Settings,
+    text: &[u8],
+    found: &CheckOutcome,
+) -> Result<Vec<Value>, AllocError>
+    ensures { IfOk result (λ v. map view v.items ≡ found_data (agreed_of settings.now) text.now found.now) }
+{
+    match found {
+        CheckOutcome::Items(items) => limited_values(alloc, settings, text, items),
+        CheckOutcome::Refused(refusal) => {
+            let mut values = Vec::with_capacity(alloc, 1)?;
+            values.push(refusal_value(alloc, settings, text, *refusal)?)?;
+            Ok(values)
+        }
+    }
+}

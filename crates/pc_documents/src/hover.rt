@@ -1,0 +1,151 @@
+//! Hover texts: explanations of the findings at a position.
+
+ghost use Rattle.std.specs.Prelude.{◌≡◌, [], OnOk, IfOk, string_bytes, fold, filter};
+ghost use Rattle.pc_position.specs.Positions.{IsPositionOf};
+ghost use Rattle.pc_documents.specs.Agreed.{agreed_of};
+ghost use Rattle.pc_documents.specs.Hovers.{is_before, is_within, has_position, flow_text, item_text, refusal_text};
+ghost use Rattle.pc_documents.specs.Hovers.{ruled, said_after, hover_text};
+
+use crate::checker::{CheckOutcome, FlowTypes, ReportedFinding};
+use crate::diagnostics::{ends_of, start_of};
+use crate::settings::Settings;
+use pc_code_texts::{meaning, mending, refusal_meaning, refusal_mending, refusal_title};
+use pc_position::{Encoding, Mark, Position, mark_after};
+use pc_source::Refusal;
+use std::alloc::{AllocError, Global};
+
+/// Returns whether `first` is before `other`.
+fn is_before(first: Position, other: Position) -> bool
+    ensures { result ≡ is_before first other }
+{
+    first.line < other.line || (first.line == other.line && first.character < other.character)
+}
+
+/// Returns whether `position` is between `start` and `end`, both included.
+fn is_within(start: Position, position: Position, end: Position) -> bool
+    ensures { result ≡ is_within start position end }
+{
+    !is_before(position, start) && !is_before(end, position)
+}
+
+/// Returns the two types of a flow in Markdown; empty without a flow.
+fn flow_text(alloc: Global, flow: &Option<FlowTypes>) -> Result<String, AllocError>
+    ensures { IfOk result (λ s. string_bytes s ≡ flow_text flow.now) }
+{
+    match flow {
+        None => Ok(String::new(alloc)),
+        Some(flow) => {
+            let from = flow.from.as_str();
+            let to = flow.to.as_str();
+            format!(in alloc; ": `{from}` to `{to}`")
+        }
+    }
+}
+
+/// Returns the explanation of a finding in Markdown.
+fn item_text(alloc: Global, item: &ReportedFinding) -> Result<String, AllocError>
+    ensures { IfOk result (λ s. string_bytes s ≡ item_text item.now) }
+{
+    let code = item.finding.code;
+    let name = code.text();
+    let label = code.label();
+    let flow = flow_text(alloc, &item.flow)?;
+    let flow = flow.as_str();
+    let means = meaning(code);
+    let mends = mending(code);
+    format!(in alloc; "**{name}** {label}{flow}\n\n{means}\n\n{mends}")
+}
+
+/// Returns the explanation of a refusal in Markdown.
+fn refusal_text(alloc: Global, refusal: Refusal) -> Result<String, AllocError>
+    ensures { IfOk result (λ s. string_bytes s ≡ refusal_text refusal) }
+{
+    let name = refusal.code.text();
+    let title = refusal_title(refusal.code);
+    let means = refusal_meaning(refusal.code);
+    let mends = refusal_mending(refusal.code);
+    format!(in alloc; "**{name}** {title}\n\n{means}\n\n{mends}")
+}
+
+/// Appends a horizontal rule, unless the text is empty.
+fn add_rule(told: &mut String) -> Result<(), AllocError>
+    ensures { OnOk result (string_bytes told.new ≡ ruled (string_bytes told.old)) }
+{
+    if told.is_empty() {
+        return Ok(());
+    }
+    told.push_str("\n\n---\n\n")
+}
+
+/// Appends the explanation of a finding, below a horizontal rule if the text is not empty.
+fn add_item(alloc: Global, told: &mut String, item: &ReportedFinding) -> Result<(), AllocError>
+    ensures { OnOk result (string_bytes told.new ≡ said_after (string_bytes told.old) item.now) }
+{
+    add_rule(told)?;
+    let text = item_text(alloc, item)?;
+    told.push_str(text.as_str())
+}
+
+/// Returns whether the place of a finding covers a position, and the mark of its start. Counts from the mark `known`.
+fn has_position(
+    text: &[u8],
+    encoding: Encoding,
+    known: Mark,
+    item: &ReportedFinding,
+    position: Position,
+) -> (bool, Mark)
+    requires { IsPositionOf encoding text.now known.byte known.position }
+    ensures has { result.0 ≡ has_position encoding text.now position item.now }
+    ensures mark { IsPositionOf encoding text.now result.1.byte result.1.position }
+{
+    let place = item.finding.place;
+    let (start, end) = ends_of(text, encoding, known, place.start, place.end);
+    (is_within(start.position, position, end.position), start)
+}
+
+/// Returns the explanations of the findings at a position, in order.
+fn items_text(
+    alloc: Global,
+    encoding: Encoding,
+    text: &[u8],
+    items: &[ReportedFinding],
+    position: Position,
+) -> Result<String, AllocError>
+    ensures { IfOk result (λ s. string_bytes s
+        ≡ fold said_after [] (filter (has_position encoding text.now position) items.now)) }
+{
+    let mut told = String::new(alloc);
+    let mut known = Mark::start();
+    for item in items {
+        let (has, start) = has_position(text, encoding, known, item, position);
+        known = start;
+        if has {
+            add_item(alloc, &mut told, item)?;
+        }
+    }
+    Ok(told)
+}
+
+/// Returns the hover text at a position in Markdown; empty if nothing is found there.
+pub(crate) fn hover_text(
+    alloc: Global,
+    settings: &Settings,
+    text: &[u8],
+    found: &CheckOutcome,
+    position: Position,
+) -> Result<String, AllocError>
+    ensures { IfOk result (λ s. string_bytes s ≡ hover_text (agreed_of settings.now) text.now found.now position) }
+{
+    match found {
+        CheckOutcome::Items(items) => items_text(alloc, settings.encoding, text, items, position),
+        CheckOutcome::Refused(refusal) => {
+            let start = start_of(text, refusal.byte);
+            let at = mark_after(text, settings.encoding, Mark::start(), start).position;
+            if at.line == position.line {
+                refusal_text(alloc, *refusal)
+            } else {
+                Ok(String::new(alloc))
+            }
+        }
+    }
+}

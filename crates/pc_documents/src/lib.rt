@@ -1,0 +1,18 @@
+//! The open documents of an editor: their diagnostics and hover texts, over any checker of texts. No device is used here.
+#![tactic(auto)]
+
+mod anchors;
+mod checker;
+mod diagnostics;
+mod documents;
+mod hover;
+mod settings;
+mod texts;
+mod told;
+
+pub use checker::{CheckOutcome, Checker, FlowTypes, ReportedFinding};
+pub use diagnostics::unknown_values;
+pub use documents::{Document, document_of, forget, place_of, put, remove};
+pub use settings::{Settings, WARNING};
+pub use texts::{checked_as, checked_text, is_sent};
+pub use told::said_as;

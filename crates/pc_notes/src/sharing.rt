@@ -1,0 +1,99 @@
+//! Types of flows, of which equal ones are shared.
+
+ghost use Rattle.std.specs.Prelude.{◌≡◌, IfOk, OnOk};
+ghost use Rattle.std.specs.Rc.{rc_str_bytes};
+ghost use Rattle.pc_tree.specs.Tree.{module_of};
+ghost use Rattle.pc_types.specs.Boxed.{IsGiven};
+ghost use Rattle.pc_annotations.specs.Text.{type_text};
+ghost use Rattle.pc_notes.specs.Notes.{IsGivenType, shared_tree};
+ghost use Rattle.pc_notes.specs.Texts.{AreNamed};
+
+use pc_annotations::type_text;
+use pc_intern::is_alike;
+use pc_source::OutOfMemory;
+use pc_tree::Module;
+use pc_types::{BoxStore, BoxType, TypeStore};
+use std::alloc::Global;
+use std::collections::BTreeMap;
+use std::rc::{Rc, RcStr};
+
+/// A type of a flow, which others may share, and the mark that its store gave it, by which equal ones are found.
+#[derive(Drop)]
+pub(crate) struct SharedType {
+    pub(crate) mark: usize,
+    pub(crate) ty: Rc<BoxType>,
+}
+
+/// Types that may be shared: of each mark the one that was last asked for.
+#[derive(Drop)]
+pub(crate) struct SharedTypes {
+    known: BTreeMap<usize, Rc<BoxType>>,
+}
+
+impl SharedTypes {
+    /// No types.
+    pub(crate) fn new(alloc: Global) -> SharedTypes {
+        SharedTypes {
+            known: BTreeMap::new(alloc),
+        }
+    }
+
+    /// A type of a store, shared with the one that was last asked for of its mark, where they are equal.
+    pub(crate) fn shared<S: TypeStore>(
+        &mut self,
+        store: &S,
+        alloc: Global,
+        ty: &S::Ty,
+    ) -> Result<SharedType, OutOfMemory>
+        requires { S.has store.now ty.now }
+        ensures given { IfOk result IsGivenType }
+        ensures value { IfOk result (λ t. shared_tree t ≡ S.tree ty.now) }
+    {
+        let mark = store.mark(ty);
+        let tree = store.boxed(ty);
+        if let Some(known) = self.known.get(&mark) {
+            if is_alike(known, tree) {
+                return Ok(SharedType {
+                    mark,
+                    ty: known.clone()?,
+                });
+            }
+        }
+        let ty = Rc::new(alloc, BoxStore::new().copy(alloc, tree)?)?;
+        self.known.insert(mark, ty.clone()?)?;
+        Ok(SharedType { mark, ty })
+    }
+}
+
+/// A type, and its text.
+#[derive(Drop)]
+pub(crate) struct NamedType {
+    ty: Rc<BoxType>,
+    text: RcStr,
+}
+
+/// The text of a shared type: the known one of its mark, where that is of an equal type.
+pub(crate) fn shared_text(
+    known: &mut BTreeMap<usize, NamedType>,
+    alloc: Global,
+    tree: &Module,
+    shared: &SharedType,
+) -> Result<RcStr, OutOfMemory>
+    requires given { IsGivenType shared.now }
+    requires named { AreNamed (module_of tree.now) known.old }
+    ensures text { IfOk result (λ t. rc_str_bytes t ≡ type_text (module_of tree.now) (shared_tree shared.now)) }
+    ensures named { OnOk result (AreNamed (module_of tree.now) known.new) }
+{
+    if let Some(named) = known.get(&shared.mark) {
+        if is_alike(&named.ty, &shared.ty) {
+            return Ok(named.text.clone()?);
+        }
+    }
+    let text = RcStr::from_string(type_text(&BoxStore::new(), alloc, tree, &shared.ty)?)?;
+    let named = NamedType {
+        ty: shared.ty.clone()?,
+        text: text.clone()?,
+    };
+    known.insert(shared.mark, named)?;
+    Ok(text)
+}

@@ -1,0 +1,57 @@
+-- Lists of named items, some of which are needed; the lists share their common parts.
+-- Own rule of the profile.
+use Rattle.std.specs.Prelude.{◌≡◌, ◌<◌, ◌≤◌, ℕ, List, length, Option, Some, None, slice_get}
+use Rattle.pc_scope.specs.Resolution.{index_of}
+use Rattle.pc_shared_maps.specs.declared.lists.ListPlace.{ListPlace}
+use Rattle.pc_shared_maps.specs.declared.lists.SharedList.{SharedList}
+use Rattle.pc_shared_maps.specs.declared.lists.SharedLists.{SharedLists}
+use Rattle.pc_shared_maps.specs.NameMaps.{IsMap, named_at}
+use Rattle.pc_shared_maps.specs.SharedMaps.{held_at}
+
+-- the item at a number, if there is a number
+abbrev pub at_number : {X : Type 0} → List X → Option ℕ → Option X
+at_number xs None = None
+at_number xs (Some i) = slice_get xs i
+
+-- the number, if there is one, is an index of the list
+abbrev pub IsNumberIn : {X : Type 0} → List X → Option ℕ → Type 0
+IsNumberIn xs None = Unit {0}
+IsNumberIn xs (Some i) = i < length xs
+
+-- the empty list
+abbrev pub empty_list : SharedList
+empty_list = record { count = 0; needed = 0; names = 0; seats = 0 }
+
+-- the first place of a name in a list
+abbrev pub place_at : SharedLists → SharedList → List ℕ → Option ℕ
+place_at s l name = named_at s.named l.names name
+
+-- the seat at a place of a list
+abbrev pub seat_at : SharedLists → SharedList → ℕ → Option ListPlace
+seat_at s l place = at_number s.seats.items (held_at s.placed l.seats place)
+
+-- the end of the needed items before a seat, or in the whole list if there is no seat
+abbrev pub needed_or : ℕ → Option ListPlace → ℕ
+needed_or n None = n
+needed_or n (Some seat) = seat.needed
+
+-- the end of the needed items before a place of a list
+abbrev pub needed_at : SharedLists → SharedList → ℕ → ℕ
+needed_at s l place = needed_or l.needed (seat_at s l place)
+
+-- the maps of a list exist, and there are seats for all its places
+pub record HasRoom (s : SharedLists) (l : SharedList) : Type 0 where
+  pub named : IsMap s.named l.names
+  pub placed : l.seats < length s.placed
+  pub seated : l.count ≤ length s.seats.items
+  pub numbered : (place : ℕ) → IsNumberIn s.seats.items (held_at s.placed l.seats place)
+
+-- a list has exactly these names, each at its first place
+abbrev pub AreNamed : SharedLists → SharedList → List (List ℕ) → Type 0
+AreNamed s l names = (word : List ℕ) → place_at s l word ≡ index_of word names
+
+-- each list is kept
+pub record KeepsLists (old new : SharedLists) : Type 0 where
+  pub room : (l : SharedList) → HasRoom old l → HasRoom new l
+  pub names : (l : SharedList) (word : List ℕ) → HasRoom old l → place_at new l word ≡ place_at old l word
+  pub seats : (l : SharedList) (place : ℕ) → HasRoom old l → seat_at new l place ≡ seat_at old l place

@@ -1,0 +1,9 @@
+//! The check as a static library, for programs in C and for WebAssembly.
+#![tactic(auto)]
+
+mod answer;
+mod library;
+mod room;
+
+pub use answer::CheckAnswer;
+pub use library::pycheck_check;

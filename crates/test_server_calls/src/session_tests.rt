@@ -1,0 +1,155 @@
+//! Sessions with input and output in memory.
+use pc_documents::{CheckOutcome, Checker};
+use pc_message_loop::{ServingEnd, serve};
+use pc_session::{Session, Stage, refuse_long, step};
+use pc_source::{Counted, OutOfMemory, Refusal, RefusalCode};
+use pc_wire::{MESSAGE_LIMIT, framed};
+use std::alloc::Global;
+use std::test::Fail;
+
+/// A checker that refuses each text at its second byte.
+struct Refusing;
+
+impl Checker for Refusing {
+    ghost use Rattle.std.specs.Prelude.{⊤};
+
+    ghost finds = { λ _ text found. ⊤ };
+
+    fn find(&self, alloc: Global, text: &str) -> Result<CheckOutcome, OutOfMemory> {
+        let _ = alloc;
+        let _ = text;
+        Ok(CheckOutcome::Refused(Refusal {
+            code: RefusalCode::L7,
+            byte: 1,
+        }))
+    }
+}
+
+const BEGIN: &str = "{\"id\":1,\"method\":\"initialize\",\"params\":{}}";
+
+const OPEN: &str =
+    "{\"method\":\"textDocument/didOpen\",\"params\":{\"textDocument\":{\"uri\":\"a\",\"version\":3,\"text\":\"xy\"}}}";
+
+const TOO_LONG: &str =
+    "{\"error\":{\"code\":-32600,\"message\":\"the message is longer than 16,777,216 bytes\"},\"id\":null,\"jsonrpc\":\"2.0\"}";
+
+const EXIT: &str = "{\"method\":\"exit\"}";
+
+/// Frames messages, one after another.
+fn frames(alloc: Global, messages: &[&str]) -> Result<Vec<u8>, Fail> {
+    let mut bytes = Vec::new(alloc);
+    for message in messages {
+        let frame = framed(alloc, message.as_bytes())?;
+        bytes.extend_from_slice(&frame)?;
+    }
+    Ok(bytes)
+}
+
+#[test]
+fn a_new_text_is_published_and_kept(rt: HostRuntime) -> Result<(), Fail> {
+    let alloc = rt.alloc();
+    let mut session = Session::new(alloc);
+    let begun = step(&mut session, &Refusing, alloc, BEGIN.as_bytes())?;
+    assert!(rt; begun.ends_with(b"\"serverInfo\":{\"name\":\"pycheck\",\"version\":\"1.0.0\"}}}"));
+    let told = step(&mut session, &Refusing, alloc, OPEN.as_bytes())?;
+    assert!(rt; told.ends_with(b"\"source\":\"pycheck\"}],\"uri\":\"a\",\"version\":3}}"));
+    assert_eq!(rt; session.documents.len(), 1);
+    assert!(rt; session.stage == Stage::Running);
+    Ok(())
+}
+
+#[test]
+fn texts_are_forgotten(rt: HostRuntime) -> Result<(), Fail> {
+    let alloc = rt.alloc();
+    let mut session = Session::new(alloc);
+    step(&mut session, &Refusing, alloc, BEGIN.as_bytes())?;
+    step(&mut session, &Refusing, alloc, OPEN.as_bytes())?;
+    assert!(rt;
+        session
+            .documents
+            .first()
+            .is_some_and(|document| document.text.is_some())
+    );
+    session.forget();
+    assert_eq!(rt; session.documents.len(), 1);
+    assert!(rt;
+        session
+            .documents
+            .first()
+            .is_some_and(|document| document.text.is_none())
+    );
+    assert!(rt;
+        session
+            .documents
+            .first()
+            .is_some_and(|document| document.version == Some(3))
+    );
+    Ok(())
+}
+
+#[test]
+fn a_long_message_is_refused(rt: HostRuntime) -> Result<(), Fail> {
+    let alloc = rt.alloc();
+    let mut session = Session::new(alloc);
+    step(&mut session, &Refusing, alloc, BEGIN.as_bytes())?;
+    step(&mut session, &Refusing, alloc, OPEN.as_bytes())?;
+    let told = refuse_long(&mut session, alloc)?;
+    assert!(rt; told.starts_with(&framed(alloc, TOO_LONG.as_bytes())?));
+    assert!(rt;
+        session
+            .documents
+            .first()
+            .is_some_and(|document| document.text.is_none())
+    );
+    Ok(())
+}
+
+#[test]
+fn a_long_message_is_read_away(rt: HostRuntime) -> Result<(), Fail> {
+    let alloc = rt.alloc();
+    let mut given = frames(alloc, &[BEGIN])?;
+    let mut long = Vec::new(alloc);
+    long.resize(MESSAGE_LIMIT + 1, b' ')?;
+    given.extend_from_slice(&framed(alloc, &long)?)?;
+    given.extend_from_slice(&frames(alloc, &[EXIT])?)?;
+    let mut input = Counted::new(given.as_slice());
+    let mut output = Counted::new(Vec::new(alloc));
+    let end = serve(alloc, &Refusing, &mut input, &mut output);
+    assert!(rt; matches!(end, ServingEnd::Exited(1)));
+    assert!(rt; output.inner().ends_with(TOO_LONG.as_bytes()));
+    Ok(())
+}
+
+#[test]
+fn messages_are_answered_up_to_exit(rt: HostRuntime) -> Result<(), Fail> {
+    let alloc = rt.alloc();
+    let given = frames(alloc, &[BEGIN, OPEN, EXIT, OPEN])?;
+    let mut input = Counted::new(given.as_slice());
+    let mut output = Counted::new(Vec::new(alloc));
+    let end = serve(alloc, &Refusing, &mut input, &mut output);
+    assert!(rt; matches!(end, ServingEnd::Exited(1)));
+    assert!(rt; output.inner().ends_with(b"\"uri\":\"a\",\"version\":3}}"));
+    Ok(())
+}
+
+#[test]
+fn a_broken_message_is_told(rt: HostRuntime) -> Result<(), Fail> {
+    let alloc = rt.alloc();
+    let mut output = Counted::new(Vec::new(alloc));
+    let mut none = Counted::new(b"".as_slice());
+    assert!(rt;
+        matches!(
+            serve(alloc, &Refusing, &mut none, &mut output),
+            ServingEnd::Ended
+        )
+    );
+    let mut cut = Counted::new(b"Content-Length: 9\r\n\r\n{}".as_slice());
+    assert!(rt;
+        matches!(
+            serve(alloc, &Refusing, &mut cut, &mut output),
+            ServingEnd::Broken(_)
+        )
+    );
+    assert!(rt; output.inner().is_empty());
+    Ok(())
+}

@@ -1,0 +1,91 @@
+//! The checker whose reports are compared with the tables.
+use pc_front::module_in;
+use pc_notes::Notes;
+use pc_scope::scopes;
+use pc_source::{Counted, Source, read_source};
+use pc_top::{CheckFault, Format, Report, check, check_stream, findings_by};
+use pc_tree::Module;
+use pc_types::BoxStore;
+use std::alloc::{AllocError, Global};
+use std::io::{Read, Write};
+use test_cases::reports::ReportMaker;
+
+/// The checker that the programs call.
+pub struct Checking;
+
+/// Returns the report of the notes of a module.
+fn report_of_notes(
+    alloc: Global,
+    source: &Source,
+    module: &Module,
+    notes: &Notes,
+) -> Result<Report, CheckFault> {
+    let flows = notes.texts(alloc, module)?;
+    let found = notes.findings(alloc)?;
+    Ok(Report::of(alloc, source, &found, &flows)?)
+}
+
+/// Returns the report of a module, with types in boxes.
+fn report_by_boxes(alloc: Global, source: &Source, module: &Module) -> Result<Report, CheckFault> {
+    let scopes = scopes(alloc, module)?;
+    let notes = findings_by(&mut BoxStore::new(), alloc, module, &scopes)?;
+    report_of_notes(alloc, source, module, &notes)
+}
+
+/// Returns the report of the module that bytes spell, with types in boxes.
+fn check_by_boxes(alloc: Global, bytes: &[u8]) -> Result<Report, CheckFault> {
+    let source = read_source(alloc, bytes)?;
+    let module = module_in(alloc, &source)?;
+    report_by_boxes(alloc, &source, &module)
+}
+
+/// Returns the text of a report in a format, or of the refusal.
+fn told(
+    alloc: Global,
+    answer: Result<Report, CheckFault>,
+    format: Format,
+) -> Result<String, AllocError> {
+    match answer {
+        Ok(report) => report.to_text(alloc, format).map_err(|_| AllocError),
+        Err(fault) => format!(in alloc; "{fault}"),
+    }
+}
+
+impl ReportMaker for Checking {
+    fn by_numbers(
+        &self,
+        alloc: Global,
+        bytes: &[u8],
+        format: Format,
+    ) -> Result<String, AllocError> {
+        told(alloc, check(alloc, bytes), format)
+    }
+
+    fn by_boxes(&self, alloc: Global, bytes: &[u8], format: Format) -> Result<String, AllocError> {
+        told(alloc, check_by_boxes(alloc, bytes), format)
+    }
+
+    fn of_stream<R: Read + Drop, W: Write + Drop>(
+        &self,
+        alloc: Global,
+        reader: &mut Counted<R>,
+        writer: &mut Counted<W>,
+        json: bool,
+        format: Format,
+    ) -> Result<String, AllocError> {
+        match check_stream(alloc, reader, writer, json, format) {
+            Ok((errors, dynamic)) => format!(in alloc; "errors {errors}, dynamic {dynamic}"),
+            Err(fault) => format!(in alloc; "{fault}"),
+        }
+    }
+
+    fn fault(&self, alloc: Global, name: &str) -> Result<Option<String>, AllocError> {
+        let fault = match name {
+            "OutOfMemory" => CheckFault::OutOfMemory,
+            "Read" => CheckFault::Read,
+            "Write" => CheckFault::Write,
+            _ => return Ok(None),
+        };
+        Ok(Some(format!(in alloc; "{fault}")?))
+    }
+}

@@ -1,0 +1,8 @@
+//! The flows and findings of worked modules, with both stores of types, and the notes that a check makes.
+#![tactic(auto)]
+
+mod checks;
+mod notes;
+mod tables;
+
+pub use tables::judge;
