@@ -33,7 +33,12 @@ def main() -> int:
 def run(given: Optional[Sequence[str]] = None, name: str = "pycheck-all") -> int:
     """Runs the command with the given words, or those of the process, and gives the exit status."""
     try:
-        found = words.read(name, given)
+        own = sys.argv[1:] if given is None else list(given)
+        if own[:1] == ["--server"]:
+            from . import editor
+
+            return editor.serve(own[1:])
+        found = words.read(name, own)
         return answered(found)
     except KeyboardInterrupt:
         return INTERRUPTED

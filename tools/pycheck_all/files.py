@@ -52,7 +52,7 @@ class Walk:
     def __init__(self, excluding: Sequence[str], base: str = "") -> None:
         self.excluding = excluding
         self.base = base
-        self.excluded = 0
+        self.excluded: Set[str] = set()
 
     def excludes(self, path: str, top: str) -> bool:
         """Whether a pattern names it: one without a slash its name, one with a slash its path, as it is shown, from
@@ -97,7 +97,8 @@ class Walk:
             if rules and rules.ignore(os.fsencode(entry.name), is_folder):
                 continue
             if self.excludes(path, top):
-                self.excluded += 1
+                # A folder may be walked through more than once
+                self.excluded.add(os.path.abspath(path))
             elif is_folder:
                 yield self.entries(path, top, functools.partial(ignored.rules_in, rules, entry.name, path))
             else:
@@ -163,7 +164,7 @@ class Files:
                 if key not in met:
                     met.add(key)
                     sources.append(source if is_utf8(source.path) or source.failure else self.kept(source.name, None))
-        return Found(sources, walk.excluded)
+        return Found(sources, len(walk.excluded))
 
     def named(self, word: str, walk: Walk) -> Iterator[Source]:
         """The files that one word names."""

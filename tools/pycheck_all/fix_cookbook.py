@@ -9,12 +9,12 @@ from typing import Dict, Iterator, List, NamedTuple, Optional, Sequence, Set
 
 from .fix_expressions import in_format
 from .fix_module import Edit, Fix, Module
+from .fix_types import INTEGERS, TEXT, TEXTS, is_number, is_whole_number, told
 
 HERE = Path(__file__).resolve().parent
 # In the wheel, and in a checkout
 FOLDERS = (HERE / "cookbook", HERE.parent.parent / "cookbook")
 FILES = ("texts.py", "lists_of_int.py", "lists_of_str.py")
-TEXT, INTEGERS, TEXTS = "str", "list[int]", "list[str]"
 # Of a method of a text: how many arguments it may have, and the function with those that come after them
 METHODS = {
     "strip": {0: ("strip", ""), 1: ("strip", "")},
@@ -24,7 +24,6 @@ METHODS = {
     "startswith": {1: ("starts_at", ", 0")},
     "replace": {2: ("replace", "")},
 }
-RESULTS = {"strip": TEXT, "split": TEXTS, "join": TEXT, "find": "int", "replace": TEXT}
 # Of a built-in function or a slice, by the type of its argument
 FUNCTIONS_OF = {
     "sorted": {INTEGERS: "sorted_of", TEXTS: "sorted_of_str"},
@@ -34,7 +33,6 @@ FUNCTIONS_OF = {
     "int": {TEXT: "int_of"},
 }
 SLICES = {TEXT: "slice_of", INTEGERS: "slice_of_list", TEXTS: "slice_of_list_str"}
-OPERATORS = {ast.Add: b"+", ast.Sub: b"-", ast.Mult: b"*", ast.FloorDiv: b"//", ast.Mod: b"%"}
 
 
 class Recipe(NamedTuple):
@@ -106,36 +104,6 @@ def is_call(node: ast.stmt) -> bool:
     return isinstance(node, ast.Expr) and isinstance(node.value, ast.Call)
 
 
-def told(module: Module, node: ast.expr) -> str:
-    """The type of an expression that an annotation tells: of a local of its function, or of a function of the module;
-    empty where none does."""
-    if isinstance(node, ast.Constant) and isinstance(node.value, str):
-        return TEXT
-    if isinstance(node, ast.Subscript) and isinstance(node.slice, ast.Slice):
-        return told(module, node.value)
-    if isinstance(node, ast.Call) and isinstance(node.func, ast.Attribute):
-        return RESULTS.get(node.func.attr, "") if told(module, node.func.value) == TEXT else ""
-    if isinstance(node, ast.Call) and isinstance(node.func, ast.Name):
-        made = [it for it in module.tree.body if isinstance(it, ast.FunctionDef) and it.name == node.func.id]
-        if len(made) == 1 and module.binds(node.func.id) == 1 and not made[0].decorator_list and made[0].returns:
-            return ast.unparse(made[0].returns)
-        return TEXT if node.func.id == "str" and not module.binds("str") else ""
-    function = module.function(node)
-    if not isinstance(node, ast.Name) or function is None or module.rebinds or not module.has_header:
-        return ""
-    found = {ast.unparse(it) for it in declared(function, node.id)}
-    return found.pop() if len(found) == 1 else ""
-
-
-def declared(function: ast.AST, name: str) -> Iterator[ast.expr]:
-    """The annotations of a name in a function."""
-    for it in ast.walk(function):
-        if isinstance(it, ast.arg) and it.arg == name:
-            yield it.annotation or ast.Constant("")
-        elif isinstance(it, ast.AnnAssign) and isinstance(it.target, ast.Name) and it.target.id == name:
-            yield it.annotation
-
-
 def call(module: Module, node: ast.expr, name: str, arguments: Sequence[bytes], rest: str = "") -> Iterator[Fix]:
     """The rewrite of an expression to a call of a function of the cookbook."""
     edits = pasted(module, name)
@@ -162,11 +130,6 @@ def arguments_fit(module: Module, node: ast.Call) -> bool:
     name = getattr(node.func, "attr", "")
     wanted = {"join": [TEXTS], "find": [TEXT, "int"]}.get(name, [TEXT, TEXT])
     return all(told(module, it) == type_ or is_number(it, type_) for it, type_ in zip(node.args, wanted))
-
-
-def is_number(node: ast.expr, type_: str) -> bool:
-    """Whether a whole number is wanted, and is there."""
-    return type_ == "int" and isinstance(node, ast.Constant) and type(node.value) is int
 
 
 def is_simple(node: ast.Call) -> bool:
@@ -197,35 +160,3 @@ def slices(module: Module) -> Iterator[Fix]:
             lower = [b"0"] if part.lower is None and part.upper is not None else []
             bounds = [module.value(it) for it in (part.lower, part.upper) if it is not None]
             yield from call(module, node, made, [module.value(node.value), *lower, *bounds])
-
-
-def is_whole_number(module: Module, node: ast.expr) -> bool:
-    """Whether a bound of a slice is a whole number: a literal, or told by an annotation, or computed of those."""
-    if isinstance(node, ast.UnaryOp) and isinstance(node.op, ast.USub):
-        return is_whole_number(module, node.operand)
-    if isinstance(node, ast.BinOp) and type(node.op) in OPERATORS:
-        return is_whole_number(module, node.left) and is_whole_number(module, node.right)
-    if isinstance(node, ast.Call) and isinstance(node.func, ast.Name) and node.func.id == "len":
-        return not module.binds("len")
-    return is_number(node, "int") or told(module, node) == "int"
-
-
-def augmented(module: Module) -> Iterator[Fix]:
-    """`x += e` of a local whose annotation is `int` or `str`."""
-    for node in module.nodes:
-        if not isinstance(node, ast.AugAssign) or not isinstance(node.target, ast.Name):
-            continue
-        if type(node.op) not in OPERATORS or told(module, node.target) not in ("int", TEXT):
-            continue
-        start, end = module.at(node.target)[0], module.at(node.value)[0]
-        signs = [it for it in module.between(start, end) if it.text.endswith("=")]
-        if len(signs) != 1:
-            continue
-        sign, name, operator = signs[0], node.target.id.encode(), OPERATORS[type(node.op)]
-        edits = [Edit(sign.start, sign.end, b"= " + name + b" " + operator)]
-        if not isinstance(node.value, (ast.Name, ast.Constant, ast.Call, ast.Attribute, ast.Subscript)):
-            first, last = sign.end, module.at(node)[1]
-            while module.data[first : first + 1] == b" ":
-                first += 1
-            edits += [Edit(first, first, b"("), Edit(last, last, b")")]
-        yield Fix("augmented assignment", sign.start, sign.end, tuple(edits))

@@ -1,10 +1,10 @@
 """Rewrites of expressions: chains of comparisons, `isinstance` with several classes, and what becomes statements
-before its own: conditional expressions and comprehensions of lists."""
+before its own: conditional expressions, named ones, and comprehensions of lists and dicts."""
 from __future__ import annotations
 
 import ast
 import builtins
-from typing import Dict, Iterator, List, NamedTuple, Optional, Sequence, Tuple
+from typing import Dict, Iterator, List, NamedTuple, Optional, Sequence, Tuple, Union
 
 from .fix_module import FUNCTIONS, SCOPES, Edit, Fix, Module, applied
 from .fix_statements import is_whole, lines_in_place
@@ -17,6 +17,8 @@ OPERATORS = {
     ast.In: "in", ast.NotIn: "not in", ast.Is: "is", ast.IsNot: "is not",
 }
 COMPREHENSIONS = (ast.ListComp, ast.SetComp, ast.DictComp, ast.GeneratorExp)
+# Those that become loops
+Comprehension = Union[ast.ListComp, ast.DictComp]
 
 
 def comparisons(module: Module) -> Iterator[Fix]:
@@ -32,7 +34,7 @@ def comparisons(module: Module) -> Iterator[Fix]:
             continue
         edits = []
         for at, operator in enumerate(node.ops[1:]):
-            place = end_with_brackets(module, node.comparators[at])
+            place = with_brackets(module, node.comparators[at])[1]
             edits.append(Edit(place, place, b" and " + module.segment(node.comparators[at])))
         if not isinstance(module.parents[node], LOOSE):
             edits = [Edit(start, start, b"("), *edits, Edit(end, end, b")")]
@@ -44,14 +46,14 @@ def in_format(module: Module, node: ast.AST) -> bool:
     return any(isinstance(it, ast.JoinedStr) for it in module.ancestors(node))
 
 
-def end_with_brackets(module: Module, node: ast.expr) -> int:
-    """The byte after an expression and the brackets that are closed behind it and opened before it."""
+def with_brackets(module: Module, node: ast.expr) -> Tuple[int, int]:
+    """Returns the first byte of an expression and the byte after it, with all brackets around it."""
     start, end = module.at(node)
     while True:
         before = [it for it in module.between(0, start) if it.text.strip()][-1:]
         after = [it for it in module.between(end, len(module.data)) if it.text.strip()][:1]
         if not before or not after or before[0].text != "(" or after[0].text != ")":
-            return end
+            return start, end
         start, end = before[0].start, after[0].end
 
 
@@ -99,7 +101,7 @@ def place_of(module: Module, node: ast.expr) -> Optional[Place]:
     root = root_of(statement)
     if root is None or not is_first_on_line(module, statement):
         return None
-    if any(isinstance(it, ast.NamedExpr) for it in ast.walk(root)):
+    if any(isinstance(it, ast.NamedExpr) and it is not node for it in ast.walk(root)):
         return None
     inner: ast.AST = node
     for outer in module.ancestors(node):
@@ -175,24 +177,13 @@ def conditionals(module: Module) -> Iterator[Fix]:
         statement, step = place.statement, module.newline + module.indent(place.statement)
         start, end = module.at(statement)
         if place.is_value and is_whole(module, statement) and isinstance(statement, (ast.Assign, ast.Return)):
-            lead = module.data[start : start_with_brackets(module, node)].rstrip() + b" "
+            lead = module.data[start : with_brackets(module, node)[0]].rstrip() + b" "
             text = branches(module, node, lead, step)
             yield Fix("conditional expression", *module.at(node), (Edit(start, end, text),), True)
         else:
             name = module.fresh("chosen").encode()
             text = branches(module, node, name + b" = ", step) + step
             yield hoisted("conditional expression", module, node, start, text, name)
-
-
-def start_with_brackets(module: Module, node: ast.expr) -> int:
-    """The first byte of an expression or of the brackets around it."""
-    start, end = module.at(node)
-    while True:
-        before = [it for it in module.between(0, start) if it.text.strip()][-1:]
-        after = [it for it in module.between(end, len(module.data)) if it.text.strip()][:1]
-        if not before or not after or before[0].text != "(" or after[0].text != ")":
-            return start
-        start, end = before[0].start, after[0].end
 
 
 def branches(module: Module, node: ast.IfExp, lead: bytes, apart: bytes) -> bytes:
@@ -208,22 +199,45 @@ def hoisted(what: str, module: Module, node: ast.expr, start: int, lines: bytes,
     return Fix(what, first, last, (Edit(start, start, lines), Edit(first, last, name)), True)
 
 
-def comprehensions(module: Module) -> Iterator[Fix]:
-    """A comprehension of a list, to a loop with `append`."""
+def named(module: Module) -> Iterator[Fix]:
+    """`(n := e)`, to `n = e` on a line before."""
     for node in module.nodes:
-        place = place_of(module, node) if isinstance(node, ast.ListComp) else None
-        if place is None or not isinstance(node, ast.ListComp) or module.has_comment(*module.at(node)):
+        place = place_of(module, node) if isinstance(node, ast.NamedExpr) else None
+        if place is None or not isinstance(node, ast.NamedExpr) or module.has_comment(*module.at(node)):
             continue
-        if not all(isinstance(it.target, ast.Name) and not it.is_async for it in node.generators):
+        name, (first, last) = node.target.id, module.at(node)
+        before = [it for it in ast.walk(place.statement) if isinstance(it, ast.Name) and it.id == name]
+        if any(module.at(it)[0] < first for it in before):
             continue
-        names = renamed(module, node)
-        if names is None:
+        parent = module.parents[node]
+        # The brackets of a call are not those of its argument
+        if not isinstance(parent, ast.Call) or node is parent.func:
+            first, last = with_brackets(module, node)
+        start = module.at(place.statement)[0]
+        line = name.encode() + b" = " + module.value(node.value) + module.newline + module.indent(place.statement)
+        edits = (Edit(start, start, line), Edit(first, last, apart(module, first, last, name.encode())))
+        yield Fix("named expression", *module.at(node), edits, True)
+
+
+def apart(module: Module, start: int, end: int, name: bytes) -> bytes:
+    """A name in the place of something, with blanks where it would touch a word."""
+    before, after = (module.data[it : it + 1].isalnum() for it in (start - 1, end))
+    return (b" " if before else b"") + name + (b" " if after else b"")
+
+
+def comprehensions(module: Module) -> Iterator[Fix]:
+    """A comprehension of a list or of a dict, to a loop."""
+    for node in module.nodes:
+        if not isinstance(node, (ast.ListComp, ast.DictComp)) or module.has_comment(*module.at(node)):
+            continue
+        place, names = place_of(module, node), renamed(module, node)
+        if place is None or names is None:
             continue
         start, end = module.at(place.statement)
         step = module.newline + module.indent(place.statement)
         direct = direct_name(module, place, node)
         if direct:
-            lead = module.data[start : start_with_brackets(module, node)]
+            lead = module.data[start : with_brackets(module, node)[0]]
             lines = loops(module, node, names, direct.encode(), lead, step)
             yield Fix("comprehension", *module.at(node), (Edit(start, end, lines),), True)
             continue
@@ -232,7 +246,7 @@ def comprehensions(module: Module) -> Iterator[Fix]:
         yield hoisted("comprehension", module, node, start, lines, name)
 
 
-def direct_name(module: Module, place: Place, node: ast.ListComp) -> str:
+def direct_name(module: Module, place: Place, node: Comprehension) -> str:
     """The local that a comprehension makes, where it may grow in sight; empty where it may not."""
     statement = place.statement
     if not place.is_value or not is_whole(module, statement) or module.catches:
@@ -248,11 +262,14 @@ def direct_name(module: Module, place: Place, node: ast.ListComp) -> str:
     function = module.function(statement)
     nested = [it for it in ast.walk(function or statement) if isinstance(it, SCOPES) and it not in (function, node)]
     mentioned = {it.id for it in ast.walk(node) if isinstance(it, ast.Name)}
-    return "" if target.id in mentioned or any(not isinstance(it, ast.ListComp) for it in nested) else target.id
+    at_once = (ast.ListComp, ast.SetComp, ast.DictComp)
+    return "" if target.id in mentioned or any(not isinstance(it, at_once) for it in nested) else target.id
 
 
-def renamed(module: Module, node: ast.ListComp) -> Optional[Dict[str, str]]:
+def renamed(module: Module, node: Comprehension) -> Optional[Dict[str, str]]:
     """The names of the loops, each under a name that its function does not have; none where that cannot be."""
+    if not all(isinstance(it.target, ast.Name) and not it.is_async for it in node.generators):
+        return None
     inner = [it for part in ast.walk(node) for it in ast.iter_child_nodes(part)]
     if any(isinstance(it, (*SCOPES, ast.JoinedStr, ast.Await, ast.Yield, ast.YieldFrom)) for it in inner):
         return None
@@ -293,10 +310,10 @@ def text_under(module: Module, node: ast.expr, names: Dict[str, str]) -> bytes:
 
 
 def loops(
-    module: Module, node: ast.ListComp, names: Dict[str, str], name: bytes, lead: bytes, apart: bytes
+    module: Module, node: Comprehension, names: Dict[str, str], name: bytes, lead: bytes, apart: bytes
 ) -> bytes:
-    """The lines that make a list in loops."""
-    lines, deeper = [lead + b"[]"], b""
+    """The lines that make a list or a dict in loops."""
+    lines, deeper = [lead + (b"[]" if isinstance(node, ast.ListComp) else b"{}")], b""
     for number, part in enumerate(node.generators):
         target = names[getattr(part.target, "id")].encode()
         over = text_under(module, part.iter, names if number else {})
@@ -305,5 +322,17 @@ def loops(
         for test in part.ifs:
             lines.append(deeper + b"if " + text_under(module, test, names) + b":")
             deeper += module.step()
-    lines.append(deeper + name + b".append(" + text_under(module, node.elt, names) + b")")
+    lines += [deeper + it for it in growing(module, node, names, name)]
     return apart.join(lines)
+
+
+def growing(module: Module, node: Comprehension, names: Dict[str, str], name: bytes) -> List[bytes]:
+    """The lines that put an item into a list, or a value under its key into a dict. The key is evaluated before the
+    value, as in a comprehension."""
+    if isinstance(node, ast.ListComp):
+        return [name + b".append(" + text_under(module, node.elt, names) + b")"]
+    key, value = text_under(module, node.key, names), text_under(module, node.value, names)
+    if is_quiet(node.key) or is_quiet(node.value):
+        return [name + b"[" + key + b"] = " + value]
+    local = module.fresh("key", [*names.values(), name.decode()]).encode()
+    return [local + b" = " + key, name + b"[" + local + b"] = " + value]

@@ -27,13 +27,15 @@ class Edit(NamedTuple):
 
 class Fix(NamedTuple):
     """A rewrite at a place: its name, the bytes in which the fault lies that it mends, and its edits. One that moves
-    parts of an expression into statements of their own takes away a fault of the grammar, but not always the first."""
+    parts of an expression into statements of their own takes away a fault of the grammar, but not always the first.
+    Two rewrites that put in the same new name, which is read later on, are never made at once."""
 
     name: str
     start: int
     end: int
     edits: Tuple[Edit, ...]
     moves: bool = False
+    names: Tuple[bytes, ...] = ()
 
 
 class Token(NamedTuple):

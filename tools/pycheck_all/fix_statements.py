@@ -135,7 +135,7 @@ def loop_else(module: Module) -> Iterator[Fix]:
             at = module.at(one)[0]
             edits.append(Edit(at, at, flag + b" = False" + module.newline + module.indent(one)))
         edits.append(Edit(words[0].start, words[0].end, b"if " + flag))
-        yield Fix("else of a loop", words[0].start, words[0].end, tuple(edits))
+        yield Fix("else of a loop", words[0].start, words[0].end, tuple(edits), names=(flag,))
 
 
 def breaks_of(suite: Sequence[ast.stmt]) -> Iterator[ast.Break]:

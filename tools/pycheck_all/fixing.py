@@ -6,8 +6,8 @@ import tempfile
 import time
 from typing import Callable, Iterator, List, NamedTuple, Optional, Sequence, Set, Tuple
 
-from . import files, fix_annotations, fix_cookbook, fix_expressions, fix_heads, fix_lines, fix_statements, fix_strings
-from . import running
+from . import files, fix_annotations, fix_cookbook, fix_expressions, fix_heads, fix_lines, fix_loops, fix_places
+from . import fix_statements, fix_strings, running
 from .findings import DYNAMIC, ERROR, REFUSED, Checked
 from .fix_module import Edit, Fix, Module, applied, overlap
 from .program import Program, TooLong
@@ -34,9 +34,11 @@ REWRITES: Tuple[Rewrite, ...] = (
     fix_statements.tuples,
     fix_expressions.conditionals,
     fix_expressions.comprehensions,
+    fix_expressions.named,
     fix_statements.loop_else,
     fix_expressions.isinstances,
-    fix_cookbook.augmented,
+    fix_places.augmented,
+    fix_loops.ranges,
     fix_cookbook.slices,
     fix_cookbook.methods,
     fix_cookbook.built_ins,
@@ -96,10 +98,35 @@ class Fixer:
         self.run = running.Run(program, seconds, True, False)
         self.until = time.monotonic() + seconds
         self.rewrites = rewrites
+        self.tried = rewrites
         self.useless: Set[Tuple[str, bytes]] = set()
 
     def fix(self, data: bytes) -> Fixed:
-        """The text, rewritten until no rewrite helps."""
+        """The text, rewritten until no rewrite helps; then with rewrites that the report of the result allows."""
+        fixed = self.rewritten(data, self.rewrites)
+        try:
+            return self.with_guesses(fixed)
+        except (TooLong, NotFixed):
+            return fixed
+
+    def with_guesses(self, fixed: Fixed) -> Fixed:
+        """A text with those augmented assignments rewritten of which the report of the result tells the types; as it is
+        where the result has no report, or has other errors."""
+        all_of_them = self.rewritten(fixed.after, (*self.rewrites, fix_places.guessed(frozenset())))
+        if fix_places.GUESSED not in all_of_them.made:
+            return fixed
+        checked = self.check("fixed.py", all_of_them.after)
+        guesses = fix_places.guesses(Module(all_of_them.after))
+        found = [(it.kind, guesses.get((it.place.start.byte, it.place.end.byte))) for it in checked.findings]
+        if checked.failure or any(kind != DYNAMIC and guess is None for kind, guess in found):
+            return fixed
+        wrong = frozenset(guess for _, guess in found if guess is not None)
+        right = self.rewritten(fixed.after, (*self.rewrites, fix_places.guessed(wrong))) if wrong else all_of_them
+        return Fixed(fixed.before, right.after, [*fixed.made, *right.made])
+
+    def rewritten(self, data: bytes, rewrites: Sequence[Rewrite]) -> Fixed:
+        """The text, rewritten until none of these rewrites helps."""
+        self.tried = rewrites
         asked = self.ask(data)
         made: List[str] = []
         for _ in range(MOST_PASSES):
@@ -123,14 +150,14 @@ class Fixer:
         """Rewrites that do not touch one another, at most one for each fault."""
         try:
             module = Module(asked.data)
-            offered = [fix for rewrite in self.rewrites for fix in rewrite(module)]
+            offered = [fix for rewrite in self.tried for fix in rewrite(module)]
         except (SyntaxError, ValueError, RecursionError):
             return []
         chosen: List[Fix] = []
         for fault in asked.faults:
             for fix in offered:
                 fits = fix.start <= fault.byte <= fix.end and not self.is_useless(asked, fix)
-                if fits and not any(overlap([*fix.edits, hull(fix)], [*it.edits, hull(it)]) for it in chosen):
+                if fits and not any(clash(fix, it) for it in chosen):
                     chosen.append(fix)
                     break
         return chosen
@@ -185,6 +212,12 @@ class Fixer:
             with open(path, "wb") as file:
                 file.write(data)
             return self.run.check(files.Source(name, path))
+
+
+def clash(one: Fix, other: Fix) -> bool:
+    """Whether two rewrites touch one another, or put in the same new name."""
+    touch = overlap([*one.edits, hull(one)], [*other.edits, hull(other)])
+    return touch or not set(one.names).isdisjoint(other.names)
 
 
 def hull(fix: Fix) -> Edit:

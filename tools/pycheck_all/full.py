@@ -4,7 +4,7 @@ from __future__ import annotations
 import textwrap
 from typing import Iterator, List, Tuple
 
-from . import codes, concise, widths
+from . import codes, concise, following, widths
 from .colours import Colours
 from .findings import Checked, Finding, Project, has_guides
 from .messages import GUIDES, advice_of
@@ -30,9 +30,12 @@ class Full:
             if file.failure:
                 yield f"{name}: {self.colours('refused', 'not checked')}: {plain(file.failure)}"
                 yield ""
-            for finding in file.new:
-                yield from self.finding(file, finding)
-                yield ""
+            under = following.followed(file)
+            beneath = {it for numbers in under.values() for it in numbers}
+            for at, finding in enumerate(file.findings):
+                if not finding.known and at not in beneath:
+                    yield from self.finding(file, finding, following.sentence(file, under.get(at, [])))
+                    yield ""
             if file.suspended:
                 yield f"{name}: {file.suspended}"
                 yield ""
@@ -44,8 +47,8 @@ class Full:
             yield ""
         yield from concise.gone(project)
 
-    def finding(self, file: Checked, finding: Finding) -> Iterator[str]:
-        """The lines of one finding."""
+    def finding(self, file: Checked, finding: Finding, follows: str) -> Iterator[str]:
+        """The lines of one finding; a sentence says which others follow from it."""
         start = finding.place.start
         title, meaning = codes.title_of(finding.code), codes.meaning_of(finding.code)
         where = self.colours("path", f"{plain(file.path)}:{start.line}:{start.column}:")
@@ -56,10 +59,14 @@ class Full:
         if not finding.opened or start.byte < len(file.text.data):
             beside = plain(f" {finding.flow[0]} -> {finding.flow[1]}") if finding.flow else ""
             yield from self.excerpt(file, finding.place, finding.kind, beside)
-        mending = plain(advice_of(file, finding))
-        before = " " * (3 + len(str(finding.place.end.line)))
+        for said in (advice_of(file, finding), follows):
+            yield from self.said(said, len(str(finding.place.end.line)))
+
+    def said(self, sentence: str, gutter: int) -> Iterator[str]:
+        """The lines of a sentence below an excerpt, whose numbers take so many columns."""
+        before = " " * (3 + gutter)
         room = self.width - len(before) - 2
-        lines = textwrap.wrap(mending.strip(), room, break_long_words=False, break_on_hyphens=False)
+        lines = textwrap.wrap(plain(sentence).strip(), room, break_long_words=False, break_on_hyphens=False)
         for at, line in enumerate(lines):
             sign = " " if at else self.colours("number", "=")
             yield f"{before}{sign} {self.colours('mend', line)}"

@@ -91,7 +91,15 @@ def make(asked: Asked, program: Program, seconds: float) -> Made:
     put(asked, runtime, text)
     methods = sum(len(it.methods) for it in read.classes.values())
     number = f"{amount(len(read.functions), 'function')}, {amount(len(read.classes), 'class', 'classes')}"
-    return Made(checked, f"{asked.output}: guards of {number} and {amount(methods, 'method')}", "")
+    return Made(checked, f"{asked.output}: guards of {number} and {amount(methods, 'method')}{apart(asked.core)}", "")
+
+
+def apart(path: str) -> str:
+    """What is said of a core whose folder is no package, but lies in one, from which it cannot be imported so."""
+    folder = os.path.dirname(os.path.abspath(path))
+    if packages(folder) or not packages(os.path.dirname(folder)):
+        return ""
+    return f"; they import `{name_of(path)}`, since there is no {os.path.join(os.path.dirname(path), '__init__.py')}"
 
 
 def check(run: running.Run, name: str, data: bytes) -> Checked:

@@ -8,7 +8,7 @@ import html
 import re
 from typing import Iterator, List, NamedTuple, Sequence, Set, Tuple
 
-from . import codes, full
+from . import codes, following, full
 from .findings import DYNAMIC, ERROR, GUIDE, REFUSED, Checked, Finding, Project, has_guides, summary
 from .messages import GUIDES, advice_of, name_of
 from .texts import plain
@@ -49,6 +49,8 @@ mark.place.known, mark.rest.known { background: none }
 ul code { background: var(--code); border-radius: .2rem; padding: 0 .2rem }
 mark.empty::after { content: "\\25b2" }
 """
+# What is said of a dynamic place under the error from which it follows
+FOLLOWS = "The type is unknown because of the error above."
 HEAD = f"""<!doctype html>
 <html lang="en">
 <head>
@@ -107,6 +109,9 @@ class Module:
         self.name = f"f{number}"
         self.file = file
         self.begun: Set[int] = set()
+        self.under = following.followed(file)
+        # The error from which each dynamic place follows that follows from one
+        self.above = {it: at for at, numbers in self.under.items() for it in numbers}
 
     def opening(self, part: Part, outer: Sequence[Part]) -> str:
         """The opening of a mark; it says what the findings around it say too."""
@@ -148,15 +153,23 @@ class Module:
             yield f'<div class="line" id="{self.name}-l{number}">{link}{self.code(line, parts)}</div>'
 
     def list(self) -> Iterator[str]:
-        """The findings, each with a link to its line."""
-        for at, it in enumerate(self.file.findings):
-            start = it.place.start
-            link = f'<a href="#{self.name}-l{start.line}">{start.line}:{start.column}</a>'
-            flow = f" <code>{escaped(it.flow[0])} -&gt; {escaped(it.flow[1])}</code>" if it.flow else ""
-            known = ' <span class="soft">known</span>' if it.known else ""
-            words = f"{codes.meaning_of(it.code)}. {advice_of(self.file, it)}"
-            name = f'<b class="{it.kind}">{escaped(name_of(it))}</b>'
-            yield f'<li id="{self.name}-n{at}">{link} {name}{flow}{known}: {worded(words)}</li>'
+        """The findings, each with a link to its line; dynamic places that follow from an error are under it."""
+        for at in range(len(self.file.findings)):
+            if at not in self.above:
+                yield self.item(at)
+
+    def item(self, at: int) -> str:
+        """A finding, and under it those that follow from it."""
+        it = self.file.findings[at]
+        start = it.place.start
+        link = f'<a href="#{self.name}-l{start.line}">{start.line}:{start.column}</a>'
+        flow = f" <code>{escaped(it.flow[0])} -&gt; {escaped(it.flow[1])}</code>" if it.flow else ""
+        known = ' <span class="soft">known</span>' if it.known else ""
+        words = f"{codes.meaning_of(it.code)}. {FOLLOWS if at in self.above else advice_of(self.file, it)}"
+        name = f'<b class="{it.kind}">{escaped(name_of(it))}</b>'
+        under = "".join(map(self.item, self.under.get(at, [])))
+        inner = f"<ul>{under}</ul>" if under else ""
+        return f'<li id="{self.name}-n{at}">{link} {name}{flow}{known}: {worded(words)}{inner}</li>'
 
     def section(self) -> Iterator[str]:
         """The module with its findings; one without findings is folded."""

@@ -14,7 +14,7 @@ from pathlib import Path
 from typing import Dict, List, NamedTuple, Sequence, Set
 
 NAME = "pycheck"
-FINDER = Path(__file__).resolve().parent.parent / "program"
+FINDER = Path(__file__).resolve().parent.parent / "ship"
 # The exit status of the finder where no program serves
 NO_PROGRAM = 1
 VERSION_SECONDS = 60
@@ -69,13 +69,14 @@ def found(name: str) -> str:
     return os.path.abspath(path)
 
 
-def in_checkout() -> str:
+def in_checkout(name: str = NAME) -> str:
     """The program of the checkout that this package stands in, as its script says; empty where it is no checkout."""
     if FINDER.parent.name != "tools" or not os.access(FINDER, os.X_OK):
         return ""
     try:
         settings = {**os.environ, "PATH": search_path()}
-        done = subprocess.run([str(FINDER), NAME], stdin=subprocess.DEVNULL, capture_output=True, env=settings)
+        words = [str(FINDER), "program", name]
+        done = subprocess.run(words, stdin=subprocess.DEVNULL, capture_output=True, env=settings)
     except OSError as fault:
         raise NoProgram(f"{FINDER}: {fault.strerror}") from None
     lines = os.fsdecode(done.stdout).splitlines()
@@ -92,7 +93,7 @@ def is_in_user_site() -> bool:
     return bool(folder) and os.path.realpath(folder) == os.path.realpath(FINDER.parent)
 
 
-def beside() -> str:
+def beside(name: str = NAME) -> str:
     """The program in the folder of the interpreter's scripts, beside this command, or in that of the scripts with which
     this package was installed; empty where there is none."""
     # A command of one line has no folder
@@ -100,26 +101,26 @@ def beside() -> str:
     # Where `pip install --user` puts scripts, and where `pip install --target` does
     user = sysconfig.get_path("scripts", f"{os.name}_user") if is_in_user_site() else ""
     for folder in (sysconfig.get_path("scripts"), own, user, str(FINDER.parent / "bin")):
-        path = shutil.which(os.path.join(folder, NAME)) if folder else None
+        path = shutil.which(os.path.join(folder, name)) if folder else None
         if path:
             return os.path.abspath(path)
     return ""
 
 
-def chosen(named: str) -> str:
-    """The program to ask: the one that is named, by a word or by the variable PYCHECK; else the one of the checkout, of
-    the wheel, or on PATH."""
-    named = named or os.environ.get("PYCHECK", "")
+def chosen(named: str, name: str = NAME, variable: str = "PYCHECK") -> str:
+    """The program to ask: the one that is named, by a word or by a variable; else the one of the checkout, of the
+    wheel, or on PATH."""
+    named = named or os.environ.get(variable, "")
     if named:
         return found(named)
-    why = "no program: name it by --program or by the variable PYCHECK"
+    why = f"no program: name it by {'--program or by ' if name == NAME else ''}the variable {variable}"
     try:
-        path = in_checkout()
+        path = in_checkout(name)
     except Broken:
         raise
     except NoProgram as fault:
         path, why = "", str(fault)
-    path = path or beside() or os.path.abspath(shutil.which(NAME, path=search_path()) or "")
+    path = path or beside(name) or os.path.abspath(shutil.which(name, path=search_path()) or "")
     if path == os.path.abspath(""):
         raise NoProgram(why)
     return path

@@ -5,7 +5,7 @@ that is not known is a fault, since what it was meant to say would not be done."
 from __future__ import annotations
 
 import os
-from typing import Any, Callable, Dict, List, NamedTuple, Optional, Tuple
+from typing import Any, Callable, Dict, List, NamedTuple, Optional, Sequence, Tuple
 
 from . import reading, texts, toml
 from .words import FORMS, Words
@@ -35,7 +35,12 @@ class Settings(NamedTuple):
 
 def of_project() -> Optional[Settings]:
     """The settings of the project in which the command runs, or NoSettings; none where there are none."""
-    for folder in folders():
+    return of_folders(folders(os.path.abspath(os.curdir)))
+
+
+def of_folders(looked_in: Sequence[str]) -> Optional[Settings]:
+    """The settings of the first of some folders that has any, or NoSettings; none where none has."""
+    for folder in looked_in:
         path = os.path.join(folder, NAME)
         if os.path.lexists(path):
             try:
@@ -49,18 +54,20 @@ def of_project() -> Optional[Settings]:
     return None
 
 
-def folders() -> List[str]:
-    """The folder in which the command runs; in a checkout of git also those above it, up to the top. Outside a checkout
-    those above may be anybody's."""
-    found = [os.path.abspath(os.curdir)]
+def folders(start: str, tops: Sequence[str] = ()) -> List[str]:
+    """A folder; in a checkout of git also those above it, up to the top, and elsewhere up to one of some folders.
+    Others above may be anybody's."""
+    found = [start]
+    known = 1
     while len(found) < MOST_ABOVE:
         if os.path.lexists(os.path.join(found[-1], ".git")):
             return found
+        known = len(found) if found[-1] in tops else known
         above = os.path.dirname(found[-1])
         if above == found[-1]:
             break
         found.append(above)
-    return found[:1]
+    return found[:known]
 
 
 def read(path: str, folder: str) -> Optional[Settings]:

@@ -54,7 +54,7 @@ class Watch:
         """The state of each file that is checked or tells how: the modules, the settings and the baseline."""
         found: State = {}
         asked = self.asked
-        for folder in settings.folders():
+        for folder in settings.folders(os.path.abspath(os.curdir)):
             path = os.path.join(folder, settings.NAME)
             found[path] = state_of(path)
         try:

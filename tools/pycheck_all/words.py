@@ -48,6 +48,7 @@ class Words(NamedTuple):
     select: List[str]
     ignore: List[str]
     watch: bool
+    server: bool
 
 
 def seconds_of(word: str) -> float:
@@ -155,6 +156,11 @@ def add_choices(parser: Parser) -> None:
         metavar="CODE",
         help="explain a code or a label, or list them all, and check nothing",
     )
+    add(
+        "--server",
+        action="store_true",
+        help="first, and alone or with --only-marked: be a language server that checks the core of a project alone",
+    )
     add("--watch", action="store_true", help="check again whenever a file changes, until it is interrupted")
 
 
@@ -162,6 +168,8 @@ def read(name: str, words: Optional[Sequence[str]]) -> Words:
     """What the words ask for; errors of usage end the process."""
     parser = parser_of(name)
     found = Words(**vars(parser.parse_args(words)))
+    if found.server:
+        parser.error("argument --server: it is the first word")
     if found.explain:
         code = codes.named(found.explain) or found.explain
         if code != explaining.ALL and code not in codes.entries():

@@ -1,0 +1,1 @@
+"""Tools that look for modules which the programs answer otherwise than they may."""

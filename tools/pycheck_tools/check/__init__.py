@@ -1,0 +1,1 @@
+"""Checks of what stands in the repository."""

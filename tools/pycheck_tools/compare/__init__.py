@@ -1,0 +1,1 @@
+"""Tools that compare what the programs answer with what others say."""

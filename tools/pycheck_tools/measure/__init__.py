@@ -1,0 +1,1 @@
+"""Tools that measure what the programs and their proofs take."""
