@@ -24,7 +24,7 @@ PARTS = (
     "HANDLES", "LICENSE", "README.md", "CHANGELOG.md", "crates.txt", "pycheck", "pycheck_server", "pyrun",
     "test", ".ci", "action.yml", ".pre-commit-hooks.yaml", "pyproject.toml", "crates/pycheck",
     "crates/pycheck_server", "crates/pyrun",
-    "cookbook", "crates/pc_commands", "docs", "examples", "release", "tools",
+    "cookbook", "crates/pc_commands", "docs", "examples", "include", "release", "tools", "web",
 )
 NOT_IN_CLONES = {".git", "out", "__pycache__"}
 # Seconds until a command is stopped, since a wrong program could let the tests hang

@@ -37,7 +37,7 @@ class Faults(RoomCase):
         (self.clone / "secret.py").write_text("", encoding="utf-8")
         (self.clone / "secret.py").chmod(0o000)
         for name in COMMANDS:
-            self.run_few("tools/program", name)
+            self.run_few("tools/ship", "program", name)
         self.check("secret.py", "Permission denied", user)
 
     def test_a_full_device(self) -> None:

@@ -3,6 +3,7 @@ steps; and what CI installs before it."""
 from __future__ import annotations
 
 import os
+import re
 from pathlib import Path
 from typing import List
 
@@ -16,11 +17,13 @@ done
 echo "{last}"
 exit {status}
 """
-SLOW_STEPS = ("tools/check_definitions", "tools/check_edits", "tools/check_tested", "tools/check_pages",
-              "tools/architecture", "tools/check_help", "tests/tools/run", "tools/check_codes", "tools/compare_rows",
-              "tools/generated", "tests/memory/run", "tests/depth/run", "tests/search/run", "tests/speed/run",
-              "tests/python_runs/run", "tests/fuzz/run", "tests/python_texts/run",
-              "tests/growth/run", "tests/cookbook/run", "tests/mypy/run", "tools/check_commands")
+SLOW_STEPS = ("tools/check", "tests/tools/run", "tools/compare", "tests/memory/run", "tests/depth/run", "tests/search/run",
+              "tests/speed/run", "tests/python_runs/run", "tests/fuzz/run", "tests/python_texts/run",
+              "tests/growth/run", "tests/cookbook/run", "tests/mypy/run", "tools/shipping/web", "tests/web/run")
+# The words of tools/check, each with the name of its step
+CHECKS = {"definitions": "definitions", "edits": "edits", "tested": "tested", "pages": "links", "names": "names",
+          "architecture": "architecture", "help": "help", "data": "data", "codes": "pages", "commands": "commands",
+          "generated": "generated"}
 
 
 class Gate(RoomCase):
@@ -68,12 +71,12 @@ class Gate(RoomCase):
         self.assertEqual(self.last_lines(done, 1), [f"FAILED: {steps}"])
 
     def test_it_passes(self) -> None:
-        self.put_step("tools/check_edits", f"cat \"$@\" >'{self.room}/log'")
+        self.put_step("tools/check", f"[ $1 != edits ] || cat \"$3\" >'{self.room}/log'")
         done = self.gate()
         self.assertEqual((done.returncode, done.stdout), (0, "75 passed, 0 failed\n"), done.stderr)
         said, seconds = self.last_lines(done, 2)
         self.assertEqual(said, "5 passed, 0 failed, 0 skipped")
-        self.assertRegex(seconds, r"^seconds: proofs \d+ definitions \d+ edits \d+ .* editors \d+ wrong_bodies \d+$")
+        self.assertRegex(seconds, r"^seconds: proofs \d+ definitions \d+ edits \d+ .* editors \d+ web \d+ wrong_bodies \d+$")
         self.assertEqual((self.room / "log").read_text(encoding="utf-8"), "75 passed, 0 failed\n")
 
     def test_a_shipped_byte_that_was_not_built_fails(self) -> None:
@@ -83,21 +86,18 @@ class Gate(RoomCase):
         done = self.gate()
         self.assert_failed(done, "shipped")
         self.assertIn("pyrun: the shipped program is not the one that was built", done.stderr)
-        self.assertIn("tools/release writes the shipped programs anew", done.stderr)
+        self.assertIn("tools/ship release writes the shipped programs anew", done.stderr)
 
     def test_each_step_that_fails_is_told(self) -> None:
-        commands = {"tools/check_definitions": "definitions", "tools/check_edits": "edits",
-                    "tools/check_tested": "tested", "tools/check_pages": "links",
-                    "tools/architecture": "architecture", "tools/check_help": "help",
-                    "tests/tools/run": "tools", "tools/check_codes": "pages", "tools/compare_rows": "examples left_out",
-                    "tools/check_commands": "commands", "tests/cookbook/run": "cookbook",
-                    "tools/generated": "generated", "tests/memory/run": "memory", "tests/depth/run": "depth",
+        commands = {"tests/tools/run": "tools", "tools/compare": "examples left_out", "tests/cookbook/run": "cookbook",
+                    "tests/memory/run": "memory", "tests/depth/run": "depth",
                     "tests/search/run": "search",
                     "tests/python_runs/run": "python_runs", "tests/fuzz/run": "fuzz",
                     "tests/python_texts/run": "python_texts",
                     "tests/speed/run": "speed", "tests/growth/run": "growth", "tests/mypy/run": "mypy",
                     "tests/release/run": "release",
                     "tests/reports/run": "reports", "tests/server/run": "server", "tools/editors/neovim": "editors",
+                    "tools/shipping/web": "shipped_web", "tests/web/run": "web",
                     "tools/wrong_bodies": "wrong_bodies"}
         for step, names in commands.items():
             with self.subTest(step):
@@ -105,6 +105,12 @@ class Gate(RoomCase):
                 self.put_step(step, "echo '2 passed, 1 failed'; exit 1")
                 self.assert_failed(self.gate(), names)
                 self.put_step(step, kept)
+
+    def test_each_check_that_fails_is_told(self) -> None:
+        for check, name in CHECKS.items():
+            with self.subTest(check):
+                self.put_step("tools/check", f"[ $1 != {check} ]")
+                self.assert_failed(self.gate(), name)
 
     def test_what_was_skipped_is_told_at_the_end(self) -> None:
         self.put_step("tests/release/run", "echo 'skipped Hook.test_it: pre-commit is not there'\n"
@@ -119,6 +125,35 @@ class Gate(RoomCase):
                                                     "in the step reports skipped page: there is no chromium",
                                                     "in the step reports Types.test_all: skipped: there is no mypy"])
 
+    def test_in_ci_nothing_is_skipped_but_by_the_list(self) -> None:
+        late = "skipped pc_a/one.edit: the time of the gate ran out"
+        self.put_step("tools/wrong_bodies", f"echo '{late}'\necho '5 passed, 0 failed, 1 skipped'")
+        allowed = re.search(r"^MAY_SKIP='([^']*)'$", (self.clone / ".ci" / "run").read_text(encoding="utf-8"), re.MULTILINE)
+        assert allowed
+        done = self.run_few("./test", more={"CI": "true", "MAY_SKIP": allowed[1]})
+        self.assertEqual(done.returncode, 0, done.stderr)
+        self.assertEqual(self.last_lines(done, 1), [f"in the step wrong_bodies {late}"])
+        self.put_step("tests/release/run", "echo 'skipped Hook.test_it: pre-commit is not there'\necho '8 passed, 0 failed, 1 skipped'")
+        for may_skip in (allowed[1], f"{allowed[1]}\nin the step reports *"):
+            done = self.run_few("./test", more={"CI": "true", "MAY_SKIP": may_skip})
+            self.assert_failed(done, "release: skipped in CI")
+        done = self.run_few("./test", more={"CI": "true", "MAY_SKIP": f"{allowed[1]}\nin the step release skipped Hook.*: pre-commit is not there"})
+        self.assertEqual(done.returncode, 0, done.stderr)
+        self.assertEqual(self.run_few("./test", more={"CI": "false"}).returncode, 0)
+        self.assert_failed(self.run_few("./test", more={"CI": "true"}), "release: skipped in CI wrong_bodies: skipped in CI")
+
+    def test_how_wrong_bodies_are_asked_for(self) -> None:
+        self.put_step("tools/wrong_bodies", f"echo \"$*\" >>'{self.room}/asked'\necho '5 passed, 0 failed, 0 skipped'")
+        self.gate()
+        self.gate("--all-edits")
+        self.run_few("./test", more={"CI": "true"})
+        self.run_few("./test", more={"CI": "true", "GATE_BEGAN": "1"})
+        *asked, in_time, too_late = (self.room / "asked").read_text(encoding="utf-8").splitlines()
+        self.assertEqual((asked, too_late), (["--built", "--built --all"], "--built --within 0"))
+        left = re.fullmatch(r"--built --within (\d+)", in_time)
+        assert left
+        self.assertTrue(8000 < int(left[1]) <= 9000, in_time)
+
     def test_a_skipped_test_without_a_reason_fails(self) -> None:
         self.put_step("tests/release/run", "echo '8 passed, 0 failed, 1 skipped'")
         self.assert_failed(self.gate(), "release")
@@ -131,7 +166,7 @@ class Gate(RoomCase):
 
     def test_where_the_proofs_fail_no_program_is_tried(self) -> None:
         self.prove(1, "74 passed, 1 failed")
-        self.put_step("tools/check_codes", f": >'{self.room}/ran'")
+        self.put_step("tools/check", f"[ $1 != codes ] || : >'{self.room}/ran'")
         done = self.gate()
         self.assertEqual(done.stdout, "74 passed, 1 failed\n")
         self.assert_failed(done, "proofs")
@@ -142,18 +177,18 @@ class Gate(RoomCase):
         for name in PROGRAMS:
             self.put_built(name, self.shipped(name))
         self.put_tool("rt", f": >'{self.room}/proved'\n")
-        self.put_step("tools/check_edits", f"echo \"$#$*\" >>'{self.room}/asked'")
+        self.put_step("tools/check", f"[ $1 != edits ] || echo \"$#$*\" >>'{self.room}/asked'")
         (self.room / "log").write_text("what rt ci said\n", encoding="utf-8")
         for words in ([], ["../log"]):
             done = self.gate("--steps", *words)
             self.assertEqual((done.returncode, done.stdout), (0, ""), done.stderr)
             self.assertRegex(self.last_lines(done, 1)[0], r"^seconds: programs \d+ definitions \d+ .* wrong_bodies \d+$")
         asked = (self.room / "asked").read_text(encoding="utf-8").splitlines()
-        self.assertEqual(asked, ["0", f"1{(self.room / 'log').resolve()}"])
+        self.assertEqual(asked, ["1edits", f"3edits --log {(self.room / 'log').resolve()}"])
         self.assertFalse((self.room / "proved").exists())
 
     def test_the_steps_alone_take_no_program_that_is_older_than_its_sources(self) -> None:
-        self.put_step("tools/check_codes", f": >'{self.room}/ran'")
+        self.put_step("tools/check", f"[ $1 != codes ] || : >'{self.room}/ran'")
         self.assert_failed(self.gate("--steps"), "programs")
         for name in PROGRAMS:
             os.utime(self.put_built(name, self.shipped(name)), (1, 1))
@@ -164,11 +199,11 @@ class Gate(RoomCase):
         self.assertFalse((self.room / "ran").exists())
 
     def test_other_words_are_a_mistake(self) -> None:
-        for words in (["--step"], ["log"], ["--steps", "no such file"], ["--steps", "README.md", "README.md"]):
+        for words in (["--step"], ["log"], ["--all-edits", "log"], ["--steps", "no such file"], ["--steps", "README.md", "README.md"]):
             with self.subTest(words):
                 done = self.gate(*words)
                 self.assertEqual((done.returncode, done.stdout), (3, ""))
-                self.assertIn("usage: ./test [--steps [LOG]]", done.stderr)
+                self.assertIn("usage: ./test [--all-edits | --steps [LOG]]", done.stderr)
 
 
 class InCI(RoomCase):
@@ -187,7 +222,7 @@ class InCI(RoomCase):
         self.assertEqual((done.returncode, done.stdout), (5, "the gate\n"), done.stderr)
         asked = (self.room / "asked").read_text(encoding="utf-8").splitlines()
         apt = "noninteractive -q -y -o DPkg::Lock::Timeout=60"
-        packages = ("python3-venv", "pre-commit", "neovim", "chromium", "valgrind")
+        packages = ("python3-venv", "python3-pip", "pre-commit", "neovim", "chromium", "valgrind", "nodejs", "gcc", "libc6-dev")
         installs = [f"{apt} install --no-install-recommends {it}" for it in packages]
         self.assertEqual(asked, [f"{apt} update", *installs])
 
@@ -205,7 +240,7 @@ class InCI(RoomCase):
         done = self.run_few(".ci/run")
         self.assertEqual((done.returncode, done.stdout), (5, "the gate\n"), done.stderr)
         self.assertEqual((self.room / "asked").read_text(encoding="utf-8").count(" install "), 1)
-        self.assertEqual(done.stderr.count("could not be installed: tests that use it are skipped"), 5)
+        self.assertEqual(done.stderr.count("could not be installed: tests that use it are skipped, and the gate fails"), 9)
 
     def test_another_user_installs_nothing(self) -> None:
         self.put_tool("id", "echo 1000\n")

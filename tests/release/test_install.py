@@ -12,7 +12,7 @@ from room import ROOT, Done, RoomCase, report_of, run
 
 BACKEND = """\
 import sys
-sys.path.insert(0, "tools/backend")
+sys.path.insert(0, "tools/shipping")
 import pycheck_backend as backend
 print(backend.get_requires_for_build_wheel())
 print(backend.build_wheel(sys.argv[1]))

@@ -9,7 +9,7 @@ from typing import Dict
 
 from room import MORE_TOOLS, PROGRAMS, ROOT, TOOLS, RoomCase, report_of
 
-ANEW = "tools/release writes the shipped programs anew"
+ANEW = "tools/ship release writes the shipped programs anew"
 # The toolchain: it notes its words, and gives the program of this folder
 TOOLCHAIN = """echo "rt $*" >>"$ROOM/asked"
 [ "$1" = run ] || exit 0
@@ -32,7 +32,7 @@ class Making(RoomCase):
 
 
 class Comparing(Making):
-    """`tools/release --check`, which the gate calls once the programs are built."""
+    """`tools/ship release --check`, which the gate calls once the programs are built."""
 
     def setUp(self) -> None:
         super().setUp()
@@ -41,13 +41,13 @@ class Comparing(Making):
 
     def assert_differs(self, *told: str) -> None:
         """The step fails, says what differs, and what writes it anew."""
-        done = self.run_few("tools/release", "--check")
+        done = self.run_few("tools/ship", "release", "--check")
         self.assertEqual(done.returncode, 1, done.stdout)
         for words in (*told, ANEW):
             self.assertIn(words, done.stdout)
 
     def test_the_same_programs_pass(self) -> None:
-        done = self.run_few("tools/release", "--check")
+        done = self.run_few("tools/ship", "release", "--check")
         self.assert_answer(done, 0, "3 shipped programs are those that were built, 0 differ\n")
 
     def test_a_changed_byte_in_what_was_built_fails(self) -> None:
@@ -84,18 +84,18 @@ class Comparing(Making):
 
 
 class Writing(Making):
-    """`tools/release`."""
+    """`tools/ship release`."""
 
     def test_what_is_written_is_what_was_built(self) -> None:
         programs = {**{it: self.shipped(it) for it in PROGRAMS}, "pycheck": b"#!/bin/sh\necho new\n"}
         for name, program in programs.items():
             self.put_built(name, program)
         sums = "".join(f"{hashlib.sha256(programs[it]).hexdigest()}  {it}\n" for it in PROGRAMS)
-        self.assert_answer(self.run_few("tools/release"), 0, sums)
+        self.assert_answer(self.run_few("tools/ship", "release"), 0, sums)
         self.assertEqual({it: self.shipped(it) for it in programs}, programs)
-        self.assertEqual(self.run_few("tools/release", "--check").returncode, 0)
+        self.assertEqual(self.run_few("tools/ship", "release", "--check").returncode, 0)
         packed = [f"{it}.gz" for it in PROGRAMS]
-        self.assertEqual(sorted(self.files()), ["PROGRAMS", "README.md", "SHA256SUMS", *packed])
+        self.assertEqual(sorted(self.files()), ["PROGRAMS", "README.md", "SHA256SUMS", "libpycheck.a.gz", *packed])
 
     def test_the_same_programs_give_the_same_bytes(self) -> None:
         written = []
@@ -104,7 +104,7 @@ class Writing(Making):
                 path = self.put_built(name, self.shipped(name))
                 later = time.time() + 60 + seconds
                 os.utime(path, (later, later))
-            self.assertEqual(self.run_few("tools/release").returncode, 0)
+            self.assertEqual(self.run_few("tools/ship", "release").returncode, 0)
             written.append(self.files())
         self.assertEqual(written[0], written[1])
 
@@ -113,7 +113,7 @@ class Writing(Making):
         for name in PROGRAMS[:-1]:
             self.put_built(name, b"#!/bin/sh\n")
         for told in ("pyrun: no program was built here", "crates/pyrun/out/pyrun, is older than its sources"):
-            done = self.run_few("tools/release")
+            done = self.run_few("tools/ship", "release")
             self.assertEqual((done.returncode, done.stdout), (1, ""))
             self.assertIn(told, done.stderr)
             self.assertEqual(self.files(), before)
@@ -122,11 +122,11 @@ class Writing(Making):
     def test_mistaken_words(self) -> None:
         for words in (["--chek"], ["--check", "x"], [""]):
             with self.subTest(words=words):
-                self.assert_not_run(self.run_few("tools/release", *words), "usage: tools/release")
+                self.assert_not_run(self.run_few("tools/ship", "release", *words), "usage: tools/ship release")
 
 
 class Building(Making):
-    """`tools/build`, and `./pycheck` where the shipped program does not serve."""
+    """`tools/ship build`, and `./pycheck` where the shipped program does not serve."""
 
     def setUp(self) -> None:
         super().setUp()
@@ -141,38 +141,38 @@ class Building(Making):
         return (self.room / "asked").read_text(encoding="utf-8")
 
     def test_all_are_built_and_their_sums_stand_beside_the_shipped_ones(self) -> None:
-        done = self.run_few("tools/build")
+        done = self.run_few("tools/ship", "build")
         sums = [f"{self.sums[it]}  {it}, {where}\n" for it in PROGRAMS
                 for where in ("built here", "shipped: the same")]
         self.assert_answer(done, 0, "".join(sums))
         self.assertEqual(self.asked(), "rt all check --jobs 4\nrt run -- --version\n" * len(PROGRAMS))
-        self.assertEqual(self.run_few("tools/release", "--check").returncode, 0)
+        self.assertEqual(self.run_few("tools/ship", "release", "--check").returncode, 0)
 
     def test_a_difference_is_told(self) -> None:
         other = b"#!/bin/sh\necho other\n"
         (self.room / "gives" / "pycheck").write_bytes(other)
-        done = self.run_few("tools/build", "pycheck")
+        done = self.run_few("tools/ship", "build", "pycheck")
         self.assert_answer(done, 1, f"{hashlib.sha256(other).hexdigest()}  pycheck, built here\n"
                                     f"{self.sums['pycheck']}  pycheck, shipped: DIFFERS\n")
 
     def test_what_is_not_proved_is_not_built(self) -> None:
         self.put_tool("rt", "echo 'not proved' >&2\nexit 1\n")
-        self.assert_not_run(self.run_few("tools/build"), "not proved", "pycheck could not be proved and built")
+        self.assert_not_run(self.run_few("tools/ship", "build"), "not proved", "pycheck could not be proved and built")
 
     def test_what_is_proved_and_does_not_run_is_told(self) -> None:
         self.put_tool("rt", '[ "$1" != run ]\n')
-        self.assert_not_run(self.run_few("tools/build", "pyrun"), "pyrun could not be proved and built")
+        self.assert_not_run(self.run_few("tools/ship", "build", "pyrun"), "pyrun could not be proved and built")
 
     def test_a_program_that_is_up_to_date_becomes_newer_than_its_sources(self) -> None:
         os.utime(self.put_built("pycheck", self.shipped("pycheck")), (1, 1))
         self.put_tool("rt", "exit 0\n")
-        self.assertEqual(self.run_few("tools/build", "pycheck").returncode, 0)
-        self.assertEqual(self.run_few("tools/program", "--built", "pycheck").returncode, 0)
+        self.assertEqual(self.run_few("tools/ship", "build", "pycheck").returncode, 0)
+        self.assertEqual(self.run_few("tools/ship", "program", "--built", "pycheck").returncode, 0)
 
     def test_an_edit_during_the_build_leaves_the_program_older(self) -> None:
         self.put_tool("rt", f"ROOM='{self.room}'\n{TOOLCHAIN}sleep 0.02\ntouch '{self.clone}/crates.txt'\n")
-        self.run_few("tools/build", "pycheck", more={"PATH": f"{self.few}:/usr/bin:/bin"})
-        done = self.run_few("tools/program", "--built", "pycheck")
+        self.run_few("tools/ship", "build", "pycheck", more={"PATH": f"{self.few}:/usr/bin:/bin"})
+        done = self.run_few("tools/ship", "program", "--built", "pycheck")
         self.assertEqual(done.returncode, 1)
         self.assertIn("older than its sources", done.stderr)
 
@@ -191,4 +191,4 @@ class Building(Making):
         self.assertFalse((self.room / "asked").exists())
 
     def test_mistaken_words(self) -> None:
-        self.assert_not_run(self.run_few("tools/build", "pychekc"), "usage: tools/build")
+        self.assert_not_run(self.run_few("tools/ship", "build", "pychekc"), "usage: tools/ship build")

@@ -85,7 +85,7 @@ class InAClone(RoomCase):
 
     def test_what_is_shipped_is_small(self) -> None:
         shipped = list((self.clone / "release").glob("*.gz"))
-        self.assertEqual(len(shipped), len(PROGRAMS))
+        self.assertEqual(len(shipped), len(PROGRAMS) + 1, "the programs, and the library for C")
         self.assertLess(sum(it.stat().st_size for it in shipped), GROWTH)
 
     def test_words_and_status_are_those_of_the_program(self) -> None:
@@ -184,7 +184,7 @@ class Unwritable(RoomCase):
 
     def assert_not_taken(self) -> None:
         """The program that stands among the temporary files is not taken."""
-        done = self.run_few("tools/program", "pycheck", user=self.user, more={"TMPDIR": str(self.home)})
+        done = self.run_few("tools/ship", "program", "pycheck", user=self.user, more={"TMPDIR": str(self.home)})
         self.assertEqual((done.returncode, done.stdout), (1, ""))
         self.assertIn("cannot be unpacked", done.stderr)
 
@@ -209,11 +209,11 @@ class BuiltHere(RoomCase):
         for source in ("crates/pc_commands/src/check_words.rt", "crates.txt", "HANDLES"):
             with self.subTest(source):
                 self.put_built("pycheck", OTHER)
-                self.assertEqual(self.run_few("tools/program", "--built", "pycheck").returncode, 0)
+                self.assertEqual(self.run_few("tools/ship", "program", "--built", "pycheck").returncode, 0)
                 later = time.time() + 60
                 os.utime(self.clone / source, (later, later))
                 self.assert_answer(self.run_few("./pycheck", "examples/ages.py"), *report_of(AGES))
-                done = self.run_few("tools/program", "--built", "pycheck")
+                done = self.run_few("tools/ship", "program", "--built", "pycheck")
                 self.assertEqual((done.returncode, done.stdout), (1, ""))
                 self.assertIn("older than its sources", done.stderr)
                 os.utime(self.clone / source, (OLD, OLD))
@@ -232,7 +232,7 @@ class WhereItDoesNotServe(RoomCase):
 
     def assert_told(self, *words: str) -> None:
         """No program is found, the reason is told, and nothing is built without a toolchain."""
-        found = self.run_few("tools/program", "pycheck")
+        found = self.run_few("tools/ship", "program", "pycheck")
         self.assertEqual((found.returncode, found.stdout), (1, ""), found.stderr)
         done = self.run_few("./pycheck", "examples/ages.py")
         self.assert_not_run(done, *words, "proving and building the program", "its command rt is not on PATH")
@@ -264,4 +264,4 @@ class WhereItDoesNotServe(RoomCase):
         mistaken: List[List[str]] = [[], ["nothing"], ["pycheck", "pyrun"], ["--built"], [""]]
         for words in mistaken:
             with self.subTest(words=words):
-                self.assert_not_run(self.run_few("tools/program", *words), "usage: tools/program")
+                self.assert_not_run(self.run_few("tools/ship", "program", *words), "usage: tools/ship program")

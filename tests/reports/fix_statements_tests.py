@@ -87,7 +87,7 @@ class Statements(FixTest):
     def test_targets_that_are_left(self) -> None:
         self.assert_bodies_left("x, y = a", "x, *y = 1, 2", "x, y = *a, 1", "(x, y), c = 1, 2")
         self.assert_bodies_left("x, y = (1,  # why\n    2)")
-        self.assert_bodies_left("x = y, c = a", "x, y = y, x\nlocals()", "x = (y := 1), 2")
+        self.assert_bodies_left("x = y, c = a", "x, y = y, x\nlocals()", "x, z = a(), (y := 1)")
         self.assert_left(HEADER + "x, y = f(), g()\n" + MAIN)
 
     def test_loops(self) -> None:
@@ -126,7 +126,7 @@ class Expressions(FixTest):
             "assert a if b else c",
             "while a if b else c:\n    pass",
             "if a:\n    pass\nelif a if b else c:\n    pass",
-            "return a(x := 1, 1 if b else x)",
+            "return a(1 if b else c, x := 2)",
             "return (a if b else  # why\n    c)",
             "return lambda: a if b else c",
             "print(a if b else c, locals())",
@@ -155,6 +155,14 @@ class Expressions(FixTest):
         self.assert_body("return not isinstance(a, (int, str))", wanted)
         self.assert_bodies_left("return isinstance(a.b, (int, str))", "return isinstance(a, (int, b))")
         self.assert_bodies_left("return isinstance(a, ())")
+
+    def test_loops_in_loops(self) -> None:
+        ends = "for x in [1, 2]:\n{}    for y in [n]:\n        if y == x: break\n    else:\n        show(x)\n{}"
+        body = ends.format("", "else:\n    show(7)") + "\nfor i in range(n + 1, 4):\n"
+        body += "    for j in range(n * 2, 5):\n        show(i * j)\n    show(i)"
+        lines = "\n".join(f"    {it}" for it in body.split("\n"))
+        text = f"def show(x):\n    print(x)\n\ndef f(n: int):\n{lines}\n\ndef main():\n    f(1)\n    f(3)\n\nmain()\n"
+        self.assert_alike([HEADER + text], 1)
 
     def test_random_bodies(self) -> None:
         source = random.Random(21)

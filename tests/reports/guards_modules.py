@@ -6,7 +6,7 @@ import functools
 import random
 from typing import Dict, List, Tuple
 
-# A type is a tuple whose first part is its head, as in tools/fuzz
+# A type is a tuple whose first part is its head, as in tools/attack fuzz
 Tree = Tuple[object, ...]
 PLAIN = ["int", "str", "bool", "int | None", "str | None", "int | str", "object"]
 LOCATED = [

@@ -18,11 +18,11 @@ from typing import Any, Callable, Iterator, List, NamedTuple, Optional, Tuple
 
 from guards_modules import Tree, made_core, tree_of
 from guards_values import NotSpelled, Spelling, Values, constants_of, shape
-from speed_tests import maker
 from support import Test
 
 from pycheck_all import guards
 from pycheck_all.program import Program
+from pycheck_tools.attack import fuzz
 
 FOUR = (TypeError, AttributeError, NameError)
 CORES, CALLS = 40, 60
@@ -94,8 +94,7 @@ def trees_of(function: Any) -> List[Tree]:
 
 
 def texts() -> Iterator[bytes]:
-    """Modules: some of tools/fuzz, and those whose functions write at one type and read at another."""
-    fuzz = maker()
+    """Modules: some of tools/attack fuzz, and those whose functions write at one type and read at another."""
     for number in range(10_000):
         yield made_core(random.Random(f"guards/{number}")).encode()
         found = fuzz.made_module(random.Random(f"guards/{number}"))

@@ -8,7 +8,7 @@ import shutil
 import subprocess
 import sys
 import unittest
-from typing import Dict
+from typing import Dict, List
 
 from support import CLEAN, PACKAGE, REFUSED, ROOT, Test, variables
 
@@ -38,15 +38,26 @@ class Package(Test):
         done = subprocess.run(words, capture_output=True, cwd=self.folder, timeout=600)
         self.assertEqual((done.returncode, done.stderr), (0, b""), done.stdout.decode())
 
+    def copied_check(self) -> List[str]:
+        """The words that run tools/check over the files of the test's own folder."""
+        for name in ("check", "pycheck_tools", "pycheck_all"):
+            source, copy = ROOT / "tools" / name, self.folder / "tools" / name
+            if source.is_dir():
+                shutil.copytree(source, copy, ignore=shutil.ignore_patterns("__pycache__"), dirs_exist_ok=True)
+            else:
+                copy.parent.mkdir(parents=True, exist_ok=True)
+                shutil.copy(source, copy)
+        return [sys.executable, str(self.folder / "tools" / "check")]
+
     def test_texts_of_codes_are_those_of_the_page(self) -> None:
-        done = subprocess.run([sys.executable, str(ROOT / "tools" / "codes_as_data"), "--check"], capture_output=True)
+        done = subprocess.run([sys.executable, str(ROOT / "tools" / "check"), "data"], capture_output=True)
         self.assertEqual((done.returncode, done.stdout, done.stderr), (0, b"", b""))
 
     def test_texts_that_are_old_are_told(self) -> None:
         data = [f"tools/pycheck_all/{name}.json" for name in ("codes", "left_out", "cases")]
-        for name in ("docs/CODES.md", "docs/PROFILE.md", "tools/codes_as_data", *data):
+        for name in ("docs/CODES.md", "docs/PROFILE.md", *data):
             self.write(name, (ROOT / name).read_bytes())
-        words = [sys.executable, str(self.folder / "tools" / "codes_as_data"), "--check"]
+        words = [*self.copied_check(), "data"]
         self.assertEqual(subprocess.run(words, capture_output=True).returncode, 0)
         page = self.folder / "docs" / "CODES.md"
         page.write_text(
@@ -56,19 +67,18 @@ class Package(Test):
         self.write("docs/CODES.md", (ROOT / "docs" / "CODES.md").read_bytes())
         self.write("docs/PROFILE.md", (ROOT / "docs" / "PROFILE.md").read_bytes().replace(b"rounded down", b"rounded"))
         done = subprocess.run(words, capture_output=True)
-        self.assertEqual(done.stdout, b"left_out.json is not what tools/codes_as_data writes; run it\n")
+        self.assertEqual(done.stdout, b"left_out.json is not what tools/check data --write writes; run it\n")
         self.assertEqual(done.returncode, 1)
 
     def test_an_error_that_does_not_say_what_it_is_in_a_run_is_told(self) -> None:
         page = (ROOT / "docs" / "CODES.md").read_text(encoding="utf-8")
         said = "**In a run:** This error is silent at a function, and heard at a method.\n\n"
+        words = self.copied_check()
         for other in ("", said.replace("heard", "loud"), said.replace(",", "")):
             self.write("docs/CODES.md", page.replace(said, other))
-            self.write("tools/codes_as_data", (ROOT / "tools" / "codes_as_data").read_bytes())
             self.write("docs/PROFILE.md", (ROOT / "docs" / "PROFILE.md").read_bytes())
             self.write("tools/pycheck_all/codes.json", "{}")
-            words = [sys.executable, str(self.folder / "tools" / "codes_as_data")]
-            done = subprocess.run(words, capture_output=True)
+            done = subprocess.run([*words, "data", "--write"], capture_output=True)
             self.assertEqual(done.stdout, b"CODES.md: the entry of E21 has no sentence `In a run`\n")
             self.assertEqual(done.returncode, 1)
 

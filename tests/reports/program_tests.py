@@ -141,7 +141,7 @@ class Choice(Test):
             ROOT / "tools" / "pycheck_all", tools / "pycheck_all", ignore=shutil.ignore_patterns("__pycache__")
         )
         shutil.copy(COMMAND, tools)
-        self.write("tools/program", f"#!/bin/sh\n{script}\n").chmod(0o755)
+        self.write("tools/ship", f"#!/bin/sh\n{script}\n").chmod(0o755)
         return [sys.executable, str(tools / "check_all"), "--version"]
 
     def run_words(self, words: "list[str]", **changed: "str | None") -> "tuple[int, str, str]":
@@ -151,7 +151,7 @@ class Choice(Test):
 
     def test_the_script_of_a_checkout(self) -> None:
         one = self.stand_in("one", "pycheck 1.2.3")
-        words = self.checkout(f'test "$*" = pycheck && echo {one} && echo more')
+        words = self.checkout(f'test "$*" = "program pycheck" && echo {one} && echo more')
         self.assertEqual(self.run_words(words), (0, f"pycheck 1.2.3 at {one}\n", ""))
 
     def test_on_path(self) -> None:

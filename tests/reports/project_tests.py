@@ -161,6 +161,13 @@ class Excluded(Project):
         self.assertEqual((done.status, done.output), (0, f"0 files: {COUNTS}, 3 left out by exclude\n"))
         self.assertEqual(len(self.lines("--exclude", "a.py", ".")), 4)
 
+    def test_what_is_left_out_of_a_core_counts_once(self) -> None:
+        for name in ("core/a.py", "core/a_api.py", "b.py"):
+            self.write(name, ERROR)
+        self.settings('core = ["core"]\nexclude = ["*_api.py"]')
+        self.assert_lines([f"core/a.py{FOUND}", "1 file: 1 error, 0 dynamic places, 1 left out by exclude, "
+                           "1 left out as outside the core"])
+
     @unittest.skipUnless(GIT, "there is no git")
     def test_paths_are_those_of_the_project(self) -> None:
         for name in ("src/a.py", "src/made/b.py", "src/core/c.py"):

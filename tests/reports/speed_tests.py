@@ -1,8 +1,6 @@
 """How long a project of a thousand files takes."""
 from __future__ import annotations
 
-import importlib.machinery
-import importlib.util
 import json
 import os
 import random
@@ -10,9 +8,11 @@ import shutil
 import subprocess
 import sys
 import time
-from typing import Any, List, Tuple
+from typing import List, Tuple
 
-from support import COMMAND, ROOT, Test, variables
+from support import COMMAND, Test, variables
+
+from pycheck_tools.attack import fuzz
 
 FILES = 1000
 # Seconds on four processors, and so of processor time
@@ -22,16 +22,6 @@ PROCESSORS = 4
 RUNS = 5
 # Work for one processor that takes a part of a second
 FILLED = "sum(range(5_000_000))"
-
-
-def maker() -> Any:
-    """The tool that makes modules at random."""
-    loader = importlib.machinery.SourceFileLoader("fuzz", str(ROOT / "tools" / "fuzz"))
-    spec = importlib.util.spec_from_loader("fuzz", loader)
-    assert spec is not None
-    made = importlib.util.module_from_spec(spec)
-    loader.exec_module(made)
-    return made
 
 
 def before_others() -> List[str]:
@@ -63,7 +53,6 @@ class Speed(Test):
 
     def setUp(self) -> None:
         super().setUp()
-        fuzz = maker()
         kinds = list(fuzz.KINDS.values())
         for number in range(FILES):
             rng = random.Random(f"reports/{number}")

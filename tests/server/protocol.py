@@ -63,7 +63,7 @@ class Failure(Exception):
 
 def texts_of(path: str, function: str) -> Dict[str, str]:
     """The text for each code in a function of the crate of texts, by the code."""
-    with open(os.path.join(ROOT, "crates", "pc_help", "src", path), encoding="utf-8") as source:
+    with open(os.path.join(ROOT, "crates", "pc_code_texts", "src", path), encoding="utf-8") as source:
         text = source.read()
     body = text.split(f"pub fn {function}(", 1)[1].split("\n}\n", 1)[0]
     return dict(re.findall(r'Code::([A-Z]\d+) =>\s+\{?\s*"([^"]*)"', body))

@@ -1,0 +1,63 @@
+"""Tests what the commands do with their words."""
+from __future__ import annotations
+
+import os
+import shutil
+import subprocess
+import unittest
+
+from room import ROOT, Case
+
+MYPY = shutil.which("mypy", path=os.pathsep.join([os.environ.get("PATH", ""), "/usr/bin"]))
+
+
+class Words(Case):
+    """The words of tools/check, tools/measure, tools/attack, tools/compare and tools/ship."""
+
+    def test_several_checks(self) -> None:
+        said = self.passes("check", "names", "architecture")
+        self.assertRegex(said, r"\Anames:\n\d+ types, .*\narchitecture:\n\d+ crates, .*\n\Z")
+
+    def test_one_of_several_checks_fails(self) -> None:
+        self.copied()
+        self.write("README.md", "no link\n")
+        self.write("crates.txt", "pc_a:\n")
+        self.write("docs/ARCHITECTURE.md", "# Page\n\n## The stages\n\n### Low: one\n\n| [pc_a](../crates/pc_a) | a | – |\n")
+        self.passes("check", "architecture", "--write", own=True)
+        said = "architecture:\n1 crates, 1 stages, 0 faults\npages:\n"
+        self.fails(said, "check", "architecture", "pages", own=True)
+        self.fails(said, "check", "architecture", "pages", "architecture", own=True)
+
+    def test_mistaken_words(self) -> None:
+        for command, words in (("check", ["gone"]), ("check", ["names", "--write"]), ("check", ["--write"]), ("check", ["pages", "--calls"]),
+                               ("attack", []), ("attack", ["gone"]), ("attack", ["fuzz"]), ("attack", ["hostile"]),
+                               ("compare", ["rows", "pycheck"]), ("compare", ["texts"]), ("compare", ["mypy"]),
+                               ("measure", ["speed"]), ("measure", ["shapes"]), ("measure", ["crates", "--gone"]),
+                               ("architecture", ["--gone"])):
+            with self.subTest(command=command, words=words):
+                status, said = self.ran(command, *words)
+                self.assertEqual(status, 3, said)
+                self.assertIn(f"tools/{command}", said)
+        self.assertEqual(self.ran("wrong_bodies", "--gone")[0], 2)
+
+    def test_help(self) -> None:
+        for name in ("check", "attack", "attack fuzz", "compare rows", "measure speed", "wrong_bodies"):
+            self.assertIn(f"    tools/{name} ", self.passes(name, "--help"))
+
+    def test_words_of_ship(self) -> None:
+        for words in ([], ["gone"], ["--help"]):
+            done = subprocess.run([ROOT / "tools/ship", *words], capture_output=True, text=True)
+            self.assertEqual((done.returncode, done.stdout), (3, ""))
+            self.assertIn("usage: tools/ship build|release|web|program", done.stderr)
+
+
+class Types(Case):
+    """The types of the package pycheck_tools."""
+
+    @unittest.skipUnless(MYPY, "there is no mypy")
+    def test_mypy_has_nothing_to_say(self) -> None:
+        package = ROOT / "tools/pycheck_tools"
+        config = self.write("mypy.ini", "[mypy]\nstrict = True\n")
+        words = [str(MYPY), "--config-file", config, "--no-incremental", "--cache-dir", os.devnull, str(package)]
+        done = subprocess.run(words, cwd=self.room, capture_output=True, text=True, timeout=600)
+        self.assertEqual((done.returncode, done.stderr), (0, ""), done.stdout)

@@ -1,0 +1,211 @@
+"""The module of WebAssembly in Node, beside the program."""
+from __future__ import annotations
+
+import base64
+import json
+import os
+import random
+import resource
+import shutil
+import subprocess
+from pathlib import Path
+from typing import Sequence, Tuple
+
+from beside import EXAMPLES, FORMS, ROOT, WEB, RoomCase, large_module, made_modules, nearly_utf8, program, run
+
+HERE = ROOT / "tests" / "web"
+VOCABULARY = ("--json", "--format", "1", "2", "3", "--format=1", "--format=2", "--format=", "--format=1=2", "--json=1",
+              "--json=", "--help=1", "--version=", "--", "-h", "-V", "--help", "--version", "-hV", "-Vx", "-xh", "a.py",
+              "b.py", "-", "", "-x", "-\u00e9", "-\n", "--nope", "--forma", "--jsn", "--hlep", "--=", "--=1", "---", "--nosj",
+              "--\U0001f40d", "--json --format", "x\ny", "'", "--a'b", "--jsonformat", "--verhelp")
+# What misspelt names of options are made of
+LETTERS = "jsonfrmathelpvi-"
+# Lines that the command itself is started with: each kind of mistake, and what is asked for beside one
+MISTAKES = ((), ("--nope",), ("--nope", "a.py"), ("a.py", "--nope"), ("--json", "--nope"), ("--forma",), ("a.py", "--fromat"),
+            ("--h",), ("--vers",), ("--js", "--format", "1"), ("-x",), ("-jh",), ("a.py", "b.py"), ("--", "a.py", "--b"),
+            ("--",), ("--json",), ("--format",), ("--format", "--"), ("--format", "a.py"), ("--format", "-x"),
+            ("--format", "--json", "a.py"), ("--format", "3", "a.py"), ("--format=", "a.py"), ("--format=1=2", "a.py"),
+            ("--format=1", "--format=2", "a.py"), ("--json", "--json", "a.py"), ("--json=1", "a.py"), ("--help=1",),
+            ("--format", "1", "--json=1"), ("--json", "--help=1"), ("--format", "--help"), ("a.py", "b.py", "--help"))
+ORDERS = 400
+# How long the check of a large module may take beside the program's, once the engine has compiled it. Twice is what is
+# hoped for
+SLOWER = 4
+
+
+class Node(RoomCase):
+    """Reports, words and faults."""
+
+    def compare(self, files: Sequence[Path]) -> None:
+        """The module answers each file in each form as the program does."""
+        lines = "".join(f"{it}\n" for it in files).encode()
+        done = run(*self.need_node(), HERE / "reports.mjs", input=lines)
+        self.assertEqual(done.returncode, 0, done.stderr.decode())
+        said = done.stdout.decode().splitlines()
+        self.assertEqual(len(said), len(files) * len(FORMS))
+        for number, line in enumerate(said):
+            file, form = files[number // len(FORMS)], FORMS[number % len(FORMS)]
+            status, out, err = program(*form, file)
+            found, _, text = line.partition(" ")
+            given = (int(found), base64.b64decode(text), b"") if status < 2 else (int(found), b"", f"{text}\n".encode())
+            self.assertEqual(given, (status, out, err), (file, form))
+
+    def test_reports_of_all_examples(self) -> None:
+        self.assertGreater(len(EXAMPLES), 90)
+        self.compare(EXAMPLES)
+
+    def test_reports_of_modules_made_at_random(self) -> None:
+        self.compare(self.files(made_modules()))
+
+    def test_bytes_that_are_nearly_utf8(self) -> None:
+        """They go through the one instruction of x86-64 that is replaced by one of WebAssembly."""
+        self.compare(self.files(nearly_utf8()))
+
+    def test_reports_of_the_longest_texts(self) -> None:
+        texts = [large_module(1_000_000), b"#" * 1_048_576, b"#" * 1_048_577, b"", b"\xef\xbb\xbf", b"\0", b"\xff"]
+        self.compare(self.files(texts))
+
+    def test_the_deepest_texts(self) -> None:
+        """As deep as the profile lets a text be, and one step deeper: the engine's own stack suffices."""
+        head, tail = "from __future__ import annotations\ndef main():\n", "main()\n"
+        texts = [f"{head} x = {'-' * depth}1\n{tail}" for depth in (61, 62, 63, 64, 65)]
+        texts += [f"{head} x = {'(' * depth}1{')' * depth}\n{tail}" for depth in (63, 64, 65)]
+        texts += [f"{head} x = {'[' * depth}{']' * depth}\n{tail}" for depth in (61, 62, 63, 64)]
+        for depth in (46, 47, 48, 49, 50, 51):
+            suites = "".join(f"{' ' * it}if True:\n" for it in range(1, depth))
+            texts.append(f"{head}{suites}{' ' * depth}x = {'-' * 60}1\n{tail}")
+        self.compare(self.files([it.encode() for it in texts]))
+
+    def test_memory_that_ends(self) -> None:
+        files = [ROOT / "examples" / f"{name}.py" for name in ("ages", "clean", "dynamic")]
+        done = run(*self.need_node(), HERE / "memory.mjs", WEB / "pycheck.wasm", *files)
+        self.assertEqual(done.returncode, 0, done.stderr.decode())
+        self.assertRegex(done.stdout.decode(), r"^[1-9]\d+ wanting, [1-9]\d* own\n$")
+
+    def test_the_largest_module_is_fast(self) -> None:
+        """In seconds of the processor, since other work may take it meanwhile."""
+        file = self.files([large_module(800_000)])[0]
+        begun = resource.getrusage(resource.RUSAGE_CHILDREN)
+        program("--json", file)
+        ended = resource.getrusage(resource.RUSAGE_CHILDREN)
+        alone = ended.ru_utime + ended.ru_stime - begun.ru_utime - begun.ru_stime
+        done = run(*self.need_node(), HERE / "speed.mjs", file)
+        self.assertEqual(done.returncode, 0, done.stderr.decode())
+        spent = [float(it) for it in done.stdout.split()]
+        print(f"0.8 MB: {min(spent):.3f} s warm, {spent[0]:.3f} s at first; the program {alone:.3f} s")
+        self.assertLess(min(spent), SLOWER * alone)
+
+
+class Command(RoomCase):
+    """web/pycheck.mjs."""
+
+    def said(self, *words: object) -> Tuple[int, bytes, bytes]:
+        """The status of the command for these words, and what it prints on standard output and on standard error."""
+        done = run(*self.need_node(), WEB / "pycheck.mjs", *words, cwd=self.room)
+        return done.returncode, done.stdout, done.stderr
+
+    def test_each_example(self) -> None:
+        for number, file in enumerate(EXAMPLES):
+            words = (*FORMS[number % len(FORMS)], file)
+            self.assertEqual(self.said(*words), program(*words), words)
+
+    def test_files_that_cannot_be_read(self) -> None:
+        (self.room / "loop").symlink_to("loop")
+        (self.room / "file").touch()
+        for words in (("nope.py",), ("",), ("--", "-a"), (".",), ("nope/x.py",), ("file/x.py",), ("x" * 300,), ("loop",),
+                      ("/proc/self/mem",)):
+            self.assertEqual(self.said(*words), program(*words, cwd=self.room), words)
+
+    def test_help_and_version(self) -> None:
+        for word in ("--help", "-h", "--version", "-V", "-hx", "-Vh"):
+            self.assertEqual(self.said(word), program(word))
+
+    def test_words(self) -> None:
+        """Words in any order ask for what they ask the program for, and a mistake has the same message."""
+        (self.room / "a.py").write_bytes((ROOT / "examples" / "dynamic.py").read_bytes())
+        rng = random.Random("words")
+        orders = [[rng.choice(VOCABULARY) for _ in range(rng.randint(0, 4))] for _ in range(ORDERS)]
+        for _ in range(ORDERS):
+            misspelt = "--" + "".join(rng.choice(LETTERS) for _ in range(rng.randint(1, 9)))
+            orders.append([*["--json", "a.py"][:rng.randint(0, 2)], misspelt])
+        lines = "".join(json.dumps(it) + "\n" for it in orders).encode()
+        done = run(*self.need_node(), HERE / "words.mjs", input=lines)
+        self.assertEqual(len(done.stdout.splitlines()), len(orders), done.stderr)
+        kinds = {"help": 0, "mistake": 0, "file": 0, "similar": 0}
+        for words, line in zip(orders, done.stdout.splitlines()):
+            found, wanted = json.loads(line), program(*words, cwd=self.room)
+            kind = next(it for it in kinds if it in found)
+            kinds[kind] += 1
+            kinds["similar"] += b"a similar argument exists" in wanted[2]
+            if kind == "file":
+                plain = (*["--json"] * found["json"], "--format", found["format"], "--", found["file"])
+                self.assertEqual(program(*plain, cwd=self.room), wanted, words)
+            elif kind == "help":
+                self.assertEqual((0, found["help"].encode(), b""), wanted, words)
+            else:
+                self.assertEqual((3, b"", found["mistake"].encode()), wanted, words)
+        self.assertGreater(min(kinds.values()), 10, kinds)
+
+    def test_mistakes(self) -> None:
+        """Each kind of mistake has the bytes and the status that it has in the program."""
+        for words in MISTAKES:
+            found = self.said(*words)
+            self.assertEqual(found, program(*words, cwd=self.room), words)
+            self.assertEqual((found[0], found[1], found[2][:7]), (3, b"", b"error: "), words)
+
+    def test_words_that_are_not_utf8(self) -> None:
+        command = [*self.need_node(), str(WEB / "pycheck.mjs")]
+        for word in (b"\xff", b"--\xff", b"a\xed\xa0\x80.py", "\ufffd.py".encode()):
+            done, wanted = (subprocess.run([*it, word], capture_output=True, cwd=self.room)
+                            for it in (command, [os.environ["PYCHECK"]]))
+            self.assertEqual((done.returncode, done.stderr), (wanted.returncode, wanted.stderr), word)
+            self.assertEqual(b"is not UTF-8" in done.stderr, word != "\ufffd.py".encode())
+
+    def test_output_that_cannot_be_written(self) -> None:
+        commands = ([*self.need_node(), str(WEB / "pycheck.mjs")], [os.environ["PYCHECK"]])
+        for word in ("--help", "--version", str(EXAMPLES[0])):
+            with open("/dev/full", "wb") as full:
+                found, wanted = (subprocess.run([*it, word], stdout=full, stderr=subprocess.PIPE) for it in commands)
+            self.assertEqual((found.returncode, found.stderr), (wanted.returncode, wanted.stderr), word)
+            self.assertEqual(found.returncode, 3, word)
+
+    def test_a_module_with_another_sum_is_not_run(self) -> None:
+        shutil.copytree(WEB, self.room / "web")
+        wasm = self.room / "web" / "pycheck.wasm"
+        wasm.write_bytes(wasm.read_bytes() + b"\0\1\0")
+        done = run(*self.need_node(), self.room / "web" / "pycheck.mjs", EXAMPLES[0])
+        self.assertEqual((done.returncode, done.stdout), (3, b""))
+        self.assertIn(b"pycheck.wasm is not the module of SHA256SUMS, so nothing is run", done.stderr)
+
+    def test_without_the_flag_that_older_versions_need(self) -> None:
+        node = self.need_node()[0]
+        self.assertEqual(run(node, WEB / "pycheck.mjs", EXAMPLES[0]).stdout, program(EXAMPLES[0])[1])
+
+    def test_the_package(self) -> None:
+        npm = self.need("npm")
+        words = ("--offline", "--no-audit", "--no-fund", "--cache", self.room / "cache")
+        packed = run(npm, "pack", *words, WEB, cwd=self.room)
+        self.assertEqual(packed.returncode, 0, packed.stderr.decode())
+        file = packed.stdout.decode().split()[-1]
+        done = run(npm, "install", *words, "--prefix", self.room / "there", self.room / file, cwd=self.room)
+        self.assertEqual(done.returncode, 0, done.stderr.decode())
+        command = self.room / "there" / "node_modules" / ".bin" / "pycheck"
+        done = run(command, EXAMPLES[0])
+        self.assertEqual((done.returncode, done.stdout, done.stderr), program(EXAMPLES[0]))
+
+    def test_where_the_program_does_not_serve_this_command_does(self) -> None:
+        node = self.need_node()[0]
+        tools = self.room / "tools"
+        tools.mkdir()
+        (tools / "uname").write_text("#!/bin/sh\necho Darwin arm64\n", encoding="utf-8")
+        (tools / "uname").chmod(0o755)
+        clone = self.room / "clone"
+        for part in ("tools/ship", "tools/shipping/program", "release/PROGRAMS", "release/SHA256SUMS", "pycheck"):
+            (clone / part).parent.mkdir(parents=True, exist_ok=True)
+            shutil.copy(ROOT / part, clone / part)
+        shutil.copytree(WEB, clone / "web")
+        (clone / "crates").mkdir()
+        for file in EXAMPLES[:3]:
+            path = f"{tools}:{Path(node).parent}:/usr/bin:/bin"
+            done = run(clone / "pycheck", "--json", file, env={"PATH": path})
+            self.assertEqual((done.returncode, done.stdout, done.stderr), program("--json", file))
