@@ -10,6 +10,7 @@ Arguments:
 
 Options:
       --json        Write the report as JSON
+      --types       List the type of each expression, without a report
       --format <N>  The report's format: 1, or 2 with the types of each dynamic flow [default: 2]
   -h, --help        Print help
   -V, --version     Print version
@@ -17,7 +18,7 @@ Options:
 const VERSION = "pycheck 1.0.0\n";
 const MORE = "For more information, try '--help'.\n";
 // Each option by its name, as messages show it
-const SHOWN = { json: "--json", format: "--format <N>", help: "--help", version: "--version" };
+const SHOWN = { json: "--json", types: "--types", format: "--format <N>", help: "--help", version: "--version" };
 const REQUESTS = { help: HELP, version: VERSION, h: HELP, V: VERSION };
 // From which likeness on a name is one that may be meant
 const ALIKE = 0.7;
@@ -173,15 +174,18 @@ class Reader {
     if (this.values.file === undefined) {
       throw withUsage("the following required arguments were not provided:\n  <FILE>", [...this.given, "file"]);
     }
-    const format = this.values.format ?? "2";
+    const types = this.given.includes("types"), format = this.values.format ?? "2";
+    if (types && this.values.format !== undefined) {
+      throw mistaken(`the argument '${SHOWN.types}' cannot be used with '${SHOWN.format}'`);
+    }
     if (format !== "1" && format !== "2") {
       throw mistaken(`invalid value '${format}' for '${SHOWN.format}'\n  [possible values: 1, 2]`);
     }
-    return { json: this.given.includes("json"), format: Number(format), file: this.values.file };
+    return { json: this.given.includes("json"), types, format: Number(format), file: this.values.file };
   }
 }
 
-/** The form, the format and the file that the words ask for; or the text of `help`, or of a `mistake`. */
+/** The form, whether types are listed, the format and the file that the words ask for; or `help`, or a `mistake`. */
 export function asked(words) {
   const reader = new Reader();
   try {

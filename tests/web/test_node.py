@@ -2,6 +2,7 @@
 from __future__ import annotations
 
 import base64
+import itertools
 import json
 import os
 import random
@@ -9,7 +10,7 @@ import resource
 import shutil
 import subprocess
 from pathlib import Path
-from typing import Sequence, Tuple
+from typing import Dict, Sequence, Tuple
 
 from beside import EXAMPLES, FORMS, ROOT, WEB, RoomCase, large_module, made_modules, nearly_utf8, program, run
 
@@ -17,16 +18,20 @@ HERE = ROOT / "tests" / "web"
 VOCABULARY = ("--json", "--format", "1", "2", "3", "--format=1", "--format=2", "--format=", "--format=1=2", "--json=1",
               "--json=", "--help=1", "--version=", "--", "-h", "-V", "--help", "--version", "-hV", "-Vx", "-xh", "a.py",
               "b.py", "-", "", "-x", "-\u00e9", "-\n", "--nope", "--forma", "--jsn", "--hlep", "--=", "--=1", "---", "--nosj",
-              "--\U0001f40d", "--json --format", "x\ny", "'", "--a'b", "--jsonformat", "--verhelp")
+              "--\U0001f40d", "--json --format", "x\ny", "'", "--a'b", "--jsonformat", "--verhelp", "--types", "--types=1",
+              "--typs", "--type")
 # What misspelt names of options are made of
-LETTERS = "jsonfrmathelpvi-"
+LETTERS = "jsonfrmathelpviy-"
 # Lines that the command itself is started with: each kind of mistake, and what is asked for beside one
 MISTAKES = ((), ("--nope",), ("--nope", "a.py"), ("a.py", "--nope"), ("--json", "--nope"), ("--forma",), ("a.py", "--fromat"),
             ("--h",), ("--vers",), ("--js", "--format", "1"), ("-x",), ("-jh",), ("a.py", "b.py"), ("--", "a.py", "--b"),
             ("--",), ("--json",), ("--format",), ("--format", "--"), ("--format", "a.py"), ("--format", "-x"),
             ("--format", "--json", "a.py"), ("--format", "3", "a.py"), ("--format=", "a.py"), ("--format=1=2", "a.py"),
             ("--format=1", "--format=2", "a.py"), ("--json", "--json", "a.py"), ("--json=1", "a.py"), ("--help=1",),
-            ("--format", "1", "--json=1"), ("--json", "--help=1"), ("--format", "--help"), ("a.py", "b.py", "--help"))
+            ("--format", "1", "--json=1"), ("--json", "--help=1"), ("--format", "--help"), ("a.py", "b.py", "--help"),
+            ("--types",), ("--types", "--types", "a.py"), ("--types=1", "a.py"), ("--types", "--format", "2", "a.py"),
+            ("--format=1", "a.py", "--types"), ("--types", "--format", "3", "a.py"), ("--types", "--format", "2"),
+            ("--types", "--json", "--nope"), ("--type", "a.py"), ("--json", "--typs"))
 ORDERS = 400
 # How long the check of a large module may take beside the program's, once the engine has compiled it. Twice is what is
 # hoped for
@@ -120,31 +125,44 @@ class Command(RoomCase):
         for word in ("--help", "-h", "--version", "-V", "-hx", "-Vh"):
             self.assertEqual(self.said(word), program(word))
 
-    def test_words(self) -> None:
-        """Words in any order ask for what they ask the program for, and a mistake has the same message."""
+    def compare_words(self, orders: Sequence[Sequence[str]]) -> Dict[str, int]:
+        """Each list of words asks for what it asks the program for, and a mistake has the same message; how many of each."""
         (self.room / "a.py").write_bytes((ROOT / "examples" / "dynamic.py").read_bytes())
-        rng = random.Random("words")
-        orders = [[rng.choice(VOCABULARY) for _ in range(rng.randint(0, 4))] for _ in range(ORDERS)]
-        for _ in range(ORDERS):
-            misspelt = "--" + "".join(rng.choice(LETTERS) for _ in range(rng.randint(1, 9)))
-            orders.append([*["--json", "a.py"][:rng.randint(0, 2)], misspelt])
         lines = "".join(json.dumps(it) + "\n" for it in orders).encode()
         done = run(*self.need_node(), HERE / "words.mjs", input=lines)
         self.assertEqual(len(done.stdout.splitlines()), len(orders), done.stderr)
-        kinds = {"help": 0, "mistake": 0, "file": 0, "similar": 0}
+        kinds = {"help": 0, "mistake": 0, "file": 0, "similar": 0, "types": 0}
         for words, line in zip(orders, done.stdout.splitlines()):
             found, wanted = json.loads(line), program(*words, cwd=self.room)
             kind = next(it for it in kinds if it in found)
             kinds[kind] += 1
             kinds["similar"] += b"a similar argument exists" in wanted[2]
             if kind == "file":
-                plain = (*["--json"] * found["json"], "--format", found["format"], "--", found["file"])
+                kinds["types"] += found["types"]
+                form = ["--types"] if found["types"] else ["--format", found["format"]]
+                plain = (*["--json"] * found["json"], *form, "--", found["file"])
                 self.assertEqual(program(*plain, cwd=self.room), wanted, words)
             elif kind == "help":
                 self.assertEqual((0, found["help"].encode(), b""), wanted, words)
             else:
                 self.assertEqual((3, b"", found["mistake"].encode()), wanted, words)
-        self.assertGreater(min(kinds.values()), 10, kinds)
+        return kinds
+
+    def test_words(self) -> None:
+        """Words in any order, and misspelt options."""
+        rng = random.Random("words")
+        orders = [[rng.choice(VOCABULARY) for _ in range(rng.randint(0, 4))] for _ in range(ORDERS)]
+        for _ in range(ORDERS):
+            misspelt = "--" + "".join(rng.choice(LETTERS) for _ in range(rng.randint(1, 9)))
+            orders.append([*["--json", "a.py"][:rng.randint(0, 2)], misspelt])
+        kinds = self.compare_words(orders)
+        self.assertGreater(min(kinds[it] for it in ("help", "mistake", "file", "similar")), 10, kinds)
+
+    def test_words_with_types(self) -> None:
+        """Each order of up to four of these words."""
+        words = ("--types", "--json", "a.py", "--format", "2")
+        kinds = self.compare_words([order for count in range(5) for order in itertools.permutations(words, count)])
+        self.assertGreater(min(kinds[it] for it in ("mistake", "file", "types")), 10, kinds)
 
     def test_mistakes(self) -> None:
         """Each kind of mistake has the bytes and the status that it has in the program."""
@@ -152,6 +170,14 @@ class Command(RoomCase):
             found = self.said(*words)
             self.assertEqual(found, program(*words, cwd=self.room), words)
             self.assertEqual((found[0], found[1], found[2][:7]), (3, b"", b"error: "), words)
+
+    def test_types(self) -> None:
+        """The module lists none: the command says so, in place of a report or of the types, and the program lists them."""
+        for words in (("--types",), ("--json", "--types"), ("--types", "--")):
+            status, out, err = self.said(*words, EXAMPLES[0])
+            self.assertEqual((status, out), (3, b""), words)
+            self.assertEqual(err, b"pycheck: --types: the module pycheck.wasm lists no types; the program does\n")
+            self.assertGreater(len(program(*words, EXAMPLES[0])[1]), 0, words)
 
     def test_words_that_are_not_utf8(self) -> None:
         command = [*self.need_node(), str(WEB / "pycheck.mjs")]

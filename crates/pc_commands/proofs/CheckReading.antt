@@ -13,8 +13,8 @@ use Rattle.clap.proofs.WalkLemmas.{first_value-rows}
 use Rattle.pc_report.specs.declared.format.Format.{Format}
 use Rattle.pc_commands.specs.declared.faults.OptionFault.{OptionFault}
 use Rattle.pc_commands.specs.Faults.{OnFault, is_mistake, is_request, without_faults}
-use Rattle.pc_commands.specs.CheckWords.{Asked, asked, asks_for_help, command_line, faults, format_in, in_format}
-use Rattle.pc_commands.specs.CheckWords.{is_mistaken, value_of}
+use Rattle.pc_commands.specs.CheckWords.{Asked, asked, asked_of, asks_for_help, command_line, faults, format_asked}
+use Rattle.pc_commands.specs.CheckWords.{format_word, in_format, is_given, is_mistaken, value_of}
 use Rattle.pc_commands.proofs.SaidOfFaults.{error_says, value_at_fault}
 
 pub simple : is_simple command_line ≡ true
@@ -38,38 +38,51 @@ value_read m id words got other text so is rows empty =
     or_empty None = empty
     or_empty (Some t) = refl
 
+-- a getter reads the value of `--format`, if it is given
+pub word_read : (m : ArgMatches) (words : List Text) (got : Option (Bor Text))
+    → option_map (λ s. s.now) got ≡ first_value (found_of m) (codes "format")
+    → rows_of (found_of m) ≡ matches_of command_line words → option_map (λ s. s.now) got ≡ format_word words
+word_read m words got is rows = is ∙ first_value-rows (found_of m) (codes "format")
+    ∙ ap (first_of (codes "format")) rows
+
 -- where `clap` finds no fault, the words ask for a check of what was read
-asked_is : (words : List Text) (flag number file : Text) → faults words ≡ [] → flag ≡ value_of (codes "json") words
-    → number ≡ value_of (codes "format") words → file ≡ value_of (codes "file") words
-    → asked words ≡ in_format (bytes_eq flag (codes "true")) (format_in number) file
-asked_is words flag number file none flag_is number_is file_is = rw (flag_is, number_is, file_is) (
-    ap (λ kinds. without_faults kinds (in_format (bytes_eq (value_of (codes "json") words) (codes "true"))
-    (format_in (value_of (codes "format") words)) (value_of (codes "file") words))) none
+asked_is : (words : List Text) (flag listing : Text) (number : Option Text) (file : Text) → faults words ≡ []
+    → flag ≡ value_of (codes "json") words → listing ≡ value_of (codes "types") words → number ≡ format_word words
+    → file ≡ value_of (codes "file") words
+    → asked words ≡ asked_of (bytes_eq flag (codes "true")) (bytes_eq listing (codes "true")) number file
+asked_is words flag listing number file none flag_is kinds_is number_is file_is =
+    rw (flag_is, kinds_is, number_is, file_is) (
+    ap (λ kinds. without_faults kinds (asked_of (is_given (codes "json") words) (is_given (codes "types") words)
+    (format_word words) (value_of (codes "file") words))) none
     )
 
--- the number names a format, and the file was copied
-pub gives : (words : List Text) (flag number file copy : Text) (json : Bool) (format : Format) → faults words ≡ []
-    → flag ≡ value_of (codes "json") words → number ≡ value_of (codes "format") words
-    → file ≡ value_of (codes "file") words → json ≡ bytes_eq flag (codes "true") → format_in number ≡ Some format
-    → copy ≡ file
-    → asked words ≡ Some (record { json = json; format = format; file = copy })
-gives words flag number file copy json format none flag_is number_is file_is json_is format_is copy_is =
-    asked_is words flag number file none flag_is number_is file_is
-    ∙ ap (λ o. in_format (bytes_eq flag (codes "true")) o file) format_is
-    ∙ sym (ap₂ (λ (j : Bool) (f : Text). in_format j (Some format) f) json_is copy_is)
+-- there is a format, and the file was copied
+pub gives : (words : List Text) (flag listing : Text) (number : Option Text) (file copy : Text) (json types : Bool)
+    (format : Format) → faults words ≡ [] → flag ≡ value_of (codes "json") words
+    → listing ≡ value_of (codes "types") words → number ≡ format_word words → file ≡ value_of (codes "file") words
+    → json ≡ bytes_eq flag (codes "true") → types ≡ bytes_eq listing (codes "true")
+    → format_asked types number ≡ Some format → copy ≡ file
+    → asked words ≡ Some (record { json = json; types = types; format = format; file = copy })
+gives words flag listing number file copy json types format none flag_is kinds_is number_is file_is json_is types_is
+    format_is copy_is =
+    asked_is words flag listing number file none flag_is kinds_is number_is file_is
+    ∙ sym (ap₂ (λ (j t : Bool). asked_of j t number file) json_is types_is)
+    ∙ ap (λ o. in_format json types o file) format_is
+    ∙ ap (λ (f : Text). in_format json types (Some format) f) (sym copy_is)
 
--- the number names no format
-pub misses : (words : List Text) (number : Text) → faults words ≡ [] → number ≡ value_of (codes "format") words
-    → format_in number ≡ None → asked words ≡ None
-misses words number none number_is format_is =
-    asked_is words _ number _ none refl number_is refl
-    ∙ ap (λ o. in_format (bytes_eq (value_of (codes "json") words) (codes "true")) o (value_of (codes "file") words))
-    format_is
+-- there is no format
+pub misses : (words : List Text) (listing : Text) (number : Option Text) (types : Bool) → faults words ≡ []
+    → listing ≡ value_of (codes "types") words → number ≡ format_word words
+    → types ≡ bytes_eq listing (codes "true") → format_asked types number ≡ None → asked words ≡ None
+misses words listing number types none kinds_is number_is types_is format_is =
+    asked_is words _ listing number _ none refl kinds_is number_is refl
+    ∙ sym (ap (λ (t : Bool). asked_of (is_given (codes "json") words) t number (value_of (codes "file") words)) types_is)
+    ∙ ap (λ o. in_format (is_given (codes "json") words) types o (value_of (codes "file") words)) format_is
 
 -- what `clap` reads of the words
 abbrev read : List Text → Option Asked
-read words = in_format (bytes_eq (value_of (codes "json") words) (codes "true"))
-    (format_in (value_of (codes "format") words)) (value_of (codes "file") words)
+read words = asked_of (is_given (codes "json") words) (is_given (codes "types") words) (format_word words)
+    (value_of (codes "file") words)
 
 -- what is said of an error of `clap` holds of the words
 pub says : (words : List Text) (k : ErrorKind) (r : OptionFault) → (k ≡ kind.OutOfMemory) ⊎ IsAmong k (faults words)

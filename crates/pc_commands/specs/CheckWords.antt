@@ -10,9 +10,10 @@ use Rattle.pc_report.specs.declared.format.Format.{Format}
 use Rattle.pc_report.specs.declared.format.Format.TheVariants.{One, Two}
 use Rattle.pc_commands.specs.Faults.{begins_with_dash, is_request, mistaken_by, without_faults}
 
--- the request for a check of a file, with a report as JSON or text, in a format
+-- the request for a check of a file: as JSON or text, the listing of types or the report in a format
 pub record Asked : Type 0 where
   pub json : Bool
+  pub types : Bool
   pub format : Format
   pub file : Text
 
@@ -20,24 +21,23 @@ pub record Asked : Type 0 where
 abbrev pub json_rule : Rule
 json_rule = record (new_rule (codes "json")) { long = Some (codes "json"); action = Some SetTrue }
 
--- `--format` with a value, `2` by default
+-- the flag `--types`
+abbrev pub types_rule : Rule
+types_rule = record (new_rule (codes "types")) { long = Some (codes "types"); action = Some SetTrue }
+
+-- `--format` with a value
 abbrev pub format_rule : Rule
-format_rule = record (new_rule (codes "format")) {
-  long = Some (codes "format");
-  action = Some Set;
-  value_names = 1;
-  defaults = codes "2" ∷ [];
-}
+format_rule = record (new_rule (codes "format")) { long = Some (codes "format"); action = Some Set; value_names = 1 }
 
 -- the file, which is required
 abbrev pub file_rule : Rule
 file_rule = record (new_rule (codes "file")) { action = Some Set; value_names = 1; required = true }
 
--- the command line of the program: `--json`, `--format` with a value, and a file; and it has a version
+-- the command line of the program: `--json`, `--types`, `--format` with a value, and a file; and it has a version
 abbrev pub command_line : App
 command_line = record {
   top = record (new_shape (codes "pycheck")) {
-    rules = json_rule ∷ format_rule ∷ file_rule ∷ [];
+    rules = json_rule ∷ types_rule ∷ format_rule ∷ file_rule ∷ [];
     no_binary_name = true;
     has_version = true;
   };
@@ -52,25 +52,46 @@ faults = fault_of command_line
 abbrev pub value_of : Text → List Text → Text
 value_of id words = unwrap_or (first_of id (matches_of command_line words)) []
 
+-- whether a flag is given; its value is `true` then
+abbrev pub is_given : Text → List Text → Bool
+is_given id words = bytes_eq (value_of id words) (codes "true")
+
+-- the value of `--format`, if it is given
+abbrev pub format_word : List Text → Option Text
+format_word words = first_of (codes "format") (matches_of command_line words)
+
 -- the format that a word names: `1` or `2`, and nothing else
 abbrev pub format_in : Text → Option Format
 format_in word = if bytes_eq word (codes "1") then Some One else (if bytes_eq word (codes "2") then Some Two else None)
 
--- the request for a check, if there is a format
-abbrev pub in_format : Bool → Option Format → Text → Option Asked
-in_format json (Some format) file = Some (record { json = json; format = format; file = file })
-in_format json None file = None
+-- the format that is asked for: two without `--format`, else what its value names; `--types` goes with no `--format`
+abbrev pub format_asked : (types : Bool) → Option Text → Option Format
+format_asked types None = Some Two
+format_asked true (Some word) = None
+format_asked false (Some word) = format_in word
 
--- the request of the words: `clap` finds no fault in them, and the value of `--format` names a format; the value of a
--- flag that is given is `true`
+-- the request for a check, if there is a format
+abbrev pub in_format : (json types : Bool) → Option Format → Text → Option Asked
+in_format json types (Some format) file = Some (record { json = json; types = types; format = format; file = file })
+in_format json types None file = None
+
+-- the request of these parts: whether `--json` and `--types` are given, the value of `--format`, and the file
+abbrev pub asked_of : (json types : Bool) → Option Text → Text → Option Asked
+asked_of json types number file = in_format json types (format_asked types number) file
+
+-- the request of the words: `clap` finds no fault in them, and there is a format
 abbrev pub asked : List Text → Option Asked
 asked words = without_faults (faults words)
-    (in_format (bytes_eq (value_of (codes "json") words) (codes "true")) (format_in (value_of (codes "format") words))
+    (asked_of (is_given (codes "json") words) (is_given (codes "types") words) (format_word words)
     (value_of (codes "file") words))
 
 -- whether a word is the flag `--json`
 abbrev pub is_flag : Text → Bool
 is_flag word = bytes_eq word (codes "--json")
+
+-- whether a word is the flag `--types`
+abbrev pub is_types_flag : Text → Bool
+is_types_flag word = bytes_eq word (codes "--types")
 
 -- whether two words are `--format` and a word that does not begin with a dash
 abbrev pub is_choice : Text → Text → Bool
@@ -80,34 +101,56 @@ is_choice name number = bytes_eq name (codes "--format") && not (begins_with_das
 abbrev pub is_file : Text → Bool
 is_file word = not (begins_with_dash word)
 
--- a reading of words: whether it applies, whether `--json` is given, the word for the format, and the file
+-- a reading of words: whether it applies, whether `--json` and `--types` are given, the word for the format, if there
+-- is one, and the file
 pub record Reading : Type 0 where
   pub holds : Bool
   pub json : Bool
-  pub number : Text
+  pub types : Bool
+  pub number : Option Text
   pub file : Text
 
-abbrev pub reading_of : Bool → Bool → Text → Text → Reading
-reading_of holds json number file = record { holds = holds; json = json; number = number; file = file }
+-- a reading without `--types`
+abbrev pub report_reading : Bool → Bool → Option Text → Text → Reading
+report_reading holds json number file = record {
+  holds = holds;
+  json = json;
+  types = false;
+  number = number;
+  file = file;
+}
 
--- the readings of that many words: a file, with or without `--json` and `--format` and a number, in each order
+-- a reading with `--types`, which goes with no format
+abbrev pub types_reading : Bool → Bool → Text → Reading
+types_reading holds json file = record { holds = holds; json = json; types = true; number = None; file = file }
+
+-- the readings of that many words: a file, with or without `--json`, and with `--types` or `--format` and a number or
+-- neither, in each order
 abbrev pub readings : List Text → List Reading
-readings (first ∷ []) = reading_of (is_file first) false (codes "2") first ∷ []
+readings (first ∷ []) = report_reading (is_file first) false None first ∷ []
 readings (first ∷ second ∷ []) =
-    reading_of (is_flag first && is_file second) true (codes "2") second
-    ∷ reading_of (is_file first && is_flag second) true (codes "2") first
+    report_reading (is_flag first && is_file second) true None second
+    ∷ report_reading (is_file first && is_flag second) true None first
+    ∷ types_reading (is_types_flag first && is_file second) false second
+    ∷ types_reading (is_file first && is_types_flag second) false first
     ∷ []
 readings (first ∷ second ∷ third ∷ []) =
-    reading_of (is_choice first second && is_file third) false second third
-    ∷ reading_of (is_file first && is_choice second third) false third first
+    report_reading (is_choice first second && is_file third) false (Some second) third
+    ∷ report_reading (is_file first && is_choice second third) false (Some third) first
+    ∷ types_reading (is_flag first && (is_types_flag second && is_file third)) true third
+    ∷ types_reading (is_types_flag first && (is_flag second && is_file third)) true third
+    ∷ types_reading (is_flag first && (is_file second && is_types_flag third)) true second
+    ∷ types_reading (is_types_flag first && (is_file second && is_flag third)) true second
+    ∷ types_reading (is_file first && (is_flag second && is_types_flag third)) true first
+    ∷ types_reading (is_file first && (is_types_flag second && is_flag third)) true first
     ∷ []
 readings (first ∷ second ∷ third ∷ fourth ∷ []) =
-    reading_of (is_flag first && (is_choice second third && is_file fourth)) true third fourth
-    ∷ reading_of (is_flag first && (is_file second && is_choice third fourth)) true fourth second
-    ∷ reading_of (is_choice first second && (is_flag third && is_file fourth)) true second fourth
-    ∷ reading_of (is_choice first second && (is_file third && is_flag fourth)) true second third
-    ∷ reading_of (is_file first && (is_flag second && is_choice third fourth)) true fourth first
-    ∷ reading_of (is_file first && (is_choice second third && is_flag fourth)) true third first
+    report_reading (is_flag first && (is_choice second third && is_file fourth)) true (Some third) fourth
+    ∷ report_reading (is_flag first && (is_file second && is_choice third fourth)) true (Some fourth) second
+    ∷ report_reading (is_choice first second && (is_flag third && is_file fourth)) true (Some second) fourth
+    ∷ report_reading (is_choice first second && (is_file third && is_flag fourth)) true (Some second) third
+    ∷ report_reading (is_file first && (is_flag second && is_choice third fourth)) true (Some fourth) first
+    ∷ report_reading (is_file first && (is_choice second third && is_flag fourth)) true (Some third) first
     ∷ []
 readings words = []
 
@@ -117,7 +160,7 @@ are_plain words = list_any (λ r. r.holds) (readings words)
 
 -- the request of a reading
 abbrev pub asked_by : Reading → Option Asked
-asked_by r = in_format r.json (format_in r.number) r.file
+asked_by r = asked_of r.json r.types r.number r.file
 
 -- the request of plain words, defined without `clap`
 abbrev pub plainly_asked : List Text → Option Asked
@@ -127,6 +170,7 @@ plainly_asked words = option_and_then asked_by (find (λ r. r.holds) (readings w
 abbrev pub asks_for_help : List Text → Bool
 asks_for_help words = list_any is_request (faults words)
 
--- whether the words are mistaken: `clap` finds a mistake in them, or only the value of `--format` names no format
+-- whether the words are mistaken: `clap` finds a mistake in them, or only the value of `--format` names no format, or
+-- stands beside `--types`
 abbrev pub is_mistaken : List Text → Bool
 is_mistaken words = mistaken_by (faults words) (asked words)

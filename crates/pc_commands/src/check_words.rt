@@ -1,19 +1,22 @@
 //! The words of the command line of `pycheck`.
-ghost use Rattle.std.specs.Prelude.{◌≡◌, IfOk, IfErr, Some, None, true, false, map, string_bytes};
+ghost use Rattle.std.specs.Prelude.{◌≡◌, IfOk, IfErr, Some, None, true, false, map, option_map, string_bytes};
 ghost use Rattle.clap.specs.Words.{app_of, rule_of};
 ghost use Rattle.pc_commands.specs.Faults.{OnFault};
 ghost use Rattle.pc_commands.specs.CheckWords.{are_plain, asked, asks_for_help, command_line, file_rule, format_in};
-ghost use Rattle.pc_commands.specs.CheckWords.{format_rule, is_mistaken, json_rule, plainly_asked};
+ghost use Rattle.pc_commands.specs.CheckWords.{format_asked, format_rule, is_mistaken, json_rule, plainly_asked};
+ghost use Rattle.pc_commands.specs.CheckWords.{types_rule};
 
 use crate::faults::{OptionFault, fault_of};
 use clap::{Arg, ArgAction, Command};
 use pc_report::Format;
 use std::alloc::{AllocError, Global};
 
-/// Request of a command line: the file to check, whether the report is JSON, and its format.
+/// Request of a command line: the file to check, whether the output is JSON, whether it is the listing of types, and the
+/// format of the report.
 #[derive(Debug, PartialEq, Eq, Drop)]
 pub struct CheckOptions {
     pub json: bool,
+    pub types: bool,
     pub format: Format,
     pub file: String,
 }
@@ -29,6 +32,17 @@ fn format_of(word: &str) -> Option<Format>
     }
 }
 
+/// Returns the format that is asked for: two without a word, else the one that it names. `--types` goes with no word.
+fn format_asked(types: bool, word: Option<&str>) -> Option<Format>
+    ensures { result ≡ format_asked types (option_map (λ w. w.now) word.entry) }
+{
+    match word {
+        None => Some(Format::Two),
+        Some(_) if types => None,
+        Some(word) => format_of(word),
+    }
+}
+
 /// Returns the flag `--json`.
 fn json_argument<'a>(alloc: Global) -> Arg<'a>
     ensures rule { rule_of result ≡ json_rule }
@@ -40,6 +54,17 @@ fn json_argument<'a>(alloc: Global) -> Arg<'a>
         .help("Write the report as JSON")
 }
 
+/// Returns the flag `--types`.
+fn types_argument<'a>(alloc: Global) -> Arg<'a>
+    ensures rule { rule_of result ≡ types_rule }
+    ensures local { result.global ≡ false }
+{
+    Arg::new(alloc, "types")
+        .long("types")
+        .action(ArgAction::SetTrue)
+        .help("List the type of each expression, without a report")
+}
+
 /// Returns the option `--format N`.
 fn format_argument<'a>(alloc: Global) -> Arg<'a>
     ensures rule { rule_of result ≡ format_rule }
@@ -48,9 +73,8 @@ fn format_argument<'a>(alloc: Global) -> Arg<'a>
     Arg::new(alloc, "format")
         .long("format")
         .value_name("N")
-        .default_value("2")
         .action(ArgAction::Set)
-        .help("The report's format: 1, or 2 with the types of each dynamic flow")
+        .help("The report's format: 1, or 2 with the types of each dynamic flow [default: 2]")
 }
 
 /// Returns the argument that names the file.
@@ -74,25 +98,35 @@ fn command<'a>(alloc: Global) -> Result<Command<'a>, AllocError>
         .about("Checks the types of a module of the profile, and prints the report")
         .no_binary_name(true)
         .arg(json_argument(alloc))?
+        .arg(types_argument(alloc))?
         .arg(format_argument(alloc))?
         .arg(file_argument(alloc))
 }
 
-/// Returns the fault for a value of `--format` that names no format.
-fn format_fault(alloc: Global, word: &str) -> OptionFault
+/// Message for `--types` beside `--format`.
+const TYPES_WITH_FORMAT: &str =
+    "error: the argument '--types' cannot be used with '--format <N>'\n\nFor more information, try '--help'.\n";
+
+/// Returns the fault for a value of `--format` that names no format, or stands beside `--types`.
+fn format_fault(alloc: Global, types: bool, word: Option<&str>) -> OptionFault
     ensures { OnFault (Unit {0}) ⊥ result }
 {
-    let text = format!(in alloc;
-        "error: invalid value '{word}' for '--format <N>'\n  [possible values: 1, 2]\n\nFor more information, try '--help'.\n"
-    );
+    let word = word.unwrap_or("");
+    let text = if types {
+        String::from_str(alloc, TYPES_WITH_FORMAT)
+    } else {
+        format!(in alloc;
+            "error: invalid value '{word}' for '--format <N>'\n  [possible values: 1, 2]\n\nFor more information, try '--help'.\n"
+        )
+    };
     match text {
         Ok(text) => OptionFault::Usage(text),
         Err(_) => OptionFault::OutOfMemory,
     }
 }
 
-/// Reads the words of the command line, which must be a file and optionally `--json` and `--format N`, as `clap` reads
-/// them, with N `1` or `2`. Without `--format N` the format is two. Own rule of the profile.
+/// Reads the words of the command line, which must be a file and optionally `--json`, and `--types` or `--format N`, as
+/// `clap` reads them, with N `1` or `2`. Without `--format N` the format is two. Own rule of the profile.
 ///
 /// # Errors
 ///
@@ -100,7 +134,7 @@ fn format_fault(alloc: Global, word: &str) -> OptionFault
 pub fn check_options(alloc: Global, words: &[&str]) -> Result<CheckOptions, OptionFault>
     ensures read { IfOk result
         (λ o. asked (map (λ w. w.now) words.now)
-        ≡ Some (record { json = o.json; format = o.format; file = string_bytes o.file })) }
+        ≡ Some (record { json = o.json; types = o.types; format = o.format; file = string_bytes o.file })) }
     ensures plain { are_plain (map (λ w. w.now) words.now) ≡ true
         → asked (map (λ w. w.now) words.now) ≡ plainly_asked (map (λ w. w.now) words.now) }
     ensures none { IfErr result
@@ -113,12 +147,19 @@ pub fn check_options(alloc: Global, words: &[&str]) -> Result<CheckOptions, Opti
         Ok(matches) => matches,
         Err(error) => return Err(fault_of(alloc, &error)),
     };
-    let number = matches.get_str("format").unwrap_or("");
-    // Tested here, since `clap` would keep a list of possible values in memory that no contract describes.
-    let Some(format) = format_of(number) else {
-        return Err(format_fault(alloc, number));
+    let types = matches.get_str("types").unwrap_or("") == "true";
+    let number = matches.get_str("format");
+    // Tested here, since `clap` would keep a list of possible values, and of arguments that exclude one another, in
+    // memory that no contract describes.
+    let Some(format) = format_asked(types, number) else {
+        return Err(format_fault(alloc, types, number));
     };
     let json = matches.get_str("json").unwrap_or("") == "true";
     let file = String::from_str(alloc, matches.get_str("file").unwrap_or(""))?;
-    Ok(CheckOptions { json, format, file })
+    Ok(CheckOptions {
+        json,
+        types,
+        format,
+        file,
+    })
 }

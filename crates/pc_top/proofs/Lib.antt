@@ -1,7 +1,10 @@
 pub mod BesideErrors
 pub mod ExplainedRows
+pub mod ListingBytes
 pub mod Main
 pub mod ModuleFindings
+pub mod ModuleTypes
+pub mod OneListing
 pub mod OneReport
 pub mod StreamBytes
 pub mod WithinBytes

@@ -61,7 +61,7 @@ module _ (given all : List ℕ) (long : source_limit < length given) (more : len
 
 module _ (told left : Option (List ℕ)) (given : List ℕ) (consumed : Consumes told left given)
     (whole : length given < source_limit + 1 → IsAtEnd left) where
-  same : length given ≤ source_limit → all_bytes told given ≡ given
+  pub same : length given ≤ source_limit → all_bytes told given ≡ given
   same short = all_given told left given consumed (whole (omega arith))
 
   -- a refusal of what was read is that of the reader's bytes
@@ -98,7 +98,7 @@ module _ (told left : Option (List ℕ)) (given : List ℕ) (consumed : Consumes
   within_stream short check_fault.Write h = tt
 
   -- and so is a report
-  reported_all : (rows : List Row) → Headline given rows → Headline (all_bytes told given) rows
+  pub reported_all : (rows : List Row) → Headline given rows → Headline (all_bytes told given) rows
   reported_all rows h = subst (λ (l : List ℕ). Headline l rows) (sym (same h.spelled.laid_out.lined.text.short)) h
 
   module _ {W : Type 0} (contents : W → Option (List ℕ)) (json : Bool) (format : Format) (old new : Counted W)

@@ -1,5 +1,7 @@
 pub mod BesideErrors
 pub mod Headline
 pub mod NoNeedlessFlow
+pub mod OneListing
 pub mod OneReport
 pub mod Streaming
+pub mod TypesOfBytes

@@ -1,6 +1,7 @@
-//! The laws of reports.
+//! The laws of reports and of listings.
 
 ghost use Rattle.pc_top.specs.NoNeedlessFlow.{NoNeedlessFlow};
+ghost use Rattle.pc_top.specs.OneListing.{OneListing, OneListingText};
 ghost use Rattle.pc_top.specs.OneReport.{OneReport, OneText};
 
 /// The law that no flow is listed out of caution alone: if a type flows dynamically into another in a module that bytes
@@ -16,4 +17,11 @@ pub fn no_needless_flow()
 pub fn one_report()
     ensures rows { OneReport }
     ensures written { OneText }
+{}
+
+/// The law that bytes have one listing of types: two listings of the types of the same bytes have the same rows, in the
+/// same order; so they have the same text and the same JSON.
+pub fn one_listing_of_types()
+    ensures rows { OneListing }
+    ensures written { OneListingText }
 {}

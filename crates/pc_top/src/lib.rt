@@ -8,11 +8,13 @@ mod laws;
 mod stream;
 mod teardown;
 mod top;
+mod types;
 
 pub use checking::findings_by;
 pub use fault::CheckFault;
-pub use laws::{no_needless_flow, one_report};
+pub use laws::{no_needless_flow, one_listing_of_types, one_report};
 pub use pc_front::read_module;
-pub use pc_report::{Format, Report, Row};
-pub use stream::check_stream;
+pub use pc_report::{Format, Report, Row, TypeEntry, TypeKind, TypeListing, TypeRow};
+pub use stream::{check_stream, types_stream};
 pub use top::check;
+pub use types::{type_at, types_of};

@@ -6,11 +6,13 @@ ghost use Rattle.pc_report.specs.Writing.{IsWritten};
 ghost use Rattle.pc_top.specs.Streaming.{IsReported, IsRefusedStream, IsBegun, WhenRefused, WhenWriteFails};
 ghost use Rattle.pc_top.specs.Streaming.{UnlessWriteFails, OnceRead, IsReadThrough, IsWithinStream};
 ghost use Rattle.pc_top.specs.Streaming.{reader_fails, writer_fails, report_bytes};
+ghost use Rattle.pc_top.specs.TypesOfBytes.{IsListed, IsListingBegun, listing_bytes};
 
 use crate::fault::CheckFault;
 use crate::teardown::Teardown;
 use crate::top::report_of;
-use pc_report::{Format, Report, WriteFault, read_at_most};
+use crate::types::types_of;
+use pc_report::{Format, Report, TypeListing, WriteFault, read_at_most};
 use pc_source::Counted;
 use std::alloc::Global;
 use std::io::{Read, Write};
@@ -72,5 +74,52 @@ pub fn check_stream<R: Read + Drop, W: Write + Drop>(
     let bytes = read_at_most(alloc, reader, MOST)?;
     let report = report_of(alloc, bytes.as_slice(), Teardown::LeaveToExit)?;
     write_report(&report, writer, json, format)?;
+    Ok((report.errors(), report.dynamic()))
+}
+
+/// Writes a listing of types, as JSON or as text.
+fn write_listing<W: Write + Drop>(
+    listing: &TypeListing,
+    writer: &mut Counted<W>,
+    json: bool,
+) -> Result<(), WriteFault>
+    ensures { IsWritten W.contents (listing_bytes json listing.now) writer.old writer.new result }
+{
+    if json {
+        listing.write_json(writer)
+    } else {
+        listing.write_text(writer)
+    }
+}
+
+/// Reads bytes to their end like `check_stream`, writes the listing of their types, as JSON or as text, and returns the
+/// numbers of errors and of dynamic places that their report has. The writer is not flushed. Own rule of the profile.
+///
+/// # Errors
+///
+/// As for `check_stream`.
+pub fn types_stream<R: Read + Drop, W: Write + Drop>(
+    alloc: Global,
+    reader: &mut Counted<R>,
+    writer: &mut Counted<W>,
+    json: bool,
+) -> Result<(u64, u64), CheckFault>
+    ensures listed { IfOk result
+        (λ counts. IsListed W.contents
+        (R.remaining reader.old.device) json writer.old writer.new counts.0 counts.1) }
+    ensures refused { IfErr result (WhenRefused (IsRefusedStream (R.remaining reader.old.device))) }
+    ensures within { IfErr result
+        (WhenRefused (λ refusal. IsWithinStream (R.remaining reader.old.device) refusal.byte)) }
+    ensures read_through { OnceRead result (IsReadThrough R.remaining reader.old reader.new) }
+    ensures begun { IfErr result
+        (WhenWriteFails (IsListingBegun W.contents (R.remaining reader.old.device) json writer.old writer.new)) }
+    ensures untouched { IfErr result (UnlessWriteFails (writer.new ≡ writer.old)) }
+    ensures read_failures { reader.new.failures ≡ failures_after (reader_fails result) reader.old.failures }
+    ensures write_failures { writer.new.failures ≡ failures_after (writer_fails result) writer.old.failures }
+{
+    let given = read_at_most(alloc, reader, MOST)?;
+    let report = report_of(alloc, given.as_slice(), Teardown::Free)?;
+    let listing = types_of(alloc, given.as_slice())?;
+    write_listing(&listing, writer, json)?;
     Ok((report.errors(), report.dynamic()))
 }

@@ -1,4 +1,4 @@
-//! Checks a module: `pycheck [--json] [--format N] FILE`.
+//! Checks a module: `pycheck [--json] [--types | --format N] FILE`.
 #![tactic(auto)]
 
 ghost use Rattle.std.specs.Prelude.{◌≡◌};
@@ -7,7 +7,7 @@ ghost use Rattle.pycheck.specs.Status.{status};
 use pc_commands::{RemembersError, given_words, reason_of, tell};
 pub use pc_commands::{CheckOptions as Options, OptionFault, check_options as options};
 use pc_source::Counted;
-use pc_top::{CheckFault, check_stream};
+use pc_top::{CheckFault, check_stream, types_stream};
 use std::fs::File;
 use std::io;
 use std::io::Write;
@@ -51,7 +51,7 @@ fn explain<R: Eprint + AllocGlobal>(
     let _ = eprintln!(rt; "{fault}");
 }
 
-/// Checks the content of a file and writes the report to standard output.
+/// Checks the content of a file and writes the report, or the listing of types, to standard output.
 fn checked<R: Print + Eprint + Files + AllocGlobal>(
     rt: &R,
     options: &Options,
@@ -59,13 +59,17 @@ fn checked<R: Print + Eprint + Files + AllocGlobal>(
 ) -> Result<(u64, u64), CheckFault> {
     let mut input = Counted::new(RemembersError::new(file));
     let mut output = Counted::new(RemembersError::new(io::writer(rt)));
-    let mut outcome = check_stream(
-        rt.alloc(),
-        &mut input,
-        &mut output,
-        options.json,
-        options.format,
-    );
+    let mut outcome = if options.types {
+        types_stream(rt.alloc(), &mut input, &mut output, options.json)
+    } else {
+        check_stream(
+            rt.alloc(),
+            &mut input,
+            &mut output,
+            options.json,
+            options.format,
+        )
+    };
     // A report that was not flushed may be lost, and then the status must not claim that it was written.
     if outcome.is_ok() && output.flush().is_err() {
         outcome = Err(CheckFault::Write);

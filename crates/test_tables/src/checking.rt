@@ -3,11 +3,14 @@ use pc_front::module_in;
 use pc_notes::Notes;
 use pc_scope::scopes;
 use pc_source::{Counted, Source, read_source};
-use pc_top::{CheckFault, Format, Report, check, check_stream, findings_by};
+use pc_top::{
+    CheckFault, Format, Report, check, check_stream, findings_by, type_at, types_of, types_stream,
+};
 use pc_tree::Module;
 use pc_types::BoxStore;
 use std::alloc::{AllocError, Global};
 use std::io::{Read, Write};
+use std::str;
 use test_cases::reports::ReportMaker;
 
 /// The checker that the programs call.
@@ -75,6 +78,41 @@ impl ReportMaker for Checking {
     ) -> Result<String, AllocError> {
         match check_stream(alloc, reader, writer, json, format) {
             Ok((errors, dynamic)) => format!(in alloc; "errors {errors}, dynamic {dynamic}"),
+            Err(fault) => format!(in alloc; "{fault}"),
+        }
+    }
+
+    fn listed(&self, alloc: Global, bytes: &[u8]) -> Result<String, AllocError> {
+        let mut reader = Counted::new(bytes);
+        let mut writer = Counted::new(Vec::new(alloc));
+        match types_stream(alloc, &mut reader, &mut writer, false) {
+            Ok((errors, dynamic)) => {
+                let listing = str::from_utf8(writer.inner().as_slice()).unwrap_or("no text");
+                format!(in alloc; "{listing}errors {errors}, dynamic {dynamic}")
+            }
+            Err(fault) => format!(in alloc; "{fault}"),
+        }
+    }
+
+    fn listed_as_json(&self, alloc: Global, bytes: &[u8]) -> Result<String, AllocError> {
+        let mut writer = Counted::new(Vec::new(alloc));
+        match types_of(alloc, bytes) {
+            Ok(listing) => {
+                let _ = listing.write_json(&mut writer);
+                let text = str::from_utf8(writer.inner().as_slice()).unwrap_or("no text");
+                String::from_str(alloc, text)
+            }
+            Err(fault) => format!(in alloc; "{fault}"),
+        }
+    }
+
+    fn type_around(&self, alloc: Global, bytes: &[u8], byte: usize) -> Result<String, AllocError> {
+        match type_at(alloc, bytes, byte) {
+            Ok(Some(row)) => {
+                let (place, kind) = (row.entry.place, row.entry.kind.text());
+                format!(in alloc; "{} {} {kind} {}", place.start, place.end, row.entry.text)
+            }
+            Ok(None) => String::from_str(alloc, "none"),
             Err(fault) => format!(in alloc; "{fault}"),
         }
     }

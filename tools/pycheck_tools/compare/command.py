@@ -8,6 +8,7 @@ TOOL is one of these; `tools/compare TOOL --help` says how each is called:
     texts   what pycheck and Python's own parser take
     python  runs of an interpreter of Python with those of pyrun
     mypy    what docs/BESIDE_MYPY.md says of pycheck and mypy with what both say
+    types   the types of expressions by pycheck with those that mypy reveals
 
 The exit status is that of the tool, and 3 after a mistake in the words.
 """
@@ -15,7 +16,7 @@ from __future__ import annotations
 
 from ..words import run_tool
 
-TOOLS = ("rows", "texts", "python", "mypy")
+TOOLS = ("rows", "texts", "python", "mypy", "types")
 
 
 def main() -> int:

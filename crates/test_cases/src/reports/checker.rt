@@ -23,6 +23,15 @@ pub trait ReportMaker {
         format: Format,
     ) -> Result<String, AllocError>;
 
+    /// Returns the listing of the types of bytes, with the counts of their report after it; or the text of the fault.
+    fn listed(&self, alloc: Global, bytes: &[u8]) -> Result<String, AllocError>;
+
+    /// Returns the listing of the types of bytes as JSON, or the text of the fault.
+    fn listed_as_json(&self, alloc: Global, bytes: &[u8]) -> Result<String, AllocError>;
+
+    /// Returns the place, the kind and the type of the smallest row around a byte, or `none`; or the text of the fault.
+    fn type_around(&self, alloc: Global, bytes: &[u8], byte: usize) -> Result<String, AllocError>;
+
     /// Returns the text of its fault of this name, or `None` if it has none.
     fn fault(&self, alloc: Global, name: &str) -> Result<Option<String>, AllocError>;
 }

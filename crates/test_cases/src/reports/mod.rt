@@ -2,6 +2,7 @@
 mod checker;
 mod findings;
 mod forms;
+mod listings;
 mod modules;
 mod stores;
 mod streams;

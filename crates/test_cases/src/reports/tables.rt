@@ -2,6 +2,7 @@
 use crate::reports::checker::ReportMaker;
 use crate::reports::findings::forms_text;
 use crate::reports::forms::count_forms;
+use crate::reports::listings::listed_text;
 use crate::reports::modules::count_modules;
 use crate::reports::stores::count_stores;
 use crate::reports::streams::count_streams;
@@ -30,6 +31,7 @@ fn answer<C: ReportMaker>(
     match kind {
         "texts" | "bytes" => report_text(alloc, text, checker),
         "ends" => end_text(alloc, text, checker),
+        "listed" => listed_text(alloc, row.part, text, checker),
         "faults" => Ok(fault_text(alloc, text, checker)?),
         "written" => Ok(told(alloc, forms_text(alloc, text))?),
         _ => Err(TableFault::Kind),

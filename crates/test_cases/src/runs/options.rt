@@ -25,13 +25,23 @@ fn told(alloc: Global, fault: &OptionFault, want: &str) -> Result<String, AllocE
     }
 }
 
-/// Returns the request of words for `pycheck`, each of which follows a bar: the form and the format of the report and
-/// the file, or the message of their fault.
+/// Returns the request of words for `pycheck`, each of which follows a bar: the form, the format of the report or the
+/// word `types`, and the file, or the message of their fault.
 pub fn check_text(alloc: Global, row: &str, want: &str) -> Result<String, AllocError> {
     let words: Vec<&str> = row.split('|').skip(1).collect(alloc)?;
     match check_options(alloc, words.as_slice()) {
-        Ok(CheckOptions { json, format, file }) => {
+        Ok(
+            CheckOptions {
+                json,
+                types,
+                format,
+                file,
+            },
+        ) => {
             let form = if json { "json" } else { "text" };
+            if types {
+                return format!(in alloc; "{form} types <{file}>");
+            }
             let number = format.number();
             format!(in alloc; "{form} {number} <{file}>")
         }

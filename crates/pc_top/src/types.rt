@@ -1,0 +1,147 @@
+//! The types of the module that bytes spell.
+
+ghost use Rattle.std.specs.Prelude.{◌≡◌, ◌↔◌, ◌≤◌, [], length, map, true, Contains, IfOk, IfErr};
+ghost use Rattle.pc_tree.specs.Tree.{module_of};
+ghost use Rattle.pc_scope.specs.ModuleScopes.{AreScopes};
+ghost use Rattle.pc_class.specs.Facts.{classes_of};
+ghost use Rattle.pc_class.specs.Tables.{HasEntries, classes_with};
+ghost use Rattle.pc_notes.specs.Notes.{IsGivenShown, notes_of, type_shown, types_of};
+ghost use Rattle.pc_module_rules.specs.Computed.Modules.{module_notes};
+ghost use Rattle.pc_front.specs.Bytes.{IsRefusalOf};
+ghost use Rattle.pc_report.specs.TypeListing.{TypeFact, fact_of};
+ghost use Rattle.pc_top.specs.Headline.{OnCheckFault};
+ghost use Rattle.pc_top.specs.TypesOfBytes.{IsTypeAt, IsTypeFact, ListsTypesOf, expression_fact};
+
+use crate::fault::CheckFault;
+use pc_annotations::{parents_of, type_text};
+use pc_check::check_module;
+use pc_class::{ClassTable, class_table};
+use pc_front::module_in;
+use pc_intern::InternStore;
+use pc_notes::Notes;
+use pc_report::{TypeEntry, TypeKind, TypeListing, TypeRow};
+use pc_scope::{Scopes, scopes};
+use pc_source::{OutOfMemory, Place, read_source};
+use pc_tree::Module;
+use pc_types::{BoxStore, BoxType, TypeStore};
+use std::alloc::Global;
+use std::rc::RcStr;
+
+/// Returns what a walk over a module notes that keeps types, given its class table. The table is borrowed, since proofs
+/// take long for a function that may return early and owns one.
+fn noted_with<S: TypeStore>(
+    store: &mut S,
+    alloc: Global,
+    module: &Module,
+    scopes: &Scopes,
+    classes: &ClassTable<S::Ty>,
+) -> Result<Notes, OutOfMemory>
+    requires scopes { AreScopes (module_of «module».now) scopes.now }
+    requires classes { classes_with S.tree classes.now ≡ classes_of (module_of «module».now) }
+    requires entries { HasEntries (S.has store.old) classes.now }
+    ensures { IfOk result (λ v. notes_of v ≡ module_notes true (module_of «module».now) []) }
+{
+    let mut noted = Notes::new(alloc);
+    check_module(store, alloc, module, scopes, classes, true, &mut noted)?;
+    Ok(noted)
+}
+
+/// Returns what a walk over a module notes that keeps types.
+fn noted<S: TypeStore>(
+    store: &mut S,
+    alloc: Global,
+    module: &Module,
+    scopes: &Scopes,
+) -> Result<Notes, OutOfMemory>
+    requires { AreScopes (module_of «module».now) scopes.now }
+    ensures { IfOk result (λ v. notes_of v ≡ module_notes true (module_of «module».now) []) }
+{
+    let mut of_classes = Vec::new(alloc);
+    let classes = class_table(store, alloc, module, scopes, &mut of_classes)?;
+    noted_with(store, alloc, module, scopes, &classes)
+}
+
+/// Returns a shown type as an entry of a listing.
+fn entry_of(
+    alloc: Global,
+    module: &Module,
+    shown: &(Place, &BoxType),
+) -> Result<TypeEntry, OutOfMemory>
+    requires { IsGivenShown shown.now }
+    ensures { IfOk result (λ e. fact_of e ≡ expression_fact (module_of «module».now) (type_shown shown.now)) }
+{
+    let text = type_text(&BoxStore::new(), alloc, module, shown.1)?;
+    Ok(TypeEntry {
+        place: shown.0,
+        kind: TypeKind::Expression,
+        text: RcStr::from_string(text)?,
+        current: None,
+    })
+}
+
+/// Returns the types that notes show, as entries of a listing.
+fn entries_of(alloc: Global, module: &Module, notes: &Notes) -> Result<Vec<TypeEntry>, OutOfMemory>
+    ensures { IfOk result (λ v. map fact_of v.items
+        ≡ map (expression_fact (module_of «module».now)) (types_of (notes_of notes.now))) }
+{
+    let types = notes.types(alloc)?;
+    let mut entries = Vec::with_capacity(alloc, types.len())?;
+    for shown in &types {
+        entries.push(entry_of(alloc, module, shown)?)?;
+    }
+    Ok(entries)
+}
+
+/// Returns the entries of the listing of a module's types, in any order.
+fn entries(alloc: Global, module: &Module) -> Result<Vec<TypeEntry>, OutOfMemory>
+    ensures { IfOk result (λ v. (f : TypeFact) → Contains (map fact_of v.items) f
+        ↔ IsTypeFact (module_of «module».now) f) }
+{
+    let scopes = scopes(alloc, module)?;
+    let parents = parents_of(alloc, module, &scopes)?;
+    let mut store = InternStore::new(alloc, module.keys, parents)?;
+    let notes = noted(&mut store, alloc, module, &scopes)?;
+    entries_of(alloc, module, &notes)
+}
+
+/// Returns the types of the module that the bytes spell.
+///
+/// If there is a listing, the bytes spell exactly one module, and the listing has exactly the types under the module's
+/// one lawful labelling: of each labelled expression its place and the text of its type, sorted, none twice. A callee
+/// that is a name or an attribute, the expressions in annotations, the literals of defaults, and statements that no run
+/// reaches after one that cannot complete have no row. Own rule of the profile.
+///
+/// # Errors
+///
+/// As for `check`: `Refused` exactly if the bytes spell no module, with their refusal; `OutOfMemory` only if an
+/// allocation failed.
+pub fn types_of(alloc: Global, bytes: &[u8]) -> Result<TypeListing, CheckFault>
+    ensures lists { IfOk result (ListsTypesOf bytes.now) }
+    ensures refused { IfErr result (OnCheckFault (IsRefusalOf bytes.now)) }
+    ensures within { IfErr result (OnCheckFault (λ refusal. refusal.byte ≤ length bytes.now)) }
+{
+    let source = read_source(alloc, bytes)?;
+    let module = module_in(alloc, &source)?;
+    let entries = entries(alloc, &module)?;
+    let listing = TypeListing::of(alloc, &source, entries)?;
+    Ok(listing)
+}
+
+/// Returns the type of the smallest expression around a byte of the module that the bytes spell: the row of the listing
+/// of its types with the smallest place around the byte, or `None` if no row is around it. An expression is around its
+/// own bytes, and around the byte behind it. Own rule of the profile.
+///
+/// # Errors
+///
+/// As for `types_of`.
+pub fn type_at(alloc: Global, bytes: &[u8], byte: usize) -> Result<Option<TypeRow>, CheckFault>
+    ensures found { IfOk result (IsTypeAt bytes.now byte) }
+    ensures refused { IfErr result (OnCheckFault (IsRefusalOf bytes.now)) }
+    ensures within { IfErr result (OnCheckFault (λ refusal. refusal.byte ≤ length bytes.now)) }
+{
+    let listing = types_of(alloc, bytes)?;
+    match listing.smallest_at(byte) {
+        None => Ok(None),
+        Some(row) => Ok(Some(row.share()?)),
+    }
+}

@@ -1,0 +1,217 @@
+"""Compares the types of expressions by pycheck with those that mypy reveals.
+
+    tools/compare types PYCHECK [PAGE [EXAMPLES]]
+
+PAGE is docs/BESIDE_MYPY.md and EXAMPLES the folder examples where they are not named. mypy is the program of that name
+on PATH, or the one that the variable MYPY names; it is run with the file mypy.ini of the page.
+
+Compared are the examples in which neither program finds an error. Each expression that `pycheck --types` lists is
+given to mypy as `reveal_type(EXPRESSION)`, and the two types are compared: a literal's type is that of its value, the
+order of the members of a union does not count, and neither do the modules of names. An expression that mypy does not
+get to has no type by mypy, `none`. Each is revealed in a copy of the module of its own, since mypy does not narrow by a
+revealed expression, and gives one of two equal notes of a line.
+
+The page has a table with a row for each pair of types that differ: the type by pycheck, the type by mypy, the number
+of expressions, and a reason; and a row `the same type` with the number of expressions that agree, as `90 of 102`. Where
+mypy has the version that the page names, each row must hold, and no pair may be missing.
+
+Prints each pair that differs, with its number and with the first expression that has it, and what is wrong with the
+page. The exit status is 1 where something is wrong with the page, or where nothing was compared; 3 where a program
+cannot be run.
+"""
+from __future__ import annotations
+
+import ast
+import json
+import re
+import sys
+import tempfile
+from pathlib import Path
+from typing import Dict, List, NamedTuple, Sequence, Set, Tuple
+
+from .. import ROOT
+from ..words import Words
+from .mypy import Failure, Page, Programs, lines_of_mypy, read_page, run
+
+REVEALED = re.compile(r'module\.py:(\d+):(\d+): note: Revealed type is "(.*)"')
+LITERAL = re.compile(r"""Literal\[(?:(True|False)|(-?\d+)|('(?:[^'\\]|\\.)*'|"(?:[^"\\]|\\.)*"))\]\??""")
+AGREE = "the same type"
+CALL = b"reveal_type("
+Place = Tuple[int, int]
+Pair = Tuple[str, str]
+
+
+class Listed(NamedTuple):
+    """An expression that pycheck lists: its bytes, its line, and its type."""
+
+    place: Place
+    line: int
+    type: str
+
+
+# Types
+
+
+def canonical(node: ast.expr) -> str:
+    """A type in one spelling: the members of a union in order, each once."""
+    if isinstance(node, ast.BinOp):
+        return " | ".join(sorted(members(node)))
+    if isinstance(node, ast.Subscript):
+        head = canonical(node.value)
+        parts = node.slice.elts if isinstance(node.slice, ast.Tuple) else [node.slice]
+        if head == "Union":
+            return " | ".join(sorted({member for part in parts for member in members(part)}))
+        return f"{head.lower() if head == 'Tuple' else head}[{', '.join(map(canonical, parts))}]"
+    return ast.unparse(node)
+
+
+def members(node: ast.expr) -> Set[str]:
+    """The members of a union, or the type itself."""
+    if isinstance(node, ast.BinOp):
+        return members(node.left) | members(node.right)
+    return set(canonical(node).split(" | "))
+
+
+def of_literal(found: "re.Match[str]") -> str:
+    """The type of a literal's value."""
+    return "bool" if found[1] else "int" if found[2] else "str"
+
+
+def plain(text: str) -> str:
+    """A type as both programs would write it, or the text itself if it is no type of the profile."""
+    text = LITERAL.sub(of_literal, text)
+    text = re.sub(r"\b(?:builtins|module\d*)\.", "", text).replace("<nothing>", "Never").replace("[()]", "[Empty]")
+    try:
+        return canonical(ast.parse(text, mode="eval").body)
+    except SyntaxError:
+        return text
+
+
+# Revealing
+
+
+class Copy(NamedTuple):
+    """A copy of a module in which one expression is revealed, with the line and the column where mypy says so."""
+
+    text: bytes
+    line: int
+    column: int
+
+
+def copy_of(text: bytes, place: Place) -> Copy:
+    """The copy in which the expression at this place is revealed."""
+    before, after = text[: place[0]] + CALL, b")" + text[place[1] :]
+    return Copy(before + text[slice(*place)] + after, before.count(b"\n") + 1, len(before) - before.rfind(b"\n"))
+
+
+def revealed(lines: Sequence[str], copy: Copy) -> List[str]:
+    """What mypy reveals of the expression: in a loop several types, and nothing where it does not get to."""
+    notes = (REVEALED.fullmatch(line) for line in lines)
+    found = {plain(note[3]) for note in notes if note and (int(note[1]), int(note[2])) == (copy.line, copy.column)}
+    return sorted(found) or ["none"]
+
+
+# Comparing
+
+
+class Example(NamedTuple):
+    """A module that both programs take, with the expressions that pycheck lists."""
+
+    name: str
+    text: bytes
+    rows: List[Listed]
+
+
+class Comparison:
+    """The examples, and the pairs of types that differ, each with the places that have it."""
+
+    def __init__(self, programs: Programs) -> None:
+        self.programs = programs
+        self.expressions = self.agreeing = self.examples = 0
+        self.pairs: Dict[Pair, List[str]] = {}
+
+    def listed(self, text: bytes) -> List[Listed]:
+        """What pycheck lists, or nothing if it finds an error or refuses the module."""
+        words = [self.programs.pycheck, "--types", "--json", self.programs.file(text)]
+        status, said, error = run(words, self.programs.folder)
+        if status not in (0, 1, 2):
+            raise Failure(f"pycheck ends with status {status}: {error}")
+        rows = [row for row in json.loads(said)["types"] if row["kind"] == "expression"] if status == 0 else []
+        return [Listed((row["start"], row["end"]), row["line"], row["type"]) for row in rows]
+
+    def examples_in(self, folder: Path) -> List[Example]:
+        """The examples that both programs take."""
+        texts = {str(file.relative_to(folder)): file.read_bytes() for file in sorted(folder.rglob("*.py"))}
+        found = [Example(name, text, self.listed(text)) for name, text in texts.items()]
+        taken = [example for example in found if example.rows]
+        answers = self.programs.answers([example.text for example in taken])
+        return [example for example, lines in zip(taken, answers) if not lines_of_mypy(lines)]
+
+    def compare(self, folder: Path) -> None:
+        """Each expression of the examples by both programs."""
+        examples = self.examples_in(folder)
+        self.examples = len(examples)
+        asked = [(example, row, copy_of(example.text, row.place)) for example in examples for row in example.rows]
+        answers = self.programs.answers([copy.text for _, _, copy in asked], ["--show-column-numbers"])
+        for (example, row, copy), lines in zip(asked, answers):
+            self.take(f"{example.name}:{row.line}", plain(row.type), revealed(lines, copy))
+
+    def take(self, where: str, ours: str, theirs: List[str]) -> None:
+        """An expression with its type by pycheck and its types by mypy."""
+        self.expressions += 1
+        if theirs == [ours]:
+            self.agreeing += 1
+        else:
+            self.pairs.setdefault((ours, " or ".join(theirs)), []).append(where)
+
+
+def compare_page(page: Page, found: Comparison) -> None:
+    """The rows of the page with the pairs that were found."""
+    typed = [row for row in page.rows if len(row.cells) == 4 and re.fullmatch("`[^`]+`", row.cells[0])]
+    rows = {(plain(row.cells[0].strip("`")), row.cells[1].strip("`")): row for row in typed if row.cells[2].isdigit()}
+    for pair, row in rows.items():
+        if len(found.pairs.get(pair, [])) != int(row.cells[2]):
+            page.fault(row.line, f"{pair[0]} beside {pair[1]}: {len(found.pairs.get(pair, []))} expressions")
+    for pair in found.pairs:
+        if pair not in rows:
+            page.fault(0, f"{pair[0]} beside {pair[1]} is not on the page: {len(found.pairs[pair])} expressions")
+    agree = [row for row in page.rows if row.cells[0] == AGREE]
+    if not agree:
+        page.fault(0, f"there is no row `{AGREE}`")
+    for row in agree:
+        if row.cells[1:2] != [f"{found.agreeing} of {found.expressions}"]:
+            page.fault(row.line, f"{AGREE}: {found.agreeing} of {found.expressions}")
+
+
+def compare(pycheck: str, file: Path, folder: Path) -> int:
+    """The exit status."""
+    page = read_page(file.read_text(encoding="utf-8"))
+    with tempfile.TemporaryDirectory() as work:
+        programs = Programs(pycheck, work, page.config)
+        found = Comparison(programs)
+        found.compare(folder)
+        if programs.version_of_mypy() == page.mypy:
+            compare_page(page, found)
+    if not found.expressions:
+        page.fault(0, "nothing was compared: there are no examples that both programs take")
+    for (ours, theirs), places in sorted(found.pairs.items()):
+        print(f"{ours} beside {theirs}: {len(places)}, first {places[0]}")
+    for line, text in sorted(page.faults):
+        print(f"{file.name}:{line}: {text}" if line else f"{file.name}: {text}")
+    print(f"{found.examples} examples, {found.expressions} expressions: {found.agreeing} agree; "
+          f"{len(page.faults)} wrong on the page")
+    return 1 if page.faults else 0
+
+
+def main(words: List[str]) -> int:
+    """Compares the types of the examples, and gives the exit status."""
+    parser = Words("tools/compare types", __doc__)
+    parser.add_argument("pycheck")
+    parser.add_argument("page", nargs="?", type=Path, default=ROOT / "docs" / "BESIDE_MYPY.md")
+    parser.add_argument("folder", nargs="?", type=Path, default=ROOT / "examples")
+    asked = parser.parse_args(words)
+    try:
+        return compare(asked.pycheck, asked.page, asked.folder)
+    except (Failure, OSError) as fault:
+        print(f"compare types: {fault}", file=sys.stderr)
+        return 3
