@@ -19,7 +19,8 @@ exit {status}
 """
 SLOW_STEPS = ("tools/check", "tests/tools/run", "tools/compare", "tests/memory/run", "tests/depth/run", "tests/search/run",
               "tests/speed/run", "tests/python_runs/run", "tests/fuzz/run", "tests/python_texts/run",
-              "tests/growth/run", "tests/cookbook/run", "tests/mypy/run", "tools/shipping/web", "tests/web/run")
+              "tests/growth/run", "tests/cookbook/run", "tests/types/run", "tests/mypy/run", "tools/shipping/web",
+              "tests/web/run")
 # The words of tools/check, each with the name of its step
 CHECKS = {"definitions": "definitions", "edits": "edits", "tested": "tested", "pages": "links", "names": "names",
           "architecture": "architecture", "help": "help", "data": "data", "codes": "pages", "commands": "commands",
@@ -94,7 +95,8 @@ class Gate(RoomCase):
                     "tests/search/run": "search",
                     "tests/python_runs/run": "python_runs", "tests/fuzz/run": "fuzz",
                     "tests/python_texts/run": "python_texts",
-                    "tests/speed/run": "speed", "tests/growth/run": "growth", "tests/mypy/run": "mypy",
+                    "tests/speed/run": "speed", "tests/growth/run": "growth", "tests/types/run": "types",
+                    "tests/mypy/run": "mypy",
                     "tests/release/run": "release",
                     "tests/reports/run": "reports", "tests/server/run": "server", "tools/editors/neovim": "editors",
                     "tools/shipping/web": "shipped_web", "tests/web/run": "web",

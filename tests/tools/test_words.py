@@ -32,6 +32,7 @@ class Words(Case):
         for command, words in (("check", ["gone"]), ("check", ["names", "--write"]), ("check", ["--write"]), ("check", ["pages", "--calls"]),
                                ("attack", []), ("attack", ["gone"]), ("attack", ["fuzz"]), ("attack", ["hostile"]),
                                ("compare", ["rows", "pycheck"]), ("compare", ["texts"]), ("compare", ["mypy"]),
+                               ("compare", ["types"]),
                                ("measure", ["speed"]), ("measure", ["shapes"]), ("measure", ["crates", "--gone"]),
                                ("architecture", ["--gone"])):
             with self.subTest(command=command, words=words):
