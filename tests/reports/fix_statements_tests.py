@@ -35,6 +35,13 @@ LINES = [
 ]
 
 
+def module(lines: str) -> str:
+    """A module in whose function `f` these lines stand, among others that print what they come to."""
+    whole = ["a, b, c = n, 2, 3", "xs = [3, n, 1]", *lines.split("\n"), "show(a)", "print(b, c, xs)"]
+    text = "def show(x):\n    print(x)\n    return x\n\ndef f(n):\n" + "\n".join(f"    {it}" for it in whole)
+    return HEADER + text + "\n\ndef main():\n    f(1)\n    f(4)\n\nmain()\n"
+
+
 class Annotations(FixTest):
     """Annotations of `typing`, and quoted ones."""
 
@@ -91,7 +98,7 @@ class Statements(FixTest):
         self.assert_bodies_left("x, y = a", "x, *y = 1, 2", "x, y = *a, 1", "(x, y), c = 1, 2")
         self.assert_bodies_left("x, y = (1,  # why\n    2)")
         self.assert_bodies_left("x = y, c = a", "x, y = y, x\nlocals()", "x, z = a(), (y := 1)")
-        self.assert_left(HEADER + "x, y = f(), g()\n" + MAIN)
+        self.assert_left(HEADER + "x, y = f(), g()\n" + MAIN, HEADER + "x.a = x.b = [1]\n" + MAIN)
 
     def test_loops(self) -> None:
         lines = "for x in a:\n    if x:\n        break\nelse:\n    print(b)"
@@ -185,10 +192,5 @@ class Expressions(FixTest):
 
     def test_random_bodies(self) -> None:
         source = random.Random(21)
-        texts = []
-        for _ in range(30):
-            body = "\n".join(source.choice(LINES) for _ in range(5))
-            lines = ["a, b, c = n, 2, 3", "xs = [3, n, 1]", *body.split("\n"), "show(a)", "print(b, c, xs)"]
-            text = "def show(x):\n    print(x)\n    return x\n\ndef f(n):\n" + "\n".join(f"    {it}" for it in lines)
-            texts.append(HEADER + text + "\n\ndef main():\n    f(1)\n    f(4)\n\nmain()\n")
+        texts = [module("\n".join(source.choice(LINES) for _ in range(5))) for _ in range(30)]
         self.assert_alike(texts, 30)
