@@ -1,14 +1,15 @@
 """A project of three ordinary modules and a core, set up as docs/CORE.md says: guards, the command, the action's step,
-the hook and mypy over it, without a fault and with one."""
+the editor, the hook and mypy over it, without a fault and with one."""
 from __future__ import annotations
 
+import json
 import os
 import re
 import shutil
 import sys
 import textwrap
 from pathlib import Path
-from typing import Dict
+from typing import Any, Dict, List
 
 from room import ROOT, Done, RoomCase, run
 
@@ -152,6 +153,35 @@ class Core(RoomCase):
         done = run(words, self.project, environment)
         self.assertEqual(done.returncode, 1)
         self.assertIn("::error file=src/shop/core/prices.py", done.stdout)
+
+    def shown(self, *names: str) -> Dict[str, List[Any]]:
+        """What an editor shows of files of the project that are opened in it, by their names."""
+        messages: List[Dict[str, Any]] = [
+            {"id": 1, "method": "initialize", "params": {"rootUri": self.project.as_uri(), "capabilities": {}}},
+            {"method": "initialized", "params": {}},
+        ]
+        for name in names:
+            path = self.project / "src/shop" / name
+            document = {"uri": path.as_uri(), "languageId": "python", "version": 1, "text": path.read_text("utf-8")}
+            messages.append({"method": "textDocument/didOpen", "params": {"textDocument": document}})
+        messages += [{"id": 2, "method": "shutdown"}, {"method": "exit"}]
+        texts = [json.dumps({"jsonrpc": "2.0", **it}) for it in messages]
+        given = "".join(f"Content-Length: {len(it)}\r\n\r\n{it}" for it in texts)
+        words = [sys.executable, self.clone / "tools/check_all", "--server"]
+        done = run(words, self.project, self.environment, input=given)
+        self.assertEqual(done.returncode, 0, done.stderr)
+        found = [json.loads(it) for it in re.split(r"Content-Length: \d+\s+", done.stdout) if it]
+        params = [it["params"] for it in found if it.get("method") == "textDocument/publishDiagnostics"]
+        return {it["uri"].rpartition("/shop/")[2]: it["diagnostics"] for it in params}
+
+    def test_the_editor(self) -> None:
+        self.assertEqual(self.shown("core/prices.py", "sell.py"), {"core/prices.py": []})
+        self.plant("    return item.price * count\n", "    return shop.items.get(name)\n")
+        lines = self.core.read_text(encoding="utf-8").splitlines()
+        found = self.shown("core/prices.py", "sell.py", "stock.py")
+        self.assertEqual([(name, it["code"]) for name, its in found.items() for it in its], [("core/prices.py", "E12")])
+        place = found["core/prices.py"][0]["range"]["start"]
+        self.assertEqual(lines[place["line"]][place["character"] :], "shop.items.get(name)")
 
     def test_the_hook(self) -> None:
         if shutil.which("pre-commit") is None or shutil.which("git") is None:

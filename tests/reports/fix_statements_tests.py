@@ -20,6 +20,9 @@ LINES = [
     "show(len([n for n in xs]))",
     "if a < b <= c: show(4)",
     "show(0 <= a < b != c)",
+    "show(0 < show(a) < 4)",
+    "c = show(a) < show(b) <= c",
+    "if a < b + c < show(5) + b: show(6)",
     "for n in xs:\n    if n == c: break\n    show(n)\nelse:\n    show(9)",
     "while a < 5:\n    a = a + 1\n    if a == b: break\nelse: show(8)",
     "show(1 if isinstance(a, (str, bool)) else 2)",
@@ -30,6 +33,13 @@ LINES = [
     "xs = xs if xs else [1, 2, 3]",
     "for n in a, b: show(n)",
 ]
+
+
+def module(lines: str) -> str:
+    """A module in whose function `f` these lines stand, among others that print what they come to."""
+    whole = ["a, b, c = n, 2, 3", "xs = [3, n, 1]", *lines.split("\n"), "show(a)", "print(b, c, xs)"]
+    text = "def show(x):\n    print(x)\n    return x\n\ndef f(n):\n" + "\n".join(f"    {it}" for it in whole)
+    return HEADER + text + "\n\ndef main():\n    f(1)\n    f(4)\n\nmain()\n"
 
 
 class Annotations(FixTest):
@@ -88,7 +98,7 @@ class Statements(FixTest):
         self.assert_bodies_left("x, y = a", "x, *y = 1, 2", "x, y = *a, 1", "(x, y), c = 1, 2")
         self.assert_bodies_left("x, y = (1,  # why\n    2)")
         self.assert_bodies_left("x = y, c = a", "x, y = y, x\nlocals()", "x, z = a(), (y := 1)")
-        self.assert_left(HEADER + "x, y = f(), g()\n" + MAIN)
+        self.assert_left(HEADER + "x, y = f(), g()\n" + MAIN, HEADER + "x.a = x.b = [1]\n" + MAIN)
 
     def test_loops(self) -> None:
         lines = "for x in a:\n    if x:\n        break\nelse:\n    print(b)"
@@ -107,8 +117,24 @@ class Expressions(FixTest):
     def test_comparisons(self) -> None:
         self.assert_body("return 0 < a < 9", "return 0 < a and a < 9")
         self.assert_body("return not (a) < (b) <= c", "return not ((a) < (b) and b <= c)")
-        self.assert_bodies_left("return 0 < a.x < 9", "return 0 < a() < 9", "return 0 < a + 1 < 9")
+        self.assert_body("return a < -1 < b", "return a < -1 and -1 < b")
         self.assert_left(HEADER + "def f(a):\n    return 0 < a < 9\nx = '__lt__'\n" + MAIN)
+
+    def test_comparisons_through_a_local(self) -> None:
+        self.assert_body("return 0 < a.x < 9", "value = a.x\nreturn 0 < value and value < 9")
+        self.assert_body("if a < (b + 1) < c: pass", "value = b + 1\nif a < value and value < c:\n    pass")
+        wanted = "value = a()\nvalue_2 = b()\nc = not (value < value_2 and value_2 <= c and c < 3)"
+        self.assert_body("c = not a() < b() <= c < 3", wanted)
+        self.assert_bodies_left(
+            "return a < b() < c() < 3",
+            "return b and 0 < a() < 9",
+            "return a() + (0 < b() < 9)",
+            "while 0 < a() < 9:\n    pass",
+            "return 0 < (a  # why\n    ()) < 9",
+            "return 0 < a() < 9, locals()",
+        )
+        self.assert_left(HEADER + "def f(a):\n    global b\n    return 0 < a() < 9\n" + MAIN)
+        self.assert_left(HEADER + "x = 0 < f() < 9\n" + MAIN)
 
     def test_conditionals(self) -> None:
         self.assert_body("return a if b else c", "if b:\n    return a\nelse:\n    return c")
@@ -166,10 +192,5 @@ class Expressions(FixTest):
 
     def test_random_bodies(self) -> None:
         source = random.Random(21)
-        texts = []
-        for _ in range(30):
-            body = "\n".join(source.choice(LINES) for _ in range(5))
-            lines = ["a, b, c = n, 2, 3", "xs = [3, n, 1]", *body.split("\n"), "show(a)", "print(b, c, xs)"]
-            text = "def show(x):\n    print(x)\n    return x\n\ndef f(n):\n" + "\n".join(f"    {it}" for it in lines)
-            texts.append(HEADER + text + "\n\ndef main():\n    f(1)\n    f(4)\n\nmain()\n")
+        texts = [module("\n".join(source.choice(LINES) for _ in range(5))) for _ in range(30)]
         self.assert_alike(texts, 30)

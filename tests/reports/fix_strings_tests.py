@@ -30,7 +30,7 @@ class Strings(FixTest):
     def test_numbers(self) -> None:
         self.assert_body("x = 0xFF + 0b1 - 00", "x = 255 + 1 - 0")
         self.assert_body("x = 0x10if a == 0xF else 2", "if a == 15:\n    x = 16\nelse:\n    x = 2")
-        self.assert_bodies_left("x = 1.5", "x = 0j")
+        self.assert_bodies_left("x = 1.5", "x = 0j", "x = 0x" + "F" * 1000)
 
     def test_formats(self) -> None:
         self.assert_body('return f"{a} of {b!s}"', 'return str(a) + " of " + str(b)')
@@ -38,6 +38,7 @@ class Strings(FixTest):
         self.assert_body('return f""', 'return ""')
         self.assert_bodies_left('return f"{a:3}"', 'return f"{a!r}"', 'return f"{a=}"', 'return f"{a!a}"')
         self.assert_left(HEADER + 'class Enum:\n    pass\ndef f(a):\n    return f"{a}"\n' + MAIN)
+        self.assert_left(HEADER + 'class A:\n    def __format__(self, how):\n        pass\ndef f(a):\n    return f"{a}"\n' + MAIN)
         self.assert_left(HEADER + 'def f(str):\n    return f"{str}"\n' + MAIN)
 
     def test_lines(self) -> None:

@@ -22,23 +22,46 @@ Comprehension = Union[ast.ListComp, ast.DictComp]
 
 
 def comparisons(module: Module) -> Iterator[Fix]:
-    """`a < b < c` with a name or a literal in the middle, to two comparisons."""
+    """`a < b < c`, to two comparisons: as it stands with a name or a literal in the middle, else through a local."""
     if module.mentions(COMPARING):
         return
     for node in module.nodes:
-        if not isinstance(node, ast.Compare) or len(node.ops) < 2:
+        if not isinstance(node, ast.Compare) or len(node.ops) < 2 or in_format(module, node):
             continue
-        middle = node.comparators[:-1]
         start, end = module.at(node)
-        if not all(isinstance(it, (ast.Name, ast.Constant)) for it in middle) or in_format(module, node):
-            continue
-        edits = []
-        for at, operator in enumerate(node.ops[1:]):
-            place = with_brackets(module, node.comparators[at])[1]
-            edits.append(Edit(place, place, b" and " + module.segment(node.comparators[at])))
-        if not isinstance(module.parents[node], LOOSE):
-            edits = [Edit(start, start, b"("), *edits, Edit(end, end, b")")]
-        yield Fix("chain of comparisons", start, end, tuple(edits))
+        if all(map(is_quiet, node.comparators[:-1])):
+            yield Fix("chain of comparisons", start, end, tuple(Edit(*it) for it in two_of(module, node, {})))
+        else:
+            yield from by_locals(module, node)
+
+
+def two_of(module: Module, node: ast.Compare, names: Dict[ast.expr, bytes]) -> "Iterator[Tuple[int, int, bytes]]":
+    """The edits that make two comparisons of a chain, where names stand for some of its parts."""
+    start, end = module.at(node)
+    is_loose = isinstance(module.parents[node], LOOSE)
+    yield from [] if is_loose else [(start, start, b"(")]
+    for part, name in names.items():
+        yield (*with_brackets(module, part), name)
+    for part in node.comparators[:-1]:
+        place = with_brackets(module, part)[1]
+        yield place, place, b" and " + names.get(part, module.segment(part))
+    yield from [] if is_loose else [(end, end, b")")]
+
+
+def by_locals(module: Module, node: ast.Compare) -> Iterator[Fix]:
+    """The rewrite of a chain whose first part in the middle is evaluated before the statement, as the part before it is;
+    none where it may not be, or where a later part in the middle does something."""
+    place = place_of(module, node)
+    if place is None or module.has_comment(*module.at(node)) or not all(map(is_quiet, node.comparators[1:-1])):
+        return
+    names: Dict[ast.expr, bytes] = {}
+    for part in (node.left, node.comparators[0]):
+        if not is_quiet(part):
+            names[part] = module.fresh("value", [it.decode() for it in names.values()]).encode()
+    start, step = module.at(place.statement)[0], module.newline + module.indent(place.statement)
+    lines = b"".join(name + b" = " + module.value(part) + step for part, name in names.items())
+    edits = (Edit(start, start, lines), *(Edit(*it) for it in two_of(module, node, names)))
+    yield Fix("chain of comparisons", *module.at(node), edits, True)
 
 
 def in_format(module: Module, node: ast.AST) -> bool:
@@ -163,9 +186,9 @@ def calls(node: ast.AST) -> bool:
 
 def is_quiet(node: ast.AST) -> bool:
     """Whether evaluating it does nothing, and gives the same later."""
-    if isinstance(node, (ast.operator, ast.unaryop, ast.expr_context)):
-        return True
-    return isinstance(node, (ast.Name, ast.Constant))
+    if isinstance(node, ast.UnaryOp) and isinstance(node.op, ast.USub):
+        return isinstance(node.operand, ast.Constant) and isinstance(node.operand.value, int)
+    return isinstance(node, (ast.operator, ast.unaryop, ast.expr_context, ast.Name, ast.Constant))
 
 
 def conditionals(module: Module) -> Iterator[Fix]:

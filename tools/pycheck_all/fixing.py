@@ -4,10 +4,10 @@ from __future__ import annotations
 import os
 import tempfile
 import time
-from typing import Callable, Iterator, List, NamedTuple, Optional, Sequence, Set, Tuple
+from typing import Callable, FrozenSet, Iterator, List, NamedTuple, Optional, Sequence, Set, Tuple
 
 from . import files, fix_annotations, fix_cookbook, fix_expressions, fix_heads, fix_lines, fix_loops, fix_places
-from . import fix_statements, fix_strings, running
+from . import fix_statements, fix_strings, fix_tuples, running
 from .findings import DYNAMIC, ERROR, REFUSED, Checked
 from .fix_module import Edit, Fix, Module, applied, overlap
 from .program import Program, TooLong
@@ -30,6 +30,7 @@ REWRITES: Tuple[Rewrite, ...] = (
     fix_annotations.quotes,
     fix_expressions.comparisons,
     fix_statements.unpacking,
+    fix_tuples.unpacked,
     fix_statements.chains,
     fix_statements.tuples,
     fix_expressions.conditionals,
@@ -49,6 +50,15 @@ OF_SCRIPTS: Tuple[Rewrite, ...] = (fix_heads.guarded_main,)
 GRAMMAR, OF_REPORTS = 3, 4
 LAYERS = {"S": 0, "L": 1, "I": 2, "N": 2, "G": GRAMMAR}
 MOST_PASSES = 60
+
+
+# Those that only the report of the result allows
+GUESSED = {fix_places.GUESSED, fix_tuples.GUESSED}
+
+
+def guessed(without: FrozenSet[fix_places.Guess], asks: bool) -> Tuple[Rewrite, ...]:
+    """The rewrites that the report of the result has to allow, but for these; with lines that ask it, or without."""
+    return (fix_places.guessed(without), fix_tuples.guessed(without, asks))
 
 
 class NotFixed(Exception):
@@ -110,18 +120,19 @@ class Fixer:
             return fixed
 
     def with_guesses(self, fixed: Fixed) -> Fixed:
-        """A text with those augmented assignments rewritten of which the report of the result tells the types; as it is
-        where the result has no report, or has other errors."""
-        all_of_them = self.rewritten(fixed.after, (*self.rewrites, fix_places.guessed(frozenset())))
-        if fix_places.GUESSED not in all_of_them.made:
+        """A text with those augmented assignments and unpackings rewritten of which the report of the result tells the
+        types; as it is where the result has no report, or has other errors."""
+        asking = self.rewritten(fixed.after, (*self.rewrites, *guessed(frozenset(), True)))
+        if not GUESSED.intersection(asking.made):
             return fixed
-        checked = self.check("fixed.py", all_of_them.after)
-        guesses = fix_places.guesses(Module(all_of_them.after))
+        checked, module = self.check("fixed.py", asking.after), Module(asking.after)
+        guesses = {**fix_places.guesses(module), **fix_tuples.guesses(module, Module(fixed.after).names)}
         found = [(it.kind, guesses.get((it.place.start.byte, it.place.end.byte))) for it in checked.findings]
         if checked.failure or any(kind != DYNAMIC and guess is None for kind, guess in found):
             return fixed
         wrong = frozenset(guess for _, guess in found if guess is not None)
-        right = self.rewritten(fixed.after, (*self.rewrites, fix_places.guessed(wrong))) if wrong else all_of_them
+        is_asked = fix_tuples.GUESSED in asking.made
+        right = self.rewritten(fixed.after, (*self.rewrites, *guessed(wrong, False))) if wrong or is_asked else asking
         return Fixed(fixed.before, right.after, [*fixed.made, *right.made])
 
     def rewritten(self, data: bytes, rewrites: Sequence[Rewrite]) -> Fixed:
