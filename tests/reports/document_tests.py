@@ -85,7 +85,7 @@ class Document(Test):
                 self.assertIn(promise, " ".join(text.split()))
 
     def test_a_commit_is_named_and_no_tag(self) -> None:
-        self.assertIn("`rev` is a commit, as `git ls-remote` says.", FIRST.read_text(encoding="utf-8"))
+        self.assertIn("`rev`: a commit.", FIRST.read_text(encoding="utf-8"))
         for page in (CORE, PAGE):
             with self.subTest(page.name):
                 text = page.read_text(encoding="utf-8")
