@@ -23,7 +23,7 @@ SLOW_STEPS = ("tools/check", "tests/tools/run", "tools/compare", "tests/memory/r
               "tests/web/run")
 # The words of tools/check, each with the name of its step
 CHECKS = {"definitions": "definitions", "edits": "edits", "tested": "tested", "pages": "links", "names": "names",
-          "architecture": "architecture", "help": "help", "data": "data", "codes": "pages", "commands": "commands",
+          "twice": "twice", "architecture": "architecture", "help": "help", "data": "data", "codes": "pages", "commands": "commands",
           "generated": "generated"}
 
 

@@ -7,6 +7,7 @@ import email.message
 import hashlib
 import importlib.util
 import os
+import shutil
 import sys
 import zipfile
 from pathlib import Path
@@ -169,3 +170,10 @@ class Installed(Wheel):
         self.assertIn("E12", failing.stdout)
         passing = self.run_few(commands / "pycheck-all", "examples/ages_mended.py")
         self.assertEqual((passing.returncode, passing.stderr), (0, ""), passing.stdout)
+        core = self.room / "shop.py"
+        shutil.copyfile(ROOT / "tutorial" / "shop" / "core.py", core)
+        done = self.run_few(commands / "pycheck-all", "--guards", core)
+        self.assertEqual((done.returncode, done.stderr), (0, ""), done.stdout)
+        code = "import shop_api as s\ntry:\n    s.Item(2.5, 1)\nexcept TypeError as fault:\n    print(fault)\n"
+        done = self.run_few(commands / "python", "-c", code, cwd=self.room)
+        self.assert_answer(done, 0, "price: expected int, found float\n")

@@ -11,9 +11,12 @@ from typing import Iterator, List, Tuple
 
 from support import COMMAND, ROOT, Test, variables
 
+from pycheck_all.guard_text import PROMISE
+
 PAGE = ROOT / "docs" / "PROJECTS.md"
 FIRST = ROOT / "README.md"
 GUARDS = ROOT / "docs" / "GUARDS.md"
+CORE = ROOT / "docs" / "CORE.md"
 BLOCK = re.compile(r"(?:^(?:    .*)?\n)+", re.MULTILINE)
 
 
@@ -73,6 +76,23 @@ class Document(Test):
             # A page has no blanks at the end of a line
             self.assertEqual([line.rstrip() for line in done.stdout.decode().splitlines()], wanted)
             self.assertEqual(done.stderr, b"")
+
+    def test_the_promise_of_guards_is_that_of_the_pages(self) -> None:
+        promise = " ".join(PROMISE.split())
+        for page in (CORE, GUARDS):
+            with self.subTest(page.name):
+                text = page.read_text(encoding="utf-8").replace("\n> ", "\n")
+                self.assertIn(promise, " ".join(text.split()))
+
+    def test_a_commit_is_named_and_no_tag(self) -> None:
+        self.assertIn("`rev`: a commit.", FIRST.read_text(encoding="utf-8"))
+        for page in (CORE, PAGE):
+            with self.subTest(page.name):
+                text = page.read_text(encoding="utf-8")
+                self.assertIn("`git ls-remote URL HEAD`", text)
+                self.assertIn("`pre-commit try-repo URL pycheck", text)
+                named = re.findall(r"^ *(?:- )?(?:rev: |uses: OWNER/REPOSITORY@)(.*)$", text, re.MULTILINE)
+                self.assertEqual(named, ["COMMIT"] * 2)
 
     def test_options_are_those_of_the_command(self) -> None:
         page = PAGE.read_text(encoding="utf-8")

@@ -9,6 +9,7 @@ NAME is one of these, and all are run where none is named:
     tested        the list of docs/TESTED.md, which test calls which public call; --calls prints all calls instead
     pages         links, the size of README.md, and the changes that CONTRIBUTING.md shows
     names         no two public types, and no two public functions, of the crates have one name
+    twice         no function and no definition of six lines stands twice
     architecture  the picture and the crates of docs/ARCHITECTURE.md; with --write they are written
     help          the texts of crates/pc_code_texts; of each --page, or of docs/CODES.md
     data          the texts that tools/check_all shows; with --write they are written
@@ -29,7 +30,7 @@ from typing import List
 from .. import ROOT
 from ..words import Words
 
-CHECKS = ("definitions", "edits", "tested", "pages", "names", "architecture", "help", "data", "generated", "codes", "commands")
+CHECKS = ("definitions", "edits", "tested", "pages", "names", "twice", "architecture", "help", "data", "generated", "codes", "commands")
 # The checks that take an option
 TAKING = {"page": {"help", "codes", "commands"}, "log": {"edits"}, "calls": {"tested"}, "write": {"architecture", "data", "generated"}}
 
