@@ -32,10 +32,13 @@ from typing import Dict, FrozenSet, Iterator, List, NamedTuple, Optional, Sequen
 from .. import ROOT
 from ..branches import MARKS, Block, Function, Marker
 from ..kit import Fault, build_module, kit, run, write_text_of
+from ..rt_files import FUNCTION
 from ..words import Words
 
 PROGRAMS = ("pycheck", "pyrun", "pycheck_server", "test_tables")
-TABLES = "tables"
+TABLES, ALL = "tables", "all"
+COLUMNS = ("crate", "functions", "by the tables", "by all suites", "branches", "by the tables", "by all suites",
+           "branches that pass on a failure", "by all suites")
 # The suites: the words of each command, where the programs are in braces. `*` stands for the words that the gate gives test_tables.
 SUITES: Dict[str, List[str]] = {
     TABLES: ["{test_tables} *"],
@@ -49,6 +52,8 @@ SUITES: Dict[str, List[str]] = {
     "depth": ["tests/depth/run {pyrun}"],
     "memory": ["tests/memory/run {pycheck} {pyrun} {test_tables} {pycheck_server}"],
 }
+# A block of functions of a type, of a trait where it names one before
+BLOCK = re.compile(r"(?:unsafe )?(?:impl|trait)(?:<[^{]*?>)? (?:(\w+)\S* for )?&?(\w+)")
 NEEDED = re.compile(r"\{(\w+)\}")
 # Before a program begins, its marks are made those of a file that all of its processes share: so a process may end in any
 # way, and none is counted twice.
@@ -133,7 +138,7 @@ class Shape:
 
     def __init__(self, function: Function) -> None:
         self.function = function
-        self.branches = function.branches()
+        self.branches, self.failures = function.branches(), function.failures()
         self.by_suite: Dict[str, Set[str]] = {}
 
     def add(self, suite: str, labels: Set[str]) -> None:
@@ -144,10 +149,10 @@ class Shape:
         """The labels of the blocks that one of the suites reached."""
         return {label for suite in suites for label in self.by_suite.get(suite, ())}
 
-    def figures(self, suites: Sequence[str]) -> Tuple[int, int]:
-        """Whether one of the suites called it, and how many branches these reached."""
+    def figures(self, suites: Sequence[str]) -> Tuple[int, int, int]:
+        """Whether one of the suites called it, how many branches these reached, and how many that pass on a failure."""
         reached = self.reached(suites)
-        return int(bool(reached)), len(self.branches & reached)
+        return int(bool(reached)), len((self.branches - self.failures) & reached), len(self.failures & reached)
 
 
 class Reached:
@@ -168,16 +173,16 @@ class Reached:
                 self.shapes[function.shape()].add(suite, function.reached(marks))
             program.marks.write_bytes(bytes(len(marks)))
 
-    def row(self, crate: str, suites: Sequence[str]) -> Optional[str]:
-        """The row of a crate, where a program has functions of it."""
-        shapes = [it for it in self.shapes.values() if it.function.name.split("::")[0] == crate]
+    def row(self, name: str, suites: Sequence[str]) -> Optional[str]:
+        """The row of a crate, or of all of them, where a program has functions of it."""
+        shapes = [it for it in self.shapes.values() if name in (ALL, it.function.name.split("::")[0])]
         if not shapes:
             return None
-        some = [it.figures([TABLES]) for it in shapes]
-        every = [it.figures(suites) for it in shapes]
-        counts = (len(shapes), sum(it[0] for it in some), sum(it[0] for it in every),
-                  sum(len(it.branches) for it in shapes), sum(it[1] for it in some), sum(it[1] for it in every))
-        return f"| `{crate}` | {' | '.join(f'{it:,}' for it in counts)} |"
+        some, every = ([sum(column) for column in zip(*(it.figures(which) for it in shapes))] for which in ([TABLES], suites))
+        failures = sum(len(it.failures) for it in shapes)
+        branches = sum(len(it.branches) for it in shapes) - failures
+        counts = len(shapes), some[0], every[0], branches, some[1], every[1], failures, every[2]
+        return f"| {name if name == ALL else f'`{name}`'} | {' | '.join(f'{it:,}' for it in counts)} |"
 
     def missed_functions(self, suites: Sequence[str]) -> Iterator[str]:
         """A line for each function that was not called."""
@@ -185,12 +190,12 @@ class Reached:
             if not shape.reached(suites):
                 yield f"{place_of(shape.function.name)}: {shape.function.name}"
 
-    def missed_branches(self, suites: Sequence[str]) -> Iterator[str]:
-        """A line for each branch that was not reached though its decision was."""
+    def missed_branches(self, suites: Sequence[str], passes_on: bool) -> Iterator[str]:
+        """A line for each branch that was not reached though its decision was: those that pass on a failure, or the others."""
         for shape in self.shapes.values():
             for decision, block in shape.function.first_missed(shape.reached(suites)):
-                name = shape.function.name
-                yield f"{place_of(name)}: {name}: {told(decision, block)}"
+                if (block.label in shape.failures) == passes_on:
+                    yield f"{place_of(shape.function.name)}: {shape.function.name}: {told(decision, block)}"
 
 
 def told(decision: Block, block: Block) -> str:
@@ -201,47 +206,52 @@ def told(decision: Block, block: Block) -> str:
 
 
 def place_of(name: str) -> str:
-    """The file and the line of the head of a function; of one inside another one, of that one; of no line where the sources
-    have none, as for an implementation that the compiler writes."""
+    """The file and the line of the head of a function, or of the one that it is inside of; the file alone, or the crate,
+    where the sources have no such head, as for what an attribute stands for."""
     crate, *path = name.split("::")
-    within = path.index("fn") if "fn" in path else None
-    # `module::fn::outer::filter+FnMut::call_mut` is a function inside `outer`
-    inner = path[:within] + path[within + 1:-2] if within is not None else path
-    folder, modules = ROOT / "crates" / crate / "src", [it for it in inner[:-1] if it[:1].islower()]
-    files = [folder / "/".join(modules[:-1] + [f"{modules[-1]}.rt"])] if modules else [folder / "lib.rt", folder / "main.rt"]
-    for file in files:
-        if file.exists():
-            line = line_of(file.read_text(encoding="utf-8"), inner[-1], inner[-2] if inner[-2:-1] and inner[-2][:1].isupper() else "")
-            return f"{file.relative_to(ROOT)}:{line or ''}"
-    return f"crates/{crate}"
+    at = path.index("fn") if "fn" in path else None
+    # `module::fn::outer::filter+FnMut::call_mut` is inside `outer`
+    inner = path if at is None else path[:at] + path[at + 1:-2]
+    owner = inner[-2] if inner[-2:-1] and inner[-2][:1].isupper() else ""
+    source = ROOT / "crates" / crate / "src"
+    modules = [it for it in inner[:-1] if it[:1].islower()]
+    first = [source / "/".join([*modules[:-1], f"{modules[-1]}.rt"])] if modules else [source / "lib.rt", source / "main.rt"]
+    # A type's functions may be in another file than the type
+    files = [it for it in first if it.exists()] + [it for it in sorted(source.rglob("*.rt")) if owner and it not in first]
+    lines = [(file, line) for file in files for line in [line_of(file.read_text(encoding="utf-8"), inner[-1], owner)] if line]
+    if lines:
+        return f"{lines[0][0].relative_to(ROOT)}:{lines[0][1]}"
+    return str(files[0].relative_to(ROOT)) if files else f"crates/{crate}"
 
 
 def line_of(source: str, name: str, owner: str) -> Optional[int]:
-    """The line of the head of a function, which a block of its owner has where there is one."""
-    heads, inside = [], ""
+    """The line of the head of a function, inside a block of its owner where there is one."""
+    inside = ""
     for number, line in enumerate(source.splitlines(), 1):
-        block = re.match(r"(?:unsafe )?impl(?:<[^{]*?>)? (?:([\w:]+).* for )?&?([\w:]+)", line)
+        block = BLOCK.match(line)
         if block:
             inside = block[2] + (block[1] or "")
         elif line.startswith("}"):
             inside = ""
-        if re.match(rf"\s*(?:pub(?:\(\w+\))? )?(?:const )?(?:extern .C. )?fn {re.escape(name)}\b", line):
-            heads.append((inside == owner, number))
-    return max(heads, key=lambda it: (it[0], -it[1]))[1] if heads else None
+        head = FUNCTION.match(line)
+        if head and head[2] == name and inside == owner:
+            return number
+    return None
 
 
 def show(reached: Reached, suites: Sequence[str], asked: argparse.Namespace) -> None:
     """Prints the table, and the lists that are asked for."""
-    print("| crate | functions | by the tables | by all suites | branches | by the tables | by all suites |\n|---|---|---|---|---|---|---|")
-    for crate in crates():
+    print(f"| {' | '.join(COLUMNS)} |\n|{'---|' * len(COLUMNS)}")
+    for crate in [*crates(), ALL]:
         row = reached.row(crate, suites)
         if row:
             print(row)
-    if asked.list:
-        for title, lines in (("functions", reached.missed_functions(suites)), ("branches", reached.missed_branches(suites))):
-            found = sorted(set(lines))
-            print(f"\nNot reached, {title}: {len(found)}")
-            print("".join(f"{it}\n" for it in found), end="")
+    lists = {"functions": reached.missed_functions(suites), "branches": reached.missed_branches(suites, False),
+             "branches that pass on a failure": reached.missed_branches(suites, True)}
+    for title, lines in lists.items() if asked.list else ():
+        found = sorted(set(lines))
+        print(f"\nNot reached, {title}: {len(found)}")
+        print("".join(f"{it}\n" for it in found), end="")
 
 
 def asked_of(words: List[str]) -> argparse.Namespace:
