@@ -54,7 +54,7 @@ def keeping_toolchain(room: Path) -> Path:
 
 
 def words_of_build(name: str, room: Path, made: Path) -> List[str]:
-    """The command that proves a crate and builds it into a file, over the libraries that were built of the present files."""
+    """The command that proves a crate and builds it into a file, over the libraries of the present files."""
     sys.dont_write_bytecode = True
     sys.path.insert(0, str(kit() / "bin"))
     # The toolchain's own module, so that the words are those of `rt lib`

@@ -2,19 +2,21 @@
 
     tools/measure coverage [--module PROGRAM=FILE].. [--keep FOLDER] [--suite NAME].. [--list]
 
-makes pycheck, pyrun, pycheck_server and test_tables with a mark in each block, runs the suites over them, and prints for each
-crate how many of its functions, and of the branches of these, the tables alone reach, and all suites. A branch is the
-beginning of a function, or a block to which a decision may lead. With `--list` those follow that nothing reached: functions,
-each with the place of its head, and then branches whose decision was reached, each with what it calls first.
+makes pycheck, pyrun, pycheck_server and test_tables with a mark in each block, runs the suites over them, and prints
+for each crate how many of its functions, and of the branches of these, the tables alone reach, and all suites. A branch
+is the beginning of a function, or a block to which a decision may lead. With `--list` those follow that nothing
+reached: functions, each with the place of its head, and then branches whose decision was reached, each with what it
+calls first.
 
 The LLVM module of a program is the one from which the toolchain compiles it: each crate is proved and built over the
-libraries that `rt ci` left in crates/NAME/out, as tools/ship web does it. With `--module` it is taken from FILE, for each
-of the programs that is to be made; the others are left out, and so are the suites that need them. `--keep` leaves the programs
-in FOLDER, each with its marks in PROGRAM.marks. The modules have no lines of the sources, so a branch is told by the label
-that it has in the module: `arm` of a match, `then` and `else` of an `if`.
+libraries that `rt ci` left in crates/NAME/out, as tools/ship web does it. With `--module` it is taken from FILE, for
+each of the programs that is to be made; the others are left out, and so are the suites that need them. `--keep` leaves
+the programs in FOLDER, each with its marks in PROGRAM.marks. The modules have no lines of the sources, so a branch is
+told by the label that it has in the module: `arm` of a match, `then` and `else` of an `if`.
 
-A suite is a step of the gate, run over these programs. The functions of a crate that no program has are not counted, and neither
-is what the compiler writes where a value goes out of scope. Code that only the tests of a crate call is not
+A suite is a step of the gate, run over these programs, which are slower and take more of the stack than those of the
+gate: the steps with bounds for these are none. The functions of a crate that no program has are not counted, and
+neither is what the compiler writes where a value goes out of scope. Code that only the tests of a crate call is not
 reached here.
 
 The exit status is 1 where a suite failed, 3 after a mistake in the words or where no program can be made.
@@ -27,7 +29,7 @@ import subprocess
 import sys
 import tempfile
 from pathlib import Path
-from typing import Dict, FrozenSet, Iterator, List, NamedTuple, Optional, Sequence, Set, Tuple
+from typing import Dict, Iterator, List, NamedTuple, Optional, Sequence, Set, Tuple
 
 from .. import ROOT
 from ..branches import MARKS, Block, Function, Marker
@@ -39,7 +41,7 @@ PROGRAMS = ("pycheck", "pyrun", "pycheck_server", "test_tables")
 TABLES, ALL = "tables", "all"
 COLUMNS = ("crate", "functions", "by the tables", "by all suites", "branches", "by the tables", "by all suites",
            "branches that pass on a failure", "by all suites")
-# The suites: the words of each command, where the programs are in braces. `*` stands for the words that the gate gives test_tables.
+# The suites: the words of each command, with the programs in braces; `*` is what the gate has test_tables read
 SUITES: Dict[str, List[str]] = {
     TABLES: ["{test_tables} *"],
     "rows": ["tools/compare rows {pycheck} examples", "tools/compare rows {pycheck} examples/left_out.json"],
@@ -49,14 +51,13 @@ SUITES: Dict[str, List[str]] = {
     "search": ["tests/search/run {pycheck} {pyrun}"],
     "python": ["tests/python_runs/run {pyrun}", "tests/python_texts/run {pycheck}"],
     "cookbook": ["tests/cookbook/run {pycheck} {pyrun}"],
-    "depth": ["tests/depth/run {pyrun}"],
     "memory": ["tests/memory/run {pycheck} {pyrun} {test_tables} {pycheck_server}"],
 }
 # A block of functions of a type, of a trait where it names one before
 BLOCK = re.compile(r"(?:unsafe )?(?:impl|trait)(?:<[^{]*?>)? (?:(\w+)\S* for )?&?(\w+)")
 NEEDED = re.compile(r"\{(\w+)\}")
-# Before a program begins, its marks are made those of a file that all of its processes share: so a process may end in any
-# way, and none is counted twice.
+# Before a program begins, its marks are made those of a file that all of its processes share: so a process may end in
+# any way, and none is counted twice.
 SHARED = """
 extern int open(const char *, int, ...), close(int);
 extern void *mmap(void *, unsigned long, int, int, int, long);
@@ -105,7 +106,7 @@ def made(name: str, module: Optional[Path], folder: Path) -> Program:
     with tempfile.TemporaryDirectory(prefix="coverage-") as it:
         room, marks, marker = Path(it), folder / f"{name}.marks", Marker(crates())
         write_text_of(module or build_module(name, room, room / "built.o"), room / "module.ll")
-        with (room / "module.ll").open(encoding="utf-8") as given, (room / "marked.ll").open("w", encoding="utf-8") as to:
+        with open(room / "module.ll", encoding="utf-8") as given, open(room / "marked.ll", "w", encoding="utf-8") as to:
             to.writelines(marker.marked(given))
         file = compile_and_link(name, room, marker.size, marks).replace(folder / name)
     marks.write_bytes(bytes(marker.size))
@@ -178,7 +179,8 @@ class Reached:
         shapes = [it for it in self.shapes.values() if name in (ALL, it.function.name.split("::")[0])]
         if not shapes:
             return None
-        some, every = ([sum(column) for column in zip(*(it.figures(which) for it in shapes))] for which in ([TABLES], suites))
+        figures = ([it.figures(which) for it in shapes] for which in ([TABLES], suites))
+        some, every = ([sum(column) for column in zip(*rows)] for rows in figures)
         failures = sum(len(it.failures) for it in shapes)
         branches = sum(len(it.branches) for it in shapes) - failures
         counts = len(shapes), some[0], every[0], branches, some[1], every[1], failures, every[2]
@@ -191,7 +193,8 @@ class Reached:
                 yield f"{place_of(shape.function.name)}: {shape.function.name}"
 
     def missed_branches(self, suites: Sequence[str], passes_on: bool) -> Iterator[str]:
-        """A line for each branch that was not reached though its decision was: those that pass on a failure, or the others."""
+        """A line for each branch that was not reached though its decision was: of those that pass on a failure, or of
+        the others."""
         for shape in self.shapes.values():
             for decision, block in shape.function.first_missed(shape.reached(suites)):
                 if (block.label in shape.failures) == passes_on:
@@ -202,25 +205,28 @@ def told(decision: Block, block: Block) -> str:
     """A branch as the list says it: its label, the case that leads there, and what it calls."""
     case = decision.cases.get(block.label)
     calls = ", ".join(block.calls[:3])
-    return f"{block.label} of {decision.label}{f', case {case}' if case else ''}{f', which calls {calls}' if calls else ''}"
+    by = f", case {case}" if case else ""
+    return f"{block.label} of {decision.label}{by}" + (f", which calls {calls}" if calls else "")
 
 
 def place_of(name: str) -> str:
-    """The file and the line of the head of a function, or of the one that it is inside of; the file alone, or the crate,
-    where the sources have no such head, as for what an attribute stands for."""
+    """The file and the line of the head of a function, or of the one that it is inside of; the file alone, or the
+    crate, where the sources have no such head, as for what an attribute stands for."""
     crate, *path = name.split("::")
     at = path.index("fn") if "fn" in path else None
     # `module::fn::outer::filter+FnMut::call_mut` is inside `outer`
     inner = path if at is None else path[:at] + path[at + 1:-2]
     owner = inner[-2] if inner[-2:-1] and inner[-2][:1].isupper() else ""
     source = ROOT / "crates" / crate / "src"
-    modules = [it for it in inner[:-1] if it[:1].islower()]
-    first = [source / "/".join([*modules[:-1], f"{modules[-1]}.rt"])] if modules else [source / "lib.rt", source / "main.rt"]
+    module = "/".join(it for it in inner[:-1] if it[:1].islower())
+    first = [source / f"{module}.rt"] if module else [source / "lib.rt", source / "main.rt"]
     # A type's functions may be in another file than the type
-    files = [it for it in first if it.exists()] + [it for it in sorted(source.rglob("*.rt")) if owner and it not in first]
-    lines = [(file, line) for file in files for line in [line_of(file.read_text(encoding="utf-8"), inner[-1], owner)] if line]
-    if lines:
-        return f"{lines[0][0].relative_to(ROOT)}:{lines[0][1]}"
+    others = [it for it in sorted(source.rglob("*.rt")) if owner and it not in first]
+    files = [it for it in first if it.exists()] + others
+    for file in files:
+        line = line_of(file.read_text(encoding="utf-8"), inner[-1], owner)
+        if line:
+            return f"{file.relative_to(ROOT)}:{line}"
     return str(files[0].relative_to(ROOT)) if files else f"crates/{crate}"
 
 
