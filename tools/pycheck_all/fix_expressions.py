@@ -49,8 +49,8 @@ def two_of(module: Module, node: ast.Compare, names: Dict[ast.expr, bytes]) -> "
 
 
 def by_locals(module: Module, node: ast.Compare) -> Iterator[Fix]:
-    """The rewrite of a chain whose first part in the middle is evaluated before the statement, as the part before it is;
-    none where it may not be, or where a later part in the middle does something."""
+    """The rewrite of a chain whose first part in the middle is evaluated before the statement, as the part before it
+    is; none where it may not be, or where a later part in the middle does something."""
     place = place_of(module, node)
     if place is None or module.has_comment(*module.at(node)) or not all(map(is_quiet, node.comparators[1:-1])):
         return

@@ -1,5 +1,6 @@
-"""Rewrites of several targets that take the items of a tuple, `a, b = e` and `for a, b in e`, where an annotation or the
-report of the result tells how many items there are: other values may be unpacked too, and have as many as they have."""
+"""Rewrites of several targets that take the items of a tuple, `a, b = e` and `for a, b in e`, where an annotation or
+the report of the result tells how many items there are: other values may be unpacked too, and have as many as they
+have."""
 from __future__ import annotations
 
 import ast
@@ -16,8 +17,8 @@ ASKING = "asked"
 
 
 class Site(NamedTuple):
-    """A statement that takes the items of one value, which is a tuple if the meaning is to be kept: its targets, and the
-    value, or what the loop is over."""
+    """A statement that takes the items of one value, which is a tuple if the meaning is to be kept: its targets, and
+    the value, or what the loop is over."""
 
     node: Union[ast.Assign, ast.For]
     targets: List[ast.expr]
