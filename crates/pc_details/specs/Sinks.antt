@@ -2,7 +2,7 @@
 -- Own rule of the profile.
 use Rattle.std.specs.Prelude.{ℕ, suc, List, [], ◌∷◌, ◌++◌, map, flat_map, find, Bool as Test, true, false}
 use Rattle.std.specs.Prelude.{◌&&◌}
-use Rattle.std.specs.Prelude.{Option, Some, None, slice_get, codes}
+use Rattle.std.specs.Prelude.{Option, Some, None, slice_get}
 use Rattle.std.specs.Option.{option_map, option_map_or, option_and_then}
 use Rattle.pc_source.specs.declared.place.Place.{Place}
 use Rattle.pc_tree.specs.declared.tree.ComparisonOperator.{ComparisonOperator}
@@ -16,7 +16,7 @@ use Rattle.pc_tree.specs.Depth.{place_of}
 use Rattle.pc_scope.specs.declared.resolution.NameMeaning.{NameMeaning}
 use Rattle.pc_scope.specs.Bindings.{constants_in, classes_in, Body, bodies}
 use Rattle.pc_scope.specs.Resolution.{resolve}
-use Rattle.pc_types.specs.Tree.{Tree, Int, Class, ListOf, DictOf}
+use Rattle.pc_types.specs.Tree.{Tree, Class, ListOf, DictOf}
 use Rattle.pc_types.specs.Join.{same_tree}
 use Rattle.pc_types.specs.Shape.{members}
 use Rattle.pc_annotations.specs.Bases.{bases_of}
@@ -32,7 +32,7 @@ use Rattle.pc_code_texts.specs.Details as detail
 use Rattle.pc_code_texts.specs.Details.{Detail, Callable, Sink, FunctionName}
 use Rattle.pc_details.specs.Facts.{Known}
 use Rattle.pc_details.specs.Nodes.{OwnedExpr, exprs_of, stmts_in_suite, function_name}
-use Rattle.pc_details.specs.Calls.{Called, callees_of, builtin_called}
+use Rattle.pc_details.specs.Calls.{Called, callees_of}
 
 -- a sink of the value at a place: the type that the value flows into, none if it is the only sink there
 pub record SinkAt : Type 0 where
@@ -168,11 +168,6 @@ module _ (m : Module) (known : Known) where
   assigned_sinks (to_attribute p o field) e = flat_map (field_store e field.text) (members (known.types (place_of o)))
   assigned_sinks (to_index p o i) e = item_stores i e (known.types (place_of o))
 
-  -- the sinks of the arguments of `range` in the head of a loop
-  abbrev range_sinks : Expr → List SinkAt
-  range_sinks (call p callee args kws) = argument_sinks (builtin_called (codes "range") (Int ∷ []) ∷ []) args kws
-  range_sinks e = []
-
   -- the place of a value, or this one if there is none
   abbrev value_place : Place → Option Expr → Place
   value_place p None = p
@@ -183,7 +178,7 @@ module _ (m : Module) (known : Known) where
   sinks_of_stmt f (returns p e) = only_sink (value_place p e) (detail.a_return f) ∷ []
   sinks_of_stmt f (annotated p n a e) = only_sink (value_place p e) (detail.a_local n.text) ∷ []
   sinks_of_stmt f (assigns p t e) = assigned_sinks t e
-  sinks_of_stmt f (for_loop p n e b) = only_sink (place_of e) (detail.a_loop_target n.text) ∷ range_sinks e
+  sinks_of_stmt f (for_loop p n e b) = only_sink (place_of e) (detail.a_loop_target n.text) ∷ []
   sinks_of_stmt f s = []
 
   -- the sink of a default, if there is one
