@@ -9,7 +9,7 @@ use Rattle.pc_tree.specs.declared.code.Code.{Code}
 use Rattle.pc_tree.specs.declared.code.Finding.{Finding}
 use Rattle.pc_tree.proofs.Among.{none_among, first_among, later_among, among_first}
 use Rattle.pc_types.specs.Tree.{Tree}
-use Rattle.pc_notes.specs.Notes.{Note, told, typed, plain_note, is_same_place, is_finding_at, or_else, flow_or}
+use Rattle.pc_notes.specs.Notes.{Note, told, typed, named, plain_note, is_same_place, is_finding_at, or_else, flow_or}
 use Rattle.pc_notes.specs.Notes.{flow_noted}
 use Rattle.pc_module_rules.specs.FlowsOfExpressions.{CodedFlow}
 use Rattle.pc_module_rules.specs.FlowsOfModules.{IsFirstAt}
@@ -59,6 +59,7 @@ noted_append c p [] ys = refl
 noted_append c p (told f flow ∷ ns) ys = ap (flow_or c p (told f flow)) (noted_append c p ns ys)
     ∙ if_or (is_finding_at c p f) flow (flow_noted c p ns) (flow_noted c p ys)
 noted_append c p (typed shown q t ∷ ns) ys = noted_append c p ns ys
+noted_append c p (named q d t ∷ ns) ys = noted_append c p ns ys
 
 first_append : (p : Place) (ds es : List CodedFlow) → first_at p (ds ++ es) ≡ or_else (first_at p ds) (first_at p es)
 first_append p [] es = refl

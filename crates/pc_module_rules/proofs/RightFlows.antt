@@ -26,7 +26,8 @@ use Rattle.pc_class.specs.Bases.{bases_of}
 use Rattle.pc_class.specs.Facts.{Method}
 use Rattle.pc_class.specs.Findings.{ClassFinds, base, member, order, override}
 use Rattle.pc_class.specs.Overrides.{Judges, static, dynamic, wrong}
-use Rattle.pc_notes.specs.Notes.{Note, told, typed, finding_in, findings_of, is_same_place, is_same_code, is_finding_at}
+use Rattle.pc_notes.specs.Notes.{Note, told, typed, named, finding_in, findings_of, is_same_place, is_same_code}
+use Rattle.pc_notes.specs.Notes.{is_finding_at}
 use Rattle.pc_notes.specs.Notes.{or_else}
 use Rattle.pc_notes.specs.Notes.{flow_noted}
 use Rattle.pc_notes.proofs.SameCode.{text_one, text_same}
@@ -137,6 +138,7 @@ module _ (bases : Bases) (c : Code) (p : Place) where
   flow_told (told f flow ∷ ns) h = told_one f flow ns (is_finding_at c p f) refl flow h.0.tested h.0.formed
       (flow_noted c p ns) (flow_told ns h.1)
   flow_told (typed shown q t ∷ ns) h = told_behind (typed shown q t) ns (flow_noted c p ns) (flow_told ns h.1)
+  flow_told (named q d t ∷ ns) h = told_behind (named q d t) ns (flow_noted c p ns) (flow_told ns h.1)
 
   stands_of : (notes : List Note) (o : Option (Tree × Tree)) → ToldIfAny notes o → IsSome o
       → Contains (findings_of notes) (finding p c)
@@ -165,6 +167,7 @@ module _ (bases : Bases) (c : Code) (p : Place) where
       | inr r ↦ some_behind (is_finding_at c p g) flow (flow_noted c p ns) (noted ns h.1 r)
     ]
     noted (typed shown q t ∷ ns) h k = noted ns h.1 k
+    noted (named q d t ∷ ns) h k = noted ns h.1 k
 
 -- ---- the flow that is computed at a place
 

@@ -22,7 +22,7 @@ use Rattle.pc_types.specs.Computed.{static_test, assignable_test}
 use Rattle.pc_flow.specs.Environment.{Env}
 use Rattle.pc_flow.specs.Narrowing.{narrow}
 use Rattle.pc_flow.specs.WellFormed.{IsWellFormedIfAny, IsWellFormedEnv, AreWellFormed}
-use Rattle.pc_notes.specs.Notes.{Note, told, typed, plain_note, flow_note}
+use Rattle.pc_notes.specs.Notes.{Note, told, typed, named, plain_note, flow_note}
 use Rattle.pc_rules.specs.Operations.{Label, FlowLabel, operand_types, index_member, attribute_member, negative_member}
 use Rattle.pc_rules.specs.Context.{Context, is_early}
 use Rattle.pc_rules.specs.Calls.{Seat, arguments_given, count_exprs, call_label, positional_seat, named_seat}
@@ -67,6 +67,7 @@ IsTestedFlow bases c (Some f) = code_by (static_test bases f.0 f.1) (assignable_
 abbrev pub IsTested : Bases → Note → Type 0
 IsTested bases (told f flow) = IsTestedFlow bases f.code flow
 IsTested bases (typed shown p t) = Unit {0}
+IsTested bases (named p d t) = Unit {0}
 
 -- the types of a flow are well-formed, if there is one
 abbrev pub IsFormedFlow : Bases → Option (Tree × Tree) → Type 0
@@ -76,6 +77,7 @@ IsFormedFlow bases (Some f) = IsWellFormed bases f.0 × IsWellFormed bases f.1
 abbrev pub IsFormed : Bases → Note → Type 0
 IsFormed bases (told f flow) = IsFormedFlow bases flow
 IsFormed bases (typed shown p t) = Unit {0}
+IsFormed bases (named p d t) = Unit {0}
 
 -- a note is right
 pub record IsRight (bases : Bases) (n : Note) : Type 0 where

@@ -21,8 +21,9 @@ use Rattle.pc_types.specs.Tree.{Tree}
 use Rattle.pc_annotations.specs.Text.{type_text}
 use Rattle.pc_notes.specs.declared.notes.NotedFlow.{NotedFlow}
 use Rattle.pc_notes.specs.declared.notes.NoteEntry.{NoteEntry}
-use Rattle.pc_notes.specs.declared.notes.NoteEntry.TheVariants.{Told, Typed}
-use Rattle.pc_notes.specs.Notes.{Note, told, typed, is_same_place, is_same_code, is_finding_at, kept_flow, or_else}
+use Rattle.pc_notes.specs.declared.notes.NoteEntry.TheVariants.{Told, Typed, Bound}
+use Rattle.pc_notes.specs.Notes.{Note, told, typed, named, is_same_place, is_same_code, is_finding_at, kept_flow}
+use Rattle.pc_notes.specs.Notes.{or_else}
 use Rattle.pc_notes.specs.Notes.{flow_or, flow_types, flow_noted, note_of, entry_place, notes_of, IsGivenFlow}
 use Rattle.pc_notes.specs.Notes.{shared_tree}
 use Rattle.pc_notes.specs.Texts.{FlowText, IsFlowText, place_cmp, places_of, HasGivenFlows, HasFirstFlows}
@@ -46,6 +47,7 @@ noted_more c p [] n = refl
 noted_more c p (told f flow ∷ ns) n = ap (flow_or c p (told f flow)) (noted_more c p ns n)
     ∙ behind (is_finding_at c p f) flow (flow_noted c p ns) (flow_or c p n None)
 noted_more c p (typed shown q t ∷ ns) n = noted_more c p ns n
+noted_more c p (named q d t ∷ ns) n = noted_more c p ns n
 
 -- ---- places
 
@@ -117,6 +119,7 @@ other_at c p (Told f flow) h =
     other_place p f.place (is_same_code c f.code) (option_map flow_types (option_map box_value flow)) h
     (is_same_place p f.place) refl
 other_at c p (Typed shown q t) h = refl
+other_at c p (Bound q t) h = refl
 
 nothing : (a b : Bool) (o : Option NotedFlow) → (if b then o else None) ≡ None
     → (if a && b then or_else (option_map flow_types o) None else None) ≡ None
@@ -128,6 +131,7 @@ nothing false b o h = refl
 none_kept : (c : Code) (p : Place) (e : NoteEntry) → kept_flow c e ≡ None → flow_or c p (note_of e) None ≡ None
 none_kept c p (Told f flow) h = nothing (is_same_place p f.place) (is_same_code c f.code) (option_map box_value flow) h
 none_kept c p (Typed shown q t) h = refl
+none_kept c p (Bound q t) h = refl
 
 -- an entry without a flow is left out
 pub left_out : (c : Code) (es : List NoteEntry) (e : NoteEntry) (flows : BTreeMap Place (Bor NotedFlow))
@@ -206,6 +210,7 @@ new_place c es e f old new is is_given fresh step has =
     own_of (Told g flow) h = own_if (is_same_place g.place g.place) (is_same_code c g.code) (option_map box_value flow)
         (self_tested g.place) h
     own_of (Typed shown q t) h = absurd (cc h)
+    own_of (Bound q t) h = absurd (cc h)
 
     own : flow_or c (entry_place e) (note_of e) None ≡ Some (flow_types f.now)
     own = own_of e is

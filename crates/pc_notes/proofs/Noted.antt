@@ -9,7 +9,7 @@ use Rattle.pc_tree.proofs.Stops.{cons_at}
 use Rattle.pc_types.specs.Tree.{Tree}
 use Rattle.pc_notes.specs.declared.notes.NotedFlow.{NotedFlow}
 use Rattle.pc_notes.specs.declared.notes.NoteEntry.{NoteEntry}
-use Rattle.pc_notes.specs.declared.notes.NoteEntry.TheVariants.{Told, Typed}
+use Rattle.pc_notes.specs.declared.notes.NoteEntry.TheVariants.{Told, Typed, Bound}
 use Rattle.pc_notes.specs.Notes.{is_same_place, is_same_code, entry_place, kept_flow, or_else, flow_types, flow_or}
 use Rattle.pc_notes.specs.Notes.{flow_noted, note_of, notes_of, IsGivenFlow, IsGivenEntry, AreGiven}
 
@@ -39,6 +39,7 @@ module _ (c : Code) (p : Place) where
   none_at (Told f flow) rest n = none_test (is_same_place p f.place) (is_same_code c f.code) (option_map box_value flow)
       rest n
   none_at (Typed shown q t) rest n = refl
+  none_at (Bound q t) rest n = refl
 
   some_at : (e : NoteEntry) (f : NotedFlow) (rest : Option (Tree × Tree))
       → (if is_same_place p (entry_place e) then kept_flow c e else None) ≡ Some f
@@ -46,6 +47,7 @@ module _ (c : Code) (p : Place) where
   some_at (Told g flow) f rest s = some_test (is_same_place p g.place) (is_same_code c g.code)
       (option_map box_value flow) f rest s
   some_at (Typed shown q t) f rest s = absurd (nothing_typed (is_same_place p q) f s)
+  some_at (Bound q t) f rest s = absurd (nothing_typed (is_same_place p q) f s)
 
   module _ (es : List NoteEntry) (i : ℕ) (e : NoteEntry) (lt : i < length es) (is : e ≡ get_or es i e) where
     next : flow_noted c p (notes_of (drop i es)) ≡ flow_noted c p (notes_of (e ∷ drop (i + 1) es))
@@ -79,6 +81,7 @@ given_some (Some g) f h e = let q : g ≡ f = cc in subst IsGivenFlow q h
 pub given_kept : (c : Code) (e : NoteEntry) → IsGivenEntry e → IfSome (kept_flow c e) IsGivenFlow
 given_kept c (Told f flow) h = given_if (is_same_code c f.code) (option_map box_value flow) h
 given_kept c (Typed shown q t) h = tt
+given_kept c (Bound q t) h = tt
 
 -- likewise the one that it reports at a place
 pub given_at : (c : Code) (p : Place) (e : NoteEntry) (f : NotedFlow) → IsGivenEntry e

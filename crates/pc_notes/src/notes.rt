@@ -1,14 +1,16 @@
 //! Findings as they are gathered, each with the two types of the flow that it reports.
 
-ghost use Rattle.std.specs.Prelude.{◌≡◌, ◌++◌, ◌∷◌, [], map, All, IfOk, List, OnOk, None, option_map};
+ghost use Rattle.std.specs.Prelude.{◌≡◌, ◌++◌, ◌∷◌, [], map, All, IfOk, IfSome, List, OnOk, None, option_map};
 ghost use Rattle.std.specs.Prelude.{if◌then◌else◌};
+ghost use Rattle.std.specs.Option.{option_copied};
 ghost use Rattle.pc_tree.specs.declared.code.Code.{Code as RustCode};
 ghost use Rattle.pc_tree.specs.Code.{finding};
 ghost use Rattle.pc_tree.specs.Tree.{module_of};
 ghost use Rattle.pc_types.specs.Store.{KeepsTypes};
 ghost use Rattle.pc_notes.specs.Notes.{IsGivenEntry, Note, note_of, notes_of, plain_note, flow_note, typed};
 ghost use Rattle.pc_notes.specs.Notes.{is_same_place, is_same_code, entry_place, kept_flow, flow_noted, ExplainsFlow};
-ghost use Rattle.pc_notes.specs.Notes.{findings_of, types_of, type_shown, IsGivenShown};
+ghost use Rattle.pc_notes.specs.Notes.{findings_of, types_of, type_shown, IsGivenShown, named, names_of};
+ghost use Rattle.pc_notes.specs.Notes.{name_shown, AreGivenBound};
 ghost use Rattle.pc_notes.specs.declared.notes.NoteEntry.{NoteEntry as Kept};
 ghost use Rattle.pc_notes.specs.Texts.{AreFlowTexts, HasFirstFlows, HasGivenFlows};
 
@@ -29,12 +31,21 @@ pub(crate) struct NotedFlow {
     pub(crate) into: SharedType,
 }
 
-/// A finding, with the types of its flow if it reports one; or the type of a label.
+/// The types of a bound name: its declared type, and its current type after the binding, if it has a value then.
+#[derive(Drop)]
+pub struct BoundTypes {
+    pub declared: BoxType,
+    pub current: Option<BoxType>,
+}
+
+/// A finding, with the types of its flow if it reports one; or the type of a label; or the types of a bound name.
 #[derive(Drop)]
 pub(crate) enum NoteEntry {
     Told(Finding, Option<Box<NotedFlow>>),
     /// Whether it is shown, its place, and the type.
     Typed(bool, Place, Box<BoxType>),
+    /// The place of the name, and its types.
+    Bound(Place, Box<BoundTypes>),
 }
 
 /// Returns whether two codes are the same.
@@ -52,6 +63,7 @@ impl NoteEntry {
         match self {
             NoteEntry::Told(finding, _) => finding.place,
             NoteEntry::Typed(_, place, _) => *place,
+            NoteEntry::Bound(place, _) => *place,
         }
     }
 
@@ -181,6 +193,32 @@ impl Notes {
         Ok(())
     }
 
+    /// Adds a bound name at a place: its declared type, and its current type after the binding, if it has a value then.
+    pub fn put_name<S: TypeStore>(
+        &mut self,
+        store: &S,
+        alloc: Global,
+        place: Place,
+        declared: &S::Ty,
+        current: Option<&S::Ty>,
+    ) -> Result<(), OutOfMemory>
+        requires declared { S.has store.now declared.now }
+        requires current { IfSome (option_copied current) (S.has store.now) }
+        ensures { OnOk result (notes_of self.new ≡ notes_of self.old
+            ++ named place (S.tree declared.now) (option_map S.tree (option_copied current)) ∷ []) }
+    {
+        let mut boxes = BoxStore::new();
+        let declared = transfer(store, &mut boxes, alloc, declared)?;
+        let current = match current {
+            None => None,
+            Some(ty) => Some(transfer(store, &mut boxes, alloc, ty)?),
+        };
+        let types = BoundTypes { declared, current };
+        self.entries
+            .push(NoteEntry::Bound(place, Box::new(alloc, types)?))?;
+        Ok(())
+    }
+
     /// Returns the findings, in their order.
     pub fn findings(&self, alloc: Global) -> Result<Findings, OutOfMemory>
         ensures { IfOk result (λ v. v.items ≡ findings_of (notes_of self.now)) }
@@ -206,6 +244,20 @@ impl Notes {
             }
         }
         Ok(types)
+    }
+
+    /// Returns the bound names, each with its place and its types, in their order.
+    pub fn names(&self, alloc: Global) -> Result<Vec<(Place, &BoundTypes)>, OutOfMemory>
+        ensures names { IfOk result (λ v. map name_shown v.items ≡ names_of (notes_of self.now)) }
+        ensures given { IfOk result (λ v. All AreGivenBound v.items) }
+    {
+        let mut names = Vec::new(alloc);
+        for entry in &self.entries {
+            if let NoteEntry::Bound(place, types) = entry {
+                names.push((*place, types.as_ref()))?;
+            }
+        }
+        Ok(names)
     }
 
     /// Returns the types of the first flow noted with a code at a place, as types of a store, or `None` if no such flow

@@ -15,7 +15,7 @@ use Rattle.pc_tree.specs.Tree.{more_keywords}
 use Rattle.pc_tree.specs.Depth.{place_of}
 use Rattle.pc_types.specs.Tree.{Tree}
 use Rattle.pc_scope.specs.Expressions.{is_instance_test}
-use Rattle.pc_notes.specs.Notes.{Note, plain_note, flow_note, typed, findings_of}
+use Rattle.pc_notes.specs.Notes.{Note, plain_note, flow_note, typed, named, findings_of}
 use Rattle.pc_rules.specs.Operations.{Label}
 use Rattle.pc_rules.specs.Labels.{FlowLabels, Labels, ItemsLabels, EntriesLabels, KeywordsLabels, whole_label}
 use Rattle.pc_rules.specs.Labels.{is_of_scopes}
@@ -89,6 +89,12 @@ flows_at p flows = flows_behind p [] flows
 abbrev pub type_noted : (keeps shown : Test) → Place → Tree → List Note
 type_noted false shown p t = []
 type_noted true shown p t = typed shown p t ∷ []
+
+-- notes with that of a bound name at its place after them, if types are kept: its declared type, and its current type
+-- after the binding, if it has a value then
+abbrev pub name_after : (keeps : Test) → List Note → Place → (declared : Tree) → (current : Option Tree) → List Note
+name_after false found p d t = found
+name_after true found p d t = found ++ named p d t ∷ []
 
 -- the notes of a label at its place: its type, if types are kept, and then the findings of its codes
 abbrev pub label_at : (keeps shown : Test) → Place → Label → List Note
