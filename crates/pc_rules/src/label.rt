@@ -125,10 +125,10 @@ pub fn note_name<S: TypeStore>(
     ensures { OnOk result (notes_of found.new ≡ name_after keeps (notes_of found.old) place (S.tree declared.now)
         (option_map S.tree (option_copied current))) }
 {
-    if keeps {
-        found.put_name(store, alloc, place, declared, current)?;
+    if !keeps {
+        return Ok(());
     }
-    Ok(())
+    found.put_name(store, alloc, place, declared, current)
 }
 
 /// Returns whether a code is among these codes.
