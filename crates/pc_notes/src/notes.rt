@@ -203,9 +203,9 @@ impl Notes {
         current: Option<&S::Ty>,
     ) -> Result<(), OutOfMemory>
         requires declared { S.has store.now declared.now }
-        requires current { IfSome (option_copied current) (S.has store.now) }
+        requires current { IfSome (option_copied current.entry) (S.has store.now) }
         ensures { OnOk result (notes_of self.new ≡ notes_of self.old
-            ++ named place (S.tree declared.now) (option_map S.tree (option_copied current)) ∷ []) }
+            ++ named place (S.tree declared.now) (option_map S.tree (option_copied current.entry)) ∷ []) }
     {
         let mut boxes = BoxStore::new();
         let declared = transfer(store, &mut boxes, alloc, declared)?;
