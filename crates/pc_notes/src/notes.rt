@@ -203,7 +203,7 @@ impl Notes {
         current: Option<&S::Ty>,
     ) -> Result<(), OutOfMemory>
         requires declared { S.has store.now declared.now }
-        requires current { IfSome (option_copied current.entry) (S.has store.now) }
+        requires current { IfSome (option_copied current) (S.has store.now) }
         ensures { OnOk result (notes_of self.new ≡ notes_of self.old
             ++ named place (S.tree declared.now) (option_map S.tree (option_copied current.entry)) ∷ []) }
     {

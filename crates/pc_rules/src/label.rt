@@ -121,7 +121,7 @@ pub fn note_name<S: TypeStore>(
     found: &mut Notes,
 ) -> Result<(), OutOfMemory>
     requires declared { S.has store.now declared.now }
-    requires current { IfSome (option_copied current.entry) (S.has store.now) }
+    requires current { IfSome (option_copied current) (S.has store.now) }
     ensures { OnOk result (notes_of found.new ≡ name_after keeps (notes_of found.old) place (S.tree declared.now)
         (option_map S.tree (option_copied current.entry))) }
 {
