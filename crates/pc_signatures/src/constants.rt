@@ -151,6 +151,7 @@ fn read_constant<S: TypeStore>(
 
 /// Checks a constant and appends its findings, and if types are kept, its name with its type. Adds its type and its
 /// name to `read`.
+#[tactic(auto, using(pc_rules::proofs::Checkers::goes_further, pc_rules::proofs::NamesAfter::after_append))]
 fn add_constant<S: TypeStore>(
     checker: &mut TypingState<'_, S>,
     globals: &ModuleContext<'_, S::Ty>,
@@ -175,13 +176,14 @@ fn add_constant<S: TypeStore>(
 {
     let ty = read_constant(checker, globals, read, constant)?;
     let place = constant.name.place;
+    let current: Option<S::Ty> = None;
     note_name(
         checker.store,
         checker.alloc,
         globals.keeps,
         place,
         &ty,
-        None,
+        current.as_ref(),
         checker.found,
     )?;
     read.constants.push(ty)?;
