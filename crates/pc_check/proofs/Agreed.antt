@@ -24,7 +24,8 @@ use Rattle.pc_flow.specs.Stored.{env_of}
 use Rattle.pc_flow.proofs.Conditions.{current_well_formed}
 use Rattle.pc_notes.specs.Notes.{Note}
 use Rattle.pc_module_rules.specs.Computed.Statements.{BodyContext, Table, Walk, BranchesResult, bound_type}
-use Rattle.pc_module_rules.specs.Computed.Statements.{narrowed_at, bind_item, step, walk_suite, walk_branches}
+use Rattle.pc_module_rules.specs.Computed.Statements.{narrowed_at, bind_item, with_note, step, walk_suite}
+use Rattle.pc_module_rules.specs.Computed.Statements.{walk_branches}
 use Rattle.pc_module_rules.specs.Computed.Statements.{enter_local, enter_name, enter_parameters}
 use Rattle.pc_flow.specs.Agreement.{is_among, AgreeOutside}
 use Rattle.pc_flow.specs.Narrowing.{tested_locals}
@@ -33,7 +34,7 @@ use Rattle.pc_walk.specs.Touched.{touched_by, touched_by_branches, touched_by_wh
 use Rattle.pc_walk.specs.Untouched.{AreAmong, WaysAgree}
 use Rattle.pc_walk.specs.StatementsHeld.{HoldsTypesIfAny}
 use Rattle.pc_walk.proofs.KeptLocals.{IsKept, IsKeptIfAny, apart_both}
-use Rattle.pc_walk.proofs.Untouched.{narrowed_here, item_here, step_here, suite_here, branches_here}
+use Rattle.pc_walk.proofs.Untouched.{narrowed_here, item_here, noted_here, step_here, suite_here, branches_here}
 use Rattle.pc_walk.proofs.Untouched.{among_apart, none_apart, long_kept}
 use Rattle.pc_check.specs.Internal.StatementWalk.{IsAsLongIfAny, IsLong}
 
@@ -302,16 +303,19 @@ module _ (context : BodyContext) (locals : List ℕ) where
       IsWellFormedEnv context.context.bases head →
       length head ≡ length table →
       AreAmong locals (touched_by_for resolved n b) →
-      AgreeOutside locals head (bind_item context table head (resolved n.text) p t found).env
+      AgreeOutside locals head (with_note context true (resolved n.text) n.place
+      (bind_item context table head (resolved n.text) p t found)).env
   for_agrees table head n b p t found w l h =
       let kind = Outside locals in
       let fine : (x : ℕ) → Outside locals x → IsWellFormedIfAny context.context.bases (current head x) =
       λ x o. current_well_formed context.context.bases head x w in
       let bound = numbers_of resolved (n ∷ bound_by b) in
       let numbers = among_left locals bound (tested_in resolved b) h in
-      let inside = item_here context kind head fine table head (resolved n.text) p t found
+      let inside = noted_here context kind head fine context.keeps true (resolved n.text) n.place
+      (bind_item context table head (resolved n.text) p t found)
+      (item_here context kind head fine table head (resolved n.text) p t found
       (numbers_of resolved (bound_by b)) (sym l) (among_apart locals head bound numbers)
-      (record { long = refl; same = λ x k. refl }) in
+      (record { long = refl; same = λ x k. refl })) in
       λ x k. sym (inside.env_here.same x k)
 
 -- ---- the entry of a function

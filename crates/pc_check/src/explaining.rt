@@ -13,7 +13,7 @@ use pc_class::ClassTable;
 use pc_notes::Notes;
 use pc_scope::Scopes;
 use pc_source::{OutOfMemory, Place};
-use pc_tree::Module;
+use pc_tree::{Code, Module};
 use pc_types::TypeStore;
 use std::alloc::Global;
 
@@ -43,5 +43,5 @@ pub fn explain_flow<S: TypeStore>(
 {
     let mut found = Notes::new(alloc);
     check_module(store, alloc, tree, scopes, classes, false, &mut found)?;
-    Ok(found.explain(store, alloc, place)?)
+    Ok(found.explain(store, alloc, Code::A1, place)?)
 }

@@ -1,15 +1,17 @@
--- The first dynamic flow at a place; notes that hold exactly the dynamic flows of a list, at each place the first one
+-- The first flow at a place; notes that hold exactly the flows of a list with a code, at each place the first one
 -- there.
 use Rattle.std.proofs.Common.{◌≡◌, List, [], ◌∷◌, ◌++◌, Option, Some, None, refl, sym, ap, ◌∙◌, subst, inl, inr, map}
 use Rattle.std.proofs.Common.{append_assoc, Contains}
 use Rattle.std.specs.Prelude.{Bool as Test, true, false, if◌then◌else◌, unwrap_or}
 use Rattle.std.proofs.lemmas.Bool.{false≢true}
 use Rattle.pc_source.specs.declared.place.Place.{Place}
+use Rattle.pc_tree.specs.declared.code.Code.{Code}
 use Rattle.pc_tree.specs.declared.code.Finding.{Finding}
 use Rattle.pc_tree.proofs.Among.{none_among, first_among, later_among, among_first}
 use Rattle.pc_types.specs.Tree.{Tree}
-use Rattle.pc_notes.specs.Notes.{Note, told, typed, plain_note, is_same_place, or_else, flow_or, flow_noted}
-use Rattle.pc_module_rules.specs.FlowsOfExpressions.{DynamicFlow}
+use Rattle.pc_notes.specs.Notes.{Note, told, typed, named, plain_note, is_same_place, is_finding_at, or_else, flow_or}
+use Rattle.pc_notes.specs.Notes.{flow_noted}
+use Rattle.pc_module_rules.specs.FlowsOfExpressions.{CodedFlow}
 use Rattle.pc_module_rules.specs.FlowsOfModules.{IsFirstAt}
 use Rattle.pc_module_rules.proofs.Places.{same_place, own_place}
 
@@ -43,86 +45,97 @@ if_or false o a c = refl
 -- ---- the first flow at a place
 
 -- a flow at this place, else what comes after it
-abbrev pub at_or : Place → DynamicFlow → (rest : Pair) → Pair
+abbrev pub at_or : Place → CodedFlow → (rest : Pair) → Pair
 at_or p d rest = if is_same_place p d.place then or_else (Some (d.from, d.into)) rest else rest
 
 -- the two types of the first flow at a place
-abbrev pub first_at : Place → List DynamicFlow → Pair
+abbrev pub first_at : Place → List CodedFlow → Pair
 first_at p [] = None
 first_at p (d ∷ ds) = at_or p d (first_at p ds)
 
-pub noted_append : (p : Place) (xs ys : List Note) → flow_noted p (xs ++ ys) ≡ or_else (flow_noted p xs)
-    (flow_noted p ys)
-noted_append p [] ys = refl
-noted_append p (told f flow ∷ ns) ys = ap (flow_or p (told f flow)) (noted_append p ns ys)
-    ∙ if_or (is_same_place p f.place) flow (flow_noted p ns) (flow_noted p ys)
-noted_append p (typed shown q t ∷ ns) ys = noted_append p ns ys
+pub noted_append : (c : Code) (p : Place) (xs ys : List Note)
+    → flow_noted c p (xs ++ ys) ≡ or_else (flow_noted c p xs) (flow_noted c p ys)
+noted_append c p [] ys = refl
+noted_append c p (told f flow ∷ ns) ys = ap (flow_or c p (told f flow)) (noted_append c p ns ys)
+    ∙ if_or (is_finding_at c p f) flow (flow_noted c p ns) (flow_noted c p ys)
+noted_append c p (typed shown q t ∷ ns) ys = noted_append c p ns ys
+noted_append c p (named q d t ∷ ns) ys = noted_append c p ns ys
 
-first_append : (p : Place) (ds es : List DynamicFlow) → first_at p (ds ++ es) ≡ or_else (first_at p ds) (first_at p es)
+first_append : (p : Place) (ds es : List CodedFlow) → first_at p (ds ++ es) ≡ or_else (first_at p ds) (first_at p es)
 first_append p [] es = refl
 first_append p (d ∷ ds) es = ap (at_or p d) (first_append p ds es)
     ∙ if_or (is_same_place p d.place) (Some (d.from, d.into)) (first_at p ds) (first_at p es)
 
 -- ---- notes that tell of just these flows
 
--- at each place notes tell of the first of these flows there, and of none where there is none
-pub record Tells (notes : List Note) (flows : List DynamicFlow) : Type 0 where
-  pub is : (p : Place) → flow_noted p notes ≡ first_at p flows
+-- at each place notes tell of the first of these flows there as that with a code, and of none where there is none
+pub record Tells (code : Code) (notes : List Note) (flows : List CodedFlow) : Type 0 where
+  pub is : (p : Place) → flow_noted code p notes ≡ first_at p flows
 
-pub tell_none : Tells [] []
-tell_none = record { is = λ p. refl }
+pub tell_none : {code : Code} → Tells code [] []
+tell_none {code} = record { is = λ p. refl }
 
-pub tell_then : (xs ys : List Note) (ds es : List DynamicFlow) → Tells xs ds → Tells ys es → Tells (xs ++ ys) (ds ++ es)
-tell_then xs ys ds es h k =
-    record { is = λ p. noted_append p xs ys ∙ both_or (h.is p) (k.is p) ∙ sym (first_append p ds es) }
+pub tell_then : {code : Code} (xs ys : List Note) (ds es : List CodedFlow) → Tells code xs ds → Tells code ys es
+    → Tells code (xs ++ ys) (ds ++ es)
+tell_then {code} xs ys ds es h k =
+    record { is = λ p. noted_append code p xs ys ∙ both_or (h.is p) (k.is p) ∙ sym (first_append p ds es) }
 
 -- notes that tell of just these flows, with others after them that tell of none
-pub tell_behind : (xs ys : List Note) (ds : List DynamicFlow) → Tells xs ds → Tells ys [] → Tells (xs ++ ys) ds
-tell_behind xs ys ds h k =
-    record { is = λ p. noted_append p xs ys ∙ both_or (h.is p) (k.is p) ∙ or_none (first_at p ds) }
+pub tell_behind : {code : Code} (xs ys : List Note) (ds : List CodedFlow) → Tells code xs ds → Tells code ys []
+    → Tells code (xs ++ ys) ds
+tell_behind {code} xs ys ds h k =
+    record { is = λ p. noted_append code p xs ys ∙ both_or (h.is p) (k.is p) ∙ or_none (first_at p ds) }
 
-pub tell_plain : (fs : List Finding) → Tells (map plain_note fs) []
-tell_plain [] = tell_none
-tell_plain (f ∷ fs) = record {
-  is = λ p. same_either (is_same_place p f.place) (flow_noted p (map plain_note fs)) ∙ (tell_plain fs).is p;
+pub tell_plain : {code : Code} (fs : List Finding) → Tells code (map plain_note fs) []
+tell_plain {code} [] = tell_none
+tell_plain {code} (f ∷ fs) = record {
+  is = λ p. same_either (is_finding_at code p f) (flow_noted code p (map plain_note fs)) ∙ (tell_plain fs).is p;
 }
 
 -- of flows in other brackets
-pub tell_grouped : (xs : List Note) (a b c : List DynamicFlow) → Tells xs (a ++ (b ++ c)) → Tells xs ((a ++ b) ++ c)
-tell_grouped xs a b c h = subst (Tells xs) (sym (append_assoc a b c)) h
+pub tell_grouped : {code : Code} (xs : List Note) (a b c : List CodedFlow) → Tells code xs (a ++ (b ++ c))
+    → Tells code xs ((a ++ b) ++ c)
+tell_grouped {code} xs a b c h = subst (Tells code xs) (sym (append_assoc a b c)) h
 
 -- ---- more notes
 
 -- more notes tell of just these flows besides
-abbrev pub Grows : (found after : List Note) → List DynamicFlow → Type 0
-Grows found after flows = (p : Place) → flow_noted p after ≡ or_else (flow_noted p found) (first_at p flows)
+abbrev pub Grows : Code → (found after : List Note) → List CodedFlow → Type 0
+Grows code found after flows = (p : Place) → flow_noted code p after ≡ or_else (flow_noted code p found)
+    (first_at p flows)
 
-pub grow_none : (found : List Note) → Grows found found []
-grow_none found = λ p. sym (or_none (flow_noted p found))
+pub grow_none : (code : Code) (found : List Note) → Grows code found found []
+grow_none code found = λ p. sym (or_none (flow_noted code p found))
 
-pub grow : (found xs : List Note) (ds : List DynamicFlow) → Tells xs ds → Grows found (found ++ xs) ds
-grow found xs ds h = λ p. noted_append p found xs ∙ ap (λ (o : Pair). or_else (flow_noted p found) o) (h.is p)
+pub grow : (code : Code) (found xs : List Note) (ds : List CodedFlow) → Tells code xs ds
+    → Grows code found (found ++ xs) ds
+grow code found xs ds h = λ p. noted_append code p found xs ∙ ap (λ (o : Pair). or_else (flow_noted code p found) o)
+    (h.is p)
 
-pub grow_then : (f g h : List Note) (ds es : List DynamicFlow) → Grows f g ds → Grows g h es → Grows f h (ds ++ es)
-grow_then f g h ds es a b = λ p. b p ∙ ap (λ (o : Pair). or_else o (first_at p es)) (a p)
-    ∙ or_assoc (flow_noted p f) (first_at p ds) (first_at p es)
-    ∙ sym (ap (λ (o : Pair). or_else (flow_noted p f) o) (first_append p ds es))
+pub grow_then : (code : Code) (f g h : List Note) (ds es : List CodedFlow) → Grows code f g ds → Grows code g h es
+    → Grows code f h (ds ++ es)
+grow_then code f g h ds es a b = λ p. b p ∙ ap (λ (o : Pair). or_else o (first_at p es)) (a p)
+    ∙ or_assoc (flow_noted code p f) (first_at p ds) (first_at p es)
+    ∙ sym (ap (λ (o : Pair). or_else (flow_noted code p f) o) (first_append p ds es))
 
 -- with more before
-pub grow_behind : (f xs h : List Note) (es : List DynamicFlow) → Tells xs [] → Grows (f ++ xs) h es → Grows f h es
-grow_behind f xs h es a b = grow_then f (f ++ xs) h [] es (grow f xs [] a) b
+pub grow_behind : (code : Code) (f xs h : List Note) (es : List CodedFlow) → Tells code xs []
+    → Grows code (f ++ xs) h es → Grows code f h es
+grow_behind code f xs h es a b = grow_then code f (f ++ xs) h [] es (grow code f xs [] a) b
 
 -- notes that tell of just these flows, with more after them
-pub tell_grown : (found after : List Note) (ds es : List DynamicFlow) → Tells found ds → Grows found after es
-    → Tells after (ds ++ es)
-tell_grown found after ds es h k = record {
+pub tell_grown : (code : Code) (found after : List Note) (ds es : List CodedFlow) → Tells code found ds
+    → Grows code found after es
+    → Tells code after (ds ++ es)
+tell_grown code found after ds es h k = record {
   is = λ p. k p ∙ ap (λ (o : Pair). or_else o (first_at p es)) (h.is p) ∙ sym (first_append p ds es);
 }
 
 -- of flows in other brackets
-pub grow_grouped : (found after : List Note) (a b c : List DynamicFlow) → Grows found after (a ++ (b ++ c))
-    → Grows found after ((a ++ b) ++ c)
-grow_grouped found after a b c h = subst (Grows found after) (sym (append_assoc a b c)) h
+pub grow_grouped : (code : Code) (found after : List Note) (a b c : List CodedFlow)
+    → Grows code found after (a ++ (b ++ c))
+    → Grows code found after ((a ++ b) ++ c)
+grow_grouped code found after a b c h = subst (Grows code found after) (sym (append_assoc a b c)) h
 
 -- ---- the first flow at a place stands after none there
 
@@ -135,10 +148,10 @@ other_place p q other = test (is_same_place p q) refl
 
 module _ (p : Place) (s t : Tree) where
   -- a flow of these types at this place
-  abbrev here : DynamicFlow
+  abbrev here : CodedFlow
   here = record { place = p; from = s; into = t }
 
-  first_of_order : (before behind : List DynamicFlow) → ((d : DynamicFlow) → Contains before d → ¬ (d.place ≡ p))
+  first_of_order : (before behind : List CodedFlow) → ((d : CodedFlow) → Contains before d → ¬ (d.place ≡ p))
       → first_at p (before ++ (here ∷ behind)) ≡ Some (s, t)
   first_of_order [] behind none = ap (λ (b : Test). if b then or_else (Some (s, t)) (first_at p behind) else first_at p
       behind) (own_place p)
@@ -148,11 +161,11 @@ module _ (p : Place) (s t : Tree) where
       (other_place p d.place (none d (first_among d ds)))
       ∙ first_of_order ds behind (λ e h. none e (later_among d ds e h))
 
-  pub first_is : (flows : List DynamicFlow) → IsFirstAt p s t flows → first_at p flows ≡ Some (s, t)
+  pub first_is : (flows : List CodedFlow) → IsFirstAt p s t flows → first_at p flows ≡ Some (s, t)
   first_is flows h = ap (first_at p) h.order ∙ first_of_order h.before h.behind h.none_before
 
   -- the flow at the head, or one after it
-  first_or : (d : DynamicFlow) (ds : List DynamicFlow) (b : Test) → is_same_place p d.place ≡ b
+  first_or : (d : CodedFlow) (ds : List CodedFlow) (b : Test) → is_same_place p d.place ≡ b
       → (first_at p ds ≡ Some (s, t) → IsFirstAt p s t ds)
       → (if b then or_else (Some (d.from, d.into)) (first_at p ds) else first_at p ds) ≡ Some (s, t)
       → IsFirstAt p s t (d ∷ ds)
@@ -169,14 +182,14 @@ module _ (p : Place) (s t : Tree) where
       record {
         before = d ∷ h.before;
         behind = h.behind;
-        order = ap (λ (l : List DynamicFlow). d ∷ l) h.order;
+        order = ap (λ (l : List CodedFlow). d ∷ l) h.order;
         none_before = λ f k. elim (among_first d h.before f k) [
           | inl same ↦ λ there. false≢true (sym e ∙ subst (λ (q : Place). is_same_place p q ≡ true)
-              (sym (ap (λ (x : DynamicFlow). x.place) same ∙ there)) (own_place p))
+              (sym (ap (λ (x : CodedFlow). x.place) same ∙ there)) (own_place p))
           | inr r ↦ h.none_before f r
         ];
       }
 
-  pub is_first : (flows : List DynamicFlow) → first_at p flows ≡ Some (s, t) → IsFirstAt p s t flows
+  pub is_first : (flows : List CodedFlow) → first_at p flows ≡ Some (s, t) → IsFirstAt p s t flows
   is_first [] is = absurd (cc is)
   is_first (d ∷ ds) is = first_or d ds (is_same_place p d.place) refl (is_first ds) is

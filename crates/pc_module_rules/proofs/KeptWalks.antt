@@ -1,7 +1,7 @@
 -- A walk that keeps types reaches the same declared types and environments as one that does not, whatever was found
 -- before.
-use Rattle.std.proofs.Common.{◌≡◌, List, ◌∷◌, ◌++◌, map, refl, ap, ◌∙◌}
-use Rattle.std.specs.Prelude.{Bool as Test, true, false, if◌then◌else◌, Option, Some, None}
+use Rattle.std.proofs.Common.{◌≡◌, List, ◌∷◌, ◌++◌, map, refl, sym, ap, ◌∙◌}
+use Rattle.std.specs.Prelude.{Bool as Test, true, false, if◌then◌else◌, Option, Some, None, is_some}
 use Rattle.pc_source.specs.declared.place.Place.{Place}
 use Rattle.pc_tree.specs.Depth.{place_of}
 use Rattle.pc_tree.specs.Tree.{Name, Expr, name, call, Ann, Target, to_name, to_attribute, to_index, Stmt, Stmts}
@@ -26,6 +26,8 @@ use Rattle.pc_module_rules.specs.Computed.Statements.{BindingResult, BranchesRes
 use Rattle.pc_module_rules.specs.Computed.Statements.{bind_label, bind_value, bind_annotated, annotation_finds}
 use Rattle.pc_module_rules.specs.Computed.Statements.{bound_name, bind_item, values_item, item_label_of, iterable_finds}
 use Rattle.pc_module_rules.specs.Computed.Statements.{assign_target, inside_for, step, walk_suite, walk_branches}
+use Rattle.pc_module_rules.specs.Computed.Statements.{annotated_binding, noted_binding, with_note}
+use Rattle.pc_module_rules.proofs.NotedNames.{noted_table, noted_env}
 
 -- two walks have come to the same, but for what was found
 pub record SameWalk (v w : Walk) : Type 0 where
@@ -63,6 +65,13 @@ module _ (m : Module) (ctx : Context) (returned : Tree) where
 
     -- ---- names bound
 
+    same_noted : (valued : Test) (r : NameMeaning) (p : Place) (v w : BindingResult) → SameBinding v w
+        → SameBinding (noted_binding a.keeps valued r p v) (noted_binding b.keeps valued r p w)
+    same_noted valued r p v w h = record {
+      table = noted_table a.keeps valued r p v ∙ h.table ∙ sym (noted_table b.keeps valued r p w);
+      env = noted_env a.keeps valued r p v ∙ h.env ∙ sym (noted_env b.keeps valued r p w);
+    }
+
     same_value : (table : Table) (env : Env) (r : NameMeaning) (annotation : Option Tree) (e : Expr) (f g : List Note)
         → SameBinding (bind_value a table env r annotation e f) (bind_value b table env r annotation e g)
     same_value table env (res.Local x) annotation e f g =
@@ -74,17 +83,27 @@ module _ (m : Module) (ctx : Context) (returned : Tree) where
         }
     same_value table env _ annotation e f g = record { table = refl; env = refl }
 
+    same_read : (table : Table) (env : Env) (r : NameMeaning) (n : Name) (ann : Ann) (e : Option Expr) (f g : List Note)
+        → SameBinding (annotated_binding a table env r n ann e f) (annotated_binding b table env r n ann e g)
+    same_read table env r n ann None f g = record { table = refl; env = refl }
+    same_read table env r n ann (Some e) f g =
+        let o = bound_name b table r in
+        same_value table env r (Some (read_ann m ctx.bases ann)) e (f ++ annotation_finds a o n ann)
+        (g ++ annotation_finds b o n ann)
+
     same_annotated : (table : Table) (env : Env) (n : Name) (ann : Ann) (e : Option Expr) (f g : List Note)
         → SameBinding (bind_annotated a table env n ann e f) (bind_annotated b table env n ann e g)
-    same_annotated table env n ann None f g = record { table = refl; env = refl }
-    same_annotated table env n ann (Some e) f g =
-        let o = bound_name b table (ctx.resolve n.text) in
-        same_value table env (ctx.resolve n.text) (Some (read_ann m ctx.bases ann)) e
-        (f ++ annotation_finds a o n ann) (g ++ annotation_finds b o n ann)
+    same_annotated table env n ann e f g =
+        let r = ctx.resolve n.text in
+        same_noted (is_some e) r n.place (annotated_binding a table env r n ann e f)
+        (annotated_binding b table env r n ann e g) (same_read table env r n ann e f g)
 
     same_assigned : (table : Table) (env : Env) (t : Target) (e : Expr) (f g : List Note)
         → SameBinding (assign_target a table env t e f) (assign_target b table env t e g)
-    same_assigned table env (to_name n) e f g = same_value table env (ctx.resolve n.text) None e f g
+    same_assigned table env (to_name n) e f g =
+        let r = ctx.resolve n.text in
+        same_noted true r n.place (bind_value a table env r None e f) (bind_value b table env r None e g)
+        (same_value table env r None e f g)
     same_assigned table env (to_attribute p o field) e f g = record { table = refl; env = refl }
     same_assigned table env (to_index p o i) e f g = record { table = refl; env = refl }
 
@@ -102,13 +121,22 @@ module _ (m : Module) (ctx : Context) (returned : Tree) where
         (same_values table env (call p (name n) args kws))
     same_item table env e = same_values table env e
 
-    pub same_target : (table : Table) (head : Env) (r : NameMeaning) (p : Place) (t u : Tree) → t ≡ u → (f g : List Note)
+    same_target : (table : Table) (head : Env) (r : NameMeaning) (p : Place) (t u : Tree) → t ≡ u → (f g : List Note)
         → SameBinding (bind_item a table head r p t f) (bind_item b table head r p u g)
     same_target table head (res.Local x) p t u e f g = record {
       table = ap (λ (v : Tree). (bind_label b table head x (bound_type table x) p (clean v) g).table) e;
       env = ap (λ (v : Tree). (bind_label b table head x (bound_type table x) p (clean v) g).env) e;
     }
     same_target table head _ p t u e f g = record { table = refl; env = refl }
+
+    pub same_item_bound : (table : Table) (head : Env) (n : Name) (p : Place) (t u : Tree) → t ≡ u → (f g : List Note)
+        → SameBinding (with_note a true (ctx.resolve n.text) n.place
+        (bind_item a table head (ctx.resolve n.text) p t f))
+        (with_note b true (ctx.resolve n.text) n.place (bind_item b table head (ctx.resolve n.text) p u g))
+    same_item_bound table head n p t u e f g =
+        let r = ctx.resolve n.text in
+        same_noted true r n.place (bind_item a table head r p t f) (bind_item b table head r p u g)
+        (same_target table head r p t u e f g)
 
     -- ---- statements, suites and branches
 
@@ -152,11 +180,13 @@ module _ (m : Module) (ctx : Context) (returned : Tree) where
           let j = item_label_of b (at b table env) e in
           let x = (f ++ iterable_finds a (at a table env) e) ++ codes_at (place_of e) i.codes in
           let y = (g ++ iterable_finds b (at b table env) e) ++ codes_at (place_of e) j.codes in
-          let t = same_target table head (ctx.resolve n.text) (place_of e) i.type j.type
+          let t = same_item_bound table head n (place_of e) i.type j.type
           (ap (λ (l : Label). l.type) (same_item table env e)) x y in
           let h = same_suite
-          (inside_for a head (bind_item a table head (ctx.resolve n.text) (place_of e) i.type x))
-          (inside_for b head (bind_item b table head (ctx.resolve n.text) (place_of e) j.type y))
+          (inside_for a head (with_note a true (ctx.resolve n.text) n.place
+          (bind_item a table head (ctx.resolve n.text) (place_of e) i.type x)))
+          (inside_for b head (with_note b true (ctx.resolve n.text) n.place
+          (bind_item b table head (ctx.resolve n.text) (place_of e) j.type y)))
           (record { table = t.table; env = ap Some t.env; broken = refl }) body in
           record { table = h.table; env = h.broken; broken = refl }
       same_step table (Some env) broken f g (conditional p bs o) =

@@ -15,6 +15,7 @@ pub mod LabelledTargets
 pub mod LocalNames
 pub mod KeptWalks
 pub mod Labelled
+pub mod NotedNames
 pub mod NotedTypes
 pub mod OneModule
 pub mod OneStatement

@@ -6,7 +6,6 @@ use Rattle.std.proofs.lemmas.List.{map-append}
 use Rattle.std.specs.Prelude.{Bool as Test, true, false, if◌then◌else◌, flat_map}
 use Rattle.pc_source.specs.declared.place.Place.{Place}
 use Rattle.pc_tree.specs.declared.code.Code.{Code}
-use Rattle.pc_tree.specs.declared.code.Code.TheVariants.{A1}
 use Rattle.pc_tree.specs.declared.code.Finding.{Finding}
 use Rattle.pc_tree.specs.Code.{finding}
 use Rattle.pc_tree.specs.Depth.{place_of}
@@ -16,10 +15,10 @@ use Rattle.pc_tree.specs.Tree.{attribute, index, call, no_exprs, more_exprs, no_
 use Rattle.pc_tree.specs.Tree.{more_keywords}
 use Rattle.pc_scope.specs.Expressions.{is_instance_test}
 use Rattle.pc_types.specs.Tree.{Tree}
-use Rattle.pc_notes.specs.Notes.{Note, plain_note, type_in, types_of}
+use Rattle.pc_notes.specs.Notes.{Note, plain_note, flow_note, type_in, types_of}
 use Rattle.pc_rules.specs.Labels.{FlowLabels, Labels, ItemsLabels, EntriesLabels, KeywordsLabels, whole_label}
 use Rattle.pc_rules.specs.Labels.{is_of_scopes, second_place}
-use Rattle.pc_rules.specs.Computed.Findings.{own_at, has_code, once, flow_note, own_flow, flow_then, flows_behind}
+use Rattle.pc_rules.specs.Computed.Findings.{own_at, has_code, once, own_flow, flow_then, flows_behind}
 use Rattle.pc_rules.specs.Computed.Findings.{codes_at, flows_at, notes_of_code, label_at, shows, whole, called}
 use Rattle.pc_rules.specs.Computed.Findings.{found_in_parts, found_in_items, found_in_arguments, found_in_entries}
 use Rattle.pc_rules.specs.Computed.Findings.{found_in_keywords, notes_under}
@@ -108,10 +107,6 @@ show_code : (p : Place) (o : Option Code) → Shows (notes_of_code p o) []
 show_code p None = show_nothing
 show_code p (Some c) = unless (is_of_scopes c) (plain_note (finding p c)) refl
 
-flow_untyped : (p : Place) (s t : Tree) (c : Code) → type_in (flow_note p s t c) ≡ []
-flow_untyped p s t A1 = refl
-flow_untyped p s t _ = refl
-
 show_then : (p : Place) (before : List Code) (s t : Tree) (o : Option Code) (rest : List Code → List Note)
     → ((codes : List Code) → Shows (rest codes) []) → Shows (flow_then p before s t o rest) []
 show_then p before s t None rest h = h before
@@ -120,7 +115,7 @@ show_then p before s t (Some c) rest h = by_test (has_code before c)
     by_test : (b : Test) → Shows (if b then rest before else own_flow p s t c ++ rest (before ++ c ∷ [])) []
     by_test true = h before
     by_test false = show_after (own_flow p s t c) (rest (before ++ c ∷ [])) []
-        (unless (is_of_scopes c) (flow_note p s t c) (flow_untyped p s t c)) (h (before ++ c ∷ []))
+        (unless (is_of_scopes c) (flow_note (finding p c) s t) refl) (h (before ++ c ∷ []))
 
 each_flow : (p : Place) (flows : FlowLabels) (before : List Code) → Shows (flows_behind p before flows) []
 each_flow p [] before = show_nothing
@@ -166,13 +161,16 @@ mutual
   show_inside (dict p es) m = show_entries es m.entries
   show_inside (negative p e) m = show_whole e m.operand _ _ (show_inside e m.operand)
   show_inside (negation p e) m = show_whole e m.operand _ _ (show_inside e m.operand)
-  show_inside (binary p o l r) m = show_both _ _ _ _ (show_whole l m.left _ _ (show_inside l m.left)) (show_whole r m.right _ _ (show_inside r m.right))
+  show_inside (binary p o l r) m = show_both _ _ _ _ (show_whole l m.left _ _ (show_inside l m.left))
+      (show_whole r m.right _ _ (show_inside r m.right))
   show_inside (compare p o l r) m = show_both _ _ _ _ (show_whole l m.left _ _ (show_inside l m.left))
       (show_behind _ _ _ (show_whole r m.right _ _ (show_inside r m.right)) (show_flows (place_of l) m.flows))
   show_inside (is_none p e) m = show_whole e m.operand _ _ (show_inside e m.operand)
   show_inside (is_not_none p e) m = show_whole e m.operand _ _ (show_inside e m.operand)
-  show_inside (conjunction p l r) m = show_both _ _ _ _ (show_whole l m.left _ _ (show_inside l m.left)) (show_whole r m.right _ _ (show_inside r m.right))
-  show_inside (disjunction p l r) m = show_both _ _ _ _ (show_whole l m.left _ _ (show_inside l m.left)) (show_whole r m.right _ _ (show_inside r m.right))
+  show_inside (conjunction p l r) m = show_both _ _ _ _ (show_whole l m.left _ _ (show_inside l m.left))
+      (show_whole r m.right _ _ (show_inside r m.right))
+  show_inside (disjunction p l r) m = show_both _ _ _ _ (show_whole l m.left _ _ (show_inside l m.left))
+      (show_whole r m.right _ _ (show_inside r m.right))
   show_inside (attribute p e field) m = show_whole e m.object _ _ (show_inside e m.object)
   show_inside (index p e i) m = show_both _ _ _ _ (show_whole e m.object _ _ (show_inside e m.object))
       (show_behind _ _ _ (show_whole i m.key _ _ (show_inside i m.key)) (show_flows (place_of i) m.flows))
@@ -204,7 +202,8 @@ mutual
   pub show_keywords : (es : Keywords) (m : KeywordsLabels es)
       → Shows (found_in_keywords true es m) (types_in_keywords es m)
   show_keywords no_keywords m = show_nothing
-  show_keywords (more_keywords parameter value rest) m = show_both _ _ _ _ (show_whole value m.first _ _ (show_inside value m.first))
+  show_keywords (more_keywords parameter value rest) m = show_both _ _ _ _
+      (show_whole value m.first _ _ (show_inside value m.first))
       (show_after _ _ _ (show_flows (place_of value) m.flows) (show_keywords rest m.rest))
 
 -- the types noted in an expression are the types under its labels

@@ -1,4 +1,4 @@
--- No label has the code of a dynamic flow, which only flows have; nor has a store.
+-- No label has a code of flows, which only flows have; nor has a store.
 use Rattle.std.proofs.Common.{◌≡◌, ℕ, Bool as Test, true, false, List, [], ◌∷◌, ◌++◌, Option, Some, None, refl, map}
 use Rattle.std.specs.Prelude.{◌||◌, if◌then◌else◌, nat_le, nat_lt, flat_map, slice_get, codes, bytes_eq}
 use Rattle.std.specs.List.{AllByRecursion, list_any, list_all}
@@ -6,7 +6,7 @@ use Rattle.pc_tree.specs.declared.tree.BinaryOperator.{BinaryOperator}
 use Rattle.pc_tree.specs.declared.tree.ComparisonOperator.{ComparisonOperator}
 use Rattle.pc_tree.specs.declared.tree.ComparisonOperator.TheVariants.{Equal, NotEqual, In, NotIn}
 use Rattle.pc_tree.specs.declared.code.Code.{Code}
-use Rattle.pc_tree.specs.declared.code.Code.TheVariants.{A1, A2, A5, A7, E03, E13, E14, E20, E26, E27}
+use Rattle.pc_tree.specs.declared.code.Code.TheVariants.{A1, A2, A5, A7, E03, E12, E13, E14, E20, E26, E27}
 use Rattle.pc_tree.specs.Tree.{Expr, Exprs, name, number, text, truth, nothing, tuple, list, dict, negative, negation}
 use Rattle.pc_tree.specs.Tree.{binary, compare, is_none, is_not_none, conjunction, disjunction, attribute, index, call}
 use Rattle.pc_tree.specs.Stopping.{has_none}
@@ -70,9 +70,10 @@ in_both P false x y h k = k
 
 -- ---- codes
 
--- a code is that of a dynamic flow
+-- a code is one of flows
 abbrev pub tells_flow : Code → Test
 tells_flow A1 = true
+tells_flow E12 = true
 tells_flow _ = false
 
 -- a code is another one
@@ -352,7 +353,8 @@ builtin_plain g builtin.Range = one_offer _ (in_both CallPlain (is_one g) (fails
     (good tt (refl, tt)) (good tt (refl, tt)))
 builtin_plain g _ = called_value (in_error E20) (refl, tt)
 
-name_callee_plain : (ctx : Context) (env : Env) (g : GivenArguments) (r : NameMeaning) → CalleePlain (name_callee ctx env g r)
+name_callee_plain : (ctx : Context) (env : Env) (g : GivenArguments) (r : NameMeaning)
+    → CalleePlain (name_callee ctx env g r)
 name_callee_plain ctx env g (res.Func i) =
     in_both CalleePlain ctx.in_body (good_callee (function_offer g (slice_get ctx.functions i) ∷ []))
     (value_callee (in_error E03)) (one_offer (function_offer g (slice_get ctx.functions i))

@@ -1,12 +1,11 @@
--- The notes in an expression are right: each with two types is a dynamic flow of the one into the other, both
--- well-formed, and no other note is a dynamic flow.
+-- The notes in an expression are right: each with two types is a flow of the one into the other, with the code that the
+-- tests give, both well-formed; and no other note is one of a flow.
 use Rattle.std.proofs.Common.{◌≡◌, ℕ, suc, Bool as Test, true, false, List, [], ◌∷◌, ◌++◌, Option, Some, None, refl}
 use Rattle.std.proofs.Common.{sym, subst}
 use Rattle.std.specs.Prelude.{flat_map, map}
 use Rattle.std.specs.List.{AllByRecursion}
 use Rattle.pc_source.specs.declared.place.Place.{Place}
 use Rattle.pc_tree.specs.declared.code.Code.{Code}
-use Rattle.pc_tree.specs.declared.code.Code.TheVariants.{A1}
 use Rattle.pc_tree.specs.declared.code.Finding.{Finding}
 use Rattle.pc_tree.specs.Code.{finding}
 use Rattle.pc_tree.specs.Tree.{Expr, Exprs, Entries, Keywords, name, number, text, truth, nothing, tuple, list, dict}
@@ -23,7 +22,7 @@ use Rattle.pc_types.specs.Computed.{static_test, assignable_test}
 use Rattle.pc_flow.specs.Environment.{Env}
 use Rattle.pc_flow.specs.Narrowing.{narrow}
 use Rattle.pc_flow.specs.WellFormed.{IsWellFormedIfAny, IsWellFormedEnv, AreWellFormed}
-use Rattle.pc_notes.specs.Notes.{Note, told, typed, plain_note}
+use Rattle.pc_notes.specs.Notes.{Note, told, typed, named, plain_note, flow_note}
 use Rattle.pc_rules.specs.Operations.{Label, FlowLabel, operand_types, index_member, attribute_member, negative_member}
 use Rattle.pc_rules.specs.Context.{Context, is_early}
 use Rattle.pc_rules.specs.Calls.{Seat, arguments_given, count_exprs, call_label, positional_seat, named_seat}
@@ -35,7 +34,7 @@ use Rattle.pc_rules.specs.Lawful.{key_seat, value_seat, int_literal, compare_typ
 use Rattle.pc_rules.specs.Computed.Expressions.{code_by, code_unless, flows_of, labels, items_labels, entries_labels}
 use Rattle.pc_rules.specs.Computed.Expressions.{keywords_labels}
 use Rattle.pc_rules.specs.Computed.Findings.{own_at, has_code, add_code, once_onto, once, codes_at, notes_of_code}
-use Rattle.pc_rules.specs.Computed.Findings.{flow_note, own_flow, flow_then, flows_behind, flows_at, whole}
+use Rattle.pc_rules.specs.Computed.Findings.{own_flow, flow_then, flows_behind, flows_at, whole}
 use Rattle.pc_rules.specs.Computed.Findings.{found_in_parts, found_in_items, found_in_arguments, found_in_entries}
 use Rattle.pc_rules.specs.Computed.Findings.{found_in_keywords, notes_under, callee_notes_under, type_noted, label_at}
 use Rattle.pc_rules.specs.Computed.Findings.{called, shows}
@@ -51,7 +50,7 @@ use Rattle.pc_rules.proofs.ComputedFlows.{flows_well_formed, are_tests}
 use Rattle.pc_rules.proofs.ComputedLawful.{labels_are_lawful, items_lawful, keywords_lawful}
 use Rattle.pc_rules.proofs.Saying.{own_label}
 use Rattle.pc_rules.proofs.PartsKept.{parts_kept}
-use Rattle.pc_module_rules.proofs.PlainCodes.{all_append, in_both, tells_flow, IsPlain, ArePlain, LabelPlain}
+use Rattle.pc_module_rules.proofs.PlainCodes.{all_append, in_both, IsPlain, ArePlain, LabelPlain}
 use Rattle.pc_module_rules.proofs.PlainCodes.{IsPlainIfAny, mapped_plain, index_plain, attribute_plain, negative_plain}
 use Rattle.pc_module_rules.proofs.PlainCodes.{binary_plain, compare_plain, display_plain, list_plain, dict_plain}
 use Rattle.pc_module_rules.proofs.PlainCodes.{name_plain, callee_label_plain, whole_call_plain, whole_second_plain}
@@ -59,15 +58,16 @@ use Rattle.pc_module_rules.proofs.PlainCodes.{range_plain}
 
 -- ---- right notes
 
--- a flow is dynamic by its code and by the tests of static and of consistent subtyping; a note without types is no
--- dynamic flow
+-- the code of a flow is the one by the tests of static and of consistent subtyping; a note without types has no code of
+-- flows
 abbrev pub IsTestedFlow : Bases → Code → Option (Tree × Tree) → Type 0
 IsTestedFlow bases c None = IsPlain c
-IsTestedFlow bases c (Some f) = (c ≡ A1) × (static_test bases f.0 f.1 ≡ false) × (assignable_test bases f.0 f.1 ≡ true)
+IsTestedFlow bases c (Some f) = code_by (static_test bases f.0 f.1) (assignable_test bases f.0 f.1) ≡ Some c
 
 abbrev pub IsTested : Bases → Note → Type 0
 IsTested bases (told f flow) = IsTestedFlow bases f.code flow
 IsTested bases (typed shown p t) = Unit {0}
+IsTested bases (named p d t) = Unit {0}
 
 -- the types of a flow are well-formed, if there is one
 abbrev pub IsFormedFlow : Bases → Option (Tree × Tree) → Type 0
@@ -77,6 +77,7 @@ IsFormedFlow bases (Some f) = IsWellFormed bases f.0 × IsWellFormed bases f.1
 abbrev pub IsFormed : Bases → Note → Type 0
 IsFormed bases (told f flow) = IsFormedFlow bases flow
 IsFormed bases (typed shown p t) = Unit {0}
+IsFormed bases (named p d t) = Unit {0}
 
 -- a note is right
 pub record IsRight (bases : Bases) (n : Note) : Type 0 where
@@ -126,7 +127,7 @@ module _ (P : Note → Type 0) (p : Place) where
   -- it holds of what is found of a flow with this code, if it has one
   abbrev HoldsOfFlow : (from into : Tree) → Option Code → Type 0
   HoldsOfFlow s t None = Unit {0}
-  HoldsOfFlow s t (Some c) = P (flow_note p s t c)
+  HoldsOfFlow s t (Some c) = P (flow_note (finding p c) s t)
 
   one_flow : (before : List Code) (s t : Tree) (o : Option Code) (rest : List Code → List Note) → HoldsOfFlow s t o
       → ((codes : List Code) → AllByRecursion P (rest codes)) → AllByRecursion P (flow_then p before s t o rest)
@@ -135,7 +136,8 @@ module _ (P : Note → Type 0) (p : Place) where
       in_both (AllByRecursion P) (has_code before c) (rest before) (own_flow p s t c ++ rest (before ++ c ∷ []))
       (k before)
       (all_append P (own_flow p s t c) (rest (before ++ c ∷ []))
-      (in_both (AllByRecursion P) (is_of_scopes c) [] (flow_note p s t c ∷ []) tt (h, tt)) (k (before ++ c ∷ [])))
+      (in_both (AllByRecursion P) (is_of_scopes c) [] (flow_note (finding p c) s t ∷ []) tt (h, tt))
+      (k (before ++ c ∷ [])))
 
   behind_holds : (flows : FlowLabels) → AllByRecursion (λ (f : FlowLabel). HoldsOfFlow f.from f.into f.code) flows
       → (before : List Code) → AllByRecursion P (flows_behind p before flows)
@@ -146,30 +148,24 @@ module _ (P : Note → Type 0) (p : Place) where
 -- ---- what the tests say
 
 module _ (bases : Bases) where
-  -- where a code is that of a dynamic flow, the tests say that the flow is dynamic
+  -- the code of a flow, if it has one, is the one by the tests
   abbrev TestsSay : (from into : Tree) → Option Code → Type 0
   TestsSay s t None = Unit {0}
-  TestsSay s t (Some c) = tells_flow c ≡ true → (static_test bases s t ≡ false) × (assignable_test bases s t ≡ true)
+  TestsSay s t (Some c) = code_by (static_test bases s t) (assignable_test bases s t) ≡ Some c
 
-  tests_by : (s t : Tree) (x y : Test) → static_test bases s t ≡ x → assignable_test bases s t ≡ y
-      → TestsSay s t (code_by x y)
-  tests_by s t true y e f = tt
-  tests_by s t false true e f = λ h. (e, f)
-  tests_by s t false false e f = λ h. absurd (cc h)
+  tests_by : (s t : Tree) (o : Option Code) → code_by (static_test bases s t) (assignable_test bases s t) ≡ o
+      → TestsSay s t o
+  tests_by s t None e = tt
+  tests_by s t (Some c) e = e
 
   tests_unless : (early : Test) (s t : Tree) → TestsSay s t (code_unless (static_test bases) (assignable_test bases)
       early s t)
   tests_unless true s t = tt
-  tests_unless false s t = tests_by s t (static_test bases s t) (assignable_test bases s t) refl refl
-
-  tested_note : (p : Place) (s t : Tree) (c : Code) → (tells_flow c ≡ true → (static_test bases s t ≡ false)
-      × (assignable_test bases s t ≡ true)) → IsTested bases (flow_note p s t c)
-  tested_note p s t A1 h = let r = h refl in (refl, r.0, r.1)
-  tested_note p s t _ h = refl
+  tests_unless false s t = tests_by s t (code_by (static_test bases s t) (assignable_test bases s t)) refl
 
   tested_flow : (p : Place) (s t : Tree) (o : Option Code) → TestsSay s t o → HoldsOfFlow (IsTested bases) p s t o
   tested_flow p s t None h = tt
-  tested_flow p s t (Some c) h = tested_note p s t c h
+  tested_flow p s t (Some c) h = h
 
   tested_each : (p : Place) (m : Label) (ts : List Tree) → AllByRecursion
       (λ (f : FlowLabel). HoldsOfFlow (IsTested bases) p f.from f.into f.code) (flows_of bases m ts)
@@ -193,15 +189,10 @@ module _ (bases : Bases) where
 
   -- ---- well-formed types
 
-  formed_note : (p : Place) (s t : Tree) (c : Code) → IsWellFormed bases s → IsWellFormed bases t
-      → IsFormed bases (flow_note p s t c)
-  formed_note p s t A1 h k = (h, k)
-  formed_note p s t _ h k = tt
-
   formed_flow : (p : Place) (s t : Tree) (o : Option Code) → IsWellFormed bases s → IsWellFormed bases t
       → HoldsOfFlow (IsFormed bases) p s t o
   formed_flow p s t None h k = tt
-  formed_flow p s t (Some c) h k = formed_note p s t c h k
+  formed_flow p s t (Some c) h k = (h, k)
 
   formed_each : (p : Place) (flows : FlowLabels) → FlowsWellFormed bases flows
       → AllByRecursion (λ (f : FlowLabel). HoldsOfFlow (IsFormed bases) p f.from f.into f.code) flows

@@ -1,6 +1,6 @@
 -- The notes of a walk over statements are right, if those before it are; and its types stay well-formed.
 use Rattle.std.proofs.Common.{ℕ, Bool as Test, true, false, List, [], ◌∷◌, ◌++◌, Option, Some, None, refl, length}
-use Rattle.std.specs.Prelude.{unwrap_or}
+use Rattle.std.specs.Prelude.{unwrap_or, is_some}
 use Rattle.pc_source.specs.declared.place.Place.{Place}
 use Rattle.pc_tree.specs.declared.code.Code.TheVariants.{E21}
 use Rattle.pc_tree.specs.Code.{finding}
@@ -56,7 +56,9 @@ use Rattle.pc_module_rules.specs.Computed.Statements.{stored_finds, store_finds,
 use Rattle.pc_module_rules.specs.Computed.Statements.{item_label_of, iterable_finds, bind_item, head_at, option_finds}
 use Rattle.pc_module_rules.specs.Computed.Statements.{return_finds, inside_for, step, walk_suite, walk_branches}
 use Rattle.pc_module_rules.specs.Computed.Statements.{enter_local, enter_name, enter_parameters, end_finds}
-use Rattle.pc_module_rules.specs.Computed.Statements.{body_context_of, function_finds}
+use Rattle.pc_module_rules.specs.Computed.Statements.{body_context_of, function_finds, name_note, noted_binding}
+use Rattle.pc_module_rules.specs.Computed.Statements.{with_note, annotated_binding}
+use Rattle.pc_module_rules.proofs.NotedNames.{note_holds}
 use Rattle.pc_module_rules.proofs.LabelledFunctions.{entries_well_formed, none_well_formed as unassigned_well_formed}
 use Rattle.pc_module_rules.proofs.StoredTypes.{fields_stored, items_stored, keys_stored, only_well_formed}
 use Rattle.pc_module_rules.proofs.StoredTypes.{turns_well_formed}
@@ -89,6 +91,17 @@ record ForkRight (bases : Bases) (w : BranchesResult) : Type 0 where
   ways : OutWellFormed bases w.ways
   broken : OutWellFormed bases w.broken
   found : AreRight bases w.found
+
+-- a binding is right with the note of its name
+noted_right : (bases : Bases) (keeps valued : Test) (r : NameMeaning) (p : Place) (b : BindingResult)
+    → BoundRight bases b → BoundRight bases (noted_binding keeps valued r p b)
+noted_right bases false valued r p b h = h
+noted_right bases true valued r p b h = record {
+  table = h.table;
+  env = h.env;
+  found = right_append bases b.found (name_note valued b.table b.env r p) h.found
+      (note_holds (AreRight bases) tt (λ q d t. (record { tested = tt; formed = tt }, tt)) valued b.table b.env r p);
+}
 
 settled_well_formed : (bases : Bases) (bound : Option Tree) (table : Table) (x : ℕ) (t : Tree) → IsWellFormed bases t
     → IsWellFormedEnv bases table → IsWellFormedEnv bases (with_declared bound table x t)
@@ -223,20 +236,28 @@ module _ (context : BodyContext) (ck : ContextWellFormed context.context)
   annotation_right (Some d) n a = (record { tested = refl; formed = tt }, tt)
   annotation_right None n a = right_annotation context.whole ctx.bases a
 
-  annotated_right : (table : Table) (env : Env) (n : Name) (a : Ann) (e : Option Expr) (found : List Note)
-      → Formed table → Formed env → Right found → BoundRight ctx.bases (bind_annotated context table env n a e found)
-  annotated_right table env n a None found kt ke kf = record {
-    table = alone_well_formed table (ctx.resolve n.text) (read_ann context.whole ctx.bases a) kt
+  read_right : (table : Table) (env : Env) (r : NameMeaning) (n : Name) (a : Ann) (e : Option Expr) (found : List Note)
+      → Formed table → Formed env → Right found
+      → BoundRight ctx.bases (annotated_binding context table env r n a e found)
+  read_right table env r n a None found kt ke kf = record {
+    table = alone_well_formed table r (read_ann context.whole ctx.bases a) kt
         (read_ann_well_formed context.whole ctx.bases ck.smaller a);
     env = ke;
-    found = right_then found (annotation_finds context (bound_name context table (ctx.resolve n.text)) n a) kf
-        (annotation_right (bound_name context table (ctx.resolve n.text)) n a);
+    found = right_then found (annotation_finds context (bound_name context table r) n a) kf
+        (annotation_right (bound_name context table r) n a);
   }
-  annotated_right table env n a (Some e) found kt ke kf =
-      let xs = annotation_finds context (bound_name context table (ctx.resolve n.text)) n a in
-      value_right table env (ctx.resolve n.text) (Some (read_ann context.whole ctx.bases a)) e (found ++ xs) kt ke
+  read_right table env r n a (Some e) found kt ke kf =
+      let xs = annotation_finds context (bound_name context table r) n a in
+      value_right table env r (Some (read_ann context.whole ctx.bases a)) e (found ++ xs) kt ke
       (read_ann_well_formed context.whole ctx.bases ck.smaller a)
-      (right_then found xs kf (annotation_right (bound_name context table (ctx.resolve n.text)) n a))
+      (right_then found xs kf (annotation_right (bound_name context table r) n a))
+
+  annotated_right : (table : Table) (env : Env) (n : Name) (a : Ann) (e : Option Expr) (found : List Note)
+      → Formed table → Formed env → Right found → BoundRight ctx.bases (bind_annotated context table env n a e found)
+  annotated_right table env n a e found kt ke kf =
+      let r = ctx.resolve n.text in
+      noted_right ctx.bases context.keeps (is_some e) r n.place (annotated_binding context table env r n a e found)
+      (read_right table env r n a e found kt ke kf)
 
   -- ---- stores
 
@@ -297,8 +318,10 @@ module _ (context : BodyContext) (ck : ContextWellFormed context.context)
 
   assigned_right : (table : Table) (env : Env) (t : Target) (e : Expr) (found : List Note) → Formed table → Formed env
       → Right found → BoundRight ctx.bases (assign_target context table env t e found)
-  assigned_right table env (to_name n) e found kt ke kf = value_right table env (ctx.resolve n.text) None e found kt ke
-      tt kf
+  assigned_right table env (to_name n) e found kt ke kf =
+      let r = ctx.resolve n.text in
+      noted_right ctx.bases context.keeps true r n.place (bind_value context table env r None e found)
+      (value_right table env r None e found kt ke tt kf)
   assigned_right table env (to_attribute p o field) e found kt ke kf = target_stored table env (to_attribute p o field)
       e found kt ke kf
   assigned_right table env (to_index p o i) e found kt ke kf = target_stored table env (to_index p o i) e found kt ke kf
@@ -363,7 +386,8 @@ module _ (context : BodyContext) (ck : ContextWellFormed context.context)
       → BoundRight ctx.bases (record { table = table; env = head; found = found })
   item_alone table head found kt kh kf = record { table = kt; env = kh; found = kf }
 
-  target_right : (table : Table) (head : Env) (r : NameMeaning) (p : Place) (t : Tree) (found : List Note) → Formed table
+  target_right : (table : Table) (head : Env) (r : NameMeaning) (p : Place) (t : Tree) (found : List Note)
+      → Formed table
       → Formed head → IsWellFormed ctx.bases t → Right found → BoundRight ctx.bases
       (bind_item context table head r p t found)
   target_right table head (res.Local x) p t found kt kh k kf = label_right table head x (bound_type table x) p (clean t)
@@ -455,10 +479,13 @@ module _ (context : BodyContext) (ck : ContextWellFormed context.context)
         let it = item_right table env kt ke e in
         let xs = iterable_finds context here e in
         let ys = codes_at (place_of e) item.codes in
-        let start = bind_item context table head (ctx.resolve n.text) (place_of e) item.type ((found ++ xs) ++ ys) in
-        let tg = target_right table head (ctx.resolve n.text) (place_of e) item.type ((found ++ xs) ++ ys) kt kh
+        let r = ctx.resolve n.text in
+        let bound = bind_item context table head r (place_of e) item.type ((found ++ xs) ++ ys) in
+        let start = with_note context true r n.place bound in
+        let tg = noted_right ctx.bases context.keeps true r n.place bound
+        (target_right table head r (place_of e) item.type ((found ++ xs) ++ ys) kt kh
         it.formed (right_then (found ++ xs) ys (right_then found xs kf (iterable_right table env kt ke e))
-        (right_codes ctx.bases (place_of e) item.codes it.codes)) in
+        (right_codes ctx.bases (place_of e) item.codes it.codes))) in
         let body = suite_right (inside_for context head start) (record {
           table = tg.table;
           env = tg.env;

@@ -1,9 +1,10 @@
--- The notes of a walk in an expression, of its flows and in the iterable of a `for` hold exactly the dynamic flows
+-- The notes of a walk in an expression, of its flows and in the iterable of a `for` hold exactly the flows with a code
 -- under lawful labels.
 use Rattle.std.proofs.Common.{◌≡◌, List, [], ◌∷◌, ◌++◌, Option, Some, None, refl, sym, ap, ◌∙◌, subst, append-nil}
 use Rattle.std.proofs.Common.{append_assoc}
 use Rattle.std.specs.Prelude.{Bool as Test, true, false, if◌then◌else◌}
 use Rattle.pc_source.specs.declared.place.Place.{Place}
+use Rattle.pc_tree.specs.declared.code.Code.{Code}
 use Rattle.pc_tree.specs.Depth.{place_of}
 use Rattle.pc_tree.specs.Tree.{Name, Expr, Exprs, Keywords, name, call, Target, to_name, to_attribute, to_index}
 use Rattle.pc_scope.specs.Expressions.{is_instance_test}
@@ -17,7 +18,7 @@ use Rattle.pc_rules.specs.Operations.{Label, clean, StoreOffer, store_codes, sto
 use Rattle.pc_rules.specs.Calls.{CallOffer, arguments_given, call_label, positional_seat, named_seat, is_range}
 use Rattle.pc_rules.specs.Calls.{range_item, range_offers, range_signature}
 use Rattle.pc_rules.specs.Context.{FlowsInto}
-use Rattle.pc_rules.specs.Labels.{FlowLabels, Labels, whole_label, type_of}
+use Rattle.pc_rules.specs.Labels.{FlowLabels, Labels, whole_label, type_of, is_of_scopes}
 use Rattle.pc_rules.specs.Lawful.{Lawful}
 use Rattle.pc_rules.specs.Computed.Expressions.{labels_of, flows_of}
 use Rattle.pc_rules.specs.Computed.Findings.{codes_at, flows_at, notes_under}
@@ -41,13 +42,14 @@ use Rattle.pc_module_rules.specs.Laws.Walks.{EnvFits, body_context_in}
 use Rattle.pc_module_rules.proofs.StoredTypes.{fields_stored, items_stored, keys_stored, only_well_formed}
 use Rattle.pc_module_rules.proofs.WalkedTables.{types_well_formed}
 use Rattle.pc_module_rules.proofs.WalkedExpressions.{here, ExpressionTold, told, flows_told}
-use Rattle.pc_module_rules.specs.FlowsOfExpressions.{dynamic_at, dynamic_in}
-use Rattle.pc_module_rules.specs.FlowsOfStatements.{dynamic_in_option, dynamic_in_value, dynamic_in_target}
+use Rattle.pc_module_rules.specs.FlowsOfExpressions.{coded_at, coded_in}
+use Rattle.pc_module_rules.specs.FlowsOfStatements.{coded_in_option, coded_in_value, coded_in_target}
 use Rattle.pc_module_rules.proofs.FirstFlows.{Tells, tell_none, tell_then, tell_grouped}
 use Rattle.pc_module_rules.proofs.ToldFlows.{tell_codes, tell_flows, tell_expression}
 
-module _ (setting : Surroundings) (returned : Tree) (kr : IsWellFormed setting.context.bases returned)
-    (declared : List Tree) (table : Table) (kt : IsWellFormedEnv setting.context.bases table) (env : Env)
+module _ (code : Code) (own : is_of_scopes code ≡ false) (setting : Surroundings) (returned : Tree)
+    (kr : IsWellFormed setting.context.bases returned) (declared : List Tree) (table : Table)
+    (kt : IsWellFormedEnv setting.context.bases table) (env : Env)
     (h : EnvFits setting declared table env) where
   open setting use {whole as m, context as ctx, context_well_formed as ck}
 
@@ -79,31 +81,32 @@ module _ (setting : Surroundings) (returned : Tree) (kr : IsWellFormed setting.c
       ap (notes_under false e) (sym (one ctx declared (type_table table) env h.same want e labels computed l k.0))
 
   pub tell_in : (want : Option Tree) → IsWellFormedIfAny ctx.bases want → (e : Expr) (labels : Labels e)
-      → Lawful ctx declared env want e labels → Tells (finds_in at_env want e) (dynamic_in e labels)
-  tell_in want kw e labels l = subst (λ xs. Tells xs (dynamic_in e labels)) (sym (found_is want kw e labels l))
-      (tell_expression e labels)
+      → Lawful ctx declared env want e labels → Tells code (finds_in at_env want e) (coded_in code e labels)
+  tell_in want kw e labels l = subst (λ xs. Tells code xs (coded_in code e labels)) (sym (found_is want kw e labels l))
+      (tell_expression code own e labels)
 
   -- its flows into several types
   pub tell_flowing : (want : Option Tree) (e : Expr) (labels : Labels e) (ts : List Tree) (flows : FlowLabels)
       → IsWellFormedIfAny ctx.bases want → Lawful ctx declared env want e labels → AreWellFormed ctx.bases ts
       → FlowsInto ctx.bases (whole_label e labels) ts flows
-      → Tells (flows_at (place_of e) (flows_of ctx.bases (label_in at_env want e) ts)) (dynamic_at (place_of e) flows)
+      → Tells code (flows_at (place_of e) (flows_of ctx.bases (label_in at_env want e) ts))
+      (coded_at code (place_of e) flows)
   tell_flowing want e labels ts flows kw l ks fl =
       let v = read want kw e labels l in
       let is : flows_of ctx.bases (label_in at_env want e) ts ≡ flows = ap (λ x. flows_of ctx.bases x ts) v.label
       ∙ flows_told setting (whole_label e labels) ts flows v.well_formed ks fl in
-      subst (λ fs. Tells (flows_at (place_of e) fs) (dynamic_at (place_of e) flows)) (sym is)
-      (tell_flows (place_of e) flows)
+      subst (λ fs. Tells code (flows_at (place_of e) fs) (coded_at code (place_of e) flows)) (sym is)
+      (tell_flows code own (place_of e) flows)
 
   -- an expression, and then its flows
   tell_both : (want : Option Tree) (e : Expr) (labels : Labels e) (ts : List Tree) (flows : FlowLabels)
       → IsWellFormedIfAny ctx.bases want → Lawful ctx declared env want e labels → AreWellFormed ctx.bases ts
       → FlowsInto ctx.bases (whole_label e labels) ts flows
-      → Tells (finds_in at_env want e ++ flows_at (place_of e) (flows_of ctx.bases (label_in at_env want e) ts))
-      (dynamic_in e labels ++ dynamic_at (place_of e) flows)
+      → Tells code (finds_in at_env want e ++ flows_at (place_of e) (flows_of ctx.bases (label_in at_env want e) ts))
+      (coded_in code e labels ++ coded_at code (place_of e) flows)
   tell_both want e labels ts flows kw l ks fl =
       tell_then (finds_in at_env want e) (flows_at (place_of e) (flows_of ctx.bases (label_in at_env want e) ts))
-      (dynamic_in e labels) (dynamic_at (place_of e) flows) (tell_in want kw e labels l)
+      (coded_in code e labels) (coded_at code (place_of e) flows) (tell_in want kw e labels l)
       (tell_flowing want e labels ts flows kw l ks fl)
 
   -- ---- what a `for` goes over
@@ -161,16 +164,17 @@ module _ (setting : Surroundings) (returned : Tree) (kr : IsWellFormed setting.c
         → RangeOrValues m ctx declared b (LawfulRange m ctx declared env (name n) args kws p labels
         × (item ≡ range_item (arguments_given args kws))) (LawfulValues m ctx declared env
         (call p (name n) args kws) labels item)
-        → Tells (if b then range_finds at_env p (name n) args kws else finds_in at_env None (call p (name n) args kws))
-        (dynamic_in (call p (name n) args kws) labels)
+        → Tells code (if b then range_finds at_env p (name n) args kws else finds_in at_env None
+        (call p (name n) args kws))
+        (coded_in code (call p (name n) args kws) labels)
     tell_call true labels item l =
-        subst (λ xs. Tells xs (dynamic_in (call p (name n) args kws) labels))
+        subst (λ xs. Tells code xs (coded_in code (call p (name n) args kws) labels))
         (sym (ap (notes_under false (call p (name n) args kws)) (range_lawful labels l.0)) ∙ range_listed)
-        (tell_expression (call p (name n) args kws) labels)
+        (tell_expression code own (call p (name n) args kws) labels)
     tell_call false labels item l = tell_in None tt (call p (name n) args kws) labels l.0
 
   pub tell_iterable : (e : Expr) (labels : Labels e) (item : Label) → LawfulIterable m ctx declared env e labels item
-      → Tells (iterable_finds context at_env e) (dynamic_in e labels)
+      → Tells code (iterable_finds context at_env e) (coded_in code e labels)
   tell_iterable (call p (name n) args kws) labels item l = tell_call p n args kws (is_range (ctx.resolve n.text)) labels
       item l
   tell_iterable e labels item l = tell_in None tt e labels l.0
@@ -182,19 +186,19 @@ module _ (setting : Surroundings) (returned : Tree) (kr : IsWellFormed setting.c
       → (p : Place) (e : Expr) (labels : Labels e) (flows : FlowLabels)
       → Lawful ctx declared env (only_type os (stored_types os)) e labels → FlowsInto ctx.bases (whole_label e labels)
       (stored_types os) flows
-      → Tells (stored_finds context at_env os p e) (dynamic_in e labels ++ dynamic_at (place_of e) flows)
+      → Tells code (stored_finds context at_env os p e) (coded_in code e labels ++ coded_at code (place_of e) flows)
   tell_stored os ks p e labels flows l fl =
       let want = only_type os (stored_types os) in
       tell_then (codes_at p (store_codes os)) (finds_in at_env want e ++ flows_at (place_of e)
       (flows_of ctx.bases (label_in at_env want e) (stored_types os))) []
-      (dynamic_in e labels ++ dynamic_at (place_of e) flows)
-      (tell_codes p (store_codes os))
+      (coded_in code e labels ++ coded_at code (place_of e) flows)
+      (tell_codes code own p (store_codes os))
       (tell_both want e labels (stored_types os) flows (only_well_formed ctx.bases os (stored_types os) ks) l ks fl)
 
   pub tell_store : (t : Target) (target : TargetLabels t) (e : Expr) (labels : Labels e) (flows : FlowLabels)
       → LawfulStore m ctx declared env t target e labels flows
-      → Tells (store_finds context at_env t e) (dynamic_in_target t target
-      ++ (dynamic_in e labels ++ dynamic_at (place_of e) flows))
+      → Tells code (store_finds context at_env t e) (coded_in_target code t target
+      ++ (coded_in code e labels ++ coded_at code (place_of e) flows))
   tell_store (to_name n) target e labels flows l = absurd l
   tell_store (to_attribute p o field) target e labels flows l =
       let v = read None tt o target.object l.object in
@@ -203,10 +207,10 @@ module _ (setting : Surroundings) (returned : Tree) (kr : IsWellFormed setting.c
       (type_of o target.object) v.well_formed in
       let offers : os ≡ attribute_stores context field.text (label_in at_env None o).type =
       ap (λ x. attribute_stores context field.text x.type) (sym v.label) in
-      let ds = dynamic_in e labels ++ dynamic_at (place_of e) flows in
-      subst (λ q. Tells (finds_in at_env None o ++ stored_finds context at_env q p e)
-      (dynamic_in o target.object ++ ds)) offers
-      (tell_then (finds_in at_env None o) (stored_finds context at_env os p e) (dynamic_in o target.object) ds
+      let ds = coded_in code e labels ++ coded_at code (place_of e) flows in
+      subst (λ q. Tells code (finds_in at_env None o ++ stored_finds context at_env q p e)
+      (coded_in code o target.object ++ ds)) offers
+      (tell_then (finds_in at_env None o) (stored_finds context at_env os p e) (coded_in code o target.object) ds
       (tell_in None tt o target.object l.object) (tell_stored os ks p e labels flows l.value l.flow))
   tell_store (to_index p o i) target e labels flows l =
       let v = read None tt o target.object l.object in
@@ -219,18 +223,20 @@ module _ (setting : Surroundings) (returned : Tree) (kr : IsWellFormed setting.c
       let xs = finds_in at_env None o in
       let ys = finds_in at_env None i in
       let zs = flows_at (place_of i) (flows_of ctx.bases (label_in at_env None i) (store_index_types os)) in
-      let a = dynamic_in o target.object in
-      let b = dynamic_in i target.key in
-      let c = dynamic_at (place_of i) target.key_flows in
-      let ds = dynamic_in e labels ++ dynamic_at (place_of e) flows in
+      let a = coded_in code o target.object in
+      let b = coded_in code i target.key in
+      let c = coded_at code (place_of i) target.key_flows in
+      let ds = coded_in code e labels ++ coded_at code (place_of e) flows in
       let rest = ys ++ (zs ++ stored_finds context at_env os p e) in
-      let told_rest : Tells rest (b ++ (c ++ ds)) = tell_then ys (zs ++ stored_finds context at_env os p e) b (c ++ ds)
+      let told_rest : Tells code rest (b ++ (c ++ ds)) = tell_then ys (zs ++ stored_finds context at_env os p e) b
+      (c ++ ds)
       (tell_in None tt i target.key l.key)
       (tell_then zs (stored_finds context at_env os p e) c ds (tell_flowing None i target.key (store_index_types os)
       target.key_flows tt l.key kk l.key_flow) (tell_stored os ks p e labels flows l.value l.flow)) in
       subst
       (λ q.
-      Tells (xs ++ (ys ++ (flows_at (place_of i) (flows_of ctx.bases (label_in at_env None i) (store_index_types q))
+      Tells code
+      (xs ++ (ys ++ (flows_at (place_of i) (flows_of ctx.bases (label_in at_env None i) (store_index_types q))
       ++ stored_finds context at_env q p e))) ((a ++ (b ++ c)) ++ ds)) offers
       (tell_grouped (xs ++ rest) a (b ++ c) ds (tell_then xs rest a ((b ++ c) ++ ds)
       (tell_in None tt o target.object l.object) (tell_grouped rest b c ds told_rest)))
@@ -238,14 +244,14 @@ module _ (setting : Surroundings) (returned : Tree) (kr : IsWellFormed setting.c
   -- ---- what may be missing
 
   pub tell_option : (e : Option Expr) (labels : OptionLabels e) → LawfulOption m ctx declared returned env e labels
-      → Tells (option_finds context at_env None e) (dynamic_in_option e labels)
+      → Tells code (option_finds context at_env None e) (coded_in_option code e labels)
   tell_option None labels l = tell_none
   tell_option (Some e) labels l = tell_in None tt e labels l
 
   pub tell_return : (p : Place) (e : Option Expr) (labels : OptionLabels e) (flows : FlowLabels)
-      → LawfulReturn m ctx declared returned env e labels flows → Tells (return_finds context at_env p e)
-      (dynamic_in_value p e labels flows)
+      → LawfulReturn m ctx declared returned env e labels flows → Tells code (return_finds context at_env p e)
+      (coded_in_value code p e labels flows)
   tell_return p None labels flows l =
       let is = flows_told setting (clean NoneType) (returned ∷ []) flows (none_well_formed ctx.bases) (kr, tt) l in
-      subst (λ fs. Tells (flows_at p fs) (dynamic_at p flows)) (sym is) (tell_flows p flows)
+      subst (λ fs. Tells code (flows_at p fs) (coded_at code p flows)) (sym is) (tell_flows code own p flows)
   tell_return p (Some e) labels flows l = tell_both (Some returned) e labels (returned ∷ []) flows kr l.0 (kr, tt) l.1

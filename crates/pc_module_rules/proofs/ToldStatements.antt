@@ -1,7 +1,9 @@
--- The notes of a walk over statements hold exactly the dynamic flows under lawful labels, besides those noted before.
+-- The notes of a walk over statements hold exactly the flows with a code under lawful labels, besides those noted
+-- before.
 use Rattle.std.proofs.Common.{◌≡◌, ℕ, List, [], ◌∷◌, ◌++◌, refl, sym, ap, ◌∙◌, subst, append-nil}
 use Rattle.std.specs.Prelude.{Bool as Test, true, false, unwrap_or, Option, Some, None}
 use Rattle.pc_source.specs.declared.place.Place.{Place}
+use Rattle.pc_tree.specs.declared.code.Code.{Code}
 use Rattle.pc_tree.specs.declared.code.Code.TheVariants.{E24}
 use Rattle.pc_tree.specs.Code.{finding}
 use Rattle.pc_tree.specs.Depth.{place_of}
@@ -26,7 +28,7 @@ use Rattle.pc_flow.proofs.Conditions.{current_well_formed}
 use Rattle.pc_notes.specs.Notes.{Note}
 use Rattle.pc_rules.specs.Operations.{Label, clean}
 use Rattle.pc_rules.specs.Context.{FlowsInto}
-use Rattle.pc_rules.specs.Labels.{FlowLabels, Labels, whole_label, type_of}
+use Rattle.pc_rules.specs.Labels.{FlowLabels, Labels, whole_label, type_of, is_of_scopes}
 use Rattle.pc_rules.specs.Lawful.{Lawful}
 use Rattle.pc_rules.specs.Computed.Expressions.{flows_of}
 use Rattle.pc_rules.specs.Computed.Findings.{codes_at, flows_at}
@@ -51,15 +53,15 @@ use Rattle.pc_module_rules.proofs.WalkedEnvironments.{truth_same, truth_fits, he
 use Rattle.pc_module_rules.proofs.WalkedExpressions.{told, iterable_told, flows_told}
 use Rattle.pc_module_rules.proofs.WalkedBindings.{target_says}
 use Rattle.pc_module_rules.proofs.WalkedStatements.{stmt_says, suite_says}
-use Rattle.pc_module_rules.specs.FlowsOfExpressions.{DynamicFlow, dynamic_at, dynamic_in}
-use Rattle.pc_module_rules.specs.FlowsOfStatements.{dynamic_in_option, dynamic_in_value, dynamic_in_stmt}
-use Rattle.pc_module_rules.specs.FlowsOfStatements.{dynamic_in_suite, dynamic_in_branches}
+use Rattle.pc_module_rules.specs.FlowsOfExpressions.{CodedFlow, coded_at, coded_in}
+use Rattle.pc_module_rules.specs.FlowsOfStatements.{coded_in_option, coded_in_value, coded_in_stmt}
+use Rattle.pc_module_rules.specs.FlowsOfStatements.{coded_in_suite, coded_in_branches}
 use Rattle.pc_module_rules.proofs.FirstFlows.{Tells, tell_plain, Grows, grow_none, grow, grow_then, grow_behind}
 use Rattle.pc_module_rules.proofs.ToldFlows.{tell_codes, tell_flows}
 use Rattle.pc_module_rules.proofs.ToldExpressions.{tell_in, tell_iterable, tell_store, tell_option, tell_return}
 
-module _ (setting : Surroundings) (returned : Tree) (kr : IsWellFormed setting.context.bases returned)
-    (declared : List Tree) where
+module _ (code : Code) (own : is_of_scopes code ≡ false) (setting : Surroundings) (returned : Tree)
+    (kr : IsWellFormed setting.context.bases returned) (declared : List Tree) where
   open setting use {whole as m, context as ctx, context_well_formed as ck}
 
   abbrev context : BodyContext
@@ -76,22 +78,22 @@ module _ (setting : Surroundings) (returned : Tree) (kr : IsWellFormed setting.c
         (found : List Note)
         → unwrap_or want label.type ≡ declared_type declared x → IsWellFormedIfAny ctx.bases want
         → IsWellFormed ctx.bases label.type → FlowsInto ctx.bases label (declared_type declared x ∷ []) flows
-        → Grows found (bind_label context table env x want p label found).found (dynamic_at p flows)
+        → Grows code found (bind_label context table env x want p label found).found (coded_at code p flows)
     label_tells env x want p label flows found is kw km flow =
         let d = unwrap_or want label.type in
         let kd : IsWellFormed ctx.bases d = unwrap_well_formed ctx.bases want label.type kw km in
         let q : flows_of ctx.bases label (d ∷ []) ≡ flows = flows_told setting label (d ∷ []) flows km (kd, tt)
         (subst (λ t. FlowsInto ctx.bases label (t ∷ []) flows) (sym is) flow) in
-        grow found (flows_at p (flows_of ctx.bases label (d ∷ []))) (dynamic_at p flows)
-        (subst (λ fs. Tells (flows_at p fs) (dynamic_at p flows)) (sym q) (tell_flows p flows))
+        grow code found (flows_at p (flows_of ctx.bases label (d ∷ []))) (coded_at code p flows)
+        (subst (λ fs. Tells code (flows_at p fs) (coded_at code p flows)) (sym q) (tell_flows code own p flows))
 
     -- a value bound to a local
     value_tells : (x : ℕ) → ctx.resolve n.text ≡ res.Local x → (env : Env) → EnvFits setting declared table env
         → (a a' : Option Tree) → (is_first seen n ≡ true → a ≡ a') → IsWellFormedIfAny ctx.bases a'
         → (e : Expr) (labels : Labels e) (flows : FlowLabels) (after : Env) (found : List Note)
         → LawfulBinding m ctx declared env seen n (res.Local x) a e labels flows after
-        → Grows found (bind_value context table env (res.Local x) a' e found).found
-        (dynamic_in e labels ++ dynamic_at (place_of e) flows)
+        → Grows code found (bind_value context table env (res.Local x) a' e found).found
+        (coded_in code e labels ++ coded_at code (place_of e) flows)
     value_tells x i env f a a' s ka e labels flows after found l =
         let o = bound_type table x in
         let b = is_one_of n.text seen in
@@ -107,34 +109,36 @@ module _ (setting : Surroundings) (returned : Tree) (kr : IsWellFormed setting.c
         let is : unwrap_or want (type_of e labels) ≡ declared_type declared x = ap (λ y. unwrap_or y (type_of e labels))
         (sym w) ∙ type_is m ctx declared x o b bound unbound b a (type_of e labels) l.at_first in
         let finds = finds_in (at context table env) want e in
-        let ds = dynamic_in e labels in
-        let es = dynamic_at (place_of e) flows in
-        subst (λ y. Grows found (bind_label context table env x want (place_of e) y (found ++ finds)).found (ds ++ es))
+        let ds = coded_in code e labels in
+        let es = coded_at code (place_of e) flows in
+        subst (λ y. Grows code found (bind_label context table env x want (place_of e) y (found ++ finds)).found
+        (ds ++ es))
         (sym v.label)
-        (grow_then found (found ++ finds) (bind_label context table env x want (place_of e) (whole_label e labels)
+        (grow_then code found (found ++ finds) (bind_label context table env x want (place_of e) (whole_label e labels)
         (found ++ finds)).found ds es
-        (grow found finds ds (tell_in setting returned kr declared table h.well_formed env f want kw e labels lw))
+        (grow code found finds ds (tell_in code own setting returned kr declared table h.well_formed env f want kw e
+        labels lw))
         (label_tells env x want (place_of e) (whole_label e labels) flows (found ++ finds) is kw v.well_formed l.flow))
 
     -- a name that means no local binds nothing, and nothing flows into it
     plain_tells : (env : Env) → EnvFits setting declared table env → (e : Expr) (labels : Labels e) (flows : FlowLabels)
         (found : List Note) → Lawful ctx declared env None e labels → flows ≡ []
-        → Grows found (found ++ finds_in (at context table env) None e)
-        (dynamic_in e labels ++ dynamic_at (place_of e) flows)
+        → Grows code found (found ++ finds_in (at context table env) None e)
+        (coded_in code e labels ++ coded_at code (place_of e) flows)
     plain_tells env f e labels flows found l none =
-        subst (λ (fs : FlowLabels). Grows found (found ++ finds_in (at context table env) None e)
-        (dynamic_in e labels ++ dynamic_at (place_of e) fs)) (sym none)
-        (subst (λ ds. Grows found (found ++ finds_in (at context table env) None e) ds)
-        (sym (append-nil (dynamic_in e labels)))
-        (grow found (finds_in (at context table env) None e) (dynamic_in e labels)
-        (tell_in setting returned kr declared table h.well_formed env f None tt e labels l)))
+        subst (λ (fs : FlowLabels). Grows code found (found ++ finds_in (at context table env) None e)
+        (coded_in code e labels ++ coded_at code (place_of e) fs)) (sym none)
+        (subst (λ ds. Grows code found (found ++ finds_in (at context table env) None e) ds)
+        (sym (append-nil (coded_in code e labels)))
+        (grow code found (finds_in (at context table env) None e) (coded_in code e labels)
+        (tell_in code own setting returned kr declared table h.well_formed env f None tt e labels l)))
 
     binding_tells : (r : NameMeaning) → ctx.resolve n.text ≡ r → (env : Env) → EnvFits setting declared table env
         → (a a' : Option Tree) → (is_first seen n ≡ true → a ≡ a') → IsWellFormedIfAny ctx.bases a'
         → (e : Expr) (labels : Labels e) (flows : FlowLabels) (after : Env) (found : List Note)
         → LawfulBinding m ctx declared env seen n r a e labels flows after
-        → Grows found (bind_value context table env r a' e found).found
-        (dynamic_in e labels ++ dynamic_at (place_of e) flows)
+        → Grows code found (bind_value context table env r a' e found).found
+        (coded_in code e labels ++ coded_at code (place_of e) flows)
     binding_tells (res.Local x) i env f a a' s ka e labels flows after found l = value_tells x i env f a a' s ka e
         labels flows after found l
     binding_tells (res.Const c) i env f a a' s ka e labels flows after found l = plain_tells env f e labels flows found
@@ -149,14 +153,16 @@ module _ (setting : Surroundings) (returned : Tree) (kr : IsWellFormed setting.c
         l.value l.flow
 
     -- the target of a `for`
-    no_flow : (p : Place) (flows : FlowLabels) (found : List Note) → flows ≡ [] → Grows found found (dynamic_at p flows)
-    no_flow p flows found none = subst (λ (fs : FlowLabels). Grows found found (dynamic_at p fs)) (sym none)
-        (grow_none found)
+    no_flow : (p : Place) (flows : FlowLabels) (found : List Note) → flows ≡ []
+        → Grows code found found (coded_at code p flows)
+    no_flow p flows found none = subst (λ (fs : FlowLabels). Grows code found found (coded_at code p fs)) (sym none)
+        (grow_none code found)
 
-    target_tells : (r : NameMeaning) → ctx.resolve n.text ≡ r → (head : Env) (item : Label) → IsWellFormed ctx.bases item.type
+    target_tells : (r : NameMeaning) → ctx.resolve n.text ≡ r → (head : Env) (item : Label)
+        → IsWellFormed ctx.bases item.type
         → (p : Place) (flows : FlowLabels) (inside : Env) (found : List Note)
         → LawfulTarget m ctx declared seen n r head item flows inside
-        → Grows found (bind_item context table head r p item.type found).found (dynamic_at p flows)
+        → Grows code found (bind_item context table head r p item.type found).found (coded_at code p flows)
     target_tells (res.Local x) i head item ki p flows inside found l =
         let b = is_one_of n.text seen in
         label_tells head x (bound_type table x) p (clean item.type) flows found
@@ -169,25 +175,25 @@ module _ (setting : Surroundings) (returned : Tree) (kr : IsWellFormed setting.c
     target_tells res.None i head item ki p flows inside found l = no_flow p flows found l.0
 
     -- a name annotated, with a value or alone
-    annotation_tells : (o : Option Tree) (a : Ann) → Tells (annotation_finds context o n a) []
+    annotation_tells : (o : Option Tree) (a : Ann) → Tells code (annotation_finds context o n a) []
     annotation_tells (Some d) a = tell_plain (finding n.place E24 ∷ [])
     annotation_tells None a = tell_plain (ann_findings m ctx.bases a)
 
     annotated_tells : (env : Env) → EnvFits setting declared table env → (p : Place) (a : Ann) (e : Option Expr)
         (labels : OptionLabels e) (flows : FlowLabels) (after : Env) (found : List Note)
         → LawfulAnnotated m ctx declared env seen n a e labels flows after
-        → Grows found (bind_annotated context table env n a e found).found (dynamic_in_value p e labels flows)
+        → Grows code found (bind_annotated context table env n a e found).found (coded_in_value code p e labels flows)
     annotated_tells env f p a None labels flows after found l =
         let o = bound_name context table (ctx.resolve n.text) in
         let finds = annotation_finds context o n a in
-        grow_behind found finds (found ++ finds) (dynamic_at p flows) (annotation_tells o a)
+        grow_behind code found finds (found ++ finds) (coded_at code p flows) (annotation_tells o a)
         (no_flow p flows (found ++ finds) l.1)
     annotated_tells env f p a (Some e) labels flows after found l =
         let t = read_ann m ctx.bases a in
         let o = bound_name context table (ctx.resolve n.text) in
         let finds = annotation_finds context o n a in
-        grow_behind found finds (bind_annotated context table env n a (Some e) found).found
-        (dynamic_in e labels ++ dynamic_at (place_of e) flows) (annotation_tells o a)
+        grow_behind code found finds (bind_annotated context table env n a (Some e) found).found
+        (coded_in code e labels ++ coded_at code (place_of e) flows) (annotation_tells o a)
         (binding_tells (ctx.resolve n.text) refl env f (annotation_at m ctx declared (is_first seen n) t) (Some t)
         (λ q. ap (λ b. annotation_at m ctx declared b t) q) (read_ann_well_formed m ctx.bases ck.smaller a) e labels
         flows after (found ++ finds) l)
@@ -197,19 +203,21 @@ module _ (setting : Surroundings) (returned : Tree) (kr : IsWellFormed setting.c
   assignment_tells : (seen : NamesBound) (table : Table) (env : Env) (found : List Note) → TableHere seen table
       → EnvFits setting declared table env → (p : Place) (t : Target) (e : Expr) (labels : StmtLabels (assigns p t e))
       (out : Option Env) → LawfulStmt m ctx declared returned seen env (assigns p t e) labels out
-      → Grows found (assign_target context table env t e found).found (dynamic_in_stmt (assigns p t e) labels)
+      → Grows code found (assign_target context table env t e found).found (coded_in_stmt code (assigns p t e) labels)
   assignment_tells seen table env found t f p (to_name n) e labels out l =
       binding_tells seen n table t (ctx.resolve n.text) refl env f None None (λ q. refl) tt e labels.value labels.flows
       l.after found l.assignment
   assignment_tells seen table env found t f p (to_attribute q o field) e labels out l =
-      grow found (store_finds context (at context table env) (to_attribute q o field) e)
-      (dynamic_in_stmt (assigns p (to_attribute q o field) e) labels)
-      (tell_store setting returned kr declared table t.well_formed env f (to_attribute q o field) labels.target e
+      grow code found (store_finds context (at context table env) (to_attribute q o field) e)
+      (coded_in_stmt code (assigns p (to_attribute q o field) e) labels)
+      (tell_store code own setting returned kr declared table t.well_formed env f (to_attribute q o field) labels.target
+      e
       labels.value labels.flows l.assignment.0)
   assignment_tells seen table env found t f p (to_index q o i) e labels out l =
-      grow found (store_finds context (at context table env) (to_index q o i) e)
-      (dynamic_in_stmt (assigns p (to_index q o i) e) labels)
-      (tell_store setting returned kr declared table t.well_formed env f (to_index q o i) labels.target e labels.value
+      grow code found (store_finds context (at context table env) (to_index q o i) e)
+      (coded_in_stmt code (assigns p (to_index q o i) e) labels)
+      (tell_store code own setting returned kr declared table t.well_formed env f (to_index q o i) labels.target e
+      labels.value
       labels.flows l.assignment.0)
 
   -- ---- statements, suites and branches
@@ -217,79 +225,82 @@ module _ (setting : Surroundings) (returned : Tree) (kr : IsWellFormed setting.c
   abbrev LawfulThere : NamesBound → Env → (b : Stmts) → SuiteLabels b → Option Env → Type 0
   LawfulThere seen env b labels out = LawfulSuite m ctx declared returned seen env b labels out
 
-  -- the notes of a walk over a suite, from a state that fits, tell of the dynamic flows in the suite
+  -- the notes of a walk over a suite, from a state that fits, tell of the flows with the code in the suite
   abbrev SuiteTells : NamesBound → (b : Stmts) → Type 0
   SuiteTells seen b =
       (w : Walk) (env : Env) → w.env ≡ Some env → TableHere seen w.table → EnvFits setting declared w.table env
       → OutFits setting declared w.table w.broken →
       (labels : SuiteLabels b) (out : Option Env) → LawfulThere seen env b labels out
-      → Grows w.found (walk_suite context w b).found (dynamic_in_suite b labels)
+      → Grows code w.found (walk_suite context w b).found (coded_in_suite code b labels)
 
-  -- the notes of a statement and of those after it tell of the dynamic flows in them
+  -- the notes of a statement and of those after it tell of the flows with the code in them
   behind_tells : (b : Test) (seen : NamesBound) (env : Env) (found : List Note) (s : Stmt) (rest : Stmts)
       (s0 : StmtLabels s) (r : Behind b (Following (SuiteLabels rest))) (out : Option Env) (v : Walk)
       → ((o : Option Env) → LawfulStmt m ctx declared returned seen env s s0 o
       → TableHere (texts (bound_by_stmt s) ++ seen) v.table × (v.env ≡ o) × OutFits setting declared v.table o
-      × OutFits setting declared v.table v.broken × Grows found v.found (dynamic_in_stmt s s0))
+      × OutFits setting declared v.table v.broken × Grows code found v.found (coded_in_stmt code s s0))
       → SuiteTells (texts (bound_by_stmt s) ++ seen) rest
       → BehindRule b r (λ x. LawfulStmt m ctx declared returned seen env s s0 (Some x.env)
       × LawfulThere (texts (bound_by_stmt s) ++ seen) x.env rest x.rest out)
       (LawfulStmt m ctx declared returned seen env s s0 None × AreUndeclared m ctx declared
       (texts (bound_by_stmt s) ++ seen) (bound_by rest) × (out ≡ None))
-      → Grows found (walk_suite context v rest).found (dynamic_in_stmt s s0 ++ behind_list b r
-      (λ x. dynamic_in_suite rest x.rest))
+      → Grows code found (walk_suite context v rest).found (coded_in_stmt code s s0 ++ behind_list b r
+      (λ x. coded_in_suite code rest x.rest))
   behind_tells true seen env found s rest s0 r out v first next l =
       let f = first (Some r.env) l.0 in
-      grow_then found v.found (walk_suite context v rest).found (dynamic_in_stmt s s0) (dynamic_in_suite rest r.rest)
+      grow_then code found v.found (walk_suite context v rest).found (coded_in_stmt code s s0)
+      (coded_in_suite code rest r.rest)
       f.4 (next v r.env f.1 f.0 f.2 f.3 r.rest out l.1)
   behind_tells false seen env found s rest s0 r out v first next l =
       let f = first None l.0 in
-      subst (λ ds. Grows found (walk_suite context v rest).found ds) (sym (append-nil (dynamic_in_stmt s s0)))
-      (subst (λ (w : Walk). Grows found w.found (dynamic_in_stmt s s0))
+      subst (λ ds. Grows code found (walk_suite context v rest).found ds) (sym (append-nil (coded_in_stmt code s s0)))
+      (subst (λ (w : Walk). Grows code found w.found (coded_in_stmt code s s0))
       (sym (unreached_suite setting declared returned v f.1 rest)) f.4)
 
   -- a walk over branches fits the labels, and tells of just what stands under them
   record ForkTells (seen : NamesBound) (found : List Note) (w : BranchesResult) (last : Env)
-      (flows : List DynamicFlow) : Type 0 where
+      (flows : List CodedFlow) : Type 0 where
     fits : TableHere seen w.table
     last_is : w.last ≡ last
     last_fits : EnvFits setting declared w.table last
     broken_fits : OutFits setting declared w.table w.broken
-    tells : Grows found w.found flows
+    tells : Grows code found w.found flows
 
   mutual
     pub stmt_tells : (seen : NamesBound) (table : Table) (env : Env) (broken : Option Env) (found : List Note)
         → TableHere seen table → EnvFits setting declared table env → OutFits setting declared table broken
         → (s : Stmt) (labels : StmtLabels s) (out : Option Env) → LawfulStmt m ctx declared returned seen env s labels
         out
-        → Grows found (step context table (Some env) broken found s).found (dynamic_in_stmt s labels)
-    stmt_tells seen table env broken found t f kb (pass p) labels out l = grow_none found
-    stmt_tells seen table env broken found t f kb (breaks p) labels out l = grow_none found
-    stmt_tells seen table env broken found t f kb (continues p) labels out l = grow_none found
+        → Grows code found (step context table (Some env) broken found s).found (coded_in_stmt code s labels)
+    stmt_tells seen table env broken found t f kb (pass p) labels out l = grow_none code found
+    stmt_tells seen table env broken found t f kb (breaks p) labels out l = grow_none code found
+    stmt_tells seen table env broken found t f kb (continues p) labels out l = grow_none code found
     stmt_tells seen table env broken found t f kb (returns p e) labels out l =
-        grow found (return_finds context (at context table env) p e) (dynamic_in_value p e labels.value labels.flows)
-        (tell_return setting returned kr declared table t.well_formed env f p e labels.value labels.flows l.0)
+        grow code found (return_finds context (at context table env) p e)
+        (coded_in_value code p e labels.value labels.flows)
+        (tell_return code own setting returned kr declared table t.well_formed env f p e labels.value labels.flows l.0)
     stmt_tells seen table env broken found t f kb (asserts p c e) labels out l =
         let no = narrow ctx.bases declared ctx.resolve false c env in
         let fn = truth_fits setting declared table t.well_formed false c env f in
         let xs = finds_in (at context table env) None c in
         let ys = option_finds context (at context table (narrowed_at context table false c env)) None e in
-        let ds = dynamic_in c labels.condition in
-        let es = dynamic_in_option e labels.message in
-        grow_then found (found ++ xs) ((found ++ xs) ++ ys) ds es
-        (grow found xs ds (tell_in setting returned kr declared table t.well_formed env f None tt c labels.condition
+        let ds = coded_in code c labels.condition in
+        let es = coded_in_option code e labels.message in
+        grow_then code found (found ++ xs) ((found ++ xs) ++ ys) ds es
+        (grow code found xs ds (tell_in code own setting returned kr declared table t.well_formed env f None tt c
+        labels.condition
         l.condition))
-        (grow (found ++ xs) ys es
-        (subst (λ x. Tells (option_finds context (at context table x) None e) es)
+        (grow code (found ++ xs) ys es
+        (subst (λ x. Tells code (option_finds context (at context table x) None e) es)
         (truth_same setting declared table t.well_formed false c env f)
-        (tell_option setting returned kr declared table t.well_formed no fn e labels.message l.message)))
+        (tell_option code own setting returned kr declared table t.well_formed no fn e labels.message l.message)))
     stmt_tells seen table env broken found t f kb (annotated p n a e) labels out l = annotated_tells seen n table t env
         f p a e labels.value labels.flows l.after found l.binding
     stmt_tells seen table env broken found t f kb (assigns p x e) labels out l = assignment_tells seen table env found t
         f p x e labels out l
     stmt_tells seen table env broken found t f kb (evaluates p e) labels out l =
-        grow found (finds_in (at context table env) None e) (dynamic_in e labels)
-        (tell_in setting returned kr declared table t.well_formed env f None tt e labels l.0)
+        grow code found (finds_in (at context table env) None e) (coded_in code e labels)
+        (tell_in code own setting returned kr declared table t.well_formed env f None tt e labels l.0)
     stmt_tells seen table env broken found t f kb (while_loop p c b) labels out l =
         let kt = t.well_formed in
         let bound = binds_number ctx.resolve (bound_by b) in
@@ -309,10 +320,10 @@ module _ (setting : Surroundings) (returned : Tree) (kr : IsWellFormed setting.c
               Some (narrowed_at context table false c labels.head);
           found = found ++ xs;
         } in
-        let ds = dynamic_in c labels.condition in
-        let es = dynamic_in_suite b labels.body in
+        let ds = coded_in code c labels.condition in
+        let es = coded_in_suite code b labels.body in
         subst
-        (λ h. Grows found (behind_loop context broken (walk_suite context
+        (λ h. Grows code found (behind_loop context broken (walk_suite context
         (record {
           table = table;
           env = Some (narrowed_at context table true c h);
@@ -321,8 +332,9 @@ module _ (setting : Surroundings) (returned : Tree) (kr : IsWellFormed setting.c
           found = found ++ finds_in (at context table h) None c;
         })
         b)).found (ds ++ es)) q
-        (grow_then found (found ++ xs) (walk_suite context start b).found ds es
-        (grow found xs ds (tell_in setting returned kr declared table kt labels.head fh None tt c labels.condition
+        (grow_then code found (found ++ xs) (walk_suite context start b).found ds es
+        (grow code found xs ds (tell_in code own setting returned kr declared table kt labels.head fh None tt c
+        labels.condition
         l.condition))
         (suite_tells seen b start (narrow ctx.bases declared ctx.resolve true c labels.head) (ap Some (sym yes)) t
         (truth_fits setting declared table kt true c labels.head fh) out_of labels.body labels.out l.body))
@@ -340,29 +352,30 @@ module _ (setting : Surroundings) (returned : Tree) (kr : IsWellFormed setting.c
         ((found ++ xs) ++ ys) in
         let tg = target_says setting returned declared seen n table t (ctx.resolve n.text) refl labels.head fh
         labels.item it.well_formed (place_of e) labels.flows l.inside ((found ++ xs) ++ ys) l.target in
-        let ds = dynamic_in e labels.iterable in
-        let es = dynamic_at (place_of e) labels.flows in
-        let fs = dynamic_in_suite b labels.body in
+        let ds = coded_in code e labels.iterable in
+        let es = coded_at code (place_of e) labels.flows in
+        let fs = coded_in_suite code b labels.body in
         let body = inside_for context labels.head start in
         let inside = target_tells seen n table t (ctx.resolve n.text) refl labels.head labels.item it.well_formed
         (place_of e) labels.flows l.inside ((found ++ xs) ++ ys) l.target in
-        let rest = grow_then ((found ++ xs) ++ ys) start.found (walk_suite context body b).found es fs inside
+        let rest = grow_then code ((found ++ xs) ++ ys) start.found (walk_suite context body b).found es fs inside
         (suite_tells (n.text ∷ seen) b body l.inside (ap Some tg.env_is) tg.fits tg.env_fits (tg.grows labels.head fh)
         labels.body labels.out l.body) in
         subst
-        (λ i. Grows found (behind_loop context broken (walk_suite context
+        (λ i. Grows code found (behind_loop context broken (walk_suite context
         (inside_for context (head_at context table (n ∷ bound_by b) env)
         (bind_item context table (head_at context table (n ∷ bound_by b) env) (ctx.resolve n.text) (place_of e)
         i.type ((found ++ xs) ++ codes_at (place_of e) i.codes))) b)).found (ds ++ (es ++ fs))) (sym it.item_is)
         (subst
-        (λ h. Grows found (behind_loop context broken (walk_suite context
+        (λ h. Grows code found (behind_loop context broken (walk_suite context
         (inside_for context h (bind_item context table h (ctx.resolve n.text) (place_of e) labels.item.type
         ((found ++ xs) ++ ys))) b)).found (ds ++ (es ++ fs))) q
-        (grow_then found (found ++ xs) (walk_suite context body b).found ds (es ++ fs)
-        (grow found xs ds (tell_iterable setting returned kr declared table kt env f e labels.iterable labels.item
+        (grow_then code found (found ++ xs) (walk_suite context body b).found ds (es ++ fs)
+        (grow code found xs ds (tell_iterable code own setting returned kr declared table kt env f e labels.iterable
+        labels.item
         l.iterable))
-        (grow_behind (found ++ xs) ys (walk_suite context body b).found (es ++ fs)
-        (tell_codes (place_of e) labels.item.codes) rest)))
+        (grow_behind code (found ++ xs) ys (walk_suite context body b).found (es ++ fs)
+        (tell_codes code own (place_of e) labels.item.codes) rest)))
     stmt_tells seen table env broken found t f kb (conditional p bs o) labels out l =
         let start : BranchesResult = record {
           table = table;
@@ -381,19 +394,19 @@ module _ (setting : Surroundings) (returned : Tree) (kr : IsWellFormed setting.c
           found =
               fork.found;
         } in
-        grow_then found fork.found (walk_suite context mid o).found (dynamic_in_branches bs labels.branches)
-        (dynamic_in_suite o labels.otherwise) br.tells
+        grow_then code found fork.found (walk_suite context mid o).found (coded_in_branches code bs labels.branches)
+        (coded_in_suite code o labels.otherwise) br.tells
         (suite_tells (texts (bound_by_branches bs) ++ seen) o mid labels.last (ap Some br.last_is) br.fits br.last_fits
         br.broken_fits labels.otherwise labels.out l.otherwise)
 
     pub suite_tells : (seen : NamesBound) (b : Stmts) (w : Walk) (env : Env) → w.env ≡ Some env → TableHere seen w.table
         → EnvFits setting declared w.table env → OutFits setting declared w.table w.broken
         → (labels : SuiteLabels b) (out : Option Env) → LawfulThere seen env b labels out
-        → Grows w.found (walk_suite context w b).found (dynamic_in_suite b labels)
-    suite_tells seen no_stmts w env e t f kb labels out l = grow_none w.found
+        → Grows code w.found (walk_suite context w b).found (coded_in_suite code b labels)
+    suite_tells seen no_stmts w env e t f kb labels out l = grow_none code w.found
     suite_tells seen (more_stmts s rest) w env e t f kb labels out l =
-        subst (λ o. Grows w.found (walk_suite context (step context w.table o w.broken w.found s) rest).found
-        (dynamic_in_suite (more_stmts s rest) labels)) (sym e)
+        subst (λ o. Grows code w.found (walk_suite context (step context w.table o w.broken w.found s) rest).found
+        (coded_in_suite code (more_stmts s rest) labels)) (sym e)
         (behind_tells (completes s) seen env w.found s rest labels.first labels.behind out
         (step context w.table (Some env) w.broken w.found s)
         (λ o y.
@@ -413,13 +426,13 @@ module _ (setting : Surroundings) (returned : Tree) (kr : IsWellFormed setting.c
         → (bs : Branches) (labels : BranchesLabels bs) (last : Env) → LawfulBranches m ctx declared returned seen env bs
         labels last
         → ForkTells (texts (bound_by_branches bs) ++ seen) w.found (walk_branches context w bs) last
-        (dynamic_in_branches bs labels)
+        (coded_in_branches code bs labels)
     branches_tells seen w env e t f kb no_branches labels last l = record {
       fits = t;
       last_is = e ∙ sym l;
       last_fits = subst (EnvFits setting declared w.table) (sym l) f;
       broken_fits = kb;
-      tells = grow_none w.found;
+      tells = grow_none code w.found;
     }
     branches_tells seen w env e t f kb (more_branches c b rest) labels last l =
         let kt = t.well_formed in
@@ -451,9 +464,9 @@ module _ (setting : Surroundings) (returned : Tree) (kr : IsWellFormed setting.c
         (narrow ctx.bases declared ctx.resolve false c env) (sym no) body.fits
         (body.grows (narrow ctx.bases declared ctx.resolve false c env)
         (truth_fits setting declared w.table kt false c env f)) body.broken_fits rest labels.rest last l.others in
-        let ds = dynamic_in c labels.condition in
-        let es = dynamic_in_suite b labels.body in
-        let fs = dynamic_in_branches rest labels.rest in
+        let ds = coded_in code c labels.condition in
+        let es = coded_in_suite code b labels.body in
+        let fs = coded_in_branches code rest labels.rest in
         subst (λ x. ForkTells (texts (bound_by_branches (more_branches c b rest)) ++ seen) w.found
         (walk_branches context (record {
           table = w.table;
@@ -469,8 +482,10 @@ module _ (setting : Surroundings) (returned : Tree) (kr : IsWellFormed setting.c
           last_is = others.last_is;
           last_fits = others.last_fits;
           broken_fits = others.broken_fits;
-          tells = grow_then w.found (w.found ++ xs) (walk_branches context next rest).found ds (es ++ fs)
-              (grow w.found xs ds (tell_in setting returned kr declared w.table kt env f None tt c labels.condition
+          tells = grow_then code w.found (w.found ++ xs) (walk_branches context next rest).found ds (es ++ fs)
+              (grow code w.found xs ds (tell_in code own setting returned kr declared w.table kt env f None tt c
+              labels.condition
               l.condition))
-              (grow_then (w.found ++ xs) u.found (walk_branches context next rest).found es fs told_body others.tells);
+              (grow_then code (w.found ++ xs) u.found (walk_branches context next rest).found es fs told_body
+              others.tells);
         })

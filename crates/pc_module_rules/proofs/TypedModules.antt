@@ -23,7 +23,7 @@ use Rattle.pc_class.specs.Findings.{base_class}
 use Rattle.pc_class.proofs.WellFormed.{returned_well_formed}
 use Rattle.pc_flow.specs.Environment.{Env, none_assigned}
 use Rattle.pc_flow.specs.WellFormed.{AreWellFormed}
-use Rattle.pc_notes.specs.Notes.{Note, plain_note}
+use Rattle.pc_notes.specs.Notes.{Note, plain_note, named}
 use Rattle.pc_rules.specs.Operations.{Label, clean}
 use Rattle.pc_rules.specs.Labels.{Labels, whole_label, type_of}
 use Rattle.pc_rules.specs.Computed.Expressions.{labels_of, flows_of}
@@ -198,9 +198,12 @@ module _ (m : Module) where
         classes = b.classes;
         bound = λ w. is_one_of w next.names;
       }) (constant_is b kb p c mk all l.0) in
-      show_both (constant_findings m true (reached_at b) c)
+      show_both (constant_findings m true (reached_at b) c
+      ++ named c.name.place (type_of_constant m (reached_at b) c) None ∷ [])
       (items_findings m true (behind m (reached_at b) (constant_item p c)) rest) (types_in c.value mk.value) others
-      (constant_shows b kb p c mk all l.0)
+      (show_behind (constant_findings m true (reached_at b) c)
+      (named c.name.place (type_of_constant m (reached_at b) c) None ∷ []) (types_in c.value mk.value)
+      (constant_shows b kb p c mk all l.0) (record { are = refl }))
       (subst (λ (x : ItemsReached). Shows (items_findings m true x rest) others) (sym here)
       (items_show all next (one_more m b.constants t kb (type_well_formed b kb p c mk all l.0)) rest labels.rest l.1))
   items_show all b kb (class_item p c ∷ rest) labels l =

@@ -1,7 +1,7 @@
 -- The types that a walk over statements notes, if types are kept, are those under lawful labels, besides those noted
 -- before.
 use Rattle.std.proofs.Common.{◌≡◌, ℕ, List, [], ◌∷◌, ◌++◌, refl, sym, ap, ◌∙◌, subst, append-nil}
-use Rattle.std.specs.Prelude.{Bool as Test, true, false, unwrap_or, Option, Some, None}
+use Rattle.std.specs.Prelude.{Bool as Test, true, false, unwrap_or, Option, Some, None, is_some}
 use Rattle.pc_source.specs.declared.place.Place.{Place}
 use Rattle.pc_tree.specs.declared.code.Code.TheVariants.{E24}
 use Rattle.pc_tree.specs.declared.code.Finding.{Finding}
@@ -44,6 +44,8 @@ use Rattle.pc_module_rules.specs.Computed.Statements.{iterable_finds, bind_label
 use Rattle.pc_module_rules.specs.Computed.Statements.{annotation_finds, bound_name, bind_item, store_finds}
 use Rattle.pc_module_rules.specs.Computed.Statements.{assign_target, option_finds, return_finds, behind_loop}
 use Rattle.pc_module_rules.specs.Computed.Statements.{inside_for, step, walk_suite, walk_branches}
+use Rattle.pc_module_rules.specs.Computed.Statements.{BindingResult, annotated_binding, name_note, noted_binding}
+use Rattle.pc_module_rules.specs.Computed.Statements.{with_note}
 use Rattle.pc_module_rules.specs.Laws.Walks.{TableFits, EnvFits, OutFits, WalkSays, body_context_in}
 use Rattle.pc_module_rules.proofs.DeclaredTypes.{known_well_formed, want_is}
 use Rattle.pc_module_rules.proofs.WalkedTables.{fits_both}
@@ -54,9 +56,10 @@ use Rattle.pc_module_rules.proofs.WalkedStatements.{stmt_says, suite_says}
 use Rattle.pc_module_rules.specs.TypesOfExpressions.{TypeAt, types_in}
 use Rattle.pc_module_rules.specs.TypesOfStatements.{types_in_option, types_in_iterable, types_in_stmt, types_in_suite}
 use Rattle.pc_module_rules.specs.TypesOfStatements.{types_in_branches}
-use Rattle.pc_module_rules.proofs.KeptWalks.{SameWalk, standing, same_item, same_target, same_step, same_suite}
+use Rattle.pc_module_rules.proofs.KeptWalks.{SameWalk, standing, same_item, same_item_bound, same_step, same_suite}
 use Rattle.pc_module_rules.proofs.NotedTypes.{Shows, show_plain, show_codes, show_flows, ShowsMore, more_none, more}
-use Rattle.pc_module_rules.proofs.NotedTypes.{more_then, more_behind}
+use Rattle.pc_module_rules.proofs.NotedTypes.{more_then, more_behind, show_nothing}
+use Rattle.pc_module_rules.proofs.NotedNames.{note_holds}
 use Rattle.pc_module_rules.proofs.TypedExpressions.{KnowsRange, show_read, show_iterable, show_store, show_option}
 use Rattle.pc_module_rules.proofs.TypedExpressions.{show_return}
 
@@ -122,6 +125,17 @@ module _ (setting : Surroundings) (knows : KnowsRange setting) (returned : Tree)
       (suite_says setting returned kr declared seen w env e t f kb b labels out l)
 
   -- ---- a name bound
+
+  -- a binding shows the same types with the note of its name
+  noted_shows : (valued : Test) (r : NameMeaning) (p : Place) (found : List Note) (b : BindingResult)
+      (rows : List TypeAt) → ShowsMore found b.found rows
+      → ShowsMore found (noted_binding true valued r p b).found rows
+  noted_shows valued r p found b rows h =
+      subst (λ (l : List TypeAt). ShowsMore found (noted_binding true valued r p b).found l) (append-nil rows)
+      (more_then found b.found (noted_binding true valued r p b).found rows [] h
+      (more b.found (name_note valued b.table b.env r p) []
+      (note_holds (λ (xs : List Note). Shows xs []) show_nothing (λ q d t. record { are = refl }) valued b.table
+      b.env r p)))
 
   module _ (seen : NamesBound) (n : Name) (table : Table) (h : TableFits setting declared seen table) where
     -- binding a labelled value to a name shows no types besides those of the value
@@ -192,7 +206,8 @@ module _ (setting : Surroundings) (knows : KnowsRange setting) (returned : Tree)
     annotated_shows : (env : Env) → EnvFits setting declared table env → (a : Ann) (e : Option Expr)
         (labels : OptionLabels e) (flows : FlowLabels) (after : Env) (found : List Note)
         → LawfulAnnotated m ctx declared env seen n a e labels flows after
-        → ShowsMore found (bind_annotated context table env n a e found).found (types_in_option e labels)
+        → ShowsMore found (annotated_binding context table env (ctx.resolve n.text) n a e found).found
+        (types_in_option e labels)
     annotated_shows env f a None labels flows after found l =
         let o = bound_name context table (ctx.resolve n.text) in
         more found (annotation_finds context o n a) [] (annotation_shows o a)
@@ -200,7 +215,8 @@ module _ (setting : Surroundings) (knows : KnowsRange setting) (returned : Tree)
         let t = read_ann m ctx.bases a in
         let o = bound_name context table (ctx.resolve n.text) in
         let finds = annotation_finds context o n a in
-        more_behind found finds (bind_annotated context table env n a (Some e) found).found (types_in e labels)
+        more_behind found finds (annotated_binding context table env (ctx.resolve n.text) n a (Some e) found).found
+        (types_in e labels)
         (annotation_shows o a)
         (binding_shows (ctx.resolve n.text) refl env f (annotation_at m ctx declared (is_first seen n) t) (Some t)
         (λ q. ap (λ b. annotation_at m ctx declared b t) q) (read_ann_well_formed m ctx.bases ck.smaller a) e labels
@@ -213,8 +229,10 @@ module _ (setting : Surroundings) (knows : KnowsRange setting) (returned : Tree)
       (out : Option Env) → LawfulHere seen env (assigns p t e) labels out
       → ShowsMore found (assign_target context table env t e found).found (types_in_stmt (assigns p t e) labels)
   assignment_shows seen table env found t f p (to_name n) e labels out l =
-      binding_shows seen n table t (ctx.resolve n.text) refl env f None None (λ q. refl) tt e labels.value labels.flows
-      l.after found l.assignment
+      let r = ctx.resolve n.text in
+      noted_shows true r n.place found (bind_value context table env r None e found) (types_in e labels.value)
+      (binding_shows seen n table t r refl env f None None (λ q. refl) tt e labels.value labels.flows l.after found
+      l.assignment)
   assignment_shows seen table env found t f p (to_attribute q o field) e labels out l =
       more found (store_finds context (at context table env) (to_attribute q o field) e)
       (types_in_stmt (assigns p (to_attribute q o field) e) labels)
@@ -299,8 +317,10 @@ module _ (setting : Surroundings) (knows : KnowsRange setting) (returned : Tree)
         (subst (λ (x : Env). Shows (option_finds context (at context table x) None e) b)
         (truth_same setting declared table t.well_formed false c env f)
         (show_option setting knows returned kr declared table t.well_formed no fn e labels.message l.message)))
-    stmt_shows seen table env broken found t f kb (annotated p n a e) labels out l = annotated_shows seen n table t env
-        f a e labels.value labels.flows l.after found l.binding
+    stmt_shows seen table env broken found t f kb (annotated p n a e) labels out l =
+        noted_shows (is_some e) (ctx.resolve n.text) n.place found
+        (annotated_binding context table env (ctx.resolve n.text) n a e found) (types_in_option e labels.value)
+        (annotated_shows seen n table t env f a e labels.value labels.flows l.after found l.binding)
     stmt_shows seen table env broken found t f kb (assigns p x e) labels out l = assignment_shows seen table env found t
         f p x e labels out l
     stmt_shows seen table env broken found t f kb (evaluates p e) labels out l =
@@ -342,20 +362,21 @@ module _ (setting : Surroundings) (knows : KnowsRange setting) (returned : Tree)
         (truth_fits setting declared table kt true c labels.head fh) out_of labels.body labels.out l.body))
     stmt_shows seen table env broken found t f kb (for_loop p n e b) labels out l =
         let kt = t.well_formed in
-        let bound = binds_number ctx.resolve (n ∷ bound_by b) in
+        let names = binds_number ctx.resolve (n ∷ bound_by b) in
         let fh = subst (EnvFits setting declared table) (sym l.head)
-        (head_fits setting declared table kt bound env f) in
+        (head_fits setting declared table kt names env f) in
         let q : labels.head ≡ head_at context table (n ∷ bound_by b) env = l.head
-        ∙ head_same setting declared table kt bound env f in
+        ∙ head_same setting declared table kt names env f in
         let it = iterable_told setting declared table kt env f returned e labels.iterable labels.item l.iterable in
         let item = item_label_of context (at context table env) e in
         let item_is : item ≡ labels.item = same_item m ctx returned true false table env e ∙ it.item_is in
         let xs = iterable_finds context (at context table env) e in
         let ys = codes_at (place_of e) item.codes in
         let before = (found ++ xs) ++ ys in
-        let start = bind_item context table labels.head (ctx.resolve n.text) (place_of e) item.type before in
+        let bound = bind_item context table labels.head (ctx.resolve n.text) (place_of e) item.type before in
+        let start = with_note context true (ctx.resolve n.text) n.place bound in
         let other = bind_item plain table labels.head (ctx.resolve n.text) (place_of e) labels.item.type before in
-        let same = same_target m ctx returned true false table labels.head (ctx.resolve n.text) (place_of e) item.type
+        let same = same_item_bound m ctx returned true false table labels.head n (place_of e) item.type
         labels.item.type (ap (λ (x : Label). x.type) item_is) before before in
         let tg = target_says setting returned declared seen n table t (ctx.resolve n.text) refl labels.head fh
         labels.item it.well_formed (place_of e) labels.flows l.inside before l.target in
@@ -366,7 +387,8 @@ module _ (setting : Surroundings) (knows : KnowsRange setting) (returned : Tree)
         let rest = more_behind (found ++ xs) ys (walk_suite context body b).found others
         (show_codes (place_of e) item.codes)
         (more_then before start.found (walk_suite context body b).found [] others
-        (target_shows seen n table t (ctx.resolve n.text) labels.head (place_of e) item.type before)
+        (noted_shows true (ctx.resolve n.text) n.place before bound []
+        (target_shows seen n table t (ctx.resolve n.text) labels.head (place_of e) item.type before))
         (suite_shows (n.text ∷ seen) b body l.inside (ap Some (same.env ∙ tg.env_is))
         (subst (λ (u : Table). TableHere (n.text ∷ seen) u) back tg.fits)
         (subst (λ (u : Table). EnvFits setting declared u l.inside) back tg.env_fits)
@@ -374,7 +396,8 @@ module _ (setting : Surroundings) (knows : KnowsRange setting) (returned : Tree)
         labels.body labels.out l.body)) in
         subst
         (λ (h : Env). ShowsMore found (behind_loop context broken (walk_suite context
-        (inside_for context h (bind_item context table h (ctx.resolve n.text) (place_of e) item.type before)) b)).found
+        (inside_for context h (with_note context true (ctx.resolve n.text) n.place
+        (bind_item context table h (ctx.resolve n.text) (place_of e) item.type before))) b)).found
         (rows ++ others)) q
         (more_then found (found ++ xs) (walk_suite context body b).found rows others
         (more found xs rows (show_iterable setting knows returned kr declared table kt env f e labels.iterable

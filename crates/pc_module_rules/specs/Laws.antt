@@ -4,5 +4,6 @@ pub mod Agreement
 pub mod Flows
 pub mod Labellings
 pub mod Modules
+pub mod Names
 pub mod Types
 pub mod Walks

@@ -1,8 +1,10 @@
-//! The laws of dynamic flows, each as the contract of a function.
+//! The laws of flows, each as the contract of a function.
 
 ghost use Rattle.pc_module_rules.specs.Laws.Flows.{DynamicFlowsAreComputed, DynamicFlowsAreDynamic};
 ghost use Rattle.pc_module_rules.specs.Laws.Flows.{DynamicFlowsAreFound};
 ghost use Rattle.pc_module_rules.specs.Laws.Flows.{DynamicFlowsAreUnique, DynamicFlowsAreWellFormed};
+ghost use Rattle.pc_module_rules.specs.Laws.Flows.{FlowsAreComputed, WrongFlowsAreFound};
+ghost use Rattle.pc_module_rules.specs.Laws.Flows.{WrongFlowsAreWellFormed, WrongFlowsAreWrong};
 
 /// The law that A1 is found at a place of a module exactly if a type flows dynamically there: if a flow under its
 /// lawful labelling has that code.
@@ -23,4 +25,23 @@ pub fn dynamic_flows_are_dynamic()
 pub fn dynamic_flows_stand_under_labels()
     ensures computed { DynamicFlowsAreComputed }
     ensures unique { DynamicFlowsAreUnique }
+{}
+
+/// The law that E12 is found at a place of a module exactly if a type flows wrongly there: if a flow under its lawful
+/// labelling has that code.
+pub fn wrong_flows_are_found()
+    ensures { WrongFlowsAreFound }
+{}
+
+/// The law that a type that flows wrongly into another is not assignable to it; and that both are in normal form,
+/// without absorbed members and of at most 256 nodes.
+pub fn wrong_flows_are_wrong()
+    ensures flows { WrongFlowsAreWrong }
+    ensures types { WrongFlowsAreWellFormed }
+{}
+
+/// The law that the two types that a walk computes for a code at a place of a module are those of the first flow there
+/// with that code, under its lawful labelling.
+pub fn computed_flows_stand_under_labels()
+    ensures { FlowsAreComputed }
 {}

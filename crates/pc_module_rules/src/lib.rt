@@ -6,7 +6,8 @@ mod laws;
 mod type_laws;
 
 pub use flow_laws::{
-    dynamic_flows_are_dynamic, dynamic_flows_are_found, dynamic_flows_stand_under_labels,
+    computed_flows_stand_under_labels, dynamic_flows_are_dynamic, dynamic_flows_are_found,
+    dynamic_flows_stand_under_labels, wrong_flows_are_found, wrong_flows_are_wrong,
 };
 pub use laws::{
     every_module_has_a_labelling, every_module_has_exactly_one_labelling, findings_of_scopes,

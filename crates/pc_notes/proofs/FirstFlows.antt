@@ -15,17 +15,17 @@ use Rattle.std.specs.List.{AllByRecursion}
 use Rattle.std.proofs.lemmas.List.{map-append}
 use Rattle.std.proofs.lemmas.List.Elements.{All-head, All-tail}
 use Rattle.pc_source.specs.declared.place.Place.{Place}
+use Rattle.pc_tree.specs.declared.code.Code.{Code}
 use Rattle.pc_tree.specs.Tree.{Module}
 use Rattle.pc_types.specs.Tree.{Tree}
 use Rattle.pc_annotations.specs.Text.{type_text}
 use Rattle.pc_notes.specs.declared.notes.NotedFlow.{NotedFlow}
 use Rattle.pc_notes.specs.declared.notes.NoteEntry.{NoteEntry}
-use Rattle.pc_notes.specs.declared.notes.NoteEntry.TheVariants.{Told, Typed}
-use Rattle.pc_notes.specs.Notes.{Note, told, typed, is_same_place, kept_flow, or_else, flow_or, flow_types, flow_noted}
-use Rattle.pc_notes.specs.Notes.{note_of}
-use Rattle.pc_notes.specs.Notes.{entry_place}
-use Rattle.pc_notes.specs.Notes.{notes_of}
-use Rattle.pc_notes.specs.Notes.{IsGivenFlow, shared_tree}
+use Rattle.pc_notes.specs.declared.notes.NoteEntry.TheVariants.{Told, Typed, Bound}
+use Rattle.pc_notes.specs.Notes.{Note, told, typed, named, is_same_place, is_same_code, is_finding_at, kept_flow}
+use Rattle.pc_notes.specs.Notes.{or_else}
+use Rattle.pc_notes.specs.Notes.{flow_or, flow_types, flow_noted, note_of, entry_place, notes_of, IsGivenFlow}
+use Rattle.pc_notes.specs.Notes.{shared_tree}
 use Rattle.pc_notes.specs.Texts.{FlowText, IsFlowText, place_cmp, places_of, HasGivenFlows, HasFirstFlows}
 
 -- ---- one note more
@@ -40,12 +40,14 @@ behind true None r x = refl
 behind true (Some f) r x = refl
 behind false o r x = refl
 
-pub noted_more : (p : Place) (ns : List Note) (n : Note) → flow_noted p (ns ++ n ∷ []) ≡ or_else (flow_noted p ns)
-    (flow_or p n None)
-noted_more p [] n = refl
-noted_more p (told f flow ∷ ns) n = ap (flow_or p (told f flow)) (noted_more p ns n)
-    ∙ behind (is_same_place p f.place) flow (flow_noted p ns) (flow_or p n None)
-noted_more p (typed shown q t ∷ ns) n = noted_more p ns n
+pub noted_more : (c : Code) (p : Place) (ns : List Note) (n : Note) → flow_noted c p (ns ++ n ∷ [])
+    ≡ or_else (flow_noted c p ns)
+    (flow_or c p n None)
+noted_more c p [] n = refl
+noted_more c p (told f flow ∷ ns) n = ap (flow_or c p (told f flow)) (noted_more c p ns n)
+    ∙ behind (is_finding_at c p f) flow (flow_noted c p ns) (flow_or c p n None)
+noted_more c p (typed shown q t ∷ ns) n = noted_more c p ns n
+noted_more c p (named q d t ∷ ns) n = noted_more c p ns n
 
 -- ---- places
 
@@ -107,34 +109,40 @@ not_same p k h false e = refl
 
 -- ---- the map
 
-other_place : (p k : Place) (o : Option (Tree × Tree)) → is_eq (place_cmp k p) ≡ false → (b : Bool)
-    → is_same_place p k ≡ b → (if b then or_else o None else None) ≡ None
-other_place p k o h b e = rw (not_same p k h b e) refl
+other_place : (p k : Place) (x : Bool) (o : Option (Tree × Tree)) → is_eq (place_cmp k p) ≡ false → (b : Bool)
+    → is_same_place p k ≡ b → (if b && x then or_else o None else None) ≡ None
+other_place p k x o h b e = rw (not_same p k h b e) refl
 
-other_at : (p : Place) (e : NoteEntry) → is_eq (place_cmp (entry_place e) p) ≡ false → flow_or p (note_of e) None ≡ None
-other_at p (Told f flow) h =
-    other_place p f.place (option_map flow_types (option_map box_value flow)) h (is_same_place p f.place) refl
-other_at p (Typed shown q t) h = refl
+other_at : (c : Code) (p : Place) (e : NoteEntry) → is_eq (place_cmp (entry_place e) p) ≡ false
+    → flow_or c p (note_of e) None ≡ None
+other_at c p (Told f flow) h =
+    other_place p f.place (is_same_code c f.code) (option_map flow_types (option_map box_value flow)) h
+    (is_same_place p f.place) refl
+other_at c p (Typed shown q t) h = refl
+other_at c p (Bound q t) h = refl
 
-nothing : (b : Bool) (o : Option NotedFlow) → o ≡ None → (if b then or_else (option_map flow_types o) None else None)
-    ≡ None
-nothing true None h = refl
-nothing true (Some f) h = absurd (cc h)
-nothing false o h = refl
+nothing : (a b : Bool) (o : Option NotedFlow) → (if b then o else None) ≡ None
+    → (if a && b then or_else (option_map flow_types o) None else None) ≡ None
+nothing true true None h = refl
+nothing true true (Some f) h = absurd (cc h)
+nothing true false o h = refl
+nothing false b o h = refl
 
-none_kept : (p : Place) (e : NoteEntry) → kept_flow e ≡ None → flow_or p (note_of e) None ≡ None
-none_kept p (Told f flow) h = nothing (is_same_place p f.place) (option_map box_value flow) h
-none_kept p (Typed shown q t) h = refl
+none_kept : (c : Code) (p : Place) (e : NoteEntry) → kept_flow c e ≡ None → flow_or c p (note_of e) None ≡ None
+none_kept c p (Told f flow) h = nothing (is_same_place p f.place) (is_same_code c f.code) (option_map box_value flow) h
+none_kept c p (Typed shown q t) h = refl
+none_kept c p (Bound q t) h = refl
 
 -- an entry without a flow is left out
-pub left_out : (es : List NoteEntry) (e : NoteEntry) (flows : BTreeMap Place (Bor NotedFlow)) → kept_flow e ≡ None
-    → HasFirstFlows (notes_of es) flows → HasFirstFlows (notes_of es ++ note_of e ∷ []) flows
-left_out es e flows n has = record { first = first; given = has.given }
+pub left_out : (c : Code) (es : List NoteEntry) (e : NoteEntry) (flows : BTreeMap Place (Bor NotedFlow))
+    → kept_flow c e ≡ None
+    → HasFirstFlows c (notes_of es) flows → HasFirstFlows c (notes_of es ++ note_of e ∷ []) flows
+left_out c es e flows n has = record { first = first; given = has.given }
   where
-    first : (p : Place) → option_map (λ (f : Bor NotedFlow). flow_types f.now) (get place_cmp flows p) ≡ flow_noted p
+    first : (p : Place) → option_map (λ (f : Bor NotedFlow). flow_types f.now) (get place_cmp flows p) ≡ flow_noted c p
         (notes_of es ++ note_of e ∷ [])
-    first p = has.first p ∙ sym (noted_more p (notes_of es) (note_of e) ∙ ap (or_else (flow_noted p (notes_of es)))
-        (none_kept p e n) ∙ or_else_none (flow_noted p (notes_of es)))
+    first p = has.first p ∙ sym (noted_more c p (notes_of es) (note_of e) ∙ ap (or_else (flow_noted c p (notes_of es)))
+        (none_kept c p e n) ∙ or_else_none (flow_noted c p (notes_of es)))
 
 kept_first : (o x : Option (Tree × Tree)) → is_some o ≡ true → or_else o x ≡ o
 kept_first None x h = cc
@@ -145,41 +153,42 @@ some_mapped f None = refl
 some_mapped f (Some a) = refl
 
 -- at a place that has a flow a later one is left out
-pub known_place : (es : List NoteEntry) (e : NoteEntry) (flows : BTreeMap Place (Bor NotedFlow))
-    → is_some (get place_cmp flows (entry_place e)) ≡ true → HasFirstFlows (notes_of es) flows
-    → HasFirstFlows (notes_of es ++ note_of e ∷ []) flows
-known_place es e flows known has = record {
+pub known_place : (c : Code) (es : List NoteEntry) (e : NoteEntry) (flows : BTreeMap Place (Bor NotedFlow))
+    → is_some (get place_cmp flows (entry_place e)) ≡ true → HasFirstFlows c (notes_of es) flows
+    → HasFirstFlows c (notes_of es ++ note_of e ∷ []) flows
+known_place c es e flows known has = record {
   first = λ p. has.first p
-      ∙ sym (noted_more p (notes_of es) (note_of e) ∙ by p (is_eq (place_cmp (entry_place e) p)) refl);
+      ∙ sym (noted_more c p (notes_of es) (note_of e) ∙ by p (is_eq (place_cmp (entry_place e) p)) refl);
   given =
       has.given;
 }
   where
     by : (p : Place) (b : Bool) → is_eq (place_cmp (entry_place e) p) ≡ b
-        → or_else (flow_noted p (notes_of es)) (flow_or p (note_of e) None) ≡ flow_noted p (notes_of es)
+        → or_else (flow_noted c p (notes_of es)) (flow_or c p (note_of e) None) ≡ flow_noted c p (notes_of es)
     by p true h =
         let same : (entry_place e) ≡ p = place_same (entry_place e) p h in
-        let some : is_some (flow_noted p (notes_of es)) ≡ true = ap is_some (sym (has.first p))
+        let some : is_some (flow_noted c p (notes_of es)) ≡ true = ap is_some (sym (has.first p))
         ∙ some_mapped (λ (f : Bor NotedFlow). flow_types f.now) (get place_cmp flows p)
         ∙ subst (λ q. is_some (get place_cmp flows q) ≡ true) same known in
-        kept_first (flow_noted p (notes_of es)) (flow_or p (note_of e) None) some
-    by p false h = ap (or_else (flow_noted p (notes_of es))) (other_at p e h)
-        ∙ or_else_none (flow_noted p (notes_of es))
+        kept_first (flow_noted c p (notes_of es)) (flow_or c p (note_of e) None) some
+    by p false h = ap (or_else (flow_noted c p (notes_of es))) (other_at c p e h)
+        ∙ or_else_none (flow_noted c p (notes_of es))
 
 none_first : (o x : Option (Tree × Tree)) → is_some o ≡ false → or_else o x ≡ x
 none_first None x h = refl
 none_first (Some a) x h = cc
 
 -- at a place without a flow one is put in
-pub new_place : (es : List NoteEntry) (e : NoteEntry) (f : Bor NotedFlow) (old new : BTreeMap Place (Bor NotedFlow))
-    → kept_flow e ≡ Some f.now
+pub new_place : (c : Code) (es : List NoteEntry) (e : NoteEntry) (f : Bor NotedFlow)
+    (old new : BTreeMap Place (Bor NotedFlow))
+    → kept_flow c e ≡ Some f.now
     → IsGivenFlow f.now → is_some (get place_cmp old (entry_place e)) ≡ false
     → ((q : Place) → get place_cmp new q ≡ cond (is_eq (place_cmp (entry_place e) q)) (Some f) (get place_cmp old q))
-    → HasFirstFlows (notes_of es) old → HasFirstFlows (notes_of es ++ note_of e ∷ []) new
-new_place es e f old new is is_given fresh step has =
+    → HasFirstFlows c (notes_of es) old → HasFirstFlows c (notes_of es ++ note_of e ∷ []) new
+new_place c es e f old new is is_given fresh step has =
     record {
       first = λ p. ap (option_map (λ (g : Bor NotedFlow). flow_types g.now)) (step p)
-          ∙ by p (is_eq (place_cmp (entry_place e) p)) refl ∙ sym (noted_more p (notes_of es) (note_of e));
+          ∙ by p (is_eq (place_cmp (entry_place e) p)) refl ∙ sym (noted_more c p (notes_of es) (note_of e));
       given =
           λ p. subst (λ (o : Option (Bor NotedFlow)). IfSome o (λ g. IsGivenFlow g.now)) (sym (step p))
           (each p (is_eq (place_cmp (entry_place e) p)));
@@ -189,48 +198,53 @@ new_place es e f old new is is_given fresh step has =
     each p true = is_given
     each p false = has.given p
 
-    own_if : (b : Bool) (o : Option NotedFlow) → b ≡ true → o ≡ Some f.now
-        → (if b then or_else (option_map flow_types o) None else None) ≡ Some (flow_types f.now)
-    own_if true None h e = cc
-    own_if true (Some g) h e = let q : g ≡ f.now = cc in ap (λ x. Some (flow_types x)) q
-    own_if false o h e = cc
+    own_if : (a b : Bool) (o : Option NotedFlow) → a ≡ true → (if b then o else None) ≡ Some f.now
+        → (if a && b then or_else (option_map flow_types o) None else None) ≡ Some (flow_types f.now)
+    own_if true true None h e = cc
+    own_if true true (Some g) h e = let q : g ≡ f.now = cc in ap (λ x. Some (flow_types x)) q
+    own_if true false o h e = cc
+    own_if false b o h e = cc
 
-    own_of : (x : NoteEntry) → kept_flow x ≡ Some f.now
-        → flow_or (entry_place x) (note_of x) None ≡ Some (flow_types f.now)
-    own_of (Told g flow) h = own_if (is_same_place g.place g.place) (option_map box_value flow) (self_tested g.place) h
+    own_of : (x : NoteEntry) → kept_flow c x ≡ Some f.now
+        → flow_or c (entry_place x) (note_of x) None ≡ Some (flow_types f.now)
+    own_of (Told g flow) h = own_if (is_same_place g.place g.place) (is_same_code c g.code) (option_map box_value flow)
+        (self_tested g.place) h
     own_of (Typed shown q t) h = absurd (cc h)
+    own_of (Bound q t) h = absurd (cc h)
 
-    own : flow_or (entry_place e) (note_of e) None ≡ Some (flow_types f.now)
+    own : flow_or c (entry_place e) (note_of e) None ≡ Some (flow_types f.now)
     own = own_of e is
 
     by : (p : Place) (b : Bool) → is_eq (place_cmp (entry_place e) p) ≡ b
         → option_map (λ (g : Bor NotedFlow). flow_types g.now) (cond b (Some f) (get place_cmp old p))
-        ≡ or_else (flow_noted p (notes_of es)) (flow_or p (note_of e) None)
+        ≡ or_else (flow_noted c p (notes_of es)) (flow_or c p (note_of e) None)
     by p true h =
         let same : (entry_place e) ≡ p = place_same (entry_place e) p h in
-        let none : is_some (flow_noted p (notes_of es)) ≡ false = ap is_some (sym (has.first p))
+        let none : is_some (flow_noted c p (notes_of es)) ≡ false = ap is_some (sym (has.first p))
         ∙ some_mapped (λ (g : Bor NotedFlow). flow_types g.now) (get place_cmp old p)
         ∙ subst (λ q. is_some (get place_cmp old q) ≡ false) same fresh in
-        sym (none_first (flow_noted p (notes_of es)) (flow_or p (note_of e) None) none
-        ∙ subst (λ q. flow_or q (note_of e) None ≡ Some (flow_types f.now)) same own)
-    by p false h = has.first p ∙ sym (ap (or_else (flow_noted p (notes_of es)))
-        (other_at p e h)
-        ∙ or_else_none (flow_noted p (notes_of es)))
+        sym (none_first (flow_noted c p (notes_of es)) (flow_or c p (note_of e) None) none
+        ∙ subst (λ q. flow_or c q (note_of e) None ≡ Some (flow_types f.now)) same own)
+    by p false h = has.first p ∙ sym (ap (or_else (flow_noted c p (notes_of es)))
+        (other_at c p e h)
+        ∙ or_else_none (flow_noted c p (notes_of es)))
 
 -- the same with the place as the program has it
-pub known_at : (es : List NoteEntry) (e : NoteEntry) (flows : BTreeMap Place (Bor NotedFlow)) (q : Place) → q ≡ entry_place e
-    → is_some (get place_cmp flows q) ≡ true → HasFirstFlows (notes_of es) flows
-    → HasFirstFlows (notes_of es ++ note_of e ∷ []) flows
-known_at es e flows q same known =
-    known_place es e flows (subst (λ x. is_some (get place_cmp flows x) ≡ true) same known)
+pub known_at : (c : Code) (es : List NoteEntry) (e : NoteEntry) (flows : BTreeMap Place (Bor NotedFlow)) (q : Place)
+    → q ≡ entry_place e
+    → is_some (get place_cmp flows q) ≡ true → HasFirstFlows c (notes_of es) flows
+    → HasFirstFlows c (notes_of es ++ note_of e ∷ []) flows
+known_at c es e flows q same known =
+    known_place c es e flows (subst (λ x. is_some (get place_cmp flows x) ≡ true) same known)
 
-pub new_at : (es : List NoteEntry) (e : NoteEntry) (f : Bor NotedFlow) (old new : BTreeMap Place (Bor NotedFlow)) (q : Place)
-    → q ≡ entry_place e → kept_flow e ≡ Some f.now
+pub new_at : (c : Code) (es : List NoteEntry) (e : NoteEntry) (f : Bor NotedFlow)
+    (old new : BTreeMap Place (Bor NotedFlow)) (q : Place)
+    → q ≡ entry_place e → kept_flow c e ≡ Some f.now
     → IsGivenFlow f.now → is_some (get place_cmp old q) ≡ false
     → ((r : Place) → get place_cmp new r ≡ cond (is_eq (place_cmp q r)) (Some f) (get place_cmp old r))
-    → HasFirstFlows (notes_of es) old → HasFirstFlows (notes_of es ++ note_of e ∷ []) new
-new_at es e f old new q same is is_given fresh step =
-    new_place es e f old new is is_given (subst (λ x. is_some (get place_cmp old x) ≡ false) same fresh)
+    → HasFirstFlows c (notes_of es) old → HasFirstFlows c (notes_of es ++ note_of e ∷ []) new
+new_at c es e f old new q same is is_given fresh step =
+    new_place c es e f old new is is_given (subst (λ x. is_some (get place_cmp old x) ≡ false) same fresh)
     (subst (λ x. (r : Place) → get place_cmp new r ≡ cond (is_eq (place_cmp x r)) (Some f) (get place_cmp old r))
     same step)
 
@@ -239,36 +253,40 @@ abbrev pub IsPairOf : BTreeMap Place (Bor NotedFlow) → Place × Bor NotedFlow 
 IsPairOf flows e = get place_cmp flows e.0 ≡ Some e.1
 
 -- with one entry more
-pub first_of_more : (es : List NoteEntry) (e : NoteEntry) (flows : BTreeMap Place (Bor NotedFlow)) (all : List NoteEntry)
-    → all ≡ es ++ e ∷ [] → HasFirstFlows (notes_of es ++ note_of e ∷ []) flows → HasFirstFlows (notes_of all) flows
-first_of_more es e flows all is has = subst (λ (l : List Note). HasFirstFlows l flows)
+pub first_of_more : (c : Code) (es : List NoteEntry) (e : NoteEntry) (flows : BTreeMap Place (Bor NotedFlow))
+    (all : List NoteEntry)
+    → all ≡ es ++ e ∷ [] → HasFirstFlows c (notes_of es ++ note_of e ∷ []) flows → HasFirstFlows c (notes_of all) flows
+first_of_more c es e flows all is has = subst (λ (l : List Note). HasFirstFlows c l flows)
     (sym (ap notes_of is ∙ map-append note_of es (e ∷ []))) has
 
 -- ---- the texts of a map
 
-some_of : (o : Option (Bor NotedFlow)) (f : Bor NotedFlow) → o ≡ Some f → IfSome o (λ g. IsGivenFlow g.now) → IsGivenFlow f.now
+some_of : (o : Option (Bor NotedFlow)) (f : Bor NotedFlow) → o ≡ Some f → IfSome o (λ g. IsGivenFlow g.now)
+    → IsGivenFlow f.now
 some_of None f e h = absurd (cc e)
 some_of (Some g) f e h = let q : g ≡ f = cc in subst (λ (x : Bor NotedFlow). IsGivenFlow x.now) q h
 
 -- the flow of an entry of a map is of types that a store of boxes may give
-pub given_pair : (flows : BTreeMap Place (Bor NotedFlow)) → HasGivenFlows flows → (e : Place × Bor NotedFlow) → IsPairOf flows e
+pub given_pair : (flows : BTreeMap Place (Bor NotedFlow)) → HasGivenFlows flows → (e : Place × Bor NotedFlow)
+    → IsPairOf flows e
     → IsGivenFlow e.1.now
 given_pair flows given e is = some_of (get place_cmp flows e.0) e.1 is (given e.0)
 
 -- the types of the flow of an entry are those noted at its place
-pub noted_pair : (flows : BTreeMap Place (Bor NotedFlow)) (notes : List Note) → HasFirstFlows notes flows
-    → (e : Place × Bor NotedFlow) → IsPairOf flows e → flow_noted e.0 notes ≡ Some (flow_types e.1.now)
-noted_pair flows notes has e is = sym (has.first e.0) ∙ ap (option_map (λ (f : Bor NotedFlow). flow_types f.now)) is
+pub noted_pair : (c : Code) (flows : BTreeMap Place (Bor NotedFlow)) (notes : List Note) → HasFirstFlows c notes flows
+    → (e : Place × Bor NotedFlow) → IsPairOf flows e → flow_noted c e.0 notes ≡ Some (flow_types e.1.now)
+noted_pair c flows notes has e is = sym (has.first e.0) ∙ ap (option_map (λ (f : Bor NotedFlow). flow_types f.now)) is
 
 -- one text more is that of the flow of its entry
-pub text_of_pair : (m : Module) (flows : BTreeMap Place (Bor NotedFlow)) (notes : List Note) → HasFirstFlows notes flows
+pub text_of_pair : (c : Code) (m : Module) (flows : BTreeMap Place (Bor NotedFlow)) (notes : List Note)
+    → HasFirstFlows c notes flows
     → (e : Place × Bor NotedFlow) → IsPairOf flows e
     → (text : FlowText) → text.0 ≡ e.0 → rc_str_bytes text.1 ≡ type_text m (shared_tree e.1.now.from)
-    → rc_str_bytes text.2 ≡ type_text m (shared_tree e.1.now.into) → IsFlowText m notes text
-text_of_pair m flows notes has e is text at from into =
+    → rc_str_bytes text.2 ≡ type_text m (shared_tree e.1.now.into) → IsFlowText m c notes text
+text_of_pair c m flows notes has e is text at from into =
     subst (λ (o : Option (Tree × Tree)). MatchOption o ⊥ (λ f. (rc_str_bytes text.1 ≡ type_text m f.0)
     × (rc_str_bytes text.2 ≡ type_text m f.1)))
-    (sym (ap (λ p. flow_noted p notes) at ∙ noted_pair flows notes has e is)) (from, into)
+    (sym (ap (λ p. flow_noted c p notes) at ∙ noted_pair c flows notes has e is)) (from, into)
 
 -- what holds of each, and of one more
 pub all_more : {X : Type 0} (P : X → Type 0) (xs : List X) (x : X) → AllByRecursion P xs → P x
@@ -307,7 +325,9 @@ some_left f None h = h
 some_left f (Some a) h = refl
 
 -- each place with a flow is one of a map's
-pub place_found : (flows : BTreeMap Place (Bor NotedFlow)) (notes : List Note) → HasFirstFlows notes flows → (p : Place)
-    → IsSome (flow_noted p notes) → Contains (map (λ e. e.0) flows.entries) p
-place_found flows notes has p some = test_places p flows.entries
-    (some_left (λ (f : Bor NotedFlow). flow_types f.now) (get place_cmp flows p) (subst IsSome (sym (has.first p)) some))
+pub place_found : (c : Code) (flows : BTreeMap Place (Bor NotedFlow)) (notes : List Note) → HasFirstFlows c notes flows
+    → (p : Place)
+    → IsSome (flow_noted c p notes) → Contains (map (λ e. e.0) flows.entries) p
+place_found c flows notes has p some = test_places p flows.entries
+    (some_left (λ (f : Bor NotedFlow). flow_types f.now) (get place_cmp flows p)
+    (subst IsSome (sym (has.first p)) some))

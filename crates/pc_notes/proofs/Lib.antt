@@ -1,3 +1,4 @@
 pub mod FirstFlows
 pub mod Noted
+pub mod SameCode
 pub mod Taken

@@ -1,41 +1,46 @@
--- Findings as they are gathered: each alone, or with the two types of its dynamic flow.
+-- Findings as they are gathered: each alone, or with the two types of the flow that it reports; and types that are kept,
+-- of labels and of bound names.
 -- Own rule of the profile.
 use Rattle.std.specs.Prelude.{◌≡◌, List, [], ◌∷◌, Option, Some, None, option_map, map, IfSome, Bool as Test, true}
 use Rattle.std.specs.Prelude.{false}
-use Rattle.std.specs.Prelude.{◌&&◌, nat_eq, if◌then◌else◌, box_value, flat_map}
+use Rattle.std.specs.Prelude.{◌&&◌, nat_eq, bytes_eq, if◌then◌else◌, box_value, flat_map}
 use Rattle.std.specs.Borrow.{Bor}
 use Rattle.std.specs.List.{AllByRecursion}
 use Rattle.std.specs.Rc.{rc_value}
 use Rattle.pc_source.specs.declared.place.Place.{Place}
-use Rattle.pc_tree.specs.declared.code.Code.TheVariants.{A1}
+use Rattle.pc_tree.specs.declared.code.Code.{Code}
 use Rattle.pc_tree.specs.declared.code.Finding.{Finding}
-use Rattle.pc_tree.specs.Code.{finding}
+use Rattle.pc_tree.specs.Code.{text_of}
 use Rattle.pc_types.specs.Tree.{Tree}
 use Rattle.pc_types.specs.Boxed.{tree_of, IsGiven}
 use Rattle.pc_types.specs.declared.boxed.BoxType.{BoxType}
 use Rattle.pc_notes.specs.declared.notes.NotedFlow.{NotedFlow}
 use Rattle.pc_notes.specs.declared.sharing.SharedType.{SharedType}
 use Rattle.pc_notes.specs.declared.notes.NoteEntry.{NoteEntry}
-use Rattle.pc_notes.specs.declared.notes.NoteEntry.TheVariants.{Told, Typed}
+use Rattle.pc_notes.specs.declared.notes.NoteEntry.TheVariants.{Told, Typed, Bound}
+use Rattle.pc_notes.specs.declared.notes.BoundTypes.{BoundTypes}
 
 pub data Note : Type 0 where
-  -- a finding and, if it reports a dynamic flow, the type that flows and the type that it flows into
+  -- a finding and, if it reports a flow, the type that flows and the type that it flows into
   told : Finding → (flow : Option (Tree × Tree)) → Note
   -- the type of a label; not shown for a callee that is a name or an attribute
   typed : (shown : Test) → Place → Tree → Note
+  -- a bound name: its declared type, and its current type after the binding, if it has a value then
+  named : Place → (declared : Tree) → (current : Option Tree) → Note
 
--- a finding that reports no dynamic flow
+-- a finding that reports no flow
 abbrev pub plain_note : Finding → Note
 plain_note f = told f None
 
--- a dynamic flow from one type into another, at the place of the expression that flows
-abbrev pub dynamic : Place → (from into : Tree) → Note
-dynamic p s t = told (finding p A1) (Some (s, t))
+-- a finding that reports a flow from one type into another, at the place of the expression that flows
+abbrev pub flow_note : Finding → (from into : Tree) → Note
+flow_note f s t = told f (Some (s, t))
 
 -- the finding of a note, if it has one
 abbrev pub finding_in : Note → List Finding
 finding_in (told f flow) = f ∷ []
 finding_in (typed shown p t) = []
+finding_in (named p d c) = []
 
 -- the findings of notes
 abbrev pub findings_of : List Note → List Finding
@@ -46,6 +51,7 @@ abbrev pub type_in : Note → List (Place × Tree)
 type_in (told f flow) = []
 type_in (typed true p t) = (p, t) ∷ []
 type_in (typed false p t) = []
+type_in (named p d c) = []
 
 -- the types that notes show
 abbrev pub types_of : List Note → List (Place × Tree)
@@ -55,24 +61,47 @@ types_of notes = flat_map type_in notes
 abbrev pub type_shown : Place × Bor BoxType → Place × Tree
 type_shown t = (t.0, tree_of t.1.now)
 
+-- the bound name of a note, if it has one
+abbrev pub name_in : Note → List (Place × Tree × Option Tree)
+name_in (told f flow) = []
+name_in (typed shown p t) = []
+name_in (named p d c) = (p, d, c) ∷ []
+
+-- the bound names of notes
+abbrev pub names_of : List Note → List (Place × Tree × Option Tree)
+names_of notes = flat_map name_in notes
+
+-- the meaning of the types of a bound name, with its place
+abbrev pub name_shown : Place × Bor BoundTypes → Place × Tree × Option Tree
+name_shown n = (n.0, tree_of n.1.now.declared, option_map tree_of n.1.now.current)
+
 -- two places are the same
 abbrev pub is_same_place : Place → Place → Test
 is_same_place p q = nat_eq p.start q.start && nat_eq p.end q.end
+
+-- two codes are the same
+abbrev pub is_same_code : Code → Code → Test
+is_same_code c d = bytes_eq (text_of c) (text_of d)
+
+-- a finding has this code and this place
+abbrev pub is_finding_at : Code → Place → Finding → Test
+is_finding_at c p f = is_same_place p f.place && is_same_code c f.code
 
 -- the first value if there is one, else the second
 abbrev pub or_else : {A : Type 0} → Option A → Option A → Option A
 or_else None rest = rest
 or_else (Some a) rest = Some a
 
--- the flow of a note if it reports one at this place, else the flow of the notes after it
-abbrev pub flow_or : Place → Note → (rest : Option (Tree × Tree)) → Option (Tree × Tree)
-flow_or p (told f flow) rest = if is_same_place p f.place then or_else flow rest else rest
-flow_or p (typed shown q t) rest = rest
+-- the flow of a note if it reports one with this code at this place, else the flow of the notes after it
+abbrev pub flow_or : Code → Place → Note → (rest : Option (Tree × Tree)) → Option (Tree × Tree)
+flow_or c p (told f flow) rest = if is_finding_at c p f then or_else flow rest else rest
+flow_or c p (typed shown q t) rest = rest
+flow_or c p (named q d t) rest = rest
 
--- the types of the first flow noted at a place
-abbrev pub flow_noted : Place → List Note → Option (Tree × Tree)
-flow_noted p [] = None
-flow_noted p (n ∷ ns) = flow_or p n (flow_noted p ns)
+-- the types of the first flow noted with a code at a place
+abbrev pub flow_noted : Code → Place → List Note → Option (Tree × Tree)
+flow_noted c p [] = None
+flow_noted c p (n ∷ ns) = flow_or c p n (flow_noted c p ns)
 
 -- the tree of a shared type
 abbrev pub shared_tree : SharedType → Tree
@@ -86,20 +115,23 @@ IsGivenType s = IsGiven (rc_value s.ty)
 abbrev pub flow_types : NotedFlow → Tree × Tree
 flow_types f = (shared_tree f.from, shared_tree f.into)
 
--- the flow of an entry, out of its box
-abbrev pub kept_flow : NoteEntry → Option NotedFlow
-kept_flow (Told f flow) = option_map box_value flow
-kept_flow (Typed shown p t) = None
+-- the flow of an entry, out of its box, if it reports one with this code
+abbrev pub kept_flow : Code → NoteEntry → Option NotedFlow
+kept_flow c (Told f flow) = if is_same_code c f.code then option_map box_value flow else None
+kept_flow c (Typed shown p t) = None
+kept_flow c (Bound p t) = None
 
 -- the place of an entry
 abbrev pub entry_place : NoteEntry → Place
 entry_place (Told f flow) = f.place
 entry_place (Typed shown p t) = p
+entry_place (Bound p t) = p
 
 -- the meaning of an entry
 abbrev pub note_of : NoteEntry → Note
 note_of (Told f flow) = told f (option_map flow_types (option_map box_value flow))
 note_of (Typed shown p t) = typed shown p (tree_of (box_value t))
+note_of (Bound p t) = named p (tree_of (box_value t).declared) (option_map tree_of (box_value t).current)
 
 -- the meaning of entries
 abbrev pub notes_of : List NoteEntry → List Note
@@ -110,14 +142,24 @@ pub record IsGivenFlow (f : NotedFlow) : Type 0 where
   pub from : IsGivenType f.from
   pub into : IsGivenType f.into
 
+-- the types of a bound name are types that a store of boxes may give
+pub record IsGivenBound (b : BoundTypes) : Type 0 where
+  pub declared : IsGiven b.declared
+  pub current : IfSome b.current IsGiven
+
 -- the types that an entry keeps are types that a store of boxes may give
 abbrev pub IsGivenEntry : NoteEntry → Type 0
 IsGivenEntry (Told f flow) = IfSome (option_map box_value flow) IsGivenFlow
 IsGivenEntry (Typed shown p t) = IsGiven (box_value t)
+IsGivenEntry (Bound p t) = IsGivenBound (box_value t)
 
 -- a shown type is one that a store of boxes may give
 abbrev pub IsGivenShown : Place × Bor BoxType → Type 0
 IsGivenShown t = IsGiven t.1.now
+
+-- the types of a bound name, with its place, are ones that a store of boxes may give
+abbrev pub AreGivenBound : Place × Bor BoundTypes → Type 0
+AreGivenBound n = IsGivenBound n.1.now
 
 -- the types of all entries are types that a store of boxes may give
 abbrev pub AreGiven : List NoteEntry → Type 0

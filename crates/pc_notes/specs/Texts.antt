@@ -1,4 +1,4 @@
--- The dynamic flows that are noted, with the texts of their types, one for each place.
+-- The flows that are noted with a code, with the texts of their types, one for each place.
 -- Own rule of the profile.
 use denote.Bor.{Bor}
 use Rattle.std.specs.Prelude.{◌≡◌, ℕ, List, Contains, IsSome, IfSome, MatchOption, map, option_map}
@@ -11,6 +11,7 @@ use Rattle.std.specs.BTreeMap.{BTreeMap, get}
 use Rattle.std.specs.List.{AllByRecursion}
 use Rattle.std.specs.List.Sorted.{IsStrictlySortedBy}
 use Rattle.pc_source.specs.declared.place.Place.{Place}
+use Rattle.pc_tree.specs.declared.code.Code.{Code}
 use Rattle.pc_tree.specs.Tree.{Module}
 use Rattle.pc_types.specs.Boxed.{tree_of}
 use Rattle.pc_annotations.specs.Text.{type_text}
@@ -22,10 +23,10 @@ use Rattle.pc_notes.specs.Notes.{Note, flow_types, flow_noted, IsGivenFlow}
 abbrev pub FlowText : Type 0
 FlowText = Place × RcStr Global × RcStr Global
 
--- the texts are those of the types of the first flow noted at the place
-abbrev pub IsFlowText : Module → List Note → FlowText → Type 0
-IsFlowText m notes text =
-    MatchOption (flow_noted text.0 notes) ⊥
+-- the texts are those of the types of the first flow noted with this code at the place
+abbrev pub IsFlowText : Module → Code → List Note → FlowText → Type 0
+IsFlowText m c notes text =
+    MatchOption (flow_noted c text.0 notes) ⊥
     (λ f. (rc_str_bytes text.1 ≡ type_text m f.0) × (rc_str_bytes text.2 ≡ type_text m f.1))
 
 -- the order of places
@@ -36,20 +37,20 @@ place_cmp p q = ordering_then (nat_cmp p.start q.start) (nat_cmp p.end q.end)
 abbrev pub places_of : List FlowText → List Place
 places_of texts = map (λ t. t.0) texts
 
--- each text is that of the flow noted at its place; each place with a noted flow has one; the places ascend, so none
--- has two
-pub record AreFlowTexts (m : Module) (notes : List Note) (texts : List FlowText) : Type 0 where
-  pub each : AllByRecursion (IsFlowText m notes) texts
-  pub all : (p : Place) → IsSome (flow_noted p notes) → Contains (places_of texts) p
+-- each text is that of the flow noted with this code at its place; each place with such a flow has one; the places
+-- ascend, so none has two
+pub record AreFlowTexts (m : Module) (c : Code) (notes : List Note) (texts : List FlowText) : Type 0 where
+  pub each : AllByRecursion (IsFlowText m c notes) texts
+  pub all : (p : Place) → IsSome (flow_noted c p notes) → Contains (places_of texts) p
   pub ordered : IsStrictlySortedBy place_cmp (places_of texts)
 
 -- the flows of a map are of types that a store of boxes may give
 abbrev pub HasGivenFlows : BTreeMap Place (Bor NotedFlow) → Type 0
 HasGivenFlows flows = (p : Place) → IfSome (get place_cmp flows p) (λ f. IsGivenFlow f.now)
 
--- a map has at each place the first flow noted there
-pub record HasFirstFlows (notes : List Note) (flows : BTreeMap Place (Bor NotedFlow)) : Type 0 where
-  pub first : (p : Place) → option_map (λ f. flow_types f.now) (get place_cmp flows p) ≡ flow_noted p notes
+-- a map has at each place the first flow noted there with this code
+pub record HasFirstFlows (c : Code) (notes : List Note) (flows : BTreeMap Place (Bor NotedFlow)) : Type 0 where
+  pub first : (p : Place) → option_map (λ f. flow_types f.now) (get place_cmp flows p) ≡ flow_noted c p notes
   pub given : HasGivenFlows flows
 
 -- the text of a type is its text

@@ -2,12 +2,15 @@
 
 ghost use Rattle.std.specs.Prelude.{◌≡◌, ◌++◌, ◌∷◌, [], map, All, IfOk, IfSome, List, OnOk, None, option_map};
 ghost use Rattle.std.specs.Prelude.{if◌then◌else◌};
+ghost use Rattle.std.specs.Option.{option_copied};
+ghost use Rattle.pc_tree.specs.declared.code.Code.{Code as RustCode};
 ghost use Rattle.pc_tree.specs.Code.{finding};
 ghost use Rattle.pc_tree.specs.Tree.{module_of};
 ghost use Rattle.pc_types.specs.Store.{KeepsTypes};
-ghost use Rattle.pc_notes.specs.Notes.{IsGivenFlow, Note, note_of, notes_of, plain_note, dynamic, typed, findings_of};
-ghost use Rattle.pc_notes.specs.Notes.{is_same_place, entry_place, kept_flow, flow_noted, ExplainsFlow};
-ghost use Rattle.pc_notes.specs.Notes.{types_of, type_shown, IsGivenShown};
+ghost use Rattle.pc_notes.specs.Notes.{IsGivenEntry, Note, note_of, notes_of, plain_note, flow_note, typed};
+ghost use Rattle.pc_notes.specs.Notes.{is_same_place, is_same_code, entry_place, kept_flow, flow_noted, ExplainsFlow};
+ghost use Rattle.pc_notes.specs.Notes.{findings_of, types_of, type_shown, IsGivenShown, named, names_of};
+ghost use Rattle.pc_notes.specs.Notes.{name_shown, AreGivenBound};
 ghost use Rattle.pc_notes.specs.declared.notes.NoteEntry.{NoteEntry as Kept};
 ghost use Rattle.pc_notes.specs.Texts.{AreFlowTexts, HasFirstFlows, HasGivenFlows};
 
@@ -21,19 +24,35 @@ use std::collections::BTreeMap;
 use std::marker::Model;
 use std::rc::RcStr;
 
-/// The two types of a dynamic flow: the one that flows, and the one that it flows into.
+/// The two types of a flow: the one that flows, and the one that it flows into.
 #[derive(Drop)]
 pub(crate) struct NotedFlow {
     pub(crate) from: SharedType,
     pub(crate) into: SharedType,
 }
 
-/// A finding, with the types of its flow if it reports one; or the type of a label.
+/// The types of a bound name: its declared type, and its current type after the binding, if it has a value then.
+#[derive(Drop)]
+pub struct BoundTypes {
+    pub declared: BoxType,
+    pub current: Option<BoxType>,
+}
+
+/// A finding, with the types of its flow if it reports one; or the type of a label; or the types of a bound name.
 #[derive(Drop)]
 pub(crate) enum NoteEntry {
     Told(Finding, Option<Box<NotedFlow>>),
     /// Whether it is shown, its place, and the type.
     Typed(bool, Place, Box<BoxType>),
+    /// The place of the name, and its types.
+    Bound(Place, Box<BoundTypes>),
+}
+
+/// Returns whether two codes are the same.
+fn is_same_code(code: Code, other: Code) -> bool
+    ensures { result ≡ is_same_code code other }
+{
+    code == other
 }
 
 impl NoteEntry {
@@ -44,38 +63,42 @@ impl NoteEntry {
         match self {
             NoteEntry::Told(finding, _) => finding.place,
             NoteEntry::Typed(_, place, _) => *place,
+            NoteEntry::Bound(place, _) => *place,
         }
     }
 
-    /// Returns the flow of an entry, if it reports one.
-    fn flow(&self) -> Option<&NotedFlow>
-        ensures { option_map (λ f. f.now) result ≡ kept_flow self.now }
+    /// Returns the flow of an entry, if it reports one with this code.
+    fn flow(&self, code: Code) -> Option<&NotedFlow>
+        ensures { option_map (λ f. f.now) result ≡ kept_flow code self.now }
     {
         match self {
-            NoteEntry::Told(_, flow) => match flow {
-                Some(flow) => Some(flow.as_ref()),
-                None => None,
-            },
-            NoteEntry::Typed(_, _, _) => None,
+            NoteEntry::Told(finding, Some(flow)) => {
+                if is_same_code(code, finding.code) {
+                    Some(flow.as_ref())
+                } else {
+                    None
+                }
+            }
+            _ => None,
         }
     }
 
-    /// Returns the flow of an entry, if it reports one at this place.
-    fn flow_at(&self, place: Place) -> Option<&NotedFlow>
+    /// Returns the flow of an entry, if it reports one with this code at this place.
+    fn flow_at(&self, code: Code, place: Place) -> Option<&NotedFlow>
         ensures { option_map (λ f. f.now) result
-            ≡ (if is_same_place place (entry_place self.now) then kept_flow self.now else None) }
+            ≡ (if is_same_place place (entry_place self.now) then kept_flow code self.now else None) }
     {
         let own = self.place();
         if place.start == own.start && place.end == own.end {
-            self.flow()
+            self.flow(code)
         } else {
             None
         }
     }
 }
 
-/// Findings as they are gathered, in any order, each with the types of the dynamic flow that it reports. Contracts see
-/// it as that list.
+/// Findings as they are gathered, in any order, each with the types of the flow that it reports. Contracts see it as
+/// that list.
 #[derive(Drop)]
 pub struct Notes {
     entries: Vec<NoteEntry>,
@@ -128,26 +151,22 @@ impl Notes {
         Ok(())
     }
 
-    /// Adds a dynamic flow at a place, from one type of a store into another.
+    /// Adds a finding that reports a flow, from one type of a store into another.
     pub fn put_flow<S: TypeStore>(
         &mut self,
         store: &S,
         alloc: Global,
-        place: Place,
+        finding: Finding,
         from: &S::Ty,
         into: &S::Ty,
     ) -> Result<(), OutOfMemory>
         requires from { S.has store.now from.now }
         requires into { S.has store.now into.now }
         ensures { OnOk result (notes_of self.new
-            ≡ notes_of self.old ++ dynamic place (S.tree from.now) (S.tree into.now) ∷ []) }
+            ≡ notes_of self.old ++ flow_note finding (S.tree from.now) (S.tree into.now) ∷ []) }
     {
         let from = self.types.shared(store, alloc, from)?;
         let into = self.types.shared(store, alloc, into)?;
-        let finding = Finding {
-            place,
-            code: Code::A1,
-        };
         self.entries.push(NoteEntry::Told(
             finding,
             Some(Box::new(alloc, NotedFlow { from, into })?),
@@ -171,6 +190,32 @@ impl Notes {
         let ty = transfer(store, &mut boxes, alloc, ty)?;
         self.entries
             .push(NoteEntry::Typed(shown, place, Box::new(alloc, ty)?))?;
+        Ok(())
+    }
+
+    /// Adds a bound name at a place: its declared type, and its current type after the binding, if it has a value then.
+    pub fn put_name<S: TypeStore>(
+        &mut self,
+        store: &S,
+        alloc: Global,
+        place: Place,
+        declared: &S::Ty,
+        current: Option<&S::Ty>,
+    ) -> Result<(), OutOfMemory>
+        requires declared { S.has store.now declared.now }
+        requires current { IfSome (option_copied current) (S.has store.now) }
+        ensures { OnOk result (notes_of self.new ≡ notes_of self.old
+            ++ named place (S.tree declared.now) (option_map S.tree (option_copied current.entry)) ∷ []) }
+    {
+        let mut boxes = BoxStore::new();
+        let declared = transfer(store, &mut boxes, alloc, declared)?;
+        let current = match current {
+            None => None,
+            Some(ty) => Some(transfer(store, &mut boxes, alloc, ty)?),
+        };
+        let types = BoundTypes { declared, current };
+        self.entries
+            .push(NoteEntry::Bound(place, Box::new(alloc, types)?))?;
         Ok(())
     }
 
@@ -201,19 +246,35 @@ impl Notes {
         Ok(types)
     }
 
-    /// Returns the types of the first flow noted at a place, as types of a store, or `None` if no flow is noted there.
+    /// Returns the bound names, each with its place and its types, in their order.
+    pub fn names(&self, alloc: Global) -> Result<Vec<(Place, &BoundTypes)>, OutOfMemory>
+        ensures names { IfOk result (λ v. map name_shown v.items ≡ names_of (notes_of self.now)) }
+        ensures given { IfOk result (λ v. All AreGivenBound v.items) }
+    {
+        let mut names = Vec::new(alloc);
+        for entry in &self.entries {
+            if let NoteEntry::Bound(place, types) = entry {
+                names.push((*place, types.as_ref()))?;
+            }
+        }
+        Ok(names)
+    }
+
+    /// Returns the types of the first flow noted with a code at a place, as types of a store, or `None` if no such flow
+    /// is noted there.
     pub fn explain<S: TypeStore>(
         &self,
         store: &mut S,
         alloc: Global,
+        code: Code,
         place: Place,
     ) -> Result<Option<(S::Ty, S::Ty)>, OutOfMemory>
         ensures value { IfOk result
-            (λ found. ExplainsFlow S.has S.tree store.new found (flow_noted place (notes_of self.now))) }
+            (λ found. ExplainsFlow S.has S.tree store.new found (flow_noted code place (notes_of self.now))) }
         ensures kept { KeepsTypes S.has store.old store.new }
     {
         for entry in &self.entries {
-            if let Some(flow) = entry.flow_at(place) {
+            if let Some(flow) = entry.flow_at(code, place) {
                 let from = transfer(&BoxStore::new(), store, alloc, &flow.from.ty)?;
                 let into = transfer(&BoxStore::new(), store, alloc, &flow.into.ty)?;
                 return Ok(Some((from, into)));
@@ -222,41 +283,47 @@ impl Notes {
         Ok(None)
     }
 
-    /// Returns the first flow noted at each place.
-    fn first_flows(&self, alloc: Global) -> Result<BTreeMap<Place, &NotedFlow>, OutOfMemory>
-        ensures { IfOk result (HasFirstFlows (notes_of self.now)) }
+    /// Returns the first flow noted with a code at each place.
+    fn first_flows(
+        &self,
+        alloc: Global,
+        code: Code,
+    ) -> Result<BTreeMap<Place, &NotedFlow>, OutOfMemory>
+        ensures { IfOk result (HasFirstFlows code (notes_of self.now)) }
     {
         let mut flows = BTreeMap::new(alloc);
         for entry in &self.entries {
-            keep_first(&mut flows, entry)?;
+            keep_first(&mut flows, code, entry)?;
         }
         Ok(flows)
     }
 
-    /// Returns the noted flows by place, each with the texts of the two types of the first flow noted there: the type
-    /// that flows, and the type that it flows into.
+    /// Returns the flows noted with a code by place, each with the texts of the two types of the first such flow there:
+    /// the type that flows, and the type that it flows into.
     pub fn texts(
         &self,
         alloc: Global,
         tree: &Module,
+        code: Code,
     ) -> Result<Vec<(Place, RcStr, RcStr)>, OutOfMemory>
-        ensures { IfOk result (λ v. AreFlowTexts (module_of tree.now) (notes_of self.now) v.items) }
+        ensures { IfOk result (λ v. AreFlowTexts (module_of tree.now) code (notes_of self.now) v.items) }
     {
-        let flows = self.first_flows(alloc)?;
+        let flows = self.first_flows(alloc, code)?;
         Ok(texts_of(alloc, tree, &flows)?)
     }
 }
 
-/// Keeps the flow of an entry, unless one is kept at its place.
+/// Keeps the flow of an entry if it reports one with a code, unless one is kept at its place.
 fn keep_first<'n>(
     flows: &mut BTreeMap<Place, &'n NotedFlow>,
+    code: Code,
     entry: &'n NoteEntry,
 ) -> Result<(), OutOfMemory>
-    requires { IfSome (kept_flow entry.now) IsGivenFlow }
-    ensures { OnOk result ((entries : List Kept) → HasFirstFlows (notes_of entries) flows.old
-        → HasFirstFlows (notes_of entries ++ note_of entry.now ∷ []) flows.new) }
+    requires { IsGivenEntry entry.now }
+    ensures { OnOk result ((entries : List Kept) → HasFirstFlows code (notes_of entries) flows.old
+        → HasFirstFlows code (notes_of entries ++ note_of entry.now ∷ []) flows.new) }
 {
-    let Some(flow) = entry.flow() else {
+    let Some(flow) = entry.flow(code) else {
         return Ok(());
     };
     let place = entry.place();
@@ -274,8 +341,8 @@ fn texts_of(
     flows: &BTreeMap<Place, &NotedFlow>,
 ) -> Result<Vec<(Place, RcStr, RcStr)>, OutOfMemory>
     requires { HasGivenFlows flows.now }
-    ensures { IfOk result (λ v. (notes : List Note) → HasFirstFlows notes flows.now
-        → AreFlowTexts (module_of tree.now) notes v.items) }
+    ensures { IfOk result (λ v. (code : RustCode) (notes : List Note) → HasFirstFlows code notes flows.now
+        → AreFlowTexts (module_of tree.now) code notes v.items) }
 {
     let mut known = BTreeMap::new(alloc);
     let mut texts = Vec::with_capacity(alloc, flows.len())?;

@@ -8,7 +8,6 @@ use Rattle.std.specs.Prelude.{Some, None, Contains, option_to_list, bytes_eq}
 use Rattle.std.specs.List.{list_any}
 use Rattle.pc_source.specs.declared.place.Place.{Place}
 use Rattle.pc_tree.specs.declared.code.Code.{Code}
-use Rattle.pc_tree.specs.declared.code.Code.TheVariants.{A1}
 use Rattle.pc_types.specs.Tree.{Tree}
 use Rattle.pc_tree.specs.declared.code.Finding.{Finding}
 use Rattle.pc_tree.specs.Code.{finding}
@@ -18,9 +17,9 @@ use Rattle.pc_tree.specs.Tree.{attribute, index, call, no_exprs, more_exprs, no_
 use Rattle.pc_tree.specs.Tree.{more_keywords}
 use Rattle.pc_tree.specs.Depth.{place_of}
 use Rattle.pc_scope.specs.Expressions.{is_instance_test}
-use Rattle.pc_notes.specs.Notes.{Note, plain_note, finding_in, findings_of}
+use Rattle.pc_notes.specs.Notes.{Note, plain_note, flow_note, finding_in, findings_of}
 use Rattle.pc_rules.specs.Operations.{Label}
-use Rattle.pc_rules.specs.Computed.Findings.{has_code, add_code, once_onto, once, flow_note, own_flow, flow_then}
+use Rattle.pc_rules.specs.Computed.Findings.{has_code, add_code, once_onto, once, own_flow, flow_then}
 use Rattle.pc_rules.specs.Computed.Findings.{flows_behind}
 use Rattle.pc_rules.specs.Computed.Findings as noted
 use Rattle.pc_rules.specs.Labels.{FlowLabels, Labels, ItemsLabels, EntriesLabels, KeywordsLabels, whole_label}
@@ -150,13 +149,8 @@ forget_code : (p : Place) (o : Option Code) → Forgets (noted.notes_of_code p o
 forget_code p None = nothing_left
 forget_code p (Some c) = record { is = forget_own p c }
 
-noted_finding : (p : Place) (s t : Tree) (c : Code) → finding_in (flow_note p s t c) ≡ finding p c ∷ []
-noted_finding p s t A1 = refl
-noted_finding p s t _ = refl
-
 forget_flow : (p : Place) (s t : Tree) (c : Code) → findings_of (own_flow p s t c) ≡ own_at p c
-forget_flow p s t c = unless (is_of_scopes c) (flow_note p s t c) ∙ ap (λ fs. if is_of_scopes c then [] else fs)
-    (noted_finding p s t c)
+forget_flow p s t c = unless (is_of_scopes c) (flow_note (finding p c) s t)
 
 -- the findings of codes, after those of codes before them
 own_append : (p : Place) (cs ds : List Code) → flat_map (own_at p) (cs ++ ds) ≡ flat_map (own_at p) cs

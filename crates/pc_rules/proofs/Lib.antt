@@ -13,6 +13,7 @@ pub mod InitializersListed
 pub mod Kept
 pub mod ListTests
 pub mod Names
+pub mod NamesAfter
 pub mod NamesRead
 pub mod OfferedTypes
 pub mod Once

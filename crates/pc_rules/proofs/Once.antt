@@ -1,6 +1,6 @@
 -- Codes, each once at its first occurrence, and the properties that this keeps.
 use Rattle.std.proofs.Common.{◌≡◌, ◌∙◌, ◌++◌, List, [], ◌∷◌, refl, sym, ap, subst, append_assoc}
-use Rattle.std.specs.Prelude.{◌↔◌, ℕ, Bool as Test, true, false, ◌||◌, if◌then◌else◌, unwrap_or, find, Contains}
+use Rattle.std.specs.Prelude.{◌↔◌, Bool as Test, true, false, ◌||◌, if◌then◌else◌, Contains}
 use Rattle.std.specs.Prelude.{bytes_eq, Result, IfOk}
 use Rattle.std.specs.List.{list_any}
 use Rattle.std.specs.Bool.{Decides}
@@ -8,15 +8,12 @@ use Rattle.std.proofs.lemmas.Bool.{false≢true}
 use Rattle.std.proofs.Math.Bool.{or-false, or-true, or_assoc}
 use Rattle.std.proofs.lemmas.List.{append-nil}
 use Rattle.std.proofs.lemmas.List.Folds.{list_any-append}
-use Rattle.std.proofs.lemmas.Slice.Eq.{bytes_eq-Decides}
 use Rattle.std.proofs.lemmas.Map.Made.{is_member-Decides}
 use Rattle.pc_tree.specs.declared.code.Code.{Code}
-use Rattle.pc_tree.specs.declared.code.Code.TheVariants.{A1, A2, A3, A4, A5, A6, A7, A8, E01, E02, E03, E04, E05, E06}
-use Rattle.pc_tree.specs.declared.code.Code.TheVariants.{E07, E08, E09, E10, E11, E12, E13, E14, E15, E16, E17, E18}
-use Rattle.pc_tree.specs.declared.code.Code.TheVariants.{E19, E20, E21, E22, E23, E24, E25, E26, E27, E28, E29, E30}
-use Rattle.pc_tree.specs.declared.code.Code.TheVariants.{E31}
+use Rattle.pc_tree.specs.declared.code.Code.TheVariants.{E03}
 use Rattle.pc_tree.specs.Code.{text_of, is_error}
 use Rattle.pc_types.specs.Tree.{Tree}
+use Rattle.pc_notes.proofs.SameCode.{text_one, text_same, same_test}
 use Rattle.pc_rules.specs.Operations.{Label, clean, has_error}
 use Rattle.pc_rules.specs.Context.{is_early}
 use Rattle.pc_rules.specs.Computed.Findings.{has_code, add_code, once_onto, once}
@@ -24,31 +21,6 @@ use Rattle.pc_rules.specs.Computed.Standing.{label_with, MeansLabel}
 use Rattle.pc_rules.specs.declared.label.Label.{Label as RustLabel}
 
 -- ---- a code is told by its text
-
-all_codes : List Code
-all_codes =
-    A1 ∷ A2 ∷ A3 ∷ A4 ∷ A5 ∷ A6 ∷ A7 ∷ A8 ∷ E01 ∷ E02 ∷ E03 ∷ E04 ∷ E05 ∷ E06 ∷ E07 ∷ E08 ∷ E09 ∷ E10 ∷ E11 ∷ E12 ∷ E13
-    ∷ E14 ∷ E15 ∷ E16 ∷ E17 ∷ E18 ∷ E19 ∷ E20 ∷ E21 ∷ E22 ∷ E23 ∷ E24 ∷ E25 ∷ E26 ∷ E27 ∷ E28 ∷ E29 ∷ E30 ∷ E31 ∷ []
-
--- the first code of a text
-code_of : List ℕ → Code
-code_of t = unwrap_or (find (λ c. bytes_eq t (text_of c)) all_codes) A1
-
-of_its_text : (c : Code) → code_of (text_of c) ≡ c
-unfolding code_of all_codes
-of_its_text A1 = refl
-of_its_text _ = refl
-
-pub text_one : (c d : Code) → bytes_eq (text_of c) (text_of d) ≡ true → c ≡ d
-text_one c d e = sym (of_its_text c) ∙ ap code_of ((bytes_eq-Decides (text_of c) (text_of d)).0 e) ∙ of_its_text d
-
-pub text_same : (c d : Code) → c ≡ d → bytes_eq (text_of c) (text_of d) ≡ true
-text_same c d e = (bytes_eq-Decides (text_of c) (text_of d)).1 (ap text_of e)
-
-same_test : (a b : Test) → (a ≡ true → b ≡ true) → (b ≡ true → a ≡ true) → a ≡ b
-same_test true b f g = sym (f refl)
-same_test false true f g = g refl
-same_test false false f g = refl
 
 -- by any test of equal codes
 pub has_by : (same : Code → Code → Test) → ((c d : Code) → same c d ≡ true → c ≡ d)

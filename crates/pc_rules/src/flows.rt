@@ -14,7 +14,7 @@ ghost use Rattle.pc_rules.specs.Computed.Standing.{label_with};
 use crate::label::{Label, has_code, is_early, is_of_scopes};
 use crate::typing_state::TypingState;
 use pc_source::{OutOfMemory, Place};
-use pc_tree::Code;
+use pc_tree::{Code, Finding};
 use pc_types::{Parents, TypeStore};
 
 /// Returns the code of a flow of a labelled expression into a type: none if its type is a static subtype or the label
@@ -40,8 +40,7 @@ fn flow_code<S: TypeStore>(
     Some(Code::E12)
 }
 
-/// Appends the finding of a flow with this code; a dynamic flow is noted with its two types. E02 and E03 are left to
-/// scope analysis.
+/// Appends the finding of a flow with this code, with its two types. E02 and E03 are left to scope analysis.
 fn note_flow<S: TypeStore>(
     checker: &mut TypingState<'_, S>,
     place: Place,
@@ -58,16 +57,14 @@ fn note_flow<S: TypeStore>(
     if is_of_scopes(code) {
         return Ok(());
     }
-    if let Code::A1 = code {
-        return checker
-            .found
-            .put_flow(checker.store, checker.alloc, place, from, into);
-    }
-    checker.found.put(place, code)
+    let finding = Finding { place, code };
+    checker
+        .found
+        .put_flow(checker.store, checker.alloc, finding, from, into)
 }
 
 /// Checks the flow of a labelled expression at `place` into the type `into`. If the flow is not static, appends its
-/// code and returns it: A1 with both types if the expression's type is assignable, else E12. Returns `None` if the flow
+/// code with both types and returns it: A1 if the expression's type is assignable, else E12. Returns `None` if the flow
 /// is static, or if the expression is E03. Typing specification, "Type system concepts", assignability; own rule of the
 /// profile.
 pub fn find_flow<S: TypeStore>(

@@ -1,13 +1,14 @@
 //! The label of a node, and offers: results of operations on single members of a union.
 
-ghost use Rattle.std.specs.Prelude.{◌≡◌, ◌++◌, IfOk, OnOk, flat_map, option_to_list};
+ghost use Rattle.std.specs.Prelude.{◌≡◌, ◌++◌, IfOk, IfSome, OnOk, flat_map, option_map, option_to_list};
+ghost use Rattle.std.specs.Option.{option_copied};
 ghost use Rattle.pc_types.specs.Tree.{Tree};
 ghost use Rattle.pc_types.specs.Store.{KeepsTypes};
 ghost use Rattle.pc_notes.specs.Notes.{notes_of};
 ghost use Rattle.pc_rules.specs.Operations.{clean, in_error};
 ghost use Rattle.pc_rules.specs.Context.{is_early};
 ghost use Rattle.pc_rules.specs.Labels.{is_of_scopes};
-ghost use Rattle.pc_rules.specs.Computed.Findings.{own_at, type_noted, has_code, add_code, once_onto};
+ghost use Rattle.pc_rules.specs.Computed.Findings.{own_at, type_noted, name_after, has_code, add_code, once_onto};
 ghost use Rattle.pc_rules.specs.Computed.Standing.{label_with, MeansLabel};
 
 use pc_notes::Notes;
@@ -106,6 +107,28 @@ pub fn note_label<S: TypeStore>(
         found.put_type(store, alloc, shown, place, &label.ty)?;
     }
     find_codes(place, &label.codes, found)
+}
+
+/// Appends the note of a bound name at its place, if types are kept: its declared type, and its current type after the
+/// binding, if it has a value then.
+pub fn note_name<S: TypeStore>(
+    store: &S,
+    alloc: Global,
+    keeps: bool,
+    place: Place,
+    declared: &S::Ty,
+    current: Option<&S::Ty>,
+    found: &mut Notes,
+) -> Result<(), OutOfMemory>
+    requires declared { S.has store.now declared.now }
+    requires current { IfSome (option_copied current) (S.has store.now) }
+    ensures { OnOk result (notes_of found.new ≡ name_after keeps (notes_of found.old) place (S.tree declared.now)
+        (option_map S.tree (option_copied current.entry))) }
+{
+    if !keeps {
+        return Ok(());
+    }
+    found.put_name(store, alloc, place, declared, current)
 }
 
 /// Returns whether a code is among these codes.

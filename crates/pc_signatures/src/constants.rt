@@ -1,7 +1,7 @@
 //! The classes and the constants of a module, in text order.
 #![tactic(auto, using(pc_rules::proofs::Checkers::goes_further))]
 
-ghost use Rattle.std.specs.Prelude.{◌≡◌, ◌++◌, ◌∷◌, [], if◌then◌else◌, map, length, IfOk, OnOk, All, false};
+ghost use Rattle.std.specs.Prelude.{◌≡◌, ◌++◌, ◌∷◌, [], if◌then◌else◌, map, length, IfOk, None, OnOk, All, false};
 ghost use Rattle.std.specs.Option.{option_map};
 ghost use Rattle.pc_source.specs.declared.place.Place.{Place};
 ghost use Rattle.pc_tree.specs.Tree.{expr_of, class_of, constant_of, item_of};
@@ -16,6 +16,7 @@ ghost use Rattle.pc_rules.specs.Computed.Signatures.{type_of_constant, constant_
 ghost use Rattle.pc_rules.specs.Computed.Signatures.{items_findings, constants_of, method_signatures};
 ghost use Rattle.pc_rules.specs.Computed.Signatures.{class_notes, value_findings};
 ghost use Rattle.pc_rules.specs.Computed.Signatures.{nothing_reached};
+ghost use Rattle.pc_rules.specs.Computed.Findings.{name_after};
 ghost use Rattle.pc_callables.specs.SignaturesRead.{AreGlobals};
 ghost use Rattle.pc_signatures.specs.Internal.ItemsRead.{HasReached, methods_with, reached_with};
 ghost use Rattle.pc_rules.specs.Computed.Standing.{HasIfAny, label_in, finds_in};
@@ -27,7 +28,7 @@ use pc_callables::{
 };
 use pc_expr::check_expr;
 use pc_flow::{DeclaredTypes, Env, OwnerNames};
-use pc_rules::{ExprContext, Label, ModuleContext, Signature, TypingState};
+use pc_rules::{ExprContext, Label, ModuleContext, Signature, TypingState, note_name};
 use pc_scope::Owner;
 use pc_source::OutOfMemory;
 use pc_tree::{ClassDef, Constant, Expr, Item, ItemKind};
@@ -148,7 +149,9 @@ fn read_constant<S: TypeStore>(
     }
 }
 
-/// Checks a constant and appends its findings. Adds its type and its name to `read`.
+/// Checks a constant and appends its findings, and if types are kept, its name with its type. Adds its type and its
+/// name to `read`.
+#[tactic(auto, using(pc_rules::proofs::Checkers::goes_further, pc_rules::proofs::NamesAfter::after_append))]
 fn add_constant<S: TypeStore>(
     checker: &mut TypingState<'_, S>,
     globals: &ModuleContext<'_, S::Ty>,
@@ -164,11 +167,25 @@ fn add_constant<S: TypeStore>(
         ≡ behind (module_in globals.now.outline.now) (reached_with S.tree read.old)
         (constant_item p (constant_of constant.now))) }
     ensures found { OnOk result (Finds checker.old checker.new
+        (name_after globals.now.keeps
         (constant_findings (module_in globals.now.outline.now) globals.now.keeps (reached_with S.tree read.old)
-        (constant_of constant.now))) }
+        (constant_of constant.now)) constant.now.name.place
+        (type_of_constant (module_in globals.now.outline.now) (reached_with S.tree read.old)
+        (constant_of constant.now)) None)) }
     ensures goes_on { CheckerKept S.TypeStore checker.old checker.new }
 {
     let ty = read_constant(checker, globals, read, constant)?;
+    let place = constant.name.place;
+    let current: Option<S::Ty> = None;
+    note_name(
+        checker.store,
+        checker.alloc,
+        globals.keeps,
+        place,
+        &ty,
+        current.as_ref(),
+        checker.found,
+    )?;
     read.constants.push(ty)?;
     bind(&mut read.bound, checker.alloc, constant.name.text.as_str())
 }

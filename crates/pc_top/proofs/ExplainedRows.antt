@@ -74,10 +74,10 @@ each_of_both : {X : Type 0} (P Q R : X → Type 0) (xs : List X) → ((x : X) �
 each_of_both P Q R [] f all others = tt
 each_of_both P Q R (x ∷ xs) f all others = (f x all.0 others.0, each_of_both P Q R xs f all.1 others.1)
 
-module _ (m : Module) (notes : List Note) (texts : List FlowText) (are : AreFlowTexts m notes texts)
+module _ (m : Module) (notes : List Note) (texts : List FlowText) (are : AreFlowTexts m A1 notes texts)
     (flows : TellsFlows m notes) where
   -- texts of what notes tell of at a place are those of the dynamic flow there
-  read_as : (p : Place) (o : Option (Tree × Tree)) (t : FlowText) (shown : FlowTexts) → flow_noted p notes ≡ o
+  read_as : (p : Place) (o : Option (Tree × Tree)) (t : FlowText) (shown : FlowTexts) → flow_noted A1 p notes ≡ o
       → rc_str_bytes shown.from ≡ rc_str_bytes t.1 → rc_str_bytes shown.to ≡ rc_str_bytes t.2
       → MatchOption o ⊥ (λ f. (rc_str_bytes t.1 ≡ type_text m f.0) × (rc_str_bytes t.2 ≡ type_text m f.1))
       → AreTextsOfFlow m p shown
@@ -94,14 +94,14 @@ module _ (m : Module) (notes : List Note) (texts : List FlowText) (are : AreFlow
       → MatchOption shown (¬ (f.code ≡ A1)) (λ t. (f.code ≡ A1) × AreTextsOfFlow m f.place t)
   explained f None found h = λ code.
       let d : HasDynamicFlow m f.place = (flows_found m f.place).0 (subst (IsFinding m) (with_code f code) found) in
-      let noted : flow_noted f.place notes ≡ Some (d.from, d.into) = (flows.just f.place d.from d.into).1 d.flows in
+      let noted : flow_noted A1 f.place notes ≡ Some (d.from, d.into) = (flows.just f.place d.from d.into).1 d.flows in
       h code (listed_place texts f.place (are.all f.place (subst IsSome (sym noted) refl)))
   explained finding (Some shown) found h =
       let t = h.1.0 in
-      let own : IsFlowText m notes t = holds_of (IsFlowText m notes) texts t are.each h.1.1 in
-      let noted : flow_noted t.0 notes ≡ flow_noted finding.place notes = ap (λ p. flow_noted p notes) h.1.2 in (
+      let own : IsFlowText m A1 notes t = holds_of (IsFlowText m A1 notes) texts t are.each h.1.1 in
+      let noted : flow_noted A1 t.0 notes ≡ flow_noted A1 finding.place notes = ap (λ p. flow_noted A1 p notes) h.1.2 in (
         h.0,
-        read_as finding.place (flow_noted finding.place notes) t shown refl h.1.3 h.1.4
+        read_as finding.place (flow_noted A1 finding.place notes) t shown refl h.1.3 h.1.4
             (subst (λ (o : Option (Tree × Tree)). MatchOption o ⊥ (λ f. (rc_str_bytes t.1 ≡ type_text m f.0)
             × (rc_str_bytes t.2 ≡ type_text m f.1))) noted own),
       )

@@ -6,6 +6,8 @@ use Rattle.std.specs.Prelude.{◌⊎◌, Bool, true, false, if◌then◌else◌}
 use Rattle.std.proofs.lemmas.Grind.{flat_map-append}
 use Rattle.std.proofs.lemmas.List.Elements.{Contains-append_left, Contains-append_right, Contains-append_cases}
 use Rattle.pc_source.specs.declared.place.Place.{Place}
+use Rattle.pc_tree.specs.declared.code.Code.{Code}
+use Rattle.pc_tree.specs.declared.code.Code.TheVariants.{A1}
 use Rattle.pc_tree.specs.declared.code.Finding.{Finding}
 use Rattle.pc_tree.specs.Tree.{Module}
 use Rattle.pc_scope_findings.specs.Findings.{ScopeFinds}
@@ -15,7 +17,7 @@ use Rattle.pc_class.specs.Built.{class_findings}
 use Rattle.pc_class.specs.Findings.{ClassFinds}
 use Rattle.pc_class.specs.OverrideFindings.{override_findings}
 use Rattle.pc_class.proofs.FoundClashes.{just_their_lists}
-use Rattle.pc_notes.specs.Notes.{Note, plain_note, finding_in, findings_of, is_same_place, flow_or, flow_noted}
+use Rattle.pc_notes.specs.Notes.{Note, plain_note, finding_in, findings_of, is_finding_at, flow_or, flow_noted}
 use Rattle.pc_module_rules.specs.Computed.DynamicFlows.{dynamic_flow}
 use Rattle.pc_module_rules.specs.Modules.{IsFinding}
 use Rattle.pc_module_rules.specs.Computed.Modules.{module_finds}
@@ -111,22 +113,23 @@ same_or true o = refl
 same_or false o = refl
 
 -- notes that tell of no flow add none
-none_added : (p : Place) (fs : List Finding) → flow_noted p (map plain_note fs) ≡ None
-none_added p [] = refl
-none_added p (f ∷ fs) = same_or (is_same_place p f.place) (flow_noted p (map plain_note fs)) ∙ none_added p fs
+none_added : (c : Code) (p : Place) (fs : List Finding) → flow_noted c p (map plain_note fs) ≡ None
+none_added c p [] = refl
+none_added c p (f ∷ fs) = same_or (is_finding_at c p f) (flow_noted c p (map plain_note fs)) ∙ none_added c p fs
 
-flows_stay : (p : Place) (notes : List Note) (fs : List Finding) → flow_noted p (notes ++ map plain_note fs)
-    ≡ flow_noted p notes
-flows_stay p [] fs = none_added p fs
-flows_stay p (n ∷ ns) fs = ap (flow_or p n) (flows_stay p ns fs)
+flows_stay : (c : Code) (p : Place) (notes : List Note) (fs : List Finding)
+    → flow_noted c p (notes ++ map plain_note fs) ≡ flow_noted c p notes
+flows_stay c p [] fs = none_added c p fs
+flows_stay c p (n ∷ ns) fs = ap (flow_or c p n) (flows_stay c p ns fs)
 
-pub same_flows : (p : Place) (notes first : List Note) (xs ys : List Finding) → notes ≡ (first ++ map plain_note xs)
-    ++ map plain_note ys → flow_noted p notes ≡ flow_noted p first
-same_flows p notes first xs ys is = ap (flow_noted p) is ∙ flows_stay p (first ++ map plain_note xs) ys
-    ∙ flows_stay p first xs
+pub same_flows : (c : Code) (p : Place) (notes first : List Note) (xs ys : List Finding)
+    → notes ≡ (first ++ map plain_note xs)
+    ++ map plain_note ys → flow_noted c p notes ≡ flow_noted c p first
+same_flows c p notes first xs ys is = ap (flow_noted c p) is ∙ flows_stay c p (first ++ map plain_note xs) ys
+    ∙ flows_stay c p first xs
 
 -- what is computed at each place is the dynamic flow there
-pub told_flows : (m : Module) (notes : List Note) → ((p : Place) → flow_noted p notes ≡ dynamic_flow m p)
+pub told_flows : (m : Module) (notes : List Note) → ((p : Place) → flow_noted A1 p notes ≡ dynamic_flow m p)
     → TellsFlows m notes
 told_flows m notes same = record {
   just = λ p s t. (

@@ -10,6 +10,7 @@ use crate::teardown::Teardown;
 use pc_front::module_in;
 use pc_report::Report;
 use pc_source::read_source;
+use pc_tree::Code;
 use std::alloc::Global;
 
 /// Returns the report of the module that the bytes spell, like `check`; the other memory of the check is released
@@ -22,7 +23,7 @@ pub(crate) fn report_of(alloc: Global, bytes: &[u8], memory: Teardown) -> Result
     let source = read_source(alloc, bytes)?;
     let module = module_in(alloc, &source)?;
     let found = findings(alloc, &module)?;
-    let flows = found.notes.texts(alloc, &module)?;
+    let flows = found.notes.texts(alloc, &module, Code::A1)?;
     let findings = found.notes.findings(alloc)?;
     memory.let_go((module, found), findings.len());
     let report = Report::of(alloc, &source, &findings, &flows)?;

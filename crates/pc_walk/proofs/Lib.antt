@@ -2,6 +2,7 @@ pub mod Among
 pub mod Bound
 pub mod Held
 pub mod KeptLocals
+pub mod NotedBindings
 pub mod Numbers
 pub mod Settled
 pub mod Untouched

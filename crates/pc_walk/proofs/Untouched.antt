@@ -1,6 +1,6 @@
 -- A walk over statements leaves each local that they do not touch unchanged.
 use Rattle.std.proofs.Common.{◌≡◌, ◌∙◌, ℕ, List, [], ◌∷◌, ◌++◌, length, refl, sym, ap, subst, arith}
-use Rattle.std.specs.Prelude.{Bool as Test, true, false, ◌||◌, nat_eq, Option, Some, None, unwrap_or}
+use Rattle.std.specs.Prelude.{Bool as Test, true, false, ◌||◌, nat_eq, Option, Some, None, is_some, unwrap_or}
 use Rattle.std.specs.List.{cons_option}
 use Rattle.std.proofs.lemmas.List.{length-set, length-map}
 use Rattle.std.proofs.lemmas.List.Elements.{filter_map-append}
@@ -23,6 +23,7 @@ use Rattle.pc_rules.specs.Operations.{Label, clean}
 use Rattle.pc_rules.specs.Computed.Standing.{label_in, finds_in}
 use Rattle.pc_annotations.specs.Annotations.{read_ann}
 use Rattle.pc_module_rules.specs.Statements.{binds_number, is_local_number}
+use Rattle.pc_rules.specs.Computed.Findings.{codes_at}
 use Rattle.pc_module_rules.specs.Computed.Statements.{BodyContext, Table, type_table, bound_type, with_declared}
 use Rattle.pc_module_rules.specs.Computed.Statements.{known_declared, Walk, BindingResult, BranchesResult}
 use Rattle.pc_module_rules.specs.Computed.Statements.{join_onto_way, with_way, at, narrowed_at, unreached_name}
@@ -30,6 +31,7 @@ use Rattle.pc_module_rules.specs.Computed.Statements.{unreached_names, bind_labe
 use Rattle.pc_module_rules.specs.Computed.Statements.{annotation_finds, bound_name, bind_annotated, assign_target}
 use Rattle.pc_module_rules.specs.Computed.Statements.{bind_item, head_at, item_label_of, step, walk_suite}
 use Rattle.pc_module_rules.specs.Computed.Statements.{walk_branches}
+use Rattle.pc_module_rules.specs.Computed.Statements.{annotated_binding, noted_binding, with_note, iterable_finds}
 use Rattle.pc_walk.specs.Touched.{numbers_of, tested_in_stmt, tested_in, tested_in_branches, touched_by}
 use Rattle.pc_flow.specs.Agreement.{is_among}
 use Rattle.pc_flow.specs.Narrowing.{tested_locals}
@@ -172,9 +174,15 @@ module _ (context : BodyContext) (Kind : ℕ → Type 0) (base : Env) (fine : (x
   value_here table env (res.Builtin b) annotation e found l a h = record { long = l; env_here = h }
   value_here table env res.None annotation e found l a h = record { long = l; env_here = h }
 
+  -- with the note of the name
+  pub noted_here : (keeps valued : Test) (r : NameMeaning) (p : Place) (b : BindingResult) → BindingHere b
+      → BindingHere (noted_binding keeps valued r p b)
+  noted_here false valued r p b h = h
+  noted_here true valued r p b h = record { long = h.long; env_here = h.env_here }
+
   annotated_here : (table : Table) (env : Env) (n : Name) (a : Ann) (e : Option Expr) (found : List Note)
       → length table ≡ length base → NamesApart (n ∷ []) → Here env
-      → BindingHere (bind_annotated context table env n a e found)
+      → BindingHere (annotated_binding context table env (context.context.resolve n.text) n a e found)
   annotated_here table env n a None found l m h = record {
     long =
         alone_long context table (context.context.resolve n.text) (read_ann context.whole context.context.bases a)
@@ -187,12 +195,15 @@ module _ (context : BodyContext) (Kind : ℕ → Type 0) (base : Env) (fine : (x
 
   target_here : (table : Table) (env : Env) (t : Target) (e : Expr) (found : List Note) → length table ≡ length base
       → NamesApart (name_of_target t) → Here env → BindingHere (assign_target context table env t e found)
-  target_here table env (to_name n) e found l m h = value_here table env (context.context.resolve n.text) None e found l
-      m h
+  target_here table env (to_name n) e found l m h =
+      let r = context.context.resolve n.text in
+      noted_here context.keeps true r n.place (bind_value context table env r None e found)
+      (value_here table env r None e found l m h)
   target_here table env (to_attribute p o field) e found l m h = record { long = l; env_here = h }
   target_here table env (to_index p o i) e found l m h = record { long = l; env_here = h }
 
-  pub item_here : (table : Table) (head : Env) (r : NameMeaning) (p : Place) (t : Tree) (found : List Note) (others : List ℕ)
+  pub item_here : (table : Table) (head : Env) (r : NameMeaning) (p : Place) (t : Tree) (found : List Note)
+      (others : List ℕ)
       → length table ≡ length base → MeaningApart r others → Here head
       → BindingHere (bind_item context table head r p t found)
   item_here table head (res.Local x) p t found others l a h = label_here table head x (bound_type table x) p (clean t)
@@ -246,7 +257,9 @@ module _ (context : BodyContext) (Kind : ℕ → Type 0) (base : Env) (fine : (x
     step_here table (Some env) broken found (asserts p c e) l h n t =
         record { long = l; env_here = narrowed_here table true c env l t h; broken_here = λ k. k }
     step_here table (Some env) broken found (annotated p m a e) l h n t =
-        let b = annotated_here table env m a e found l n h in
+        let r = context.context.resolve m.text in
+        let b = noted_here context.keeps (is_some e) r m.place (annotated_binding context table env r m a e found)
+        (annotated_here table env m a e found l n h) in
         record { long = b.long; env_here = b.env_here; broken_here = λ k. k }
     step_here table (Some env) broken found (assigns p g e) l h n t =
         let b = target_here table env g e found l n h in
@@ -271,13 +284,17 @@ module _ (context : BodyContext) (Kind : ℕ → Type 0) (base : Env) (fine : (x
           env_here = body.broken_here (narrowed_here table false c head l tests.0 k);
           broken_here = λ k. k;
         }
-    step_here table (Some env) broken found (for_loop p m e b) l h n t =
+    step_here table (Some env) broken found (for_loop p m e b) l h n tests =
         let names = names_both (m ∷ []) (bound_by b) n in
         let head = head_at context table (m ∷ bound_by b) env in
         let k = head_here table (m ∷ bound_by b) env l n h in
-        let inside = item_here table head (context.context.resolve m.text) (place_of e)
-        (item_label_of context (at context table env) e).type _ [] l names.0 k in
-        let body = suite_here _ b inside.long inside.env_here names.1 t in
+        let r = context.context.resolve m.text in
+        let t = (item_label_of context (at context table env) e).type in
+        let before = (found ++ iterable_finds context (at context table env) e) ++ codes_at (place_of e)
+        (item_label_of context (at context table env) e).codes in
+        let inside = noted_here context.keeps true r m.place (bind_item context table head r (place_of e) t before)
+        (item_here table head r (place_of e) t before [] l names.0 k) in
+        let body = suite_here _ b inside.long inside.env_here names.1 tests in
         record { long = body.long; env_here = body.broken_here k; broken_here = λ k. k }
     step_here table (Some env) broken found (conditional p bs o) l h n t =
         let names = names_both (bound_by_branches bs) (bound_by o) n in
@@ -406,10 +423,13 @@ module _ (context : BodyContext) (table : Table) where
   head_at_long names env l = (head_here context (λ x. ⊥) table (λ x k. absurd k) table names env refl
       (none_apart table (numbers_of context.context.resolve names)) (long_kept table env l)).long
 
-  pub item_long : (head : Env) (r : NameMeaning) (p : Place) (t : Tree) (found : List Note) → length head ≡ length table
-      → (length (bind_item context table head r p t found).table ≡ length table)
-      × (length (bind_item context table head r p t found).env ≡ length table)
-  item_long head r p t found l =
-      let b = item_here context (λ x. ⊥) table (λ x k. absurd k) table head r p t found [] refl
-      (none_apart table (cons_option (as_local r) [])) (long_kept table head l) in
+  pub item_long : (head : Env) (r : NameMeaning) (q p : Place) (t : Tree) (found : List Note)
+      → length head ≡ length table
+      → (length (with_note context true r q (bind_item context table head r p t found)).table ≡ length table)
+      × (length (with_note context true r q (bind_item context table head r p t found)).env ≡ length table)
+  item_long head r q p t found l =
+      let b = noted_here context (λ x. ⊥) table (λ x k. absurd k) context.keeps true r q
+      (bind_item context table head r p t found)
+      (item_here context (λ x. ⊥) table (λ x k. absurd k) table head r p t found [] refl
+      (none_apart table (cons_option (as_local r) [])) (long_kept table head l)) in
       (b.long, b.env_here.long)

@@ -3,8 +3,8 @@
 #![tactic(auto, using(crate::proofs::Walks::goes_further))]
 
 ghost use Rattle.std.specs.Prelude.{◌≡◌, ◌++◌, IfOk, OnOk, None, slice_index_or, unwrap_or};
-ghost use Rattle.std.specs.Prelude.{is_some};
-ghost use Rattle.std.specs.Option.{option_map};
+ghost use Rattle.std.specs.Prelude.{if◌then◌else◌, is_some};
+ghost use Rattle.std.specs.Option.{option_copied, option_map};
 ghost use Rattle.pc_tree.specs.Tree.{ann_of, name_of, module_of};
 ghost use Rattle.pc_types.specs.Tree.{Tree};
 ghost use Rattle.pc_types.specs.Store.{Means};
@@ -16,7 +16,9 @@ ghost use Rattle.pc_rules.specs.Computed.Findings.{brief};
 ghost use Rattle.pc_rules.specs.Computed.Standing.{label_with};
 ghost use Rattle.pc_module_rules.specs.Computed.Statements.{BodyContext as BodyContextOf, with_declared};
 ghost use Rattle.pc_module_rules.specs.Computed.Statements.{known_declared, bound_type};
-ghost use Rattle.pc_module_rules.specs.Computed.Statements.{bound_name, bind_label, annotation_finds};
+ghost use Rattle.pc_module_rules.specs.Computed.Statements.{bound_name, bind_label, annotation_finds, notes_after};
+ghost use Rattle.pc_module_rules.specs.Computed.Statements.{local_note};
+ghost use Rattle.pc_flow.specs.Environment.{current};
 ghost use Rattle.pc_walk.specs.AnnotatedNames.{annotation_unless, declared_by};
 ghost use Rattle.pc_walk.specs.StatementsHeld.{HoldsContext};
 ghost use Rattle.pc_walk.specs.Walks.{Stands, HoldsOne, HoldsWant, WalkKept, Bound, body_context_in};
@@ -106,6 +108,63 @@ pub fn bind_label<S: TypeStore>(
     let mut behind = env;
     behind.assign(walk.alloc, local, current)?;
     Ok(behind)
+}
+
+/// Returns the current type of a local in an environment, if it is asked for.
+fn current_if<Ty: Drop>(env: &Env<Ty>, local: usize, asked: bool) -> Option<&Ty>
+    ensures { option_copied result ≡ (if asked then slice_index_or env.now local None else None) }
+{
+    if asked { env.current(local) } else { None }
+}
+
+/// Appends the note of a bound local at its name's place: its declared type, and if it has a value then, its current
+/// type in this environment.
+fn note_local<S: TypeStore>(
+    walk: &mut Walk<'_, S>,
+    env: &Env<S::Ty>,
+    local: usize,
+    place: Place,
+    valued: bool,
+) -> Result<(), OutOfMemory>
+    requires { Stands S.TypeStore walk.old env.now }
+    ensures noted { OnOk result (notes_of walk.new.found.now ≡ notes_of walk.old.found.now
+        ++ local_note (bound_type (env_of S.tree walk.old.declared.now) local)
+        (if valued then current (env_of S.tree env.now) local else None) place) }
+    ensures declared { OnOk result (walk.new.declared.now ≡ walk.old.declared.now) }
+    ensures goes_on { WalkKept S.TypeStore walk.old walk.new }
+{
+    match walk.declared.declared(local) {
+        None => Ok(()),
+        Some(ty) => {
+            let now = current_if(env, local, valued);
+            walk.found.put_name(walk.store, walk.alloc, place, ty, now)
+        }
+    }
+}
+
+/// Appends the note of a bound name at its place, if types are kept and it means a local: its declared type, and if it
+/// has a value then, its current type in this environment.
+pub fn note_binding<S: TypeStore>(
+    walk: &mut Walk<'_, S>,
+    env: &Env<S::Ty>,
+    meaning: NameMeaning,
+    place: Place,
+    valued: bool,
+) -> Result<(), OutOfMemory>
+    requires { Stands S.TypeStore walk.old env.now }
+    ensures noted { OnOk result (notes_of walk.new.found.now
+        ≡ notes_after walk.old.context.globals.now.keeps valued (env_of S.tree walk.old.declared.now)
+        (env_of S.tree env.now) meaning place (notes_of walk.old.found.now)) }
+    ensures declared { OnOk result (walk.new.declared.now ≡ walk.old.declared.now) }
+    ensures goes_on { WalkKept S.TypeStore walk.old walk.new }
+{
+    if !walk.context.globals.keeps {
+        return Ok(());
+    }
+    match meaning {
+        NameMeaning::Local(local) => note_local(walk, env, local, place, valued),
+        _ => Ok(()),
+    }
 }
 
 /// Returns whether a name means a local that already has a declared type.

@@ -13,7 +13,7 @@ mod unreached;
 mod walk;
 mod ways;
 
-pub use binding::{annotated_type, bind_label, declare_alone, known_type};
+pub use binding::{annotated_type, bind_label, declare_alone, known_type, note_binding};
 pub use context::BodyContext;
 pub use flows::{find_flow_in, find_flows_in};
 pub use laws::suites_keep_untouched_locals;

@@ -6,12 +6,12 @@ ghost use Rattle.std.specs.Prelude.{◌≡◌, ◌∷◌, List, IfOk, OnOk};
 ghost use Rattle.pc_tree.specs.Tree.{Name as NameOf, name_of, stmts_of_list};
 ghost use Rattle.pc_tree.specs.Stopping.{bound_by};
 ghost use Rattle.pc_flow.specs.Stored.{env_of};
-ghost use Rattle.pc_module_rules.specs.Computed.Statements.{head_at, bind_item};
+ghost use Rattle.pc_module_rules.specs.Computed.Statements.{head_at, bind_item, with_note};
 ghost use Rattle.pc_walk.specs.Touched.{numbers_of};
 ghost use Rattle.pc_walk.specs.Walks.{Stands, HoldsOne, HoldsEnv, IsEnv, IsQuiet, WalkKept, Bound, body_context_in};
 ghost use Rattle.pc_flow.specs.Naming.{meanings};
 
-use crate::binding::{bind_label, known_type};
+use crate::binding::{bind_label, known_type, note_binding};
 use crate::locals::locals_of;
 use crate::standing::head_in;
 use crate::walk::Walk;
@@ -86,23 +86,23 @@ pub fn for_start<S: TypeStore>(
     Ok(head)
 }
 
-/// Binds the target of a `for` to an item of this type, in the environment at the head, and returns the environment at
-/// the start of the body. A name that means no local binds nothing. Appends the finding of the flow at `place`, if
-/// there is one.
-pub fn bind_item<S: TypeStore>(
+/// Binds the name that a `for` has as its target, with this meaning, to an item of this type, in the environment at the
+/// head, and returns the environment at the start of the body. A name that means no local binds nothing. Appends the
+/// finding of the flow at `place`, if there is one.
+fn bind_target<S: TypeStore>(
     walk: &mut Walk<'_, S>,
     head: Env<S::Ty>,
-    target: &Name,
+    meaning: NameMeaning,
     place: Place,
     item: S::Ty,
 ) -> Result<Env<S::Ty>, OutOfMemory>
     requires stands { Stands S.TypeStore walk.old head }
     requires item { HoldsOne S.TypeStore walk.old item }
     ensures bound { IfOk result (λ b. Bound S.TypeStore walk.old head walk.new b
-        (λ f t k. bind_item f t k (f.context.resolve (name_of target.now).text) place (S.tree item))) }
+        (λ f t k. bind_item f t k meaning place (S.tree item))) }
     ensures goes_on { WalkKept S.TypeStore walk.old walk.new }
 {
-    match walk.context.names.resolve(target.text.as_str()) {
+    match meaning {
         NameMeaning::Local(local) => {
             let want = known_type(walk.store, walk.alloc, walk.declared, local, None)?;
             let label = Label {
@@ -114,4 +114,27 @@ pub fn bind_item<S: TypeStore>(
         }
         _ => Ok(head),
     }
+}
+
+/// Binds the target of a `for` to an item of this type, in the environment at the head, and returns the environment at
+/// the start of the body. A name that means no local binds nothing. Appends the finding of the flow at `place`, if
+/// there is one, and if types are kept, the name with its types.
+pub fn bind_item<S: TypeStore>(
+    walk: &mut Walk<'_, S>,
+    head: Env<S::Ty>,
+    target: &Name,
+    place: Place,
+    item: S::Ty,
+) -> Result<Env<S::Ty>, OutOfMemory>
+    requires stands { Stands S.TypeStore walk.old head }
+    requires item { HoldsOne S.TypeStore walk.old item }
+    ensures bound { IfOk result (λ b. Bound S.TypeStore walk.old head walk.new b
+        (λ f t k found. with_note f true (f.context.resolve (name_of target.now).text) target.now.place
+        (bind_item f t k (f.context.resolve (name_of target.now).text) place (S.tree item) found))) }
+    ensures goes_on { WalkKept S.TypeStore walk.old walk.new }
+{
+    let meaning = walk.context.names.resolve(target.text.as_str());
+    let inside = bind_target(walk, head, meaning, place, item)?;
+    note_binding(walk, &inside, meaning, target.place, true)?;
+    Ok(inside)
 }

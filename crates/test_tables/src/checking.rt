@@ -6,7 +6,7 @@ use pc_source::{Counted, Source, read_source};
 use pc_top::{
     CheckFault, Format, Report, check, check_stream, findings_by, type_at, types_of, types_stream,
 };
-use pc_tree::Module;
+use pc_tree::{Code, Module};
 use pc_types::BoxStore;
 use std::alloc::{AllocError, Global};
 use std::io::{Read, Write};
@@ -23,7 +23,7 @@ fn report_of_notes(
     module: &Module,
     notes: &Notes,
 ) -> Result<Report, CheckFault> {
-    let flows = notes.texts(alloc, module)?;
+    let flows = notes.texts(alloc, module, Code::A1)?;
     let found = notes.findings(alloc)?;
     Ok(Report::of(alloc, source, &found, &flows)?)
 }

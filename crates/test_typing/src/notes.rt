@@ -10,24 +10,34 @@ fn place(start: usize, end: usize) -> Place {
     Place { start, end }
 }
 
-/// Returns notes of an error and of three flows: two at one place, and then one at an earlier place.
+/// Returns a finding at the place from one byte up to another.
+fn at(start: usize, end: usize, code: Code) -> Finding {
+    Finding {
+        place: place(start, end),
+        code,
+    }
+}
+
+/// Returns notes of an error and of four flows: three at one place, the second of which is wrong, and then one at an
+/// earlier place.
 fn some_notes(alloc: Global) -> Result<Notes, OutOfMemory> {
     let store = BoxStore::new();
     let mut notes = Notes::new(alloc);
     notes.put(place(3, 4), Code::E13)?;
-    notes.put_flow(&store, alloc, place(5, 8), &BoxType::Any, &BoxType::Int)?;
-    notes.put_flow(&store, alloc, place(5, 8), &BoxType::Any, &BoxType::Str)?;
-    notes.put_flow(&store, alloc, place(1, 2), &BoxType::Object, &BoxType::Bool)?;
+    let here = at(5, 8, Code::A1);
+    notes.put_flow(&store, alloc, here, &BoxType::Any, &BoxType::Int)?;
+    let wrong = at(5, 8, Code::E12);
+    notes.put_flow(&store, alloc, wrong, &BoxType::Str, &BoxType::Bool)?;
+    notes.put_flow(&store, alloc, here, &BoxType::Any, &BoxType::Str)?;
+    let earlier = at(1, 2, Code::A1);
+    notes.put_flow(&store, alloc, earlier, &BoxType::Object, &BoxType::Bool)?;
     Ok(notes)
 }
 
 /// Returns the codes of the findings of these notes and of one more, in order.
 fn codes(alloc: Global) -> Result<String, OutOfMemory> {
     let mut notes = some_notes(alloc)?;
-    let later = Finding {
-        place: place(0, 1),
-        code: Code::E02,
-    };
+    let later = at(0, 1, Code::E02);
     notes.put_all(&[later])?;
     let mut codes = String::new(alloc);
     for finding in &notes.findings(alloc)? {
@@ -36,11 +46,11 @@ fn codes(alloc: Global) -> Result<String, OutOfMemory> {
     Ok(codes)
 }
 
-/// Returns the heads of the types of the flow explained at a place.
-fn explained(alloc: Global, at: Place) -> Result<String, OutOfMemory> {
+/// Returns the heads of the types of the flow with a code explained at a place.
+fn explained(alloc: Global, code: Code, at: Place) -> Result<String, OutOfMemory> {
     let notes = some_notes(alloc)?;
     let mut store = BoxStore::new();
-    match notes.explain(&mut store, alloc, at)? {
+    match notes.explain(&mut store, alloc, code, at)? {
         Some((from, into)) => {
             let (from, into) = (store.head(&from), store.head(&into));
             Ok(format!(in alloc; "{from:?} into {into:?}")?)
@@ -49,8 +59,8 @@ fn explained(alloc: Global, at: Place) -> Result<String, OutOfMemory> {
     }
 }
 
-/// Returns the texts of the flows of these notes, in a module without items.
-fn texts(alloc: Global) -> Result<String, OutOfMemory> {
+/// Returns the texts of the flows with a code of these notes, in a module without items.
+fn texts(alloc: Global, code: Code) -> Result<String, OutOfMemory> {
     let module = Module {
         imports_dataclass: false,
         imports_any: false,
@@ -60,7 +70,7 @@ fn texts(alloc: Global) -> Result<String, OutOfMemory> {
     };
     let notes = some_notes(alloc)?;
     let mut texts = String::new(alloc);
-    for (_, from, into) in &notes.texts(alloc, &module)? {
+    for (_, from, into) in &notes.texts(alloc, &module, code)? {
         write!(texts, "{from} into {into}; ")?;
     }
     Ok(texts)
@@ -70,9 +80,11 @@ fn texts(alloc: Global) -> Result<String, OutOfMemory> {
 pub fn note_text(alloc: Global, part: &str) -> Result<String, OutOfMemory> {
     match part {
         "CODES" => codes(alloc),
-        "FIRST" => explained(alloc, place(5, 8)),
-        "ERROR" => explained(alloc, place(3, 4)),
-        "OTHER" => explained(alloc, place(5, 9)),
-        _ => texts(alloc),
+        "FIRST" => explained(alloc, Code::A1, place(5, 8)),
+        "WRONG" => explained(alloc, Code::E12, place(5, 8)),
+        "ERROR" => explained(alloc, Code::E13, place(3, 4)),
+        "OTHER" => explained(alloc, Code::A1, place(5, 9)),
+        "MISFITS" => texts(alloc, Code::E12),
+        _ => texts(alloc, Code::A1),
     }
 }

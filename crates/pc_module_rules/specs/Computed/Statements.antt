@@ -3,7 +3,7 @@
 -- that means it is bound, and the first binding gives it one. So a name is first bound where its local has no declared
 -- type yet. Own rule of the profile.
 use Rattle.std.specs.Prelude.{ℕ, List, [], ◌∷◌, ◌++◌, map, length, Bool as Test, true, false, if◌then◌else◌, Option}
-use Rattle.std.specs.Prelude.{Some, None, unwrap_or, slice_set, slice_index_or}
+use Rattle.std.specs.Prelude.{Some, None, is_some, unwrap_or, slice_set, slice_index_or}
 use Rattle.pc_source.specs.declared.place.Place.{Place}
 use Rattle.pc_tree.specs.declared.code.Code.TheVariants.{E21, E24}
 use Rattle.pc_tree.specs.Code.{finding}
@@ -25,9 +25,9 @@ use Rattle.pc_types.specs.Computed.{static_test}
 use Rattle.pc_annotations.specs.Listed.{ann_findings}
 use Rattle.pc_class.specs.Bases.{bases_of}
 use Rattle.pc_class.specs.Facts.{TypedParameter, return_type}
-use Rattle.pc_flow.specs.Environment.{Env, assign, assigned_type, join_env, loop_head, none_assigned}
+use Rattle.pc_flow.specs.Environment.{Env, assign, assigned_type, current, join_env, loop_head, none_assigned}
 use Rattle.pc_flow.specs.Narrowing.{narrow}
-use Rattle.pc_notes.specs.Notes.{Note, plain_note}
+use Rattle.pc_notes.specs.Notes.{Note, plain_note, named}
 use Rattle.pc_rules.specs.Operations.{Label, clean, offers_label, iterate_member, StoreOffer, store_attribute_member}
 use Rattle.pc_rules.specs.Operations.{store_index_member, store_codes, store_index_types, stored_types, only_type}
 use Rattle.pc_rules.specs.Context.{Context}
@@ -87,6 +87,33 @@ pub record BindingResult : Type 0 where
   pub table : Table
   pub env : Env
   pub found : List Note
+
+-- ---- notes of names
+
+-- the note of a local with these types at its name's place, if it has a declared type
+abbrev pub local_note : (declared now : Option Tree) → Place → List Note
+local_note None now p = []
+local_note (Some d) now p = named p d now ∷ []
+
+-- the note of a bound name at its place, if it means a local: its declared type, and, if it has a value, its current
+-- type
+abbrev pub name_note : (valued : Test) → Table → Env → NameMeaning → Place → List Note
+name_note valued table env (res.Local x) p = local_note (bound_type table x) (if valued then current env x else None) p
+name_note valued table env r p = []
+
+-- notes with that of a bound name after them, if types are kept
+abbrev pub notes_after : (keeps valued : Test) → Table → Env → NameMeaning → Place → List Note → List Note
+notes_after false valued table env r p found = found
+notes_after true valued table env r p found = found ++ name_note valued table env r p
+
+-- a binding with the note of its name after it, if types are kept: of a local, its types after the binding
+abbrev pub noted_binding : (keeps valued : Test) → NameMeaning → Place → BindingResult → BindingResult
+noted_binding false valued r p b = b
+noted_binding true valued r p b = record {
+  table = b.table;
+  env = b.env;
+  found = b.found ++ name_note valued b.table b.env r p;
+}
 
 -- the state of a walk over branches: declared types, the environment where all conditions so far are false, the join of
 -- the environments at the ends of the suites, breaks, and the notes
@@ -159,6 +186,10 @@ module _ (context : BodyContext) where
     found = found ++ finds_in (at table env) None e;
   }
 
+  -- a binding with the note of its name after it, if types are kept: of a local, its types after the binding
+  abbrev pub with_note : (valued : Test) → NameMeaning → Place → BindingResult → BindingResult
+  with_note valued r p b = noted_binding context.keeps valued r p b
+
   -- the table after a name annotated without a value
   abbrev pub declared_alone : Table → NameMeaning → Tree → Table
   declared_alone table (res.Local x) t = with_declared (bound_type table x) table x t
@@ -174,16 +205,21 @@ module _ (context : BodyContext) where
   bound_name table (res.Local x) = bound_type table x
   bound_name table r = None
 
-  -- the result of an annotated name, with or without a value
-  abbrev pub bind_annotated : Table → Env → Name → Ann → Option Expr → List Note → BindingResult
-  bind_annotated table env n a None found = record {
-    table = declared_alone table (context.context.resolve n.text) (read_ann context.whole context.context.bases a);
+  -- the result of an annotated name with this meaning, with or without a value
+  abbrev pub annotated_binding : Table → Env → NameMeaning → Name → Ann → Option Expr → List Note → BindingResult
+  annotated_binding table env r n a None found = record {
+    table = declared_alone table r (read_ann context.whole context.context.bases a);
     env = env;
-    found = found ++ annotation_finds (bound_name table (context.context.resolve n.text)) n a;
+    found = found ++ annotation_finds (bound_name table r) n a;
   }
-  bind_annotated table env n a (Some e) found =
-      bind_value table env (context.context.resolve n.text) (Some (read_ann context.whole context.context.bases a)) e
-      (found ++ annotation_finds (bound_name table (context.context.resolve n.text)) n a)
+  annotated_binding table env r n a (Some e) found =
+      bind_value table env r (Some (read_ann context.whole context.context.bases a)) e
+      (found ++ annotation_finds (bound_name table r) n a)
+
+  -- the result of an annotated name, and if types are kept, the note of the name
+  abbrev pub bind_annotated : Table → Env → Name → Ann → Option Expr → List Note → BindingResult
+  bind_annotated table env n a e found = with_note (is_some e) (context.context.resolve n.text) n.place
+      (annotated_binding table env (context.context.resolve n.text) n a e found)
 
   -- ---- stores
 
@@ -217,7 +253,8 @@ module _ (context : BodyContext) where
 
   -- the result of an assignment: a name is bound, any other target is stored to
   abbrev pub assign_target : Table → Env → Target → Expr → List Note → BindingResult
-  assign_target table env (to_name n) e found = bind_value table env (context.context.resolve n.text) None e found
+  assign_target table env (to_name n) e found = with_note true (context.context.resolve n.text) n.place
+      (bind_value table env (context.context.resolve n.text) None e found)
   assign_target table env t e found = record {
     table = table;
     env = env;
@@ -352,8 +389,9 @@ module _ (context : BodyContext) where
         let head = head_at table (n ∷ bound_by b) env in
         let item = item_label_of (at table env) e in
         behind_loop broken (walk_suite
-        (inside_for head (bind_item table head (context.context.resolve n.text) (place_of e) item.type
-        ((found ++ iterable_finds (at table env) e) ++ codes_at (place_of e) item.codes))) b)
+        (inside_for head (with_note true (context.context.resolve n.text) n.place
+        (bind_item table head (context.context.resolve n.text) (place_of e) item.type
+        ((found ++ iterable_finds (at table env) e) ++ codes_at (place_of e) item.codes)))) b)
     step table (Some env) broken found (conditional p bs o) =
         let fork = walk_branches
         (record { table = table; last = env; ways = None; broken = broken; found = found }) bs in

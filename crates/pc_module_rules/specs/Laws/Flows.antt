@@ -1,9 +1,11 @@
--- The laws on the dynamic flows of a module: A1 is found at a place exactly if there is one under the lawful labelling
--- of the module; the first one there flows only because Any is consistent with every type, and both its types are
--- well-formed; and it is the computed one. Own rule of the profile.
-use Rattle.std.specs.Prelude.{◌≡◌, ◌↔◌, List, Option, Some, None}
+-- The laws on the flows of a module: A1 is found at a place exactly if a flow under the lawful labelling of the module
+-- has that code; the first one there flows only because Any is consistent with every type. The same of E12, whose first
+-- flow is not assignable. Both types of each are well-formed; and the computed flow is the first one. Own rule of the
+-- profile.
+use Rattle.std.specs.Prelude.{◌≡◌, ◌↔◌, List, Option, Some, None, false}
 use Rattle.pc_source.specs.declared.place.Place.{Place}
-use Rattle.pc_tree.specs.declared.code.Code.TheVariants.{A1}
+use Rattle.pc_tree.specs.declared.code.Code.{Code}
+use Rattle.pc_tree.specs.declared.code.Code.TheVariants.{A1, E12}
 use Rattle.pc_tree.specs.Code.{finding}
 use Rattle.pc_tree.specs.Tree.{Module}
 use Rattle.pc_types.specs.Tree.{Tree}
@@ -13,12 +15,14 @@ use Rattle.pc_types.specs.WellFormed.{IsWellFormed}
 use Rattle.pc_class.specs.Bases.{bases_of}
 use Rattle.pc_notes.specs.Notes.{Note, flow_noted}
 use Rattle.pc_module_rules.specs.Modules.{IsFinding}
-use Rattle.pc_module_rules.specs.Computed.DynamicFlows.{dynamic_flow}
-use Rattle.pc_module_rules.specs.FlowsOfModules.{FlowsDynamically, HasDynamicFlow}
+use Rattle.pc_rules.specs.Labels.{is_of_scopes}
+use Rattle.pc_module_rules.specs.Computed.DynamicFlows.{computed_flow, dynamic_flow}
+use Rattle.pc_module_rules.specs.FlowsOfModules.{FlowsWith, FlowsDynamically, HasDynamicFlow, FlowsWrongly}
+use Rattle.pc_module_rules.specs.FlowsOfModules.{HasWrongFlow}
 
 -- notes hold exactly the dynamic flows of a module: at each place, the two types of the dynamic flow there
 pub record TellsFlows (m : Module) (notes : List Note) : Type 0 where
-  pub just : (p : Place) (s t : Tree) → flow_noted p notes ≡ Some (s, t) ↔ FlowsDynamically m p s t
+  pub just : (p : Place) (s t : Tree) → flow_noted A1 p notes ≡ Some (s, t) ↔ FlowsDynamically m p s t
 
 -- the law that A1 is found at a place exactly if a type flows dynamically there
 abbrev pub DynamicFlowsAreFound : Type 0
@@ -44,6 +48,25 @@ DynamicFlowsAreUnique = (m : Module) (p : Place) (s t u v : Tree) → FlowsDynam
 abbrev pub DynamicFlowsAreComputed : Type 0
 DynamicFlowsAreComputed = (m : Module) (p : Place) (s t : Tree)
     → dynamic_flow m p ≡ Some (s, t) ↔ FlowsDynamically m p s t
+
+-- the law that E12 is found at a place exactly if a type flows wrongly there
+abbrev pub WrongFlowsAreFound : Type 0
+WrongFlowsAreFound = (m : Module) (p : Place) → IsFinding m (finding p E12) ↔ HasWrongFlow m p
+
+-- the law that a type that flows wrongly is not assignable to the type that it flows into
+abbrev pub WrongFlowsAreWrong : Type 0
+WrongFlowsAreWrong = (m : Module) (p : Place) (s t : Tree) → FlowsWrongly m p s t → ¬ (Assignable (bases_of m) s t)
+
+-- the law that both types are in normal form, without absorbed members and of at most 256 nodes
+abbrev pub WrongFlowsAreWellFormed : Type 0
+WrongFlowsAreWellFormed = (m : Module) (p : Place) (s t : Tree) → FlowsWrongly m p s t
+    → IsWellFormed (bases_of m) s × IsWellFormed (bases_of m) t
+
+-- the law that the computed flow with a code at a place is the first flow there with that code; scope analysis reports
+-- no flow
+abbrev pub FlowsAreComputed : Type 0
+FlowsAreComputed = (c : Code) → is_of_scopes c ≡ false → (m : Module) (p : Place) (s t : Tree)
+    → computed_flow c m p ≡ Some (s, t) ↔ FlowsWith c m p s t
 
 -- types of a store that mean the two types that flow dynamically at a place, or none if A1 is not found there
 abbrev pub ExplainsPlace : {Store Ty : Type 0} → (has : Store → Ty → Type 0) → (tree : Ty → Tree) → Module → Place

@@ -1,12 +1,11 @@
--- The notes under the labels of an expression, as a list in the order of a walk, each dynamic flow with its two types:
--- computed twin of the findings under labels, except E02 and E03, which scope analysis reports. Own rule of the
+-- The notes under the labels of an expression, as a list in the order of a walk, each flow that is found with its two
+-- types: computed twin of the findings under labels, except E02 and E03, which scope analysis reports. Own rule of the
 -- profile.
 use Rattle.std.specs.Prelude.{◌≡◌, ◌↔◌, List, [], ◌∷◌, ◌++◌, flat_map, Bool as Test, true, false, if◌then◌else◌, Option}
 use Rattle.std.specs.Prelude.{Some, None, Contains, option_to_list, bytes_eq}
 use Rattle.std.specs.List.{list_any}
 use Rattle.pc_source.specs.declared.place.Place.{Place}
 use Rattle.pc_tree.specs.declared.code.Code.{Code}
-use Rattle.pc_tree.specs.declared.code.Code.TheVariants.{A1}
 use Rattle.pc_tree.specs.declared.code.Finding.{Finding}
 use Rattle.pc_tree.specs.Code.{finding, text_of}
 use Rattle.pc_tree.specs.Tree.{Expr, Exprs, Entries, Keywords, name, number, text, truth, nothing, tuple, list, dict}
@@ -16,7 +15,7 @@ use Rattle.pc_tree.specs.Tree.{more_keywords}
 use Rattle.pc_tree.specs.Depth.{place_of}
 use Rattle.pc_types.specs.Tree.{Tree}
 use Rattle.pc_scope.specs.Expressions.{is_instance_test}
-use Rattle.pc_notes.specs.Notes.{Note, plain_note, dynamic, typed, findings_of}
+use Rattle.pc_notes.specs.Notes.{Note, plain_note, flow_note, typed, named, findings_of}
 use Rattle.pc_rules.specs.Operations.{Label}
 use Rattle.pc_rules.specs.Labels.{FlowLabels, Labels, ItemsLabels, EntriesLabels, KeywordsLabels, whole_label}
 use Rattle.pc_rules.specs.Labels.{is_of_scopes}
@@ -60,14 +59,10 @@ notes_of_code p (Some c) = own_at p c
 abbrev pub flow_codes : FlowLabels → List Code
 flow_codes flows = flat_map (λ f. option_to_list f.code) flows
 
--- the note of a flow with this code, at the place of the expression that flows: a dynamic one with its two types
-abbrev pub flow_note : Place → (from into : Tree) → Code → Note
-flow_note p s t A1 = dynamic p s t
-flow_note p s t c = plain_note (finding p c)
-
--- the note of a flow with this code, none for a code of scope analysis
+-- the note of a flow with this code, at the place of the expression that flows, with its two types; none for a code of
+-- scope analysis
 abbrev pub own_flow : Place → (from into : Tree) → Code → List Note
-own_flow p s t c = if is_of_scopes c then [] else flow_note p s t c ∷ []
+own_flow p s t c = if is_of_scopes c then [] else flow_note (finding p c) s t ∷ []
 
 -- the note of a flow, if it has a code
 abbrev pub flow_at : Place → (from into : Tree) → Option Code → List Note
@@ -94,6 +89,12 @@ flows_at p flows = flows_behind p [] flows
 abbrev pub type_noted : (keeps shown : Test) → Place → Tree → List Note
 type_noted false shown p t = []
 type_noted true shown p t = typed shown p t ∷ []
+
+-- notes with that of a bound name at its place after them, if types are kept: its declared type, and its current type
+-- after the binding, if it has a value then
+abbrev pub name_after : (keeps : Test) → List Note → Place → (declared : Tree) → (current : Option Tree) → List Note
+name_after false found p d t = found
+name_after true found p d t = found ++ named p d t ∷ []
 
 -- the notes of a label at its place: its type, if types are kept, and then the findings of its codes
 abbrev pub label_at : (keeps shown : Test) → Place → Label → List Note

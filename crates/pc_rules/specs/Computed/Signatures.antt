@@ -25,7 +25,7 @@ use Rattle.pc_notes.specs.Notes.{Note, plain_note}
 use Rattle.pc_rules.specs.Operations.{Label, clean}
 use Rattle.pc_rules.specs.Context.{Signature}
 use Rattle.pc_rules.specs.Computed.Expressions.{flows_of}
-use Rattle.pc_rules.specs.Computed.Findings.{flows_at}
+use Rattle.pc_rules.specs.Computed.Findings.{flows_at, name_after}
 use Rattle.pc_rules.specs.Signatures.{signature_of, initializer_context, literal_type, literal_place, annotated_types}
 use Rattle.pc_rules.specs.Signatures.{first_of_types, constant_type}
 use Rattle.pc_rules.specs.Computed.Standing.{Standing, label_in, finds_in}
@@ -227,9 +227,10 @@ module _ (m : Module) where
   behind_all r [] = r
   behind_all r (i ∷ is) = behind_all (behind r i) is
 
-  -- the notes of an item that is a constant, or of the members of one that is a class
+  -- the notes of an item that is a constant, and of its name, or of the members of one that is a class
   abbrev pub item_findings : (keeps : Test) → ItemsReached → Item → List Note
-  item_findings keeps r (constant_item p c) = constant_findings keeps r c
+  item_findings keeps r (constant_item p c) = name_after keeps (constant_findings keeps r c) c.name.place
+      (type_of_constant r c) None
   item_findings keeps r (class_item p c) = class_notes r.classes c
   item_findings keeps r (def_item p f) = []
 

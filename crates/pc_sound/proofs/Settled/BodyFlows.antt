@@ -3,6 +3,7 @@
 use Rattle.std.proofs.Common.{◌≡◌, List, [], ◌∷◌, ◌++◌, map}
 use Rattle.std.specs.Prelude.{Bool as Test, true, false, Option, Some, None}
 use Rattle.pc_source.specs.declared.place.Place.{Place}
+use Rattle.pc_tree.specs.declared.code.Code.TheVariants.{A1}
 use Rattle.pc_tree.specs.Depth.{place_of}
 use Rattle.pc_tree.specs.Tree.{Ann, Name, Expr, Exprs, Keywords, name, call, Target, to_name, to_attribute}
 use Rattle.pc_tree.specs.Tree.{to_index, Stmt, Stmts, Branches, pass, breaks, continues, returns, asserts, annotated}
@@ -31,9 +32,9 @@ use Rattle.pc_module_rules.specs.Statements.{NamesBound, is_first, annotation_at
 use Rattle.pc_module_rules.specs.Statements.{RangeOrValues, LawfulIterable, LawfulBinding, LawfulTarget}
 use Rattle.pc_module_rules.specs.Statements.{LawfulAssignment, LawfulAnnotated, LawfulReturn, LawfulOption, LawfulStmt}
 use Rattle.pc_module_rules.specs.Statements.{LawfulSuite, LawfulBranches, AreUndeclared}
-use Rattle.pc_module_rules.specs.FlowsOfExpressions.{dynamic_at, dynamic_in}
-use Rattle.pc_module_rules.specs.FlowsOfStatements.{dynamic_in_option, dynamic_in_value, dynamic_in_target}
-use Rattle.pc_module_rules.specs.FlowsOfStatements.{dynamic_in_stmt, dynamic_in_suite, dynamic_in_branches}
+use Rattle.pc_module_rules.specs.FlowsOfExpressions.{coded_at, coded_in}
+use Rattle.pc_module_rules.specs.FlowsOfStatements.{coded_in_option, coded_in_value, coded_in_target}
+use Rattle.pc_module_rules.specs.FlowsOfStatements.{coded_in_stmt, coded_in_suite, coded_in_branches}
 use Rattle.pc_sound.proofs.Settled.SettledParts.{Asked, IsSettled, Settled}
 use Rattle.pc_sound.proofs.Settled.SettledStatements.{OptionalSettled, TargetSettled, StmtSettled, SuiteSettled}
 use Rattle.pc_sound.proofs.Settled.SettledStatements.{BranchesSettled}
@@ -46,13 +47,13 @@ module _ (asked : Asked) where
   module _ (m : Module) (ctx : Context) (declared : List Tree) where
     option_flows : (returned : Tree) (env : Env) (e : Option Expr) (labels : OptionLabels e)
         → OptionalSettled asked e labels → LawfulOption m ctx declared returned env e labels
-        → FlowsSettled asked (dynamic_in_option e labels)
+        → FlowsSettled asked (coded_in_option A1 e labels)
     option_flows returned env None labels k law = tt
     option_flows returned env (Some e) labels k law = expression_flows asked ctx declared env None e labels k law
 
     return_flows : (returned : Tree) (env : Env) (p : Place) (e : Option Expr) (labels : OptionLabels e)
         (flows : FlowLabels) → OptionalSettled asked e labels → LawfulReturn m ctx declared returned env e labels flows
-        → FlowsSettled asked (dynamic_in_value p e labels flows)
+        → FlowsSettled asked (coded_in_value A1 p e labels flows)
     return_flows returned env p None labels flows k law = value_flows asked ctx.bases p (clean NoneType) (returned ∷ [])
         flows tt law
     return_flows returned env p (Some e) labels flows k law = value_and_flows asked ctx declared env (Some returned) e
@@ -61,16 +62,16 @@ module _ (asked : Asked) where
     binding_flows : (env : Env) (seen : NamesBound) (n : Name) (annotation : Option Tree) (e : Expr) (labels : Labels e)
         (flows : FlowLabels) (after : Env) → Settled asked e labels → LawfulBinding m ctx declared env seen n
         (ctx.resolve n.text) annotation e labels flows after → FlowsSettled asked
-        (dynamic_in e labels ++ dynamic_at (place_of e) flows)
+        (coded_in A1 e labels ++ coded_at A1 (place_of e) flows)
     binding_flows env seen n annotation e labels flows after k law = go (ctx.resolve n.text) law
       where
         elsewhere : Lawful ctx declared env None e labels → flows ≡ []
-            → FlowsSettled asked (dynamic_in e labels ++ dynamic_at (place_of e) flows)
-        elsewhere value none = flows_append asked (dynamic_in e labels) (dynamic_at (place_of e) flows)
+            → FlowsSettled asked (coded_in A1 e labels ++ coded_at A1 (place_of e) flows)
+        elsewhere value none = flows_append asked (coded_in A1 e labels) (coded_at A1 (place_of e) flows)
             (expression_flows asked ctx declared env None e labels k value) (no_flows asked (place_of e) flows none)
 
         go : (r : NameMeaning) → LawfulBinding m ctx declared env seen n r annotation e labels flows after
-            → FlowsSettled asked (dynamic_in e labels ++ dynamic_at (place_of e) flows)
+            → FlowsSettled asked (coded_in A1 e labels ++ coded_at A1 (place_of e) flows)
         go (res.Local x) law = value_and_flows asked ctx declared env
             (known_type m ctx declared (is_first seen n) x annotation) e labels (declared_type declared x ∷ []) flows k
             law.value law.flow
@@ -83,7 +84,7 @@ module _ (asked : Asked) where
     annotated_flows : (env : Env) (seen : NamesBound) (p : Place) (n : Name) (a : Ann) (e : Option Expr)
         (labels : OptionLabels e) (flows : FlowLabels) (after : Env) → OptionalSettled asked e labels
         → LawfulAnnotated m ctx declared env seen n a e labels flows after
-        → FlowsSettled asked (dynamic_in_value p e labels flows)
+        → FlowsSettled asked (coded_in_value A1 p e labels flows)
     annotated_flows env seen p n a None labels flows after k law = no_flows asked p flows law.1
     annotated_flows env seen p n a (Some e) labels flows after k law =
         binding_flows env seen n (annotation_at m ctx declared (is_first seen n) (read_ann m ctx.bases a)) e labels
@@ -93,20 +94,20 @@ module _ (asked : Asked) where
         (env : Env) (seen : NamesBound) (t : Target) (target : TargetLabels t) (e : Expr) (labels : Labels e)
         (flows : FlowLabels) (after : Env) → Settled asked e labels → TargetSettled asked t target
         → LawfulAssignment m ctx declared env seen t target e labels flows after
-        → FlowsSettled asked (dynamic_in_target t target ++ (dynamic_in e labels ++ dynamic_at (place_of e) flows))
+        → FlowsSettled asked (coded_in_target A1 t target ++ (coded_in A1 e labels ++ coded_at A1 (place_of e) flows))
     assignment_flows env seen (to_name n) target e labels flows after k tk law = binding_flows env seen n None e labels
         flows after k law
     assignment_flows env seen (to_attribute p o field) target e labels flows after k tk law =
         let offers = map (store_attribute_member ctx.classes field.text) (members (type_of o target.object)) in
-        flows_append asked (dynamic_in o target.object) (dynamic_in e labels ++ dynamic_at (place_of e) flows)
+        flows_append asked (coded_in A1 o target.object) (coded_in A1 e labels ++ coded_at A1 (place_of e) flows)
         (expression_flows asked ctx declared env None o target.object tk law.0.object)
         (value_and_flows asked ctx declared env (only_type offers (stored_types offers)) e labels (stored_types offers)
         flows k law.0.value law.0.flow)
     assignment_flows env seen (to_index p o i) target e labels flows after k tk law =
         let offers = map store_index_member (members (type_of o target.object)) in
-        flows_append asked (dynamic_in o target.object ++ (dynamic_in i target.key ++ dynamic_at (place_of i)
-        target.key_flows)) (dynamic_in e labels ++ dynamic_at (place_of e) flows)
-        (flows_append asked (dynamic_in o target.object) (dynamic_in i target.key ++ dynamic_at (place_of i)
+        flows_append asked (coded_in A1 o target.object ++ (coded_in A1 i target.key ++ coded_at A1 (place_of i)
+        target.key_flows)) (coded_in A1 e labels ++ coded_at A1 (place_of e) flows)
+        (flows_append asked (coded_in A1 o target.object) (coded_in A1 i target.key ++ coded_at A1 (place_of i)
         target.key_flows) (expression_flows asked ctx declared env None o target.object tk.0 law.0.object)
         (value_and_flows asked ctx declared env None i target.key (store_index_types offers) target.key_flows tk.1
         law.0.key law.0.key_flow))
@@ -116,7 +117,7 @@ module _ (asked : Asked) where
     range_flows : (env : Env) (p : Place) (n : Name) (args : Exprs) (kws : Keywords)
         (labels : Labels (call p (name n) args kws)) → Settled asked (call p (name n) args kws) labels
         → LawfulRange m ctx declared env (name n) args kws p labels
-        → FlowsSettled asked (dynamic_in (call p (name n) args kws) labels)
+        → FlowsSettled asked (coded_in A1 (call p (name n) args kws) labels)
     range_flows env p n args kws labels k law =
         let offers = range_offers (arguments_given args kws) in
         call_flows asked (name n) args kws labels.callee labels.arguments labels.keywords tt
@@ -125,19 +126,20 @@ module _ (asked : Asked) where
         (keywords_flows asked ctx declared env (named_seat offers) [] kws labels.keywords k.1.1.1 law.keywords)
 
     iterable_flows : (env : Env) (e : Expr) (labels : Labels e) (item : Label) → Settled asked e labels
-        → LawfulIterable m ctx declared env e labels item → FlowsSettled asked (dynamic_in e labels)
+        → LawfulIterable m ctx declared env e labels item → FlowsSettled asked (coded_in A1 e labels)
     iterable_flows env (call p (name n) args kws) labels item k law = go (is_range (ctx.resolve n.text)) law
       where
         go : (b : Test) → RangeOrValues m ctx declared b (LawfulRange m ctx declared env (name n) args kws p labels
             × (item ≡ range_item (arguments_given args kws))) (LawfulValues m ctx declared env
-            (call p (name n) args kws) labels item) → FlowsSettled asked (dynamic_in (call p (name n) args kws) labels)
+            (call p (name n) args kws) labels item) → FlowsSettled asked (coded_in A1 (call p (name n) args kws) labels)
         go true law = range_flows env p n args kws labels k law.0
         go false law = expression_flows asked ctx declared env None (call p (name n) args kws) labels k law.0
     iterable_flows env e labels item k law = expression_flows asked ctx declared env None e labels k law.0
 
-    target_flows : (seen : NamesBound) (n : Name) (r : NameMeaning) (head : Env) (item : Label) (p : Place) (flows : FlowLabels)
+    target_flows : (seen : NamesBound) (n : Name) (r : NameMeaning) (head : Env) (item : Label) (p : Place)
+        (flows : FlowLabels)
         (inside : Env) → IsSettled asked item.type → LawfulTarget m ctx declared seen n r head item flows inside
-        → FlowsSettled asked (dynamic_at p flows)
+        → FlowsSettled asked (coded_at A1 p flows)
     target_flows seen n (res.Local x) head item p flows inside k law = value_flows asked ctx.bases p (clean item.type)
         (declared_type declared x ∷ []) flows k law.flow
     target_flows seen n (res.Const i) head item p flows inside k law = no_flows asked p flows law.0
@@ -151,27 +153,28 @@ module _ (asked : Asked) where
       behind_flows :
           (seen : NamesBound) (env : Env) (s : Stmt) (rest : Stmts) (first : StmtLabels s)
           → ((out : Option Env) → LawfulStmt m ctx declared returned seen env s first out
-          → FlowsSettled asked (dynamic_in_stmt s first))
+          → FlowsSettled asked (coded_in_stmt A1 s first))
           → ((seen : NamesBound) (env : Env) (labels : SuiteLabels rest) (out : Option Env)
           → SuiteSettled asked rest labels → LawfulSuite m ctx declared returned seen env rest labels out
-          → FlowsSettled asked (dynamic_in_suite rest labels)) → (b : Test)
+          → FlowsSettled asked (coded_in_suite A1 rest labels)) → (b : Test)
           (behind : Behind b (Following (SuiteLabels rest))) (out : Option Env)
           → BehindRule b behind (λ r. SuiteSettled asked rest r.rest) (Unit {0})
           → BehindRule b behind (λ r. LawfulStmt m ctx declared returned seen env s first (Some r.env)
           × LawfulSuite m ctx declared returned (texts (bound_by_stmt s) ++ seen) r.env rest r.rest out)
           (LawfulStmt m ctx declared returned seen env s first None
           × AreUndeclared m ctx declared (texts (bound_by_stmt s) ++ seen) (bound_by rest) × (out ≡ None))
-          → FlowsSettled asked (dynamic_in_stmt s first ++ behind_list b behind (λ r. dynamic_in_suite rest r.rest))
+          → FlowsSettled asked (coded_in_stmt A1 s first ++ behind_list b behind (λ r. coded_in_suite A1 rest r.rest))
       behind_flows seen env s rest first one others true behind out k law =
-          flows_append asked (dynamic_in_stmt s first) (dynamic_in_suite rest behind.rest) (one (Some behind.env) law.0)
+          flows_append asked (coded_in_stmt A1 s first) (coded_in_suite A1 rest behind.rest)
+          (one (Some behind.env) law.0)
           (others (texts (bound_by_stmt s) ++ seen) behind.env behind.rest out k law.1)
       behind_flows seen env s rest first one others false behind out k law =
-          flows_append asked (dynamic_in_stmt s first) [] (one None law.0) tt
+          flows_append asked (coded_in_stmt A1 s first) [] (one None law.0) tt
 
       mutual
         stmt_flows : (seen : NamesBound) (env : Env) (s : Stmt) (labels : StmtLabels s) (out : Option Env)
             → StmtSettled asked s labels → LawfulStmt m ctx declared returned seen env s labels out
-            → FlowsSettled asked (dynamic_in_stmt s labels)
+            → FlowsSettled asked (coded_in_stmt A1 s labels)
         stmt_flows seen env (pass p) labels out k law = tt
         stmt_flows seen env (breaks p) labels out k law = tt
         stmt_flows seen env (continues p) labels out k law = tt
@@ -180,7 +183,7 @@ module _ (asked : Asked) where
         stmt_flows seen env (returns p (Some e)) labels out k law = return_flows returned env p (Some e) labels.value
             labels.flows k law.0
         stmt_flows seen env (asserts p c e) labels out k law =
-            flows_append asked (dynamic_in c labels.condition) (dynamic_in_option e labels.message)
+            flows_append asked (coded_in A1 c labels.condition) (coded_in_option A1 e labels.message)
             (expression_flows asked ctx declared env None c labels.condition k.0 law.condition)
             (option_flows returned (narrow ctx.bases declared ctx.resolve false c env) e labels.message k.1
             law.message)
@@ -191,26 +194,27 @@ module _ (asked : Asked) where
         stmt_flows seen env (evaluates p e) labels out k law = expression_flows asked ctx declared env None e labels k
             law.0
         stmt_flows seen env (while_loop p c b) labels out k law =
-            flows_append asked (dynamic_in c labels.condition) (dynamic_in_suite b labels.body)
+            flows_append asked (coded_in A1 c labels.condition) (coded_in_suite A1 b labels.body)
             (expression_flows asked ctx declared labels.head None c labels.condition k.0 law.condition)
             (suite_flows seen (narrow ctx.bases declared ctx.resolve true c labels.head) b labels.body labels.out k.1
             law.body)
         stmt_flows seen env (for_loop p n e b) labels out k law =
-            flows_append asked (dynamic_in e labels.iterable) (dynamic_at (place_of e) labels.flows ++ dynamic_in_suite
+            flows_append asked (coded_in A1 e labels.iterable) (coded_at A1 (place_of e) labels.flows ++ coded_in_suite
+            A1
             b labels.body) (iterable_flows env e labels.iterable labels.item k.0.0 law.iterable)
-            (flows_append asked (dynamic_at (place_of e) labels.flows) (dynamic_in_suite b labels.body)
+            (flows_append asked (coded_at A1 (place_of e) labels.flows) (coded_in_suite A1 b labels.body)
             (target_flows seen n (ctx.resolve n.text) labels.head labels.item (place_of e) labels.flows law.inside
             k.0.1 law.target)
             (suite_flows (n.text ∷ seen) law.inside b labels.body labels.out k.1 law.body))
         stmt_flows seen env (conditional p bs o) labels out k law =
-            flows_append asked (dynamic_in_branches bs labels.branches) (dynamic_in_suite o labels.otherwise)
+            flows_append asked (coded_in_branches A1 bs labels.branches) (coded_in_suite A1 o labels.otherwise)
             (branches_flows seen env bs labels.branches labels.last k.0 law.branches)
             (suite_flows (texts (bound_by_branches bs) ++ seen) labels.last o labels.otherwise labels.out k.1
             law.otherwise)
 
         pub suite_flows : (seen : NamesBound) (env : Env) (b : Stmts) (labels : SuiteLabels b) (out : Option Env)
             → SuiteSettled asked b labels → LawfulSuite m ctx declared returned seen env b labels out
-            → FlowsSettled asked (dynamic_in_suite b labels)
+            → FlowsSettled asked (coded_in_suite A1 b labels)
         suite_flows seen env no_stmts labels out k law = tt
         suite_flows seen env (more_stmts s rest) labels out k law =
             behind_flows seen env s rest labels.first (λ o l. stmt_flows seen env s labels.first o k.0 l)
@@ -219,12 +223,12 @@ module _ (asked : Asked) where
 
         branches_flows : (seen : NamesBound) (env : Env) (bs : Branches) (labels : BranchesLabels bs) (last : Env)
             → BranchesSettled asked bs labels → LawfulBranches m ctx declared returned seen env bs labels last
-            → FlowsSettled asked (dynamic_in_branches bs labels)
+            → FlowsSettled asked (coded_in_branches A1 bs labels)
         branches_flows seen env no_branches labels last k law = tt
         branches_flows seen env (more_branches c b rest) labels last k law =
-            flows_append asked (dynamic_in c labels.condition) (dynamic_in_suite b labels.body ++ dynamic_in_branches
+            flows_append asked (coded_in A1 c labels.condition) (coded_in_suite A1 b labels.body ++ coded_in_branches A1
             rest labels.rest) (expression_flows asked ctx declared env None c labels.condition k.0 law.condition)
-            (flows_append asked (dynamic_in_suite b labels.body) (dynamic_in_branches rest labels.rest)
+            (flows_append asked (coded_in_suite A1 b labels.body) (coded_in_branches A1 rest labels.rest)
             (suite_flows seen (narrow ctx.bases declared ctx.resolve true c env) b labels.body labels.out k.1.0
             law.body)
             (branches_flows (texts (bound_by b) ++ seen) (narrow ctx.bases declared ctx.resolve false c env) rest

@@ -5,6 +5,7 @@ use Rattle.std.specs.Prelude.{Bool as Test, true, false, Option, Some, None, sli
 use Rattle.std.proofs.lemmas.List.{length-append}
 use Rattle.std.proofs.lemmas.Option.{slice_get_within}
 use Rattle.pc_source.specs.declared.place.Place.{Place}
+use Rattle.pc_tree.specs.declared.code.Code.TheVariants.{A1}
 use Rattle.pc_tree.specs.Tree.{Literal, number_literal, negative_literal, text_literal, truth_literal, none_literal}
 use Rattle.pc_tree.specs.Tree.{Param, FuncDef, Member, field_member, method_member, ClassDef, Item, constant_item}
 use Rattle.pc_tree.specs.Tree.{class_item, def_item, Module}
@@ -27,12 +28,12 @@ use Rattle.pc_module_rules.specs.Modules.{entry_parameters, names_entered, entry
 use Rattle.pc_module_rules.specs.Modules.{MembersLabels, LawfulMembers, ItemLabels, ItemsLabels, BeforeItem}
 use Rattle.pc_module_rules.specs.Modules.{before_next, nothing_before, constant_types, LawfulItem, LawfulModuleItems}
 use Rattle.pc_module_rules.specs.Modules.{Labelling}
-use Rattle.pc_module_rules.specs.FlowsOfExpressions.{DynamicFlow}
+use Rattle.pc_module_rules.specs.FlowsOfExpressions.{CodedFlow}
 use Rattle.pc_module_rules.specs.Statements.{SuiteFinds}
-use Rattle.pc_module_rules.specs.FlowsOfStatements.{dynamic_in_suite}
-use Rattle.pc_module_rules.specs.FlowsOfModules.{dynamic_at_default, dynamic_in_params, dynamic_in_members}
-use Rattle.pc_module_rules.specs.FlowsOfModules.{dynamic_in_methods, dynamic_in_function, dynamic_in_item}
-use Rattle.pc_module_rules.specs.FlowsOfModules.{dynamic_in_body, dynamic_in_each, dynamic_flows}
+use Rattle.pc_module_rules.specs.FlowsOfStatements.{coded_in_suite}
+use Rattle.pc_module_rules.specs.FlowsOfModules.{coded_at_default, coded_in_params, coded_in_members}
+use Rattle.pc_module_rules.specs.FlowsOfModules.{coded_in_methods, coded_in_function, coded_in_item}
+use Rattle.pc_module_rules.specs.FlowsOfModules.{coded_in_body, flows_in_each, coded_flows}
 use Rattle.pc_module_rules.specs.FlowsOfModules.{FlowsDynamically}
 use Rattle.pc_module_rules.proofs.LabelledModule.{every_module_has_a_labelling}
 use Rattle.pc_sound.proofs.Settled.SettledParts.{Asked, classes_below, ClassAsked, TestsAsked, IsSettled, NamesAsked}
@@ -59,31 +60,31 @@ module _ (asked : Asked) where
   literal_settled (none_literal p) = tt
 
   default_flows : (bases : Bases) (binds : Test) (l : Option Literal) (t : Tree) (flows : FlowLabels)
-      → LawfulDefault bases binds l t flows → FlowsSettled asked (dynamic_at_default l flows)
+      → LawfulDefault bases binds l t flows → FlowsSettled asked (coded_at_default A1 l flows)
   default_flows bases binds None t flows law = tt
   default_flows bases false (Some l) t flows law = no_flows asked (literal_place l) flows law
   default_flows bases true (Some l) t flows law = value_flows asked bases (literal_place l) (clean (literal_type l))
       (t ∷ []) flows (literal_settled l) law
 
   params_flows : (m : Module) (before : List (List ℕ)) (ps : List Param) (labels : ParamsLabels ps)
-      → LawfulParams m before ps labels → FlowsSettled asked (dynamic_in_params ps labels)
+      → LawfulParams m before ps labels → FlowsSettled asked (coded_in_params A1 ps labels)
   params_flows m before [] labels law = tt
   params_flows m before (p ∷ ps) labels law =
-      flows_append asked (dynamic_at_default p.default labels.default) (dynamic_in_params ps labels.rest)
+      flows_append asked (coded_at_default A1 p.default labels.default) (coded_in_params A1 ps labels.rest)
       (default_flows (bases_of m) (binds_name before p.name) p.default (read_option m (bases_of m) p.annotation)
       labels.default law.default) (params_flows m (p.name.text ∷ before) ps labels.rest law.rest)
 
   members_flows : (m : Module) (constants : List Tree) (base : ClassFacts) (c number : ℕ) (before : List (List ℕ))
       (ms : List Member) (labels : MembersLabels ms) → LawfulMembers m constants base c number before ms labels
-      → FlowsSettled asked (dynamic_in_members ms labels)
+      → FlowsSettled asked (coded_in_members A1 ms labels)
   members_flows m constants base c number before [] labels law = tt
   members_flows m constants base c number before (field_member x ∷ rest) labels law =
-      flows_append asked (dynamic_at_default x.default labels.default) (dynamic_in_members rest labels.rest)
+      flows_append asked (coded_at_default A1 x.default labels.default) (coded_in_members A1 rest labels.rest)
       (default_flows (bases_of m) (binds_field base before x.name.text) x.default (read_ann m (bases_of m) x.annotation)
       labels.default law.default)
       (members_flows m constants base c number (x.name.text ∷ before) rest labels.rest law.others)
   members_flows m constants base c number before (method_member f ∷ rest) labels law =
-      flows_append asked (dynamic_in_params f.params labels.method.params) (dynamic_in_members rest labels.rest)
+      flows_append asked (coded_in_params A1 f.params labels.method.params) (coded_in_members A1 rest labels.rest)
       (params_flows m (receiver (owners.Method c number)) f.params labels.method.params law.method.params)
       (members_flows m constants base c (suc number) (f.name.text ∷ before) rest labels.rest law.others)
 
@@ -95,7 +96,7 @@ module _ (asked : Asked) where
       (SuiteFinds m (body_context m constants (locals owner f)) (names_entered [] (entry_parameters m owner f)) f.body
       labels.body) (bare_returns_in f.body)) where
     body_flows : (owner : Owner) → OwnerAsked asked owner → (f : FuncDef) (labels : FunctionLabels f)
-        → LawfulFunction m constants owner f labels → FlowsSettled asked (dynamic_in_suite f.body labels.body)
+        → LawfulFunction m constants owner f labels → FlowsSettled asked (coded_in_suite A1 f.body labels.body)
     body_flows owner there f labels law =
         let ctx = body_context m constants (locals owner f) in
         suite_flows asked m ctx labels.declared (return_type m f) (names_entered [] (entry_parameters m owner f))
@@ -106,12 +107,12 @@ module _ (asked : Asked) where
 
     methods_flows : (base : ClassFacts) (c : ℕ) → ClassAsked asked c
         → (number : ℕ) (before : List (List ℕ)) (ms : List Member) (labels : MembersLabels ms)
-        → LawfulMembers m constants base c number before ms labels → FlowsSettled asked (dynamic_in_methods ms labels)
+        → LawfulMembers m constants base c number before ms labels → FlowsSettled asked (coded_in_methods A1 ms labels)
     methods_flows base c there number before [] labels law = tt
     methods_flows base c there number before (field_member x ∷ rest) labels law = methods_flows base c there number
         (x.name.text ∷ before) rest labels.rest law.others
     methods_flows base c there number before (method_member f ∷ rest) labels law =
-        flows_append asked (dynamic_in_suite f.body labels.method.body) (dynamic_in_methods rest labels.rest)
+        flows_append asked (coded_in_suite A1 f.body labels.method.body) (coded_in_methods A1 rest labels.rest)
         (body_flows (owners.Method c number) there f labels.method law.method)
         (methods_flows base c there (suc number) (f.name.text ∷ before) rest labels.rest law.others)
 
@@ -122,14 +123,14 @@ module _ (asked : Asked) where
     ItemAsked b (def_item p f) labels = Unit {0}
 
     function_flows : (b : BeforeItem) (i : Item) (labels : ItemLabels i) → ItemAsked b i labels
-        → LawfulItem m constants b i labels → FlowsSettled asked (dynamic_in_function i labels)
+        → LawfulItem m constants b i labels → FlowsSettled asked (coded_in_function A1 i labels)
     function_flows b (constant_item p c) labels k law = tt
     function_flows b (class_item p c) labels k law = tt
     function_flows b (def_item p f) labels k law = params_flows m (receiver (owners.Func b.functions)) f.params
         labels.params law.params
 
     item_flows : (b : BeforeItem) (i : Item) (labels : ItemLabels i) → ItemAsked b i labels
-        → LawfulItem m constants b i labels → FlowsSettled asked (dynamic_in_item i labels)
+        → LawfulItem m constants b i labels → FlowsSettled asked (coded_in_item A1 i labels)
     item_flows b (constant_item p c) labels k law =
         let types = annotated_types m (binds_name b.names c.name) c.annotation in
         value_and_flows asked (initializer_context m b.constants b.classes) [] [] (first_of_types types) c.value
@@ -139,7 +140,7 @@ module _ (asked : Asked) where
     item_flows b (def_item p f) labels k law = tt
 
     bodies_flows : (b : BeforeItem) (i : Item) (labels : ItemLabels i) → ItemAsked b i labels
-        → LawfulItem m constants b i labels → FlowsSettled asked (dynamic_in_body i labels)
+        → LawfulItem m constants b i labels → FlowsSettled asked (coded_in_body A1 i labels)
     bodies_flows b (constant_item p c) labels k law = tt
     bodies_flows b (class_item p c) labels k law = methods_flows (base_class m b.classes c) b.classes k 0 [] c.members
         labels law
@@ -151,13 +152,13 @@ module _ (asked : Asked) where
         labels.rest
 
     each_flows :
-        (flows : (i : Item) → ItemLabels i → List DynamicFlow) → ((b : BeforeItem) (i : Item) (labels : ItemLabels i)
+        (flows : (i : Item) → ItemLabels i → List CodedFlow) → ((b : BeforeItem) (i : Item) (labels : ItemLabels i)
         → ItemAsked b i labels → LawfulItem m constants b i labels → FlowsSettled asked (flows i labels))
         → (b : BeforeItem) (items : List Item) (labels : ItemsLabels items) → ItemsAsked b items labels
-        → LawfulModuleItems m constants b items labels → FlowsSettled asked (dynamic_in_each flows items labels)
+        → LawfulModuleItems m constants b items labels → FlowsSettled asked (flows_in_each flows items labels)
     each_flows flows one b [] labels k law = tt
     each_flows flows one b (i ∷ rest) labels k law =
-        flows_append asked (flows i labels.first) (dynamic_in_each flows rest labels.rest)
+        flows_append asked (flows i labels.first) (flows_in_each flows rest labels.rest)
         (one b i labels.first k.0 law.0) (each_flows flows one (before_next m b i labels.first) rest labels.rest k.1
         law.1)
 
@@ -182,19 +183,19 @@ module _ (asked : Asked) where
       )
 
       module_flows : (labels : Labelling m) → InitializersSettled asked m.items labels
-          → LawfulModuleItems m constants nothing_before m.items labels → FlowsSettled asked (dynamic_flows m labels)
+          → LawfulModuleItems m constants nothing_before m.items labels → FlowsSettled asked (coded_flows A1 m labels)
       module_flows labels k law =
           let there = items_asked nothing_before m.items labels (omega arith) k in
-          let functions = each_flows dynamic_in_function function_flows nothing_before m.items labels there law in
-          let items = each_flows dynamic_in_item item_flows nothing_before m.items labels there law in
-          let bodies = each_flows dynamic_in_body bodies_flows nothing_before m.items labels there law in
-          flows_append asked (dynamic_in_each dynamic_in_function m.items labels ++ dynamic_in_each dynamic_in_item
-          m.items labels) (dynamic_in_each dynamic_in_body m.items labels)
-          (flows_append asked (dynamic_in_each dynamic_in_function m.items labels)
-          (dynamic_in_each dynamic_in_item m.items labels) functions items) bodies
+          let functions = each_flows (coded_in_function A1) function_flows nothing_before m.items labels there law in
+          let items = each_flows (coded_in_item A1) item_flows nothing_before m.items labels there law in
+          let bodies = each_flows (coded_in_body A1) bodies_flows nothing_before m.items labels there law in
+          flows_append asked (flows_in_each (coded_in_function A1) m.items labels ++ flows_in_each (coded_in_item A1)
+          m.items labels) (flows_in_each (coded_in_body A1) m.items labels)
+          (flows_append asked (flows_in_each (coded_in_function A1) m.items labels)
+          (flows_in_each (coded_in_item A1) m.items labels) functions items) bodies
 
   -- of flows that are settled each is
-  among_settled : (before behind : List DynamicFlow) (d : DynamicFlow) → FlowsSettled asked (before ++ (d ∷ behind))
+  among_settled : (before behind : List CodedFlow) (d : CodedFlow) → FlowsSettled asked (before ++ (d ∷ behind))
       → IsSettled asked d.from
   among_settled [] behind d h = h.0
   among_settled (e ∷ before) behind d h = among_settled before behind d h.1

@@ -23,7 +23,8 @@ use Rattle.pc_rules.specs.Computed.Standing.{finds_in, narrowed_standing}
 use Rattle.pc_rules.proofs.Along.{on_ok}
 use Rattle.pc_module_rules.specs.Computed.Statements.{Walk as Reached, BranchesResult, BindingResult, at, narrowed_at}
 use Rattle.pc_module_rules.specs.Computed.Statements.{head_at}
-use Rattle.pc_module_rules.specs.Computed.Statements.{option_finds, bind_item, item_label_of, iterable_finds, step}
+use Rattle.pc_module_rules.specs.Computed.Statements.{option_finds, bind_item, with_note, item_label_of, iterable_finds}
+use Rattle.pc_module_rules.specs.Computed.Statements.{step}
 use Rattle.pc_module_rules.specs.Computed.Statements.{walk_suite}
 use Rattle.pc_module_rules.specs.Computed.Statements.{walk_branches}
 use Rattle.pc_module_rules.specs.Computed.Statements.{with_way, behind_binding, behind_branches, behind_loop}
@@ -650,7 +651,7 @@ check_for-check_suite-requires g t c κs within =
     ∙ head_at_long (body_context_in S first) (env_of S.tree first.declared.now) (name ∷ bound_by body)
     (env_of S.tree c.args.env.now) env_long
     ∙ sym (ap (λ ds. length (env_of S.tree ds)) q.declared) in
-    let sizes = item_long context table head (resolve name.text) place item found head_long in
+    let sizes = item_long context table head (resolve name.text) name.place place item found head_long in
     let table_long = ap (λ (r : BindingResult). length r.table) b.is ∙ sizes.0 in
     let touched = in_body_context S old mid (λ (f : RustBodyContext _). AreAmong locals
     (touched_by_for (meanings f.names.now) name body))
@@ -731,16 +732,18 @@ check_for-returns-clause-walked g t c = λ p way held.
     in_turn told asked codes (notes_of mid.found.now) (q.found ∙ a.finds.pushed) in
     let item = S.tree c.in_ok-item.item in
     let there = body_context_in S mid in
-    let binding : bind_item there (env_of S.tree mid.declared.now) here
-    (there.context.resolve name.text) c.place.result item
-    (notes_of mid.found.now) ≡ bind_item context table first (resolve name.text) (place_of e) label.type
-    ((told ++ asked) ++ codes) = λ i. bind_item (body_context_with S.tree (before.context i))
-    (env_of S.tree (tables i))
-    (head i) (meanings (before.context i).names.now name.text) (c.place.ensures i) (a.typed.1 i) (notes i) in
+    let binding : with_note there true (there.context.resolve name.text) name.place
+    (bind_item there (env_of S.tree mid.declared.now) here (there.context.resolve name.text) c.place.result item
+    (notes_of mid.found.now)) ≡ with_note context true (resolve name.text) name.place
+    (bind_item context table first (resolve name.text) (place_of e) label.type ((told ++ asked) ++ codes)) =
+    λ i. with_note (body_context_with S.tree (before.context i)) true (meanings (before.context i).names.now name.text)
+    name.place (bind_item (body_context_with S.tree (before.context i)) (env_of S.tree (tables i)) (head i)
+    (meanings (before.context i).names.now name.text) (c.place.ensures i) (a.typed.1 i) (notes i)) in
     let bound = b.is ∙ binding in
     let copy = copied.ensures.is ∙ head in
     let from : reached S later (Some c.in_ok-inside.inside) (Some copied.field-0) ≡ inside_for context first
-    (bind_item context table first (resolve name.text) (place_of e) label.type ((told ++ asked) ++ codes)) =
+    (with_note context true (resolve name.text) name.place
+    (bind_item context table first (resolve name.text) (place_of e) label.type ((told ++ asked) ++ codes))) =
     λ i. inside_for context (copy i) (bound i) in
     let walked = walks_on S old later new (Some c.in_ok-inside.inside) (Some copied.field-0)
     c.in_ok-check_suite.field-0 c.check_suite.new.broken (λ f w. walk_suite f w body) entry s in

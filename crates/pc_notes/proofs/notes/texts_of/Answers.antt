@@ -23,7 +23,7 @@ loop-entry-init c =
     record {
       places = ap (λ (l : List FlowText). places_of l ++ map (λ (e : Pair). e.0) c.into_iter-entry-iterator.result)
           c.in_ok-texts.ensures.items ∙ ap (map (λ (e : Pair). e.0)) all;
-      each = λ notes has. subst (AllByRecursion (IsFlowText (module_of c.args.tree.now) notes))
+      each = λ code notes has. subst (AllByRecursion (IsFlowText (module_of c.args.tree.now) code notes))
           (sym c.in_ok-texts.ensures.items) tt;
       left = subst (AllByRecursion (IsPairOf c.args.flows.now)) (sym all)
           (pairs_found c.args.flows.now c.args.flows.now.entries c.iter-entry-items.ensures.found);
@@ -48,9 +48,11 @@ loop-entry-preserved c =
           ∙ places_more before text (map (λ (e : Pair). e.0) rest)
           ∙ ap (λ (l : List Pair). places_of before ++ map (λ (e : Pair). e.0) l) (sym left)
           ∙ c.loop-entry.invariant.places;
-      each = λ notes has. subst (AllByRecursion (IsFlowText (module_of c.args.tree.now) notes)) (sym after)
-          (all_more (IsFlowText (module_of c.args.tree.now) notes) before text (c.loop-entry.invariant.each notes has)
-          (text_of_pair (module_of c.args.tree.now) flows notes has pair pairs.0 text refl c.in_ok-from.ensures.text
+      each = λ code notes has. subst (AllByRecursion (IsFlowText (module_of c.args.tree.now) code notes)) (sym after)
+          (all_more (IsFlowText (module_of c.args.tree.now) code notes) before text
+          (c.loop-entry.invariant.each code notes has)
+          (text_of_pair code (module_of c.args.tree.now) flows notes has pair pairs.0 text refl
+          c.in_ok-from.ensures.text
           c.in_ok-into.ensures.text));
       left = pairs.1;
       given = c.requires;
@@ -61,8 +63,8 @@ pub returns : goal.returns
 returns c =
     let flows = c.args.flows.now in
     let places : places_of c.loop-entry.texts.items ≡ map (λ (e : Pair). e.0) flows.entries = search rules in
-    λ notes has. record {
-      each = c.loop-entry.invariant.each notes has;
-      all = λ p some. subst (λ (l : List Place). Contains l p) (sym places) (place_found flows notes has p some);
+    λ code notes has. record {
+      each = c.loop-entry.invariant.each code notes has;
+      all = λ p some. subst (λ (l : List Place). Contains l p) (sym places) (place_found code flows notes has p some);
       ordered = subst (IsStrictlySortedBy place_cmp) (sym places) c.iter-entry-items.ensures.ordered;
     }

@@ -33,7 +33,7 @@ returns g c =
     (notes_of c.note_others.new.found) all in
     record {
       found = found;
-      flows = told_flows m (notes_of c.note_others.new.found) (λ p. same_flows p (notes_of c.note_others.new.found)
+      flows = told_flows m (notes_of c.note_others.new.found) (λ p. same_flows A1 p (notes_of c.note_others.new.found)
           (module_finds m []) of_scopes (of_tables m ++ override_findings m) all);
       sound_beside_errors = beside_errors m (findings_of (notes_of c.note_others.new.found)) found;
       kept = λ ty h. c.check_module.ensures.kept ty (c.override_findings.ensures.kept ty h);

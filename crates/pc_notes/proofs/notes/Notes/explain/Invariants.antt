@@ -5,6 +5,7 @@ use Rattle.pc_notes.proofs.notes.Notes.explain.Given as goal
 
 abbrev pub invariant-loop-entry : goal.invariant-loop-entry
 invariant-loop-entry g l = record {
-  same : flow_noted l.place (notes_of l.fn.self) ≡ flow_noted l.place (notes_of (drop l.entry-index l.entry-items));
+  same : flow_noted l.code l.place (notes_of l.fn.self)
+      ≡ flow_noted l.code l.place (notes_of (drop l.entry-index l.entry-items));
   kept : KeepsTypes g.S.TypeStore.has l.fn.store l.store;
 }

@@ -11,5 +11,5 @@ loop-entry-preserved c =
     let x : NoteEntry = c.entry-item.result in
     let more : take (i + 1) xs ≡ take i xs ++ x ∷ [] = take_more xs i x (omega arith)
     ∙ ap (λ (y : NoteEntry). take i xs ++ y ∷ []) (sym c.entry-item.is) in
-    first_of_more (take i xs) x c.keep_first.new.flows (take (i + 1) xs) more
+    first_of_more c.args.code (take i xs) x c.keep_first.new.flows (take (i + 1) xs) more
     (c.in_ok-keep_first.ensures (take i xs) c.loop-entry.invariant)
