@@ -1,6 +1,6 @@
 use Rattle.std.proofs.Common.{◌<◌, ◌≤◌, ◌+◌, length, rules, ◌∙◌}
 use Rattle.pc_source.proofs.Taking.{takes_more, counts_none}
-use Rattle.pc_report.proofs.writing.write_whole.Goals as goal
+use Rattle.pc_source.proofs.counted.Counted.write_whole.Goals as goal
 
 pub loop-at-preserved : goal.loop-at-preserved
 loop-at-preserved g c =
@@ -12,6 +12,6 @@ loop-at-preserved g c =
     record {
       within = within;
       taken = takes_more _ _ _ bytes at count within c.loop-at.invariant.taken c.in-Ok.ensures.bytes;
-      failures = c.in-Ok.ensures.failures ∙ (counts_none _ count c.loop-at.device.failures some
+      failures = c.in-Ok.ensures.failures ∙ (counts_none _ count c.loop-at.self.failures some
           ∙ c.loop-at.invariant.failures);
     }
