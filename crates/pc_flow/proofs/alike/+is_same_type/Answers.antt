@@ -1,6 +1,6 @@
 use Rattle.std.proofs.Common.{rules, ◌≡◌, ◌∙◌, ◌<◌, length, sym, arith}
 use Rattle.pc_flow.proofs.SameTypes.{given_at, fewer_at, as_many, all_same, one_more_same}
-use Rattle.pc_flow.proofs.alike.+is_same.Goals as goal
+use Rattle.pc_flow.proofs.alike.+is_same_type.Goals as goal
 
 pub index-requires-in-loop-part : goal.index-requires-in-loop-part
 index-requires-in-loop-part g t c =
@@ -11,8 +11,8 @@ index-requires-in-loop-part g t c =
     c.head.ensures.parts heads in
     omega (arith, many, c.loop-part-test.true)
 
-pub is_same-requires : goal.is_same-requires
-is_same-requires g t c κs within =
+pub is_same_type-requires : goal.is_same_type-requires
+is_same_type-requires g t c κs within =
     let tree = g.S.TypeStore.tree in
     let has = g.S.TypeStore.has c.args.store.now in
     let left = c.in_ok-left.left.items in
@@ -53,7 +53,8 @@ loop-part-preserved g t c =
     let less : i < length left = omega (arith, c.loop-part-test.true) in
     let less_right : i < length right = omega (arith, many, less) in
     one_more_same tree left right i c.index.result.now c.index-in-loop-part.result.now less less_right
-    c.index.ensures c.index-in-loop-part.ensures (c.in_ok-is_same.ensures c.if-not-branch.false) c.loop-part.invariant
+    c.index.ensures c.index-in-loop-part.ensures (c.in_ok-is_same_type.ensures c.if-not-branch.false)
+    c.loop-part.invariant
 
 pub returns : goal.returns
 returns g t c =
