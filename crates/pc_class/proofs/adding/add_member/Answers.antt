@@ -2,20 +2,20 @@ use Rattle.std.proofs.Common.{◌≡◌, ◌∙◌, ◌++◌, ◌∷◌, [], Lis
 use Rattle.std.specs.Prelude.{Some, if◌then◌else◌, bytes_eq}
 use Rattle.pc_shared_maps.specs.NameMaps.{named_at}
 use Rattle.pc_class.specs.Outlines.{IsMapOf}
-use Rattle.pc_class.specs.Parts.{stored_method_name}
 use Rattle.pc_class.proofs.Holding.{held_more, named_ahead}
-use Rattle.pc_class.proofs.adding.add_method.Goals as goal
+use Rattle.pc_class.proofs.adding.add_member.Goals as goal
 
 pub returns-clause-held : goal.returns-clause-held
 returns-clause-held g c front back h none =
-    let x = c.args.method in
-    let long : c.len-number.result ≡ length c.args.methods.now.items = search rules in
-    subst (λ (ys : List _). IsMapOf stored_method_name c.put.new.self ys c.in_ok-new.new ((front ++ x ∷ []) ++ back))
+    let name = g.X.NamedMember.name_of in
+    let x = c.args.member in
+    let long : c.len-number.result ≡ length c.args.members.now.items = search rules in
+    subst (λ (ys : List _). IsMapOf name c.put.new.self ys c.in_ok-new.new ((front ++ x ∷ []) ++ back))
     (sym c.in_ok-push.ensures.items)
-    (held_more stored_method_name c.args.named.now c.put.new.self c.args.methods.now.items c.args.at c.in_ok-new.new
+    (held_more name c.args.named.now c.put.new.self c.args.members.now.items c.args.at c.in_ok-new.new
     (front ++ back) ((front ++ x ∷ []) ++ back) x h c.in_ok-new.ensures.within
     (λ n. c.in_ok-new.ensures.value n
     ∙ ap (λ (t : List ℕ). if bytes_eq n t then Some c.len-number.result else named_at c.args.named.now c.args.at n)
-    c.as_str.ensures.value
-    ∙ ap (λ i. if bytes_eq n (stored_method_name x) then Some i else named_at c.args.named.now c.args.at n) long)
-    (named_ahead stored_method_name front back x none))
+    c.name.ensures
+    ∙ ap (λ i. if bytes_eq n (name x) then Some i else named_at c.args.named.now c.args.at n) long)
+    (named_ahead name front back x none))
