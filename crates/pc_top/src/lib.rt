@@ -14,5 +14,5 @@ pub use fault::CheckFault;
 pub use laws::{no_needless_flow, one_report};
 pub use pc_front::read_module;
 pub use pc_report::{Format, Report, Row};
-pub use stream::check_stream;
+pub use stream::{FindingCounts, check_stream};
 pub use top::check;

@@ -3,7 +3,7 @@ use pc_front::module_in;
 use pc_notes::Notes;
 use pc_scope::scopes;
 use pc_source::{Counted, Source, read_source};
-use pc_top::{CheckFault, Format, Report, check, check_stream, findings_by};
+use pc_top::{CheckFault, FindingCounts, Format, Report, check, check_stream, findings_by};
 use pc_tree::Module;
 use pc_types::BoxStore;
 use std::alloc::{AllocError, Global};
@@ -74,7 +74,9 @@ impl ReportMaker for Checking {
         format: Format,
     ) -> Result<String, AllocError> {
         match check_stream(alloc, reader, writer, json, format) {
-            Ok((errors, dynamic)) => format!(in alloc; "errors {errors}, dynamic {dynamic}"),
+            Ok(FindingCounts { errors, dynamic }) => {
+                format!(in alloc; "errors {errors}, dynamic {dynamic}")
+            }
             Err(fault) => format!(in alloc; "{fault}"),
         }
     }
