@@ -1,6 +1,6 @@
 use Rattle.std.proofs.Common.{◌≡◌, ◌++◌, map, List}
 use Rattle.std.specs.List.{AllByRecursion}
-use Rattle.pc_tree.specs.Tree.{module_of}
+use Rattle.pc_annotations.specs.Named.{named_module}
 use Rattle.pc_notes.specs.Notes.{Note}
 use Rattle.pc_notes.specs.Texts.{IsFlowText, HasFirstFlows, HasGivenFlows, AreNamed, places_of}
 use Rattle.pc_notes.proofs.FirstFlows.{IsPairOf}
@@ -9,9 +9,9 @@ use Rattle.pc_notes.proofs.notes.texts_of.Given as goal
 abbrev pub invariant-loop-entry : goal.invariant-loop-entry
 invariant-loop-entry l = record {
   places : places_of l.texts.items ++ map (λ e. e.0) l.entry-iterator ≡ map (λ e. e.0) l.flows.entries;
-  each : (notes : List Note) → HasFirstFlows notes l.flows → AllByRecursion (IsFlowText (module_of l.tree) notes)
+  each : (notes : List Note) → HasFirstFlows notes l.flows → AllByRecursion (IsFlowText (named_module l.names) notes)
       l.texts.items;
   left : AllByRecursion (IsPairOf l.flows) l.entry-iterator;
   given : HasGivenFlows l.flows;
-  named : AreNamed (module_of l.tree) l.known;
+  named : AreNamed (named_module l.names) l.known;
 }
