@@ -62,8 +62,7 @@ pub(crate) fn check_suite<S: TypeStore>(
     requires breaks { Settles S.TypeStore walk.old exit.old.unsettled.items env exit.old.env }
     ensures breaks { OnOk result (StaysSettled S.TypeStore walk.old walk.new
         (λ resolve. touched_by resolve (stmts_of_list body.now)) exit.old.unsettled.items exit.new.unsettled.items env
-        exit.old.env
-        exit.new.env) }
+        exit.old.env exit.new.env) }
     ensures walked { IfOk result (λ out. Walked S.TypeStore walk.old env exit.old.env walk.new out exit.new.env
         (λ f w. walk_suite f w (stmts_of_list body.now))) }
     ensures goes_on { WalkKept S.TypeStore walk.old walk.new }
@@ -90,8 +89,7 @@ fn check_next<S: TypeStore>(
     requires breaks { Settles S.TypeStore walk.old exit.old.unsettled.items env exit.old.env }
     ensures breaks { OnOk result (StaysSettled S.TypeStore walk.old walk.new
         (λ resolve. touched_by_stmt resolve (stmt_of statement.now)) exit.old.unsettled.items exit.new.unsettled.items
-        env
-        exit.old.env exit.new.env) }
+        env exit.old.env exit.new.env) }
     ensures settled { IfOk result (λ out. Settles S.TypeStore walk.new exit.new.unsettled.items out exit.new.env) }
     ensures walked { IfOk result (λ out. Walked S.TypeStore walk.old env exit.old.env walk.new out exit.new.env
         (λ f w. step f w.table w.env w.broken w.found (stmt_of statement.now))) }
@@ -127,8 +125,7 @@ fn check_stmt<S: TypeStore>(
     requires breaks { Settles S.TypeStore walk.old exit.old.unsettled.items (Some env) exit.old.env }
     ensures breaks { OnOk result (StaysSettled S.TypeStore walk.old walk.new
         (λ resolve. touched_by_stmt resolve (stmt_of_kind first kind.now)) exit.old.unsettled.items
-        exit.new.unsettled.items
-        (Some env) exit.old.env exit.new.env) }
+        exit.new.unsettled.items (Some env) exit.old.env exit.new.env) }
     ensures walked { IfOk result (λ out. Walked S.TypeStore walk.old (Some env) exit.old.env walk.new out exit.new.env
         (λ f w. step f w.table w.env w.broken w.found (stmt_of_kind first kind.now))) }
     ensures goes_on { WalkKept S.TypeStore walk.old walk.new }
@@ -237,8 +234,7 @@ fn check_for<S: TypeStore>(
 
 /// Checks the suite of `else`, an empty one if there is no `else`, where all conditions of an `if` are false; `fork` is
 /// the state after the branches. Returns the environment after the `if`: the joined ends of all its suites, `None` if
-/// none of them can complete. `exit` is that of `check_suite`. Language Reference 8.1 "The if
-/// statement".
+/// none of them can complete. `exit` is that of `check_suite`. Language Reference 8.1 "The if statement".
 #[cycle(statements)]
 fn check_otherwise<S: TypeStore>(
     walk: &mut Walk<'_, S>,
@@ -282,8 +278,7 @@ fn check_branches<S: TypeStore>(
     requires breaks { Settles S.TypeStore walk.old exit.old.unsettled.items (Some env) exit.old.env }
     ensures breaks { OnOk result (StaysSettled S.TypeStore walk.old walk.new
         (λ resolve. touched_by_branches resolve (branches_of_list branches.now)) exit.old.unsettled.items
-        exit.new.unsettled.items
-        (Some env) exit.old.env exit.new.env) }
+        exit.new.unsettled.items (Some env) exit.old.env exit.new.env) }
     ensures breaks_settle { IfOk result
         (λ k. Settles S.TypeStore walk.new exit.new.unsettled.items (Some k.last) exit.new.env) }
     ensures walked { IfOk result (λ k. Forked S.TypeStore walk.old env None exit.old.env walk.new k.last k.ways.met
