@@ -18,7 +18,7 @@ use Rattle.pc_shared_maps.proofs.Naming.{map_end, map_length}
 use Rattle.pc_class.specs.declared.table.Parameter.{Parameter as RustParameter}
 use Rattle.pc_class.specs.FieldLists.{IsSeat, IsSeatIfAny, IsListOf, fields_in, list_at}
 use Rattle.pc_class.specs.Listed.{names_listed, needed_in, is_defaulted, parameter_name}
-use Rattle.pc_class.specs.Parts.{part, lent_parameter}
+use Rattle.pc_class.specs.Parts.{part}
 use Rattle.pc_class.specs.Tables.{ClassEntry, empty_entry, inherited_entry}
 use Rattle.pc_class.proofs.TableFields.{span, part_more, part_none}
 use Rattle.pc_class.proofs.TableMore.{get_before, get_last, index_before}

@@ -1,5 +1,5 @@
 -- The reads of a class table: the item that the maps of a class have at a name.
-use Rattle.std.proofs.Common.{◌≡◌, ◌<◌, ℕ, zero, suc, List, [], ◌∷◌, length, map, get_or, refl, sym, ap, ◌∙◌, subst}
+use Rattle.std.proofs.Common.{◌≡◌, ◌<◌, ℕ, zero, suc, List, [], ◌∷◌, length, map, get_or, refl, sym, ap, ◌∙◌}
 use Rattle.std.proofs.Common.{arith}
 use Rattle.std.specs.Prelude.{Bool, true, false, cond, Option, Some, None, find, slice_get, slice_index_or, bytes_eq}
 use Rattle.std.specs.Prelude.{Contains}
