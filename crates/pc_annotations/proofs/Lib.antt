@@ -9,6 +9,7 @@ pub mod Each
 pub mod Forms
 pub mod Parts
 pub mod Texts
+pub mod ClassesNamed
 pub mod Readings
 pub mod Earlier
 pub mod ParentsOf

@@ -14,6 +14,10 @@ abbrev pub name_in : Option ClassDef → List ℕ
 name_in None = []
 name_in (Some c) = c.name.text
 
+-- the names of the classes of a module, in order
+abbrev pub class_names : Module → List (List ℕ)
+class_names m = map (λ c. c.name.text) (classes_in m.items)
+
 -- the name of the class with this number, in normal form NFKC; empty if there is no such class
 abbrev pub class_text : Module → ℕ → List ℕ
 class_text m c = name_in (slice_get (classes_in m.items) c)

@@ -25,6 +25,7 @@ pub fn parents_of(alloc: Global, tree: &Module, scopes: &Scopes) -> Result<Paren
     }
     match Parents::new(bases) {
         Some(parents) => Ok(parents.with_leaps(alloc)?),
+        // `base_named` gives only classes before this one, which no type says.
         None => unreachable!(),
     }
 }

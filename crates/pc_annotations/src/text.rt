@@ -3,32 +3,18 @@
 ghost use Rattle.std.specs.Prelude.{◌≡◌, ◌++◌, codes, IfOk, OnOk, string_bytes};
 ghost use Rattle.std.specs.Option.{option_map};
 ghost use Rattle.pc_tree.specs.Tree.{module_of};
-ghost use Rattle.pc_annotations.specs.Text.{class_text, type_text, part_texts, before, texts_with, plain_text};
+ghost use Rattle.pc_annotations.specs.Named.{named_module};
+ghost use Rattle.pc_annotations.specs.Text.{type_text, part_texts, before, texts_with, plain_text};
 
+use crate::names::ClassNames;
 use pc_source::OutOfMemory;
-use pc_tree::{ItemKind, Module};
+use pc_tree::Module;
 use pc_types::{Head, TypeStore};
 use std::alloc::Global;
 
-/// Returns the name of the class with this number, or an empty text if there is no such class.
-fn class_name(tree: &Module, number: usize) -> &str
-    ensures { result.now ≡ class_text (module_of tree.now) number }
-{
-    let mut before = number;
-    for item in &tree.items {
-        if let ItemKind::Class(class) = &item.kind {
-            if before == 0 {
-                return class.name.text.as_str();
-            }
-            before -= 1;
-        }
-    }
-    ""
-}
-
 /// Returns the text of a type without parts, given its head; `None` for a list, a dict, a tuple or a union.
-fn plain_text(tree: &Module, head: Head) -> Option<&str>
-    ensures { option_map (λ s. s.now) result ≡ plain_text (module_of tree.now) head }
+fn plain_text<'n>(names: &'n ClassNames<'_>, head: Head) -> Option<&'n str>
+    ensures { option_map (λ s. s.now) result ≡ plain_text (named_module names.now) head }
 {
     match head {
         Head::Any => Some("Any"),
@@ -38,7 +24,7 @@ fn plain_text(tree: &Module, head: Head) -> Option<&str>
         Head::Bool => Some("bool"),
         Head::Str => Some("str"),
         Head::None => Some("None"),
-        Head::Class(number) => Some(class_name(tree, number)),
+        Head::Class(number) => Some(names.name(number)),
         Head::List | Head::Dict | Head::Tuple(_) | Head::Union(_) => None,
     }
 }
@@ -58,24 +44,24 @@ fn separate(out: &mut String, number: usize, separator: &str) -> Result<(), OutO
 fn write_type<S: TypeStore>(
     store: &S,
     alloc: Global,
-    tree: &Module,
+    names: &ClassNames<'_>,
     ty: &S::Ty,
     out: &mut String,
 ) -> Result<(), OutOfMemory>
     requires { S.has store.now ty.now }
     ensures { OnOk result (string_bytes out.new
-        ≡ string_bytes out.old ++ type_text (module_of tree.now) (S.tree ty.now)) }
+        ≡ string_bytes out.old ++ type_text (named_module names.now) (S.tree ty.now)) }
 {
     let head = store.head(ty);
-    if let Some(text) = plain_text(tree, head) {
+    if let Some(text) = plain_text(names, head) {
         out.push_str(text)?;
         return Ok(());
     }
     match head {
-        Head::List => write_applied(store, alloc, tree, "list[", ty, out),
-        Head::Dict => write_applied(store, alloc, tree, "dict[", ty, out),
-        Head::Tuple(_) => write_applied(store, alloc, tree, "tuple[", ty, out),
-        _ => write_parts(store, alloc, tree, " | ", ty, out),
+        Head::List => write_applied(store, alloc, names, "list[", ty, out),
+        Head::Dict => write_applied(store, alloc, names, "dict[", ty, out),
+        Head::Tuple(_) => write_applied(store, alloc, names, "tuple[", ty, out),
+        _ => write_parts(store, alloc, names, " | ", ty, out),
     }
 }
 
@@ -84,17 +70,17 @@ fn write_type<S: TypeStore>(
 fn write_applied<S: TypeStore>(
     store: &S,
     alloc: Global,
-    tree: &Module,
+    names: &ClassNames<'_>,
     name: &str,
     ty: &S::Ty,
     out: &mut String,
 ) -> Result<(), OutOfMemory>
     requires { S.has store.now ty.now }
     ensures { OnOk result (string_bytes out.new ≡ string_bytes out.old
-        ++ (name.now ++ (texts_with (codes ", ") (part_texts (module_of tree.now) (S.tree ty.now)) ++ codes "]"))) }
+        ++ (name.now ++ (texts_with (codes ", ") (part_texts (named_module names.now) (S.tree ty.now)) ++ codes "]"))) }
 {
     out.push_str(name)?;
-    write_parts(store, alloc, tree, ", ", ty, out)?;
+    write_parts(store, alloc, names, ", ", ty, out)?;
     out.push_str("]")?;
     Ok(())
 }
@@ -104,14 +90,14 @@ fn write_applied<S: TypeStore>(
 fn write_parts<S: TypeStore>(
     store: &S,
     alloc: Global,
-    tree: &Module,
+    names: &ClassNames<'_>,
     separator: &str,
     ty: &S::Ty,
     out: &mut String,
 ) -> Result<(), OutOfMemory>
     requires { S.has store.now ty.now }
     ensures { OnOk result (string_bytes out.new
-        ≡ string_bytes out.old ++ texts_with separator.now (part_texts (module_of tree.now) (S.tree ty.now))) }
+        ≡ string_bytes out.old ++ texts_with separator.now (part_texts (named_module names.now) (S.tree ty.now))) }
 {
     let parts = store.parts(alloc, ty)?;
     if parts.is_empty() {
@@ -120,7 +106,7 @@ fn write_parts<S: TypeStore>(
     }
     for i in 0..parts.len() {
         separate(out, i, separator)?;
-        write_type(store, alloc, tree, &parts[i], out)?;
+        write_type(store, alloc, names, &parts[i], out)?;
     }
     Ok(())
 }
@@ -128,6 +114,30 @@ fn write_parts<S: TypeStore>(
 /// Returns the text of a type of a module: `Any`, `object`, `Never`, `int`, `bool`, `str`, `None`, the name of a class
 /// in normal form NFKC, `list[T]`, `dict[K, V]`, `tuple[S, T]`, `tuple[()]`, and the members of a union in order with `
 /// ` between them. Typing specification, "Type annotations"; PEP 604.
+///
+/// # Errors
+///
+/// `OutOfMemory` only if an allocation failed.
+pub fn named_text<S: TypeStore>(
+    store: &S,
+    alloc: Global,
+    names: &ClassNames<'_>,
+    ty: &S::Ty,
+) -> Result<String, OutOfMemory>
+    requires { S.has store.now ty.now }
+    ensures { IfOk result (λ s. string_bytes s ≡ type_text (named_module names.now) (S.tree ty.now)) }
+{
+    let mut out = String::new(alloc);
+    write_type(store, alloc, names, ty, &mut out)?;
+    Ok(out)
+}
+
+/// Returns the text of a type of a module, like `named_text`, which takes less time for many types, since it is given
+/// the names of the classes.
+///
+/// # Errors
+///
+/// As for `named_text`.
 pub fn type_text<S: TypeStore>(
     store: &S,
     alloc: Global,
@@ -137,7 +147,6 @@ pub fn type_text<S: TypeStore>(
     requires { S.has store.now ty.now }
     ensures { IfOk result (λ s. string_bytes s ≡ type_text (module_of tree.now) (S.tree ty.now)) }
 {
-    let mut out = String::new(alloc);
-    write_type(store, alloc, tree, ty, &mut out)?;
-    Ok(out)
+    let names = ClassNames::of(alloc, tree)?;
+    named_text(store, alloc, &names, ty)
 }

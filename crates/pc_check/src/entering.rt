@@ -19,7 +19,7 @@ ghost use Rattle.pc_walk.specs.StatementsHeld.{body_context_with, HoldsContext};
 ghost use Rattle.pc_walk.specs.Walks.{Stands, HoldsOne, WalkKept, Bound, body_context_in};
 ghost use Rattle.pc_check.specs.Internal.Entry.{HoldsParameters, entered};
 
-use crate::statements::check_suite;
+use crate::statements::{LoopExit, check_suite};
 use pc_class::Parameter;
 use pc_flow::{DeclaredTypes, Env};
 use pc_rules::TypingState;
@@ -154,9 +154,11 @@ fn walk_function<S: TypeStore>(
     let mut env = Env::new(walk.alloc, count)?;
     enter_receiver(walk, &mut env, owner)?;
     enter(walk, &mut env, params)?;
-    let mut broken = None;
-    let mut breaking = Vec::new(walk.alloc);
-    let out = check_suite(walk, Some(env), &mut breaking, &mut broken, &def.body)?;
+    let mut exit = LoopExit {
+        env: None,
+        unsettled: Vec::new(walk.alloc),
+    };
+    let out = check_suite(walk, Some(env), &mut exit, &def.body)?;
     find_end(walk, def.name.place, &out)?;
     Ok(())
 }

@@ -17,9 +17,10 @@ use pc_tree::{Code, Module};
 use pc_types::TypeStore;
 use std::alloc::Global;
 
-/// Returns the two types of the dynamic flow at a place of a module: the type that flows, and the type that it flows
-/// into, under the lawful labelling of the module. Of several dynamic flows at the place, the first counts. `None`
-/// exactly if A1 is not found there. Types the whole module anew.
+/// Returns the two types of the dynamic flow at a place of a module; for tests, since `check_module` notes them as it
+/// types the module. They are the type that flows, and the type that it flows into, under the lawful labelling of the
+/// module. Of several dynamic flows at the place, the first counts. `None` exactly if A1 is not found there. Types the
+/// whole module anew.
 ///
 /// Typing specification, "Type system concepts", on gradual types; own rule of the profile.
 ///

@@ -26,6 +26,15 @@ use pc_walk::{
     note_touched, touched_by, touched_by_for, touched_by_while, while_start,
 };
 
+/// The exit of a loop while its body is checked.
+#[derive(Drop)]
+pub(crate) struct LoopExit<Ty: Drop> {
+    /// The environment after the loop, into which that of each `break` is joined; `None` outside of loops.
+    pub env: Option<Env<Ty>>,
+    /// The locals where `env` may not subsume the current environment yet: a `break` joins only these.
+    pub unsettled: Vec<usize>,
+}
+
 /// State of checking the branches of an `if`: the environment where all conditions so far are false, and the joined
 /// environments at the ends of their suites.
 #[derive(Drop)]
@@ -38,54 +47,51 @@ struct IfState<Ty: Drop> {
 /// the environment before them, `None` in unreachable code. Returns the environment after them, `None` if control
 /// cannot get there.
 ///
-/// `broken` is the exit environment of the enclosing loop, `None` outside of loops; each `break` is joined into it.
-/// `breaking` lists the locals where `broken` may not subsume the current environment yet: a `break` joins only these,
-/// so at all others `broken` must already subsume `env`. Each statement adds the locals that it touches to `breaking`,
-/// and a `break` removes those where a second join would change nothing.
+/// `exit` is that of the enclosing loop; each `break` is joined into it at the unsettled locals, so at all others its
+/// environment must already subsume `env`. Each statement adds the locals that it touches to the unsettled ones, and a
+/// `break` removes those where a second join would change nothing.
 #[cycle(statements)]
 pub(crate) fn check_suite<S: TypeStore>(
     walk: &mut Walk<'_, S>,
     env: Option<Env<S::Ty>>,
-    breaking: &mut Vec<usize>,
-    broken: &mut Option<Env<S::Ty>>,
+    exit: &mut LoopExit<S::Ty>,
     body: &[Stmt],
 ) -> Result<Option<Env<S::Ty>>, OutOfMemory>
-    requires stands { StandsIn S.TypeStore walk.old env broken.old }
-    requires long { IsLong (reached S.TypeStore walk.old env broken.old) }
-    requires breaks { Settles S.TypeStore walk.old breaking.old.items env broken.old }
+    requires stands { StandsIn S.TypeStore walk.old env exit.old.env }
+    requires long { IsLong (reached S.TypeStore walk.old env exit.old.env) }
+    requires breaks { Settles S.TypeStore walk.old exit.old.unsettled.items env exit.old.env }
     ensures breaks { OnOk result (StaysSettled S.TypeStore walk.old walk.new
-        (λ resolve. touched_by resolve (stmts_of_list body.now)) breaking.old.items breaking.new.items env broken.old
-        broken.new) }
-    ensures walked { IfOk result (λ out. Walked S.TypeStore walk.old env broken.old walk.new out broken.new
+        (λ resolve. touched_by resolve (stmts_of_list body.now)) exit.old.unsettled.items exit.new.unsettled.items env
+        exit.old.env exit.new.env) }
+    ensures walked { IfOk result (λ out. Walked S.TypeStore walk.old env exit.old.env walk.new out exit.new.env
         (λ f w. walk_suite f w (stmts_of_list body.now))) }
     ensures goes_on { WalkKept S.TypeStore walk.old walk.new }
 {
     let mut env = env;
     for statement in body {
-        env = check_next(walk, env, breaking, broken, statement)?;
+        env = check_next(walk, env, exit, statement)?;
     }
     Ok(env)
 }
 
-/// Checks one statement as `check_suite` does, with the same `env`, `breaking` and `broken`, and returns the
-/// environment after it, `None` if control cannot get there. If `env` is `None`, the statement is unreachable: it is
-/// not checked, and each local first bound in it is declared `Any`.
+/// Checks one statement as `check_suite` does, with the same `env` and `exit`, and returns the environment after it,
+/// `None` if control cannot get there. If `env` is `None`, the statement is unreachable: it is not checked, and each
+/// local first bound in it is declared `Any`.
 #[cycle(statements)]
 fn check_next<S: TypeStore>(
     walk: &mut Walk<'_, S>,
     env: Option<Env<S::Ty>>,
-    breaking: &mut Vec<usize>,
-    broken: &mut Option<Env<S::Ty>>,
+    exit: &mut LoopExit<S::Ty>,
     statement: &Stmt,
 ) -> Result<Option<Env<S::Ty>>, OutOfMemory>
-    requires stands { StandsIn S.TypeStore walk.old env broken.old }
-    requires long { IsLong (reached S.TypeStore walk.old env broken.old) }
-    requires breaks { Settles S.TypeStore walk.old breaking.old.items env broken.old }
+    requires stands { StandsIn S.TypeStore walk.old env exit.old.env }
+    requires long { IsLong (reached S.TypeStore walk.old env exit.old.env) }
+    requires breaks { Settles S.TypeStore walk.old exit.old.unsettled.items env exit.old.env }
     ensures breaks { OnOk result (StaysSettled S.TypeStore walk.old walk.new
-        (λ resolve. touched_by_stmt resolve (stmt_of statement.now)) breaking.old.items breaking.new.items env
-        broken.old broken.new) }
-    ensures settled { IfOk result (λ out. Settles S.TypeStore walk.new breaking.new.items out broken.new) }
-    ensures walked { IfOk result (λ out. Walked S.TypeStore walk.old env broken.old walk.new out broken.new
+        (λ resolve. touched_by_stmt resolve (stmt_of statement.now)) exit.old.unsettled.items exit.new.unsettled.items
+        env exit.old.env exit.new.env) }
+    ensures settled { IfOk result (λ out. Settles S.TypeStore walk.new exit.new.unsettled.items out exit.new.env) }
+    ensures walked { IfOk result (λ out. Walked S.TypeStore walk.old env exit.old.env walk.new out exit.new.env
         (λ f w. step f w.table w.env w.broken w.found (stmt_of statement.now))) }
     ensures goes_on { WalkKept S.TypeStore walk.old walk.new }
 {
@@ -96,39 +102,38 @@ fn check_next<S: TypeStore>(
         }
         Some(env) => {
             let kind = &statement.kind;
-            let out = check_stmt(walk, env, breaking, broken, statement.first, kind)?;
-            note_touched(walk, broken, kind, breaking)?;
+            let out = check_stmt(walk, env, exit, statement.first, kind)?;
+            note_touched(walk, &exit.env, kind, &mut exit.unsettled)?;
             Ok(out)
         }
     }
 }
 
 /// Checks a reachable statement, whose first token is at `first`, in `env`. Returns the environment after it, `None` if
-/// control cannot get there. A `break` is joined into `broken` as in `check_suite`, but it is left to the caller to add
-/// the locals that the statement touches to `breaking`.
+/// control cannot get there. A `break` is joined into `exit` as in `check_suite`, but it is left to the caller to add
+/// the locals that the statement touches to the unsettled ones.
 #[cycle(statements)]
 fn check_stmt<S: TypeStore>(
     walk: &mut Walk<'_, S>,
     env: Env<S::Ty>,
-    breaking: &mut Vec<usize>,
-    broken: &mut Option<Env<S::Ty>>,
+    exit: &mut LoopExit<S::Ty>,
     first: Place,
     kind: &StmtKind,
 ) -> Result<Option<Env<S::Ty>>, OutOfMemory>
-    requires stands { StandsIn S.TypeStore walk.old (Some env) broken.old }
-    requires long { IsLong (reached S.TypeStore walk.old (Some env) broken.old) }
-    requires breaks { Settles S.TypeStore walk.old breaking.old.items (Some env) broken.old }
+    requires stands { StandsIn S.TypeStore walk.old (Some env) exit.old.env }
+    requires long { IsLong (reached S.TypeStore walk.old (Some env) exit.old.env) }
+    requires breaks { Settles S.TypeStore walk.old exit.old.unsettled.items (Some env) exit.old.env }
     ensures breaks { OnOk result (StaysSettled S.TypeStore walk.old walk.new
-        (λ resolve. touched_by_stmt resolve (stmt_of_kind first kind.now)) breaking.old.items breaking.new.items
-        (Some env) broken.old broken.new) }
-    ensures walked { IfOk result (λ out. Walked S.TypeStore walk.old (Some env) broken.old walk.new out broken.new
+        (λ resolve. touched_by_stmt resolve (stmt_of_kind first kind.now)) exit.old.unsettled.items
+        exit.new.unsettled.items (Some env) exit.old.env exit.new.env) }
+    ensures walked { IfOk result (λ out. Walked S.TypeStore walk.old (Some env) exit.old.env walk.new out exit.new.env
         (λ f w. step f w.table w.env w.broken w.found (stmt_of_kind first kind.now))) }
     ensures goes_on { WalkKept S.TypeStore walk.old walk.new }
 {
     match kind {
         StmtKind::Pass => Ok(Some(env)),
         StmtKind::Break => {
-            break_out(walk, breaking, &env, broken)?;
+            break_out(walk, &mut exit.unsettled, &env, &mut exit.env)?;
             Ok(None)
         }
         StmtKind::Continue => Ok(None),
@@ -155,8 +160,8 @@ fn check_stmt<S: TypeStore>(
         StmtKind::While(condition, body) => check_while(walk, &env, body, condition),
         StmtKind::For(name, iterable, body) => check_for(walk, &env, body, name, iterable),
         StmtKind::If(branches, suite) => {
-            let fork = check_branches(walk, env, breaking, broken, branches)?;
-            let out = check_otherwise(walk, fork, breaking, broken, suite)?;
+            let fork = check_branches(walk, env, exit, branches)?;
+            let out = check_otherwise(walk, fork, exit, suite)?;
             Ok(out)
         }
     }
@@ -186,10 +191,13 @@ fn check_while<S: TypeStore>(
         where_true,
         where_false,
     } = type_condition(walk, &head, condition)?;
-    let mut breaking = touched_by_while(walk.alloc, walk.context.names, condition, body)?;
-    let mut way = Some(where_false);
-    check_suite(walk, Some(where_true), &mut breaking, &mut way, body)?;
-    Ok(way)
+    let unsettled = touched_by_while(walk.alloc, walk.context.names, condition, body)?;
+    let mut exit = LoopExit {
+        env: Some(where_false),
+        unsettled,
+    };
+    check_suite(walk, Some(where_true), &mut exit, body)?;
+    Ok(exit.env)
 }
 
 /// Checks a `for` with `env` before it, and appends the findings: its iterable in `env`, then its body with the target
@@ -212,42 +220,44 @@ fn check_for<S: TypeStore>(
         (for_loop p (name_of name.now) (expr_of iterable.now) (stmts_of_list body.now)))) }
     ensures goes_on { WalkKept S.TypeStore walk.old walk.new }
 {
-    let mut breaking = touched_by_for(walk.alloc, walk.context.names, name, body)?;
+    let unsettled = touched_by_for(walk.alloc, walk.context.names, name, body)?;
     let item = item_type(walk, env, iterable)?;
     let head = for_start(walk, env, name, body)?;
-    let mut way = Some(copy_env(walk.store, walk.alloc, &head)?);
+    let mut exit = LoopExit {
+        env: Some(copy_env(walk.store, walk.alloc, &head)?),
+        unsettled,
+    };
     let inside = bind_item(walk, head, name, iterable.place(), item)?;
-    check_suite(walk, Some(inside), &mut breaking, &mut way, body)?;
-    Ok(way)
+    check_suite(walk, Some(inside), &mut exit, body)?;
+    Ok(exit.env)
 }
 
 /// Checks the suite of `else`, an empty one if there is no `else`, where all conditions of an `if` are false; `fork` is
 /// the state after the branches. Returns the environment after the `if`: the joined ends of all its suites, `None` if
-/// none of them can complete. `breaking` and `broken` are those of `check_suite`. Language Reference 8.1 "The if
-/// statement".
+/// none of them can complete. `exit` is that of `check_suite`. Language Reference 8.1 "The if statement".
 #[cycle(statements)]
 fn check_otherwise<S: TypeStore>(
     walk: &mut Walk<'_, S>,
     fork: IfState<S::Ty>,
-    breaking: &mut Vec<usize>,
-    broken: &mut Option<Env<S::Ty>>,
+    exit: &mut LoopExit<S::Ty>,
     otherwise: &[Stmt],
 ) -> Result<Option<Env<S::Ty>>, OutOfMemory>
-    requires stands { StandsIn S.TypeStore walk.old (Some fork.last) broken.old }
+    requires stands { StandsIn S.TypeStore walk.old (Some fork.last) exit.old.env }
     requires ways { HoldsWay S.TypeStore walk.old fork.ways.met }
     requires settled { ForkSettles walk.old.context.globals.now.outline.now.parents.now fork.ways.unsettled.items
-        (forked S.TypeStore walk.old fork.last fork.ways.met broken.old) }
-    requires breaks { Settles S.TypeStore walk.old breaking.old.items (Some fork.last) broken.old }
+        (forked S.TypeStore walk.old fork.last fork.ways.met exit.old.env) }
+    requires breaks { Settles S.TypeStore walk.old exit.old.unsettled.items (Some fork.last) exit.old.env }
     ensures breaks { OnOk result (StaysSettled S.TypeStore walk.old walk.new
-        (λ resolve. touched_by resolve (stmts_of_list otherwise.now)) breaking.old.items breaking.new.items
-        (Some fork.last) broken.old broken.new) }
-    ensures walked { IfOk result (λ out. Walked S.TypeStore walk.old (Some fork.last) broken.old walk.new out broken.new
-        (λ f w. behind_branches f (forked S.TypeStore walk.old fork.last fork.ways.met broken.old).ways
+        (λ resolve. touched_by resolve (stmts_of_list otherwise.now)) exit.old.unsettled.items exit.new.unsettled.items
+        (Some fork.last) exit.old.env exit.new.env) }
+    ensures walked { IfOk result (λ out. Walked S.TypeStore walk.old (Some fork.last) exit.old.env walk.new out
+        exit.new.env
+        (λ f w. behind_branches f (forked S.TypeStore walk.old fork.last fork.ways.met exit.old.env).ways
         (walk_suite f w (stmts_of_list otherwise.now)))) }
     ensures goes_on { WalkKept S.TypeStore walk.old walk.new }
 {
     let IfState { last, ways } = fork;
-    let out = check_suite(walk, Some(last), breaking, broken, otherwise)?;
+    let out = check_suite(walk, Some(last), exit, otherwise)?;
     let touched = touched_by(walk.alloc, walk.context.names, &[], otherwise)?;
     let joined = meet(walk, ways, touched, out)?;
     Ok(joined.met)
@@ -255,27 +265,26 @@ fn check_otherwise<S: TypeStore>(
 
 /// Checks the branches of an `if`, its `if` and each `elif`, in order; `env` is the environment before them. Returns
 /// the environment where all conditions are false, and the joined environments at the ends of the branches' suites.
-/// `breaking` and `broken` are those of `check_suite`.
+/// `exit` is that of `check_suite`.
 #[cycle(statements)]
 fn check_branches<S: TypeStore>(
     walk: &mut Walk<'_, S>,
     env: Env<S::Ty>,
-    breaking: &mut Vec<usize>,
-    broken: &mut Option<Env<S::Ty>>,
+    exit: &mut LoopExit<S::Ty>,
     branches: &[Branch],
 ) -> Result<IfState<S::Ty>, OutOfMemory>
-    requires stands { StandsIn S.TypeStore walk.old (Some env) broken.old }
-    requires long { IsLong (reached S.TypeStore walk.old (Some env) broken.old) }
-    requires breaks { Settles S.TypeStore walk.old breaking.old.items (Some env) broken.old }
+    requires stands { StandsIn S.TypeStore walk.old (Some env) exit.old.env }
+    requires long { IsLong (reached S.TypeStore walk.old (Some env) exit.old.env) }
+    requires breaks { Settles S.TypeStore walk.old exit.old.unsettled.items (Some env) exit.old.env }
     ensures breaks { OnOk result (StaysSettled S.TypeStore walk.old walk.new
-        (λ resolve. touched_by_branches resolve (branches_of_list branches.now)) breaking.old.items breaking.new.items
-        (Some env) broken.old broken.new) }
+        (λ resolve. touched_by_branches resolve (branches_of_list branches.now)) exit.old.unsettled.items
+        exit.new.unsettled.items (Some env) exit.old.env exit.new.env) }
     ensures breaks_settle { IfOk result
-        (λ k. Settles S.TypeStore walk.new breaking.new.items (Some k.last) broken.new) }
-    ensures walked { IfOk result (λ k. Forked S.TypeStore walk.old env None broken.old walk.new k.last k.ways.met
-        broken.new (λ f b. walk_branches f b (branches_of_list branches.now))) }
+        (λ k. Settles S.TypeStore walk.new exit.new.unsettled.items (Some k.last) exit.new.env) }
+    ensures walked { IfOk result (λ k. Forked S.TypeStore walk.old env None exit.old.env walk.new k.last k.ways.met
+        exit.new.env (λ f b. walk_branches f b (branches_of_list branches.now))) }
     ensures settled { IfOk result (λ k. ForkSettles walk.new.context.globals.now.outline.now.parents.now
-        k.ways.unsettled.items (forked S.TypeStore walk.new k.last k.ways.met broken.new)) }
+        k.ways.unsettled.items (forked S.TypeStore walk.new k.last k.ways.met exit.new.env)) }
     ensures goes_on { WalkKept S.TypeStore walk.old walk.new }
 {
     let mut fork = IfState {
@@ -286,36 +295,35 @@ fn check_branches<S: TypeStore>(
         },
     };
     for branch in branches {
-        fork = check_branch(walk, fork, breaking, broken, branch)?;
+        fork = check_branch(walk, fork, exit, branch)?;
     }
     Ok(fork)
 }
 
 /// Checks one branch of an `if`: its condition where those before it are false (`fork.last`), and its suite where it is
 /// true. Returns the next state: the environment where its condition is false too, and the ends of the suites before it
-/// joined with the end of its own. `breaking` and `broken` are those of `check_suite`.
+/// joined with the end of its own. `exit` is that of `check_suite`.
 #[cycle(statements)]
 fn check_branch<S: TypeStore>(
     walk: &mut Walk<'_, S>,
     fork: IfState<S::Ty>,
-    breaking: &mut Vec<usize>,
-    broken: &mut Option<Env<S::Ty>>,
+    exit: &mut LoopExit<S::Ty>,
     branch: &Branch,
 ) -> Result<IfState<S::Ty>, OutOfMemory>
-    requires stands { StandsIn S.TypeStore walk.old (Some fork.last) broken.old }
+    requires stands { StandsIn S.TypeStore walk.old (Some fork.last) exit.old.env }
     requires ways { HoldsWay S.TypeStore walk.old fork.ways.met }
     requires settled { ForkSettles walk.old.context.globals.now.outline.now.parents.now fork.ways.unsettled.items
-        (forked S.TypeStore walk.old fork.last fork.ways.met broken.old) }
-    requires breaks { Settles S.TypeStore walk.old breaking.old.items (Some fork.last) broken.old }
+        (forked S.TypeStore walk.old fork.last fork.ways.met exit.old.env) }
+    requires breaks { Settles S.TypeStore walk.old exit.old.unsettled.items (Some fork.last) exit.old.env }
     ensures breaks { OnOk result (StaysSettled S.TypeStore walk.old walk.new
-        (λ resolve. touched_by_branches resolve (with_branch branch.now no_branches)) breaking.old.items
-        breaking.new.items (Some fork.last) broken.old broken.new) }
+        (λ resolve. touched_by_branches resolve (with_branch branch.now no_branches)) exit.old.unsettled.items
+        exit.new.unsettled.items (Some fork.last) exit.old.env exit.new.env) }
     ensures breaks_settle { IfOk result
-        (λ k. Settles S.TypeStore walk.new breaking.new.items (Some k.last) broken.new) }
-    ensures walked { IfOk result (λ k. Forked S.TypeStore walk.old fork.last fork.ways.met broken.old walk.new k.last
-        k.ways.met broken.new (λ f b. walk_branches f b (with_branch branch.now no_branches))) }
+        (λ k. Settles S.TypeStore walk.new exit.new.unsettled.items (Some k.last) exit.new.env) }
+    ensures walked { IfOk result (λ k. Forked S.TypeStore walk.old fork.last fork.ways.met exit.old.env walk.new k.last
+        k.ways.met exit.new.env (λ f b. walk_branches f b (with_branch branch.now no_branches))) }
     ensures settled { IfOk result (λ k. ForkSettles walk.new.context.globals.now.outline.now.parents.now
-        k.ways.unsettled.items (forked S.TypeStore walk.new k.last k.ways.met broken.new)) }
+        k.ways.unsettled.items (forked S.TypeStore walk.new k.last k.ways.met exit.new.env)) }
     ensures goes_on { WalkKept S.TypeStore walk.old walk.new }
 {
     let IfState { last, ways } = fork;
@@ -325,10 +333,10 @@ fn check_branch<S: TypeStore>(
     } = type_condition(walk, &last, &branch.condition)?;
     let names = walk.context.names;
     let touched = touched_by_while(walk.alloc, names, &branch.condition, &branch.body)?;
-    note_locals(broken, &touched, breaking)?;
-    let out = check_suite(walk, Some(where_true), breaking, broken, &branch.body)?;
+    note_locals(&exit.env, &touched, &mut exit.unsettled)?;
+    let out = check_suite(walk, Some(where_true), exit, &branch.body)?;
     // A `break` in the suite may have removed these, but the next condition starts from before the suite.
-    note_locals(broken, &touched, breaking)?;
+    note_locals(&exit.env, &touched, &mut exit.unsettled)?;
     let ways = meet(walk, ways, touched, out)?;
     Ok(IfState {
         last: where_false,

@@ -122,6 +122,10 @@ module _ {Ty : Type 0} (tree : Ty → Tree) (m : Module) (d : NameMaps) (F : Lis
   pub held : IsBase d F M base_node base_entry
   held = base_held d F M ns es are base below
 
+  pub base_maps : (o : ClassNode) → o ≡ base_node → HasMaps d o.held
+  base_maps o e = subst (λ (x : ClassNode). HasMaps d x.held) (sym e)
+      (record { fields = held.fields.is_map; methods = held.methods.is_map })
+
   -- its entries
   same_names : SameInherited (inherited_in d base_node.held) (inherited_by (class_with tree base_entry))
   same_names = record {

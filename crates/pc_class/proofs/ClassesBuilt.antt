@@ -5,7 +5,7 @@ use Rattle.std.specs.Prelude.{Option, Some, None, slice_get, slice_index_or}
 use Rattle.std.proofs.lemmas.Option.{same_Some, slice_get_past}
 use Rattle.pc_tree.specs.Tree.{ClassDef, Module}
 use Rattle.pc_scope.specs.Bindings.{classes_in}
-use Rattle.pc_types.specs.Below.{base_of}
+use Rattle.pc_types.specs.Below.{Bases, base_of}
 use Rattle.pc_annotations.specs.Bases.{base_named, bases_from, bases_of}
 use Rattle.pc_annotations.proofs.Earlier.{smaller}
 use Rattle.pc_class.specs.Facts.{ClassFacts, class_in, class_facts_at, base_facts, own_fields, own_methods}
@@ -125,6 +125,13 @@ module _ (m : Module) where
       → base_of (bases_of m) c ≡ base_named m c class.base
   unfolding bases_of
   base_here c class is = base_is 0 (classes_in m.items) c class is ∙ ap (λ k. base_named m k class.base) (omega arith)
+
+  pub base_next : (c : ℕ) (class : ClassDef) → slice_get (classes_in m.items) c ≡ Some class → (bases : Bases)
+      → bases ≡ bases_of m → (number : ℕ) → number ≡ c → (base : Option ℕ) → base ≡ base_of bases number
+      → base ≡ base_named m c class.base
+  base_next c class is bases e number f base h = h ∙ ap (λ (bs : Bases). base_of bs number) e
+      ∙ ap (base_of (bases_of m)) f
+      ∙ base_here c class is
 
   pub below_class : (c b : ℕ) (class : ClassDef) → slice_get (classes_in m.items) c ≡ Some class
       → base_named m c class.base ≡ Some b → b < c

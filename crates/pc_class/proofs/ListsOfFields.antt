@@ -18,7 +18,7 @@ use Rattle.pc_shared_maps.proofs.Naming.{map_end, map_length}
 use Rattle.pc_class.specs.declared.table.Parameter.{Parameter as RustParameter}
 use Rattle.pc_class.specs.FieldLists.{IsSeat, IsSeatIfAny, IsListOf, fields_in, list_at}
 use Rattle.pc_class.specs.Listed.{names_listed, needed_in, is_defaulted, parameter_name}
-use Rattle.pc_class.specs.Parts.{part, lent_parameter}
+use Rattle.pc_class.specs.Parts.{part}
 use Rattle.pc_class.specs.Tables.{ClassEntry, empty_entry, inherited_entry}
 use Rattle.pc_class.proofs.TableFields.{span, part_more, part_none}
 use Rattle.pc_class.proofs.TableMore.{get_before, get_last, index_before}
@@ -234,8 +234,8 @@ module _ {Ty : Type 0} (fields these : List (RustParameter Ty)) (s : SharedLists
   field_of_seat q is = (subst (IsSeatIfAny fields these place) is (h.seats place)).field
 
 -- an element got from a slice
-pub got_at : {Ty : Type 0} (Q : RustParameter Ty → Type 0) (ps : List (RustParameter Ty)) (i : ℕ)
-    (o : Option (Bor (RustParameter Ty))) → IfSome o (λ x. x.now ≡ get_or ps i x.now)
-    → MatchOption o (length ps ≤ i) (λ x. (i < length ps) × Q x.now) → option_map lent_parameter o ≡ slice_get ps i
-got_at Q ps i None is within = sym (get_past ps i within)
-got_at Q ps i (Some x) is within = sym (slice_get_read ps (length ps) i x.now refl within.0 is)
+pub got_at : {X : Type 0} (Q : X → Type 0) (xs : List X) (i : ℕ) (o : Option (Bor X))
+    → IfSome o (λ x. x.now ≡ get_or xs i x.now) → MatchOption o (length xs ≤ i) (λ x. (i < length xs) × Q x.now)
+    → option_map (λ (x : Bor X). x.now) o ≡ slice_get xs i
+got_at Q xs i None is within = sym (get_past xs i within)
+got_at Q xs i (Some x) is within = sym (slice_get_read xs (length xs) i x.now refl within.0 is)

@@ -1,17 +1,21 @@
 -- The reads of a class table: the item that the maps of a class have at a name.
-use Rattle.std.proofs.Common.{◌≡◌, ◌<◌, ℕ, zero, suc, List, [], ◌∷◌, length, map, get_or, refl, sym, ap, ◌∙◌, subst}
+use Rattle.std.proofs.Common.{◌≡◌, ◌<◌, ℕ, zero, suc, List, [], ◌∷◌, length, map, get_or, refl, sym, ap, ◌∙◌}
 use Rattle.std.proofs.Common.{arith}
 use Rattle.std.specs.Prelude.{Bool, true, false, cond, Option, Some, None, find, slice_get, slice_index_or, bytes_eq}
 use Rattle.std.specs.Prelude.{Contains}
-use Rattle.std.specs.Option.{option_map}
+use Rattle.std.specs.Borrow.{Bor}
+use Rattle.std.specs.Option.{option_copied, option_map}
 use Rattle.std.proofs.lemmas.Option.{same_Some, slice_get_read}
 use Rattle.pc_types.specs.Tree.{Tree}
 use Rattle.pc_class.specs.Facts.{ClassFacts, class_in, class_facts_at, base_facts, field_by_name, method_by_name}
-use Rattle.pc_shared_maps.specs.NameMaps.{NameMaps, named_at}
-use Rattle.pc_class.specs.Outlines.{at_number, IsNumberIn, first_named, IsMapOf}
+use Rattle.pc_class.specs.declared.table.Parameter.{Parameter as RustParameter}
+use Rattle.pc_class.specs.declared.table.Method.{Method as RustMethod}
+use Rattle.pc_class.specs.declared.parts.ClassNode.{ClassNode}
+use Rattle.pc_class.specs.declared.parts.ClassArena.{ClassArena}
+use Rattle.pc_class.specs.Outlines.{first_named}
 use Rattle.pc_class.specs.Tables.{ClassEntry, empty_entry, inherited_entry, parameter_with, method_with, class_with}
-use Rattle.pc_class.specs.Tables.{classes_with}
-use Rattle.pc_class.specs.Parts.{parameter_name, stored_method_name}
+use Rattle.pc_class.specs.Tables.{classes_with, parameter_lent, method_lent, IsFieldIfAny, IsMethodIfAny}
+use Rattle.pc_class.specs.Parts.{parameter_name, stored_method_name, entries_in, IsClassNode, IsClassTable}
 
 pub find_map : {X Y : Type 0} (f : X → Y) (p : Y → Bool) (xs : List X)
     → find p (map f xs) ≡ option_map f (find (λ x. p (f x)) xs)
@@ -42,18 +46,18 @@ find_contains p (y ∷ xs) x e = go (p y) (λ f. find_contains p xs x f) e
     go true on f = (0, omega arith, same_Some _ _ f)
     go false on f = let r = on f in (suc r.0, (let l = r.1 in omega arith), r.2)
 
--- lookups in a map that is held
-module _ {X : Type 0} (name : X → List ℕ) (d : NameMaps) (all : List X) (at : ℕ) (these : List X)
-    (h : IsMapOf name d all at these) (n : List ℕ) where
-  pub number_within : (i : ℕ) → named_at d at n ≡ Some i → i < length all
-  number_within i e = subst (IsNumberIn all) e (h.within n)
+-- a member that is lent means what it is
+lent_means : {X Y : Type 0} (meaning : X → Y) (o : Option (Bor X)) → option_map (λ (x : Bor X). meaning x.now) o
+    ≡ option_map meaning (option_copied o)
+lent_means meaning None = refl
+lent_means meaning (Some x) = refl
 
-  pub named_none : named_at d at n ≡ None → first_named name these n ≡ None
-  named_none e = sym (h.same n) ∙ ap (at_number all) e
-
-  pub named_some : (i : ℕ) (x : X) → named_at d at n ≡ Some i → x ≡ get_or all i x → first_named name these n ≡ Some x
-  named_some i x e is = sym (h.same n) ∙ ap (at_number all) e ∙ slice_get_read all (length all) i x refl
-      (number_within i e) is
+-- the node of a class of a table
+pub node_there : {Ty : Type 0} (p : ClassArena Ty) → IsClassTable p → (c : ℕ) (n : ClassNode)
+    → n ≡ get_or p.classes.items c n → c < length p.classes.items
+    → IsClassNode p.named p.fields.items p.methods.items (entries_in p) c n
+node_there p table c n is less = table.each c n (slice_get_read p.classes.items (length p.classes.items) c n refl less
+    is)
 
 module _ {Ty : Type 0} (tree : Ty → Tree) (es : List (ClassEntry Ty)) where
   -- a class of the table among those that it means
@@ -61,17 +65,51 @@ module _ {Ty : Type 0} (tree : Ty → Tree) (es : List (ClassEntry Ty)) where
       ≡ class_with tree e
   class_there c e is = ap class_in (get_map (class_with tree) es c ∙ ap (option_map (class_with tree)) is)
 
-  pub field_there : (c : ℕ) (e : ClassEntry Ty) → slice_get es c ≡ Some e → (n : List ℕ)
+  field_there : (c : ℕ) (e : ClassEntry Ty) → slice_get es c ≡ Some e → (n : List ℕ)
       → field_by_name (class_facts_at (classes_with tree es) c).fields n ≡ option_map (parameter_with tree)
       (first_named parameter_name e.fields n)
   field_there c e is n = ap (λ (x : ClassFacts). field_by_name x.fields n) (class_there c e is)
       ∙ find_map (parameter_with tree) (λ f. bytes_eq n f.name) e.fields
 
-  pub method_there : (c : ℕ) (e : ClassEntry Ty) → slice_get es c ≡ Some e → (n : List ℕ)
+  method_there : (c : ℕ) (e : ClassEntry Ty) → slice_get es c ≡ Some e → (n : List ℕ)
       → method_by_name (class_facts_at (classes_with tree es) c).methods n ≡ option_map (method_with tree)
       (first_named stored_method_name e.methods n)
   method_there c e is n = ap (λ (x : ClassFacts). method_by_name x.methods n) (class_there c e is)
       ∙ find_map (method_with tree) (λ f. bytes_eq n f.name) e.methods
+
+  -- the member that the maps of a class have at a name, by what it means
+  pub field_read : (c : ℕ) (e : ClassEntry Ty) → slice_get es c ≡ Some e → (n : List ℕ)
+      (o : Option (Bor (RustParameter Ty))) → option_copied o ≡ first_named parameter_name e.fields n
+      → option_map (parameter_lent tree) o ≡ field_by_name (class_facts_at (classes_with tree es) c).fields n
+  field_read c e is n o f = lent_means (parameter_with tree) o ∙ ap (option_map (parameter_with tree)) f
+      ∙ sym (field_there c e is n)
+
+  pub method_read : (c : ℕ) (e : ClassEntry Ty) → slice_get es c ≡ Some e → (n : List ℕ)
+      (o : Option (Bor (RustMethod Ty))) → option_copied o ≡ first_named stored_method_name e.methods n
+      → option_map (method_lent tree) o ≡ method_by_name (class_facts_at (classes_with tree es) c).methods n
+  method_read c e is n o f = lent_means (method_with tree) o ∙ ap (option_map (method_with tree)) f
+      ∙ sym (method_there c e is n)
+
+-- and it is one of the class's
+module _ {Ty : Type 0} (es : List (ClassEntry Ty)) (c : ℕ) (e : ClassEntry Ty) (is : slice_get es c ≡ Some e)
+    (n : List ℕ) where
+  pub field_listed : (o : Option (Bor (RustParameter Ty))) → option_copied o ≡ first_named parameter_name e.fields n
+      → IsFieldIfAny es o
+  field_listed None f = tt
+  field_listed (Some p) f = record {
+    class = e;
+    listed = get_contains es c e is;
+    among = find_contains _ e.fields p.now (sym f);
+  }
+
+  pub method_listed : (o : Option (Bor (RustMethod Ty))) → option_copied o ≡ first_named stored_method_name e.methods n
+      → IsMethodIfAny es o
+  method_listed None f = tt
+  method_listed (Some x) f = record {
+    class = e;
+    listed = get_contains es c e is;
+    among = find_contains _ e.methods x.now (sym f);
+  }
 
 -- the entry that a class inherits means the facts of its base
 pub inherits_there : {Ty : Type 0} (tree : Ty → Tree) (es : List (ClassEntry Ty)) (o : Option ℕ)

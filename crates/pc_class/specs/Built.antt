@@ -1,18 +1,22 @@
 -- The contents of a class table as it is built, and the changes that one more class makes.
 -- Own rule of the profile.
-use Rattle.std.specs.Prelude.{◌≡◌, ℕ, suc, List, [], ◌∷◌, ◌++◌, map, Some, All, slice_get}
+use Rattle.std.specs.Prelude.{◌≡◌, ℕ, suc, List, [], ◌∷◌, ◌++◌, length, map, Some, All, slice_get}
 use Rattle.pc_tree.specs.Tree.{ClassDef, Member, Module, member_of}
 use Rattle.pc_tree.specs.declared.code.Code.TheVariants.{E07}
 use Rattle.pc_tree.specs.declared.code.Finding.{Finding}
 use Rattle.pc_scope.specs.Bindings.{classes_in}
 use Rattle.pc_tree.specs.Code.{at_code}
 use Rattle.pc_annotations.specs.Bases.{bases_of, base_named}
+use Rattle.pc_types.specs.Tree.{Tree}
 use Rattle.pc_class.specs.declared.entries.ClassMember.{ClassMember}
+use Rattle.pc_class.specs.declared.parts.ClassArena.{ClassArena}
 use Rattle.pc_shared_maps.specs.NameMaps.{NameMaps}
 use Rattle.pc_class.specs.Facts.{ClassFacts, base_facts, class_facts_behind}
 use Rattle.pc_class.specs.Entries.{missing_bases}
 use Rattle.pc_class.specs.Annotated.{class_annotated}
 use Rattle.pc_class.specs.Outlines.{IsMapOf, found_over, classes_found}
+use Rattle.pc_class.specs.Parts.{entries_in, HasParts, IsClassTable}
+use Rattle.pc_class.specs.Tables.{classes_with}
 
 -- the items added to a list mean these, and each satisfies `has`; a map has them by name, between those in front and
 -- those at the back
@@ -31,6 +35,14 @@ members_of_entries es = map (λ (e : ClassMember). member_of e.member.now) es
 -- a class of the module, with its number
 abbrev pub IsClassAt : Module → ℕ → ClassDef → Type 0
 IsClassAt m c class = slice_get (classes_in m.items) c ≡ Some class
+
+-- a table with one more class: the store gave its types, and it means the earlier classes and this one
+pub record IsOneMore {Ty : Type 0} (tree : Ty → Tree) (has : Ty → Type 0) (m : Module) (class : ClassDef)
+    (old new : ClassArena Ty) : Type 0 where
+  pub table : IsClassTable new
+  pub given : HasParts has new
+  pub classes : classes_with tree (entries_in new) ≡ classes_with tree (entries_in old)
+      ++ class_facts_behind m (classes_with tree (entries_in old)) (length old.classes.items) class ∷ []
 
 -- the findings of a rule on classes, each class over its base, given the classes before them
 abbrev pub each_behind : (over : ClassFacts → ClassDef → List Finding) → Module → List ClassFacts → ℕ → List ClassDef

@@ -1,6 +1,6 @@
 //! One more class in a class table.
 
-ghost use Rattle.std.specs.Prelude.{◌≡◌, ◌+◌, length, ◌++◌, ◌∷◌, [], List, map, None, OnOk, IfOk};
+ghost use Rattle.std.specs.Prelude.{◌≡◌, ◌+◌, ℕ, length, ◌++◌, ◌∷◌, [], List, map, None, OnOk, IfOk};
 ghost use Rattle.pc_tree.specs.Tree.{class_of, member_of};
 ghost use Rattle.pc_types.specs.Store.{KeepsTypes};
 ghost use Rattle.pc_annotations.specs.Bases.{base_named};
@@ -8,7 +8,7 @@ ghost use Rattle.pc_class.specs.declared.table.Parameter.{Parameter as Parameter
 ghost use Rattle.pc_class.specs.declared.table.Method.{Method as MethodOf};
 ghost use Rattle.pc_class.specs.Annotated.{field_annotated, method_annotated, fields_annotated, methods_annotated};
 ghost use Rattle.pc_class.specs.Annotated.{class_annotated};
-ghost use Rattle.pc_class.specs.Facts.{class_facts_behind, base_facts};
+ghost use Rattle.pc_class.specs.Facts.{base_facts};
 ghost use Rattle.pc_shared_maps.specs.NameMaps.{IsMap, KeepsNamed};
 ghost use Rattle.pc_class.specs.Entries.{entry_seen};
 ghost use Rattle.pc_class.specs.Outlines.{IsMapOf, first_named, field_name, method_name as class_method_name};
@@ -18,7 +18,7 @@ ghost use Rattle.pc_class.specs.Tables.{HasParameter, HasMethod, parameter_with,
 ghost use Rattle.pc_class.specs.Parts.{parameter_name, stored_method_name, inherited_node, entries_in, IsClassTable};
 ghost use Rattle.pc_class.specs.Parts.{HasParts};
 ghost use Rattle.pc_annotations.specs.ModuleOutlines.{IsModuleOutline, module_in};
-ghost use Rattle.pc_class.specs.Built.{Added, IsClassAt, members_of_entries};
+ghost use Rattle.pc_class.specs.Built.{Added, IsClassAt, IsOneMore, members_of_entries};
 ghost use Rattle.pc_class.specs.Internal.Readers.{IsLentSame};
 
 use crate::entries::{ClassMember, MemberMaps, entries, find_clashes, find_late_fields};
@@ -39,50 +39,51 @@ struct NumberedClass<'m> {
     pub number: usize,
 }
 
-/// Adds a field to the list of fields, and to the map of a class by its name. Returns the new map.
-fn add_field<Ty: Drop>(
-    named: &mut NamedMaps,
-    alloc: Global,
-    fields: &mut Vec<Parameter<Ty>>,
-    at: usize,
-    field: Parameter<Ty>,
-) -> Result<usize, OutOfMemory>
-    requires { IsMap named.old at }
-    ensures within { IfOk result (λ new. IsMap named.new new) }
-    ensures kept { OnOk result (KeepsNamed named.old named.new) }
-    ensures fields { OnOk result (fields.new.items ≡ fields.old.items ++ field ∷ []) }
-    ensures held { (front back : List (ParameterOf Ty))
-        → IsMapOf parameter_name named.old fields.old.items at (front ++ back)
-        → first_named parameter_name front (parameter_name field) ≡ None
-        → IfOk result (λ new. IsMapOf parameter_name named.new fields.new.items new ((front ++ field ∷ []) ++ back)) }
-{
-    let number = fields.len();
-    let new = named.put(alloc, at, field.name.as_str(), number)?;
-    fields.push(field)?;
-    Ok(new)
+/// A member of a class, which is found by its name.
+trait NamedMember {
+    /// The name of a member.
+    ghost name_of: { Self → List ℕ };
+
+    /// Returns the name.
+    fn name(&self) -> &str
+        ensures { result.now ≡ name_of self.now };
 }
 
-/// Adds a method to the list of methods, and to the map of a class by its name. Returns the new map.
-fn add_method<Ty: Drop>(
+impl<Ty: Drop> NamedMember for Parameter<Ty> {
+    ghost name_of = { parameter_name };
+
+    fn name(&self) -> &str {
+        self.name.as_str()
+    }
+}
+
+impl<Ty: Drop> NamedMember for Method<Ty> {
+    ghost name_of = { stored_method_name };
+
+    fn name(&self) -> &str {
+        self.name.as_str()
+    }
+}
+
+/// Adds a member to the list of members of its kind, and to the map of a class by its name. Returns the new map.
+fn add_member<X: NamedMember + Drop>(
     named: &mut NamedMaps,
     alloc: Global,
-    methods: &mut Vec<Method<Ty>>,
+    members: &mut Vec<X>,
     at: usize,
-    method: Method<Ty>,
+    member: X,
 ) -> Result<usize, OutOfMemory>
     requires { IsMap named.old at }
     ensures within { IfOk result (λ new. IsMap named.new new) }
     ensures kept { OnOk result (KeepsNamed named.old named.new) }
-    ensures methods { OnOk result (methods.new.items ≡ methods.old.items ++ method ∷ []) }
-    ensures held { (front back : List (MethodOf Ty))
-        → IsMapOf stored_method_name named.old methods.old.items at (front ++ back)
-        → first_named stored_method_name front (stored_method_name method) ≡ None
-        → IfOk result (λ new. IsMapOf stored_method_name named.new methods.new.items new
-        ((front ++ method ∷ []) ++ back)) }
+    ensures members { OnOk result (members.new.items ≡ members.old.items ++ member ∷ []) }
+    ensures held { (front back : List X) → IsMapOf X.name_of named.old members.old.items at (front ++ back)
+        → first_named X.name_of front (X.name_of member) ≡ None
+        → IfOk result (λ new. IsMapOf X.name_of named.new members.new.items new ((front ++ member ∷ []) ++ back)) }
 {
-    let number = methods.len();
-    let new = named.put(alloc, at, method.name.as_str(), number)?;
-    methods.push(method)?;
+    let number = members.len();
+    let new = named.put(alloc, at, member.name(), number)?;
+    members.push(member)?;
     Ok(new)
 }
 
@@ -118,7 +119,7 @@ fn add_own_field<S: TypeStore>(
             if !entry.binds {
                 return Ok(at);
             }
-            let new = add_field(named, reader.alloc, fields, at, parameter)?;
+            let new = add_member(named, reader.alloc, fields, at, parameter)?;
             Ok(new)
         }
         Member::Method(_) => Ok(at),
@@ -159,7 +160,7 @@ fn add_own_method<S: TypeStore>(
                 return Ok(at);
             }
             let method = read_method(reader, class.outline, class.number, entry.number, def)?;
-            let new = add_method(named, reader.alloc, methods, at, method)?;
+            let new = add_member(named, reader.alloc, methods, at, method)?;
             Ok(new)
         }
     }
@@ -287,14 +288,10 @@ pub(crate) fn add_class<S: TypeStore>(
     requires class { IsClassAt (module_in outline.now) (length parts.old.classes.items) (class_of definition.now) }
     ensures store { KeepsTypes S.has reader.old.store.now reader.new.store.now }
     ensures same { IsLentSame reader.old reader.new }
-    ensures table { OnOk result (IsClassTable parts.new) }
-    ensures given { OnOk result (HasParts (S.has reader.new.store.now) parts.new) }
     ensures more { OnOk result (length parts.new.classes.items ≡ length parts.old.classes.items + 1) }
-    ensures classes { OnOk result
-        (classes_with S.tree (entries_in parts.new)
-        ≡ classes_with S.tree (entries_in parts.old)
-        ++ class_facts_behind (module_in outline.now) (classes_with S.tree (entries_in parts.old))
-        (length parts.old.classes.items) (class_of definition.now) ∷ []) }
+    ensures added { OnOk result
+        (IsOneMore S.tree (S.has reader.new.store.now) (module_in outline.now) (class_of definition.now) parts.old
+        parts.new) }
     ensures found { OnOk result
         (found.new.items ≡ found.old.items
         ++ found_over (base_facts (classes_with S.tree (entries_in parts.old))

@@ -1,14 +1,16 @@
 //! The class table, its fields and its methods.
 
 ghost use Rattle.std.specs.Prelude.{◌≡◌, ◌↔◌, ◌<◌, ◌≤◌, ◌-◌, ◌++◌, List, take, drop, length, slice_get, slice_index_or};
-ghost use Rattle.std.specs.Prelude.{IsTrue};
-ghost use Rattle.std.specs.Option.{option_map};
+ghost use Rattle.std.specs.Prelude.{ℕ, IsTrue};
+ghost use Rattle.std.specs.Option.{option_copied, option_map};
 ghost use Rattle.pc_scope.specs.Resolution.{index_of};
 ghost use Rattle.pc_types.specs.Below.{Below};
 ghost use Rattle.pc_types.specs.Tree.{Tree, Class};
+ghost use Rattle.pc_shared_maps.specs.NameMaps.{IsMap};
 ghost use Rattle.pc_class.specs.Facts.{field_by_name, method_by_name, class_facts_at};
 ghost use Rattle.pc_class.specs.FieldLists.{AreClassLists, fields_in};
 ghost use Rattle.pc_class.specs.Listed.{names_listed, needed_in};
+ghost use Rattle.pc_class.specs.Outlines.{IsMapOf, first_named};
 ghost use Rattle.pc_class.specs.Parts.{lent_parameter, bases_in, entries_in, IsClassTable};
 ghost use Rattle.pc_class.specs.Tables.{ClassEntry, empty_entry, inherited_entry, classes_with, parameter_lent};
 ghost use Rattle.pc_class.specs.Tables.{method_lent, IsFieldIfAny, IsMethodIfAny};
@@ -16,6 +18,7 @@ ghost use Rattle.pc_class.specs.Tables.{method_lent, IsFieldIfAny, IsMethodIfAny
 use crate::field_lists::ClassLists;
 use crate::listed::ParameterList;
 use crate::parts::ClassArena;
+use pc_shared_maps::NamedMaps;
 use pc_source::Place;
 use pc_types::Parents;
 use std::marker::Model;
@@ -46,6 +49,19 @@ fn items_within<X>(items: &[X], start: usize, end: usize) -> &[X]
     ensures { result.now ≡ take (end - start) (drop start items.now) }
 {
     &items[start..end]
+}
+
+/// Returns the member with a name, given the members of its kind in all classes and the map of those that a class has,
+/// if there is one.
+fn member_named<'a, X>(named: &NamedMaps, at: usize, members: &'a [X], name: &str) -> Option<&'a X>
+    requires { IsMap named.now at }
+    ensures { (name_of : X → List ℕ) (these : List X) → IsMapOf name_of named.now members.now at these
+        → option_copied result ≡ first_named name_of these name.now }
+{
+    match named.get(at, name) {
+        None => None,
+        Some(number) => members.get(number),
+    }
 }
 
 /// The classes of a module, each with its fields and methods and those of its ancestors. Contracts see it as the list
@@ -109,10 +125,12 @@ impl<Ty: Drop> ClassTable<Ty> {
         if class >= parts.classes.len() {
             return None;
         }
-        match parts.named.get(parts.classes[class].held.fields, name) {
-            None => None,
-            Some(number) => Some(&parts.fields[number]),
-        }
+        member_named(
+            &parts.named,
+            parts.classes[class].held.fields,
+            &parts.fields,
+            name,
+        )
     }
 
     /// Returns the nearest method with a name, from the class through its ancestors, if there is one.
@@ -126,10 +144,12 @@ impl<Ty: Drop> ClassTable<Ty> {
         if class >= parts.classes.len() {
             return None;
         }
-        match parts.named.get(parts.classes[class].held.methods, name) {
-            None => None,
-            Some(number) => Some(&parts.methods[number]),
-        }
+        member_named(
+            &parts.named,
+            parts.classes[class].held.methods,
+            &parts.methods,
+            name,
+        )
     }
 
     /// Returns the number of classes.

@@ -65,6 +65,7 @@ pub(crate) fn type_call<S: TypeStore>(
             type_keywords(checker, setting, env, &called.offers, by_name)?;
             judge_call(checker, setting, env, *place, &called, arguments, &typed)
         }
+        // `form` leaves no other form; the recursion ends by the size of the whole expression.
         _ => unreachable!(),
     }
 }

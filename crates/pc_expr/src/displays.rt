@@ -63,6 +63,7 @@ pub(crate) fn label_display<S: TypeStore>(
             let types = type_entries(checker, setting, env, &seats, entries)?;
             expected_dict_label(checker.store, checker.alloc, setting, want, &types)
         }
+        // `form` leaves no other form; the recursion ends by the size of the whole expression.
         _ => unreachable!(),
     }
 }

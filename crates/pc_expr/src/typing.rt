@@ -173,6 +173,7 @@ fn type_unary<S: TypeStore>(
             let object = check_expr(checker, setting, env, &None, object)?;
             label_attribute(checker.store, checker.alloc, setting, field, &object.ty)
         }
+        // `form` leaves no other form; the recursion ends by the size of the whole expression.
         _ => unreachable!(),
     }
 }
@@ -225,6 +226,7 @@ fn type_binary<S: TypeStore>(
             let index = check_expr(checker, setting, env, &None, key)?;
             label_index(checker, setting, &object.ty, key, &index)
         }
+        // `form` leaves no other form; the recursion ends by the size of the whole expression.
         _ => unreachable!(),
     }
 }
@@ -272,6 +274,7 @@ fn type_connective<S: TypeStore>(
                 &second.ty,
             )
         }
+        // `form` leaves no other form; the recursion ends by the size of the whole expression.
         _ => unreachable!(),
     }
 }

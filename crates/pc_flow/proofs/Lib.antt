@@ -5,7 +5,6 @@ pub mod Calls
 pub mod Conditions
 pub mod Given
 pub mod Heads
-pub mod Itself
 pub mod Lengths
 pub mod Loops
 pub mod Members

@@ -1,21 +1,18 @@
 -- Loops that change an environment local by local: how they begin, go on and end.
 use Rattle.std.proofs.Common.{◌≡◌, ◌<◌, ◌≤◌, ◌+◌, ◌||◌, ℕ, min, Bool as Test, true, false, List, [], ◌∷◌, ◌++◌, Option}
-use Rattle.std.proofs.Common.{length, nat_eq, nat_lt, take, get_or, refl, sym, ap, subst, ◌∙◌, inl, inr, ⊎_elim, arith}
+use Rattle.std.proofs.Common.{length, nat_eq, nat_lt, take, get_or, refl, sym, ap, subst, ◌∙◌, inl, arith}
 use Rattle.std.specs.Prelude.{slice_set}
 use Rattle.std.specs.Option.{option_map}
-use Rattle.std.proofs.lemmas.Bool.{cases_Bool}
 use Rattle.std.proofs.lemmas.Bool.Decides.{nat_tests}
 use Rattle.std.proofs.lemmas.List.{take-map, take_more, take_all, length-map}
 use Rattle.std.proofs.lemmas.List.Elements.{All-take}
 use Rattle.std.proofs.lemmas.List.Folds.{list_any-append}
 use Rattle.pc_types.specs.Tree.{Tree}
 use Rattle.pc_types.specs.Below.{Bases}
-use Rattle.pc_flow.specs.Agreement.{is_among, AgreeBelow}
+use Rattle.pc_flow.specs.Agreement.{is_among}
 use Rattle.pc_flow.specs.Environment.{Env, current, declared_type, join_local, join_env, head_local, loop_head}
 use Rattle.pc_flow.specs.Stored.{HasOne, HasEach, env_of, declared_one, declared_of, GivesEnv}
-use Rattle.pc_flow.specs.WellFormed.{IsWellFormedEnv}
-use Rattle.pc_flow.proofs.Conditions.{current_well_formed}
-use Rattle.pc_flow.proofs.Meeting.{OneMore, local_agreed, join_where, where_none, where_more, where_all, head_none}
+use Rattle.pc_flow.proofs.Meeting.{OneMore, join_where, where_none, where_more, where_all, head_none}
 use Rattle.pc_flow.proofs.Meeting.{head_more}
 
 -- locals that are marked so far: the first ones of a row, and those below a number
@@ -55,11 +52,11 @@ below_all x n h = grind (arith, nat_tests)
 
 module _ {Store Ty : Type 0} (has : Store → Ty → Type 0) (tree : Ty → Tree) where
   -- the first locals of an environment of the store
-  firsts_given : (store : Store) (n : ℕ) (types : List (Option Ty)) → HasEach (has store) types
+  pub firsts_given : (store : Store) (n : ℕ) (types : List (Option Ty)) → HasEach (has store) types
       → HasEach (has store) (take n types)
   firsts_given store n types h = All-take (HasOne (has store)) n types h
 
-  firsts_env : (n : ℕ) (types : List (Option Ty)) → env_of tree (take n types) ≡ take n (env_of tree types)
+  pub firsts_env : (n : ℕ) (types : List (Option Ty)) → env_of tree (take n types) ≡ take n (env_of tree types)
   firsts_env n types = sym (take-map (option_map tree) n types)
 
   -- the head of a loop
@@ -133,26 +130,3 @@ module _ {Store Ty : Type 0} (has : Store → Ty → Type 0) (tree : Ty → Tree
           is = g.is ∙ where_all bases (λ x. nat_lt x i) (declared_of tree ds) (env_of tree a) (env_of tree b)
               (λ x p q. inl (below_all x i (omega arith)));
         }
-
-    -- at some locals, where the ways agree at the others
-    pub some_join : (locals : List ℕ) → IsWellFormedEnv bases (env_of tree a)
-        → AgreeBelow (length ds) locals (env_of tree a) (env_of tree b)
-        → join_where bases (is_among locals) (declared_of tree ds) (env_of tree a) (env_of tree b) ≡ join_env bases
-        (declared_of tree ds) (env_of tree a) (env_of tree b)
-    some_join locals w f =
-        let ld = length-map ds (declared_one tree) in
-        where_all bases (is_among locals) (declared_of tree ds) (env_of tree a) (env_of tree b)
-        (λ x p q. ⊎_elim (λ t. inl t) (λ n. inr (local_agreed bases (declared_type (declared_of tree ds) x)
-        (current (env_of tree a) x) (current (env_of tree b) x) (current_well_formed bases (env_of tree a) x w)
-        (f x (omega arith) n))) (cases_Bool (is_among locals x)))
-
-    pub join_ends_at : (store : Store) (met : List (Option Ty)) (locals : List ℕ) (i : ℕ) → length locals ≤ i
-        → IsWellFormedEnv bases (env_of tree a) → AgreeBelow (length ds) locals (env_of tree a) (env_of tree b)
-        → GivesEnv has tree store met (join_where bases (is_among (take i locals)) (declared_of tree ds) (env_of tree a)
-        (env_of tree b)) → GivesEnv has tree store met (join_env bases (declared_of tree ds) (env_of tree a)
-        (env_of tree b))
-    join_ends_at store met locals i h w f g = record {
-      given = g.given;
-      is = g.is ∙ ap (λ (l : List ℕ). join_where bases (is_among l) (declared_of tree ds) (env_of tree a)
-          (env_of tree b)) (take_all i locals h) ∙ some_join locals w f;
-    }

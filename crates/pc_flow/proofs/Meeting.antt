@@ -4,10 +4,10 @@ use Rattle.std.proofs.Common.{None, length, take, refl, sym, ap, inl, inr, arith
 use Rattle.std.specs.Prelude.{slice_set, unwrap_or, if◌then◌else◌}
 use Rattle.pc_types.specs.Tree.{Tree}
 use Rattle.pc_types.specs.Below.{Bases}
+use Rattle.pc_types.proofs.JoinItself.{join_itself}
 use Rattle.pc_flow.specs.Agreement.{JoinsKeepAgreed}
 use Rattle.pc_flow.specs.Environment.{Env, current, declared_type, join_local, join_env, head_local, loop_head}
 use Rattle.pc_flow.specs.WellFormed.{IsWellFormedIfAny, IsWellFormedEnv}
-use Rattle.pc_flow.proofs.Itself.{join_itself}
 
 suc_inj : {m n : ℕ} → suc m ≡ suc n → m ≡ n
 suc_inj e = grind arith

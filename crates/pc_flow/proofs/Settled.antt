@@ -1,16 +1,19 @@
 -- Two environments, the first of which subsumes the second outside some locals: their join, and what it subsumes.
 use Rattle.std.proofs.Common.{◌≡◌, ◌∙◌, ◌<◌, ◌≤◌, ◌+◌, ◌++◌, ◌||◌, ℕ, zero, suc, Bool as Test, true, false, List, []}
 use Rattle.std.proofs.Common.{◌∷◌, Option, Some, None, length, nat_eq, take, get_or, refl, sym, ap, subst, inl, inr}
-use Rattle.std.proofs.Common.{⊎_elim}
+use Rattle.std.proofs.Common.{⊎_elim, arith}
 use Rattle.std.specs.Prelude.{unwrap_or, if◌then◌else◌}
 use Rattle.std.proofs.lemmas.Bool.{cases_Bool, eqb-true, eq-eqb}
 use Rattle.std.proofs.lemmas.List.{take_all}
 use Rattle.std.proofs.lemmas.List.Folds.{list_any-append}
 use Rattle.pc_types.specs.Tree.{Tree}
 use Rattle.pc_types.specs.Below.{Bases}
-use Rattle.pc_flow.specs.Agreement.{is_among, TakesIn, TakesInOutside}
+use Rattle.pc_types.proofs.JoinItself.{join_itself}
+use Rattle.pc_flow.specs.Agreement.{is_among, AgreeBelow, TakesIn, TakesInOutside}
 use Rattle.pc_flow.specs.Environment.{Env, current, declared_type, join_local, join_env}
 use Rattle.pc_flow.specs.Stored.{env_of, declared_of, GivesEnv}
+use Rattle.pc_flow.specs.WellFormed.{IsWellFormedIfAny, IsWellFormedEnv}
+use Rattle.pc_flow.proofs.Conditions.{current_well_formed}
 use Rattle.pc_flow.proofs.Loops.{one_more_among}
 use Rattle.pc_flow.proofs.Meeting.{join_where, where_all}
 
@@ -83,6 +86,34 @@ module _ (bases : Bases) where
   joined_takes_in (d ∷ ds) (s ∷ ss) [] x h = tt
   joined_takes_in (d ∷ ds) (s ∷ ss) (t ∷ ts) zero h = h
   joined_takes_in (d ∷ ds) (s ∷ ss) (t ∷ ts) (suc x) h = joined_takes_in ds ss ts x h
+
+  -- the first locals of an environment take in another that it agrees with at these, outside some
+  agreed_takes : (s t : Option Tree) → IsWellFormedIfAny bases s → s ≡ t → TakesIn bases s t
+  agreed_takes None t w e = tt
+  agreed_takes (Some s) None w e = cc
+  agreed_takes (Some s) (Some t) w e = let f : s ≡ t = cc in join_itself bases s t f w.2
+
+  firsts_take : (n : ℕ) (a : Env) (x : ℕ) (o : Option Tree) → (x < n → TakesIn bases (current a x) o)
+      → TakesIn bases (current (take n a) x) o
+  firsts_take zero a x o f = tt
+  firsts_take (suc n) [] x o f = tt
+  firsts_take (suc n) (s ∷ ss) zero o f = f (omega arith)
+  firsts_take (suc n) (s ∷ ss) (suc x) o f = firsts_take n ss x o (λ l. f (omega arith))
+
+  pub agreed_takes_in : (n : ℕ) (locals : List ℕ) (a b : Env) → IsWellFormedEnv bases a → AgreeBelow n locals a b
+      → TakesInOutside bases locals (take n a) b
+  agreed_takes_in n locals a b w f = λ x k. firsts_take n a x (current b x) (λ l. agreed_takes (current a x)
+      (current b x) (current_well_formed bases a x w) (f x l k))
+
+  -- and the others do not matter to their join
+  pub joined_firsts : (n : ℕ) (ds : List Tree) (a b : Env) → n ≡ length ds
+      → join_env bases ds (take n a) b ≡ join_env bases ds a b
+  joined_firsts n [] a b e = refl
+  joined_firsts zero (d ∷ ds) a b e = absurd (omega arith)
+  joined_firsts (suc n) (d ∷ ds) [] b e = refl
+  joined_firsts (suc n) (d ∷ ds) (s ∷ ss) [] e = refl
+  joined_firsts (suc n) (d ∷ ds) (s ∷ ss) (t ∷ ts) e = ap (λ (rest : Env). join_local bases d s t ∷ rest)
+      (joined_firsts n ds ss ts (omega arith))
 
 module _ {Ty : Type 0} (tree : Ty → Tree) (bases : Bases) (ds a b : List (Option Ty)) where
   -- joining a local a second time on the second way changes nothing

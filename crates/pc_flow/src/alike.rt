@@ -7,7 +7,7 @@ use pc_types::TypeStore;
 use std::alloc::Global;
 
 /// Returns true only if two types are equal, by comparing their heads and parts.
-pub(crate) fn is_same<S: TypeStore>(
+pub fn is_same_type<S: TypeStore>(
     store: &S,
     alloc: Global,
     s: &S::Ty,
@@ -28,7 +28,7 @@ pub(crate) fn is_same<S: TypeStore>(
     let left = store.parts(alloc, s)?;
     let right = store.parts(alloc, t)?;
     for part in 0..left.len() {
-        if !is_same(store, alloc, &left[part], &right[part])? {
+        if !is_same_type(store, alloc, &left[part], &right[part])? {
             return Ok(false);
         }
     }

@@ -1,14 +1,14 @@
-//! Joins of environments where two paths join.
+//! Joins of environments where two paths join, and of types there.
 
-ghost use Rattle.std.specs.Prelude.{Some, IfOk, OnOk, length, slice_set};
+ghost use Rattle.std.specs.Prelude.{◌≡◌, Some, IfOk, OnOk, slice_set, true};
 ghost use Rattle.std.specs.Option.{option_copied, option_map};
 ghost use Rattle.pc_types.specs.Store.{Means, KeepsTypes};
-ghost use Rattle.pc_flow.specs.Agreement.{AgreeBelow};
+ghost use Rattle.pc_flow.specs.Agreement.{TakesIn};
 ghost use Rattle.pc_flow.specs.Environment.{current, declared_type, join_or_object, join_local};
 ghost use Rattle.pc_flow.specs.Declarations.{join_with};
-ghost use Rattle.pc_flow.specs.WellFormed.{IsWellFormedEnv};
 ghost use Rattle.pc_flow.specs.Stored.{env_of, declared_one, declared_of, HasOne, HasEach, GivesOne, GivesEnv};
 
+use crate::alike::is_same_type;
 use crate::{Declarations, Env};
 use pc_source::OutOfMemory;
 use pc_types::{Parents, TypeStore};
@@ -51,8 +51,17 @@ pub(crate) fn declared_type<S: TypeStore>(
     }
 }
 
-/// Returns the type of a local that both paths assign, which is always there: the join of its types on both paths. If
-/// they have no join, it is the declared type, or `Any` while that is unknown.
+/// The type of a local where two paths join, if it is assigned there.
+#[derive(Drop)]
+struct LocalMet<Ty: Drop> {
+    ty: Option<Ty>,
+    /// Whether joining the second path again is known to change nothing.
+    is_settled: bool,
+}
+
+/// Returns the type of a local that both paths assign, and whether it is settled. The type is the join of its types,
+/// settled only if that is `s`; if they have no join, it is the declared type, or `Any` while that is unknown, and not
+/// settled.
 fn join_assigned<S: TypeStore>(
     store: &mut S,
     alloc: Global,
@@ -60,23 +69,36 @@ fn join_assigned<S: TypeStore>(
     declared: Option<&S::Ty>,
     s: &S::Ty,
     t: &S::Ty,
-) -> Result<Option<S::Ty>, OutOfMemory>
+) -> Result<LocalMet<S::Ty>, OutOfMemory>
     requires declared { HasOne (S.has store.old) (option_copied declared) }
     requires left { S.has store.old s.now }
     requires right { S.has store.old t.now }
     ensures value { IfOk result
-        (λ o. GivesOne S.has S.tree store.new o
+        (λ j. GivesOne S.has S.tree store.new j.ty
         (join_local parents.now (declared_one S.tree (option_copied declared.entry)) (Some (S.tree s.now))
         (Some (S.tree t.now)))) }
+    ensures settled { IfOk result (λ j. j.is_settled ≡ true → TakesIn parents.now
+        (join_local parents.now (declared_one S.tree (option_copied declared.entry)) (Some (S.tree s.now))
+        (Some (S.tree t.now))) (Some (S.tree t.now))) }
     ensures kept { KeepsTypes S.has store.old store.new }
 {
     match store.join(alloc, parents, s, t)? {
-        Some(join) => Ok(Some(join)),
-        None => Ok(Some(declared_type(store, alloc, declared)?)),
+        Some(join) => {
+            let is_settled = is_same_type(store, alloc, &join, s)?;
+            Ok(LocalMet {
+                ty: Some(join),
+                is_settled,
+            })
+        }
+        None => Ok(LocalMet {
+            ty: Some(declared_type(store, alloc, declared)?),
+            is_settled: false,
+        }),
     }
 }
 
-/// Returns the type of a local where two paths join, or `None` if it is unassigned on one of them.
+/// Returns the type of a local where two paths join, and whether it is settled. A local that is not assigned on both
+/// has no type, and is settled.
 fn join_local<S: TypeStore>(
     store: &mut S,
     alloc: Global,
@@ -84,27 +106,37 @@ fn join_local<S: TypeStore>(
     declared: Option<&S::Ty>,
     s: Option<&S::Ty>,
     t: Option<&S::Ty>,
-) -> Result<Option<S::Ty>, OutOfMemory>
+) -> Result<LocalMet<S::Ty>, OutOfMemory>
     requires declared { HasOne (S.has store.old) (option_copied declared) }
     requires left { HasOne (S.has store.old) (option_copied s) }
     requires right { HasOne (S.has store.old) (option_copied t) }
     ensures value { IfOk result
-        (λ o. GivesOne S.has S.tree store.new o
+        (λ j. GivesOne S.has S.tree store.new j.ty
         (join_local parents.now (declared_one S.tree (option_copied declared.entry))
         (option_map S.tree (option_copied s.entry)) (option_map S.tree (option_copied t.entry)))) }
+    ensures settled { IfOk result (λ j. j.is_settled ≡ true → TakesIn parents.now
+        (join_local parents.now (declared_one S.tree (option_copied declared.entry))
+        (option_map S.tree (option_copied s.entry)) (option_map S.tree (option_copied t.entry)))
+        (option_map S.tree (option_copied t.entry))) }
     ensures kept { KeepsTypes S.has store.old store.new }
 {
+    // A local that is unassigned on one path is unassigned after the join, and remains so.
+    let none = LocalMet {
+        ty: None,
+        is_settled: true,
+    };
     match s {
-        None => Ok(None),
+        None => Ok(none),
         Some(s) => match t {
-            None => Ok(None),
+            None => Ok(none),
             Some(t) => join_assigned(store, alloc, parents, declared, s, t),
         },
     }
 }
 
-/// Gives a local of `met` its type where `a` and `b` join.
-fn set_joined<S: TypeStore>(
+/// Gives a local of `met` its type where `a` and `b` join. Returns true only if joining `b` again changes nothing
+/// there.
+pub(crate) fn set_joined<S: TypeStore>(
     store: &mut S,
     alloc: Global,
     declarations: &Declarations<'_, S::Ty>,
@@ -112,7 +144,7 @@ fn set_joined<S: TypeStore>(
     a: &Env<S::Ty>,
     b: &Env<S::Ty>,
     met: &mut Env<S::Ty>,
-) -> Result<(), OutOfMemory>
+) -> Result<bool, OutOfMemory>
     requires declared { HasEach (S.has store.old) declarations.now.declared.now }
     requires left { HasEach (S.has store.old) a.now }
     requires right { HasEach (S.has store.old) b.now }
@@ -120,6 +152,10 @@ fn set_joined<S: TypeStore>(
     ensures value { OnOk result (GivesEnv S.has S.tree store.new met.new (slice_set (env_of S.tree met.old) local
         (join_local declarations.now.parents.now (declared_type (declared_of S.tree declarations.now.declared.now)
         local) (current (env_of S.tree a.now) local) (current (env_of S.tree b.now) local)))) }
+    ensures settled { IfOk result (λ settled. settled ≡ true → TakesIn declarations.now.parents.now
+        (join_local declarations.now.parents.now (declared_type (declared_of S.tree declarations.now.declared.now)
+        local) (current (env_of S.tree a.now) local) (current (env_of S.tree b.now) local))
+        (current (env_of S.tree b.now) local)) }
     ensures kept { KeepsTypes S.has store.old store.new }
 {
     let parents = declarations.parents;
@@ -132,11 +168,13 @@ fn set_joined<S: TypeStore>(
         a.current(local),
         b.current(local),
     )?;
-    met.set(alloc, local, joined)
+    met.set(alloc, local, joined.ty)?;
+    Ok(joined.is_settled)
 }
 
-/// Returns the join of two environments: a local is assigned if both assign it, with the join of its current types, or
-/// its declared type if there is no join. A declared type that is unknown counts as `Any`. Own rule of the profile.
+/// Returns the join of two environments; for tests, since the typing joins by `join_env_onto`. A local is assigned if
+/// both assign it, with the join of its current types, or its declared type if there is no join. A declared type that
+/// is unknown counts as `Any`. Own rule of the profile.
 pub fn join_env<S: TypeStore>(
     store: &mut S,
     alloc: Global,
@@ -155,37 +193,8 @@ pub fn join_env<S: TypeStore>(
     let locals = declarations.declared.types().len().min(b.len());
     let mut met = a.copied(alloc)?.first(locals);
     for local in 0..locals {
+        // Nothing is joined again here, so it does not matter whether the local is settled.
         set_joined(store, alloc, declarations, local, a, b, &mut met)?;
-    }
-    Ok(met)
-}
-
-/// Joins `b` into `a` at `locals`; at all other declared locals they must agree, since the join of a type with itself
-/// is that type. Returns the same environment as `join_env`.
-pub(crate) fn join_some<S: TypeStore>(
-    store: &mut S,
-    alloc: Global,
-    declarations: &Declarations<'_, S::Ty>,
-    locals: &[usize],
-    a: Env<S::Ty>,
-    b: &Env<S::Ty>,
-) -> Result<Env<S::Ty>, OutOfMemory>
-    requires declared { HasEach (S.has store.old) declarations.now.declared.now }
-    requires left { HasEach (S.has store.old) a }
-    requires right { HasEach (S.has store.old) b.now }
-    requires well_formed { IsWellFormedEnv declarations.now.parents.now (env_of S.tree a) }
-    requires agree { AgreeBelow (length declarations.now.declared.now) locals.now (env_of S.tree a)
-        (env_of S.tree b.now) }
-    ensures value { IfOk result
-        (λ e. GivesEnv S.has S.tree store.new e
-        (join_with S.tree declarations.now (env_of S.tree a) (env_of S.tree b.now))) }
-    ensures kept { KeepsTypes S.has store.old store.new }
-{
-    // The old types are read while they are replaced; a copy costs a pointer for each chunk.
-    let before = a.copied(alloc)?;
-    let mut met = a.first(declarations.declared.types().len().min(b.len()));
-    for local in locals {
-        set_joined(store, alloc, declarations, *local, &before, b, &mut met)?;
     }
     Ok(met)
 }

@@ -11,7 +11,7 @@ ghost use Rattle.pc_flow.specs.WellFormed.{IsWellFormedEnv};
 ghost use Rattle.pc_flow.specs.Stored.{env_of, HasEach, GivesEnv};
 ghost use Rattle.pc_flow.specs.Ways.{way_on, way_out};
 
-use crate::joining::join_some;
+use crate::joining_onto::join_some;
 use crate::narrowing::BothWays;
 use crate::tested::tested_by_both;
 use crate::{Declarations, Env};

@@ -19,6 +19,7 @@ mod narrowing;
 mod tested;
 mod testing;
 
+pub use alike::is_same_type;
 pub use assigning::assigned_type;
 pub use copying::copy_env;
 pub use declarations::Declarations;

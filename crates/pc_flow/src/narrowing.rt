@@ -281,7 +281,8 @@ fn narrow<S: TypeStore>(
     }
 }
 
-/// Returns the environment where a condition is true. Typing specification, "Type narrowing"; own rules of the profile.
+/// Returns the environment where a condition is true; for tests, since the typing narrows as it types a condition.
+/// Typing specification, "Type narrowing"; own rules of the profile.
 pub fn narrow_true<S: TypeStore>(
     store: &mut S,
     alloc: Global,
@@ -302,8 +303,8 @@ pub fn narrow_true<S: TypeStore>(
     Ok(ways.where_true)
 }
 
-/// Returns the environment where a condition is false. Typing specification, "Type narrowing"; own rules of the
-/// profile.
+/// Returns the environment where a condition is false; for tests, as `narrow_true` is. Typing specification, "Type
+/// narrowing"; own rules of the profile.
 pub fn narrow_false<S: TypeStore>(
     store: &mut S,
     alloc: Global,

@@ -15,16 +15,6 @@ use pc_token::lines;
 use pc_tree::{Keys, Module};
 use std::alloc::Global;
 
-/// Parses a source text. The module has the hash keys of an empty text.
-fn parsed(alloc: Global, source: &Source) -> Result<Module, Fault>
-    requires { IsText source.now }
-    ensures read { IfOk result (λ m. IsModuleOf source.now (module_of m)) }
-    ensures refused { IfErr result (OnRefusal (IsRefusalOf source.now)) }
-    ensures within { IfErr result (IsWithin (length source.now)) }
-{
-    parse_from(alloc, layout_of(alloc, source, lines(alloc, source)))
-}
-
 /// Parses a source text. Language Reference 10 "Full Grammar specification".
 ///
 /// # Errors
@@ -38,9 +28,8 @@ pub fn module_in(alloc: Global, source: &Source) -> Result<Module, Fault>
     ensures refused { IfErr result (OnRefusal (IsRefusalOf source.now)) }
     ensures within { IfErr result (IsWithin (length source.now)) }
 {
-    let mut module = parsed(alloc, source)?;
-    module.keys = Keys::of(source.text().as_bytes());
-    Ok(module)
+    let keys = Keys::of(source.text().as_bytes());
+    parse_from(alloc, keys, layout_of(alloc, source, lines(alloc, source)))
 }
 
 /// Parses the bytes of a module. Language Reference 10 "Full Grammar specification".

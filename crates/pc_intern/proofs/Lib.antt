@@ -8,6 +8,7 @@ pub mod Keys
 pub mod NodeCounts
 pub mod Parts
 pub mod Places
+pub mod SameNumbers
 pub mod SameTypes
 pub mod Several
 pub mod Standing

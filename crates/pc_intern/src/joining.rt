@@ -58,6 +58,25 @@ impl InternStore {
         None
     }
 
+    /// Returns the join of several types that are all one and the same type, which is that type; `None` if they differ or
+    /// there are none.
+    pub(crate) fn same_joined(&self, types: &[TypeId]) -> Option<TypeId>
+        requires { All (IsHeld self.now) types.now }
+        ensures held { IfSome result (IsHeld self.now) }
+        ensures value { (bases : Bases)
+            → IfSome result (λ t. meaning t ≡ types_joined bases (map meaning types.now)) }
+    {
+        let Some((first, others)) = types.split_first() else {
+            return None;
+        };
+        for ty in others {
+            if ty.number != first.number {
+                return None;
+            }
+        }
+        Some(self.held(first.number))
+    }
+
     /// Returns whether there are few parents in proportion to the members of types, so that comparing the lists of
     /// parents takes no longer than a join of the types.
     fn are_parents_few(&self, size: usize) -> bool {

@@ -139,7 +139,7 @@ impl InternStore {
         ensures numbers { IfOk result (λ v. v.items ≡ map number_of types.now) }
         ensures trees { IfOk result (λ v. map (tree_at self.now) v.items ≡ map Some (map meaning types.now)) }
     {
-        let mut numbers = Numbers::new(alloc);
+        let mut numbers = Numbers::with_capacity(alloc, types.len())?;
         for ty in types {
             numbers.push(ty.number)?;
         }
@@ -316,7 +316,7 @@ impl TypeStore for InternStore {
     }
 
     fn parts(&self, alloc: Global, ty: &TypeId) -> Result<Vec<TypeId>, OutOfMemory> {
-        let mut parts = Vec::new(alloc);
+        let mut parts = Vec::with_capacity(alloc, self.table.parts(ty.number).len())?;
         for number in self.table.parts(ty.number) {
             parts.push(self.held(*number))?;
         }
@@ -365,6 +365,9 @@ impl TypeStore for InternStore {
     ) -> Result<TypeId, OutOfMemory> {
         if let [only] = types {
             return Ok(self.held(only.number));
+        }
+        if let Some(joined) = self.same_joined(types) {
+            return Ok(joined);
         }
         if !self.are_kept(types) {
             return self.joined(alloc, parents, types);

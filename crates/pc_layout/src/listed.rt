@@ -60,8 +60,9 @@ impl<'t, 'a> Iterator for Listed<'t, 'a> {
     }
 }
 
-/// Returns the layout of lines: their tokens, with a NEWLINE after each line, an INDENT before and a DEDENT after a
-/// deeper suite, and END last. Python Language Reference 3.12, 2.1.8 "Indentation".
+/// Returns the layout of listed lines; for tests, since a check takes its tokens from `layout_of` one by one. It has
+/// the tokens of the lines, with a NEWLINE after each line, an INDENT before and a DEDENT after a deeper suite, and END
+/// last. Python Language Reference 3.12, 2.1.8 "Indentation".
 ///
 /// # Errors
 ///

@@ -9,6 +9,7 @@ use Rattle.std.proofs.lemmas.List.Elements.{Contains-append_right, filter_map-ap
 use Rattle.std.proofs.lemmas.Option.{none-some, same_Some}
 use Rattle.std.proofs.Math.Seq.{take-append_seam}
 use Rattle.pc_source.specs.declared.place.Place.{Place}
+use Rattle.pc_tree.proofs.Among.{none_among, among_first}
 use Rattle.pc_tree.specs.declared.code.Code.{Code}
 use Rattle.pc_tree.specs.declared.code.Code.TheVariants.{E02, E03}
 use Rattle.pc_tree.specs.declared.code.Finding.{Finding}
@@ -44,7 +45,7 @@ use Rattle.pc_rules.specs.Labels.{FlowLabels, is_of_scopes, whole_label, Finds}
 use Rattle.pc_rules.specs.Signatures.{literal_type, literal_place, LawfulDefault, DefaultFinds, ParamsLabels}
 use Rattle.pc_rules.specs.Signatures.{LawfulParams, ParamsFind, binds_name, body_context, initializer_context}
 use Rattle.pc_rules.specs.Signatures.{annotated_types}
-use Rattle.pc_rules.proofs.Saying.{none_among, among_first, IsPart, IsEarlyHere, PartSays, Said, no_flow_of_scopes}
+use Rattle.pc_rules.proofs.Saying.{IsPart, IsEarlyHere, PartSays, Said, no_flow_of_scopes}
 use Rattle.pc_rules.proofs.SaidByLabels.{said}
 use Rattle.pc_rules.proofs.SaidInLabels.{said_found}
 use Rattle.pc_module_rules.specs.Modules.{entry_parameters, names_entered, ReturnsWell, leaves, may_complete, may_not}

@@ -4,6 +4,7 @@ use Rattle.std.proofs.Common.{Contains}
 use Rattle.std.specs.Prelude.{Option, Some, None, slice_get}
 use Rattle.std.proofs.lemmas.List.Elements.{Contains-append_left, Contains-append_right, Contains-append_cases}
 use Rattle.std.proofs.lemmas.Option.{none-some, same_Some}
+use Rattle.pc_tree.proofs.Among.{none_among, among_first}
 use Rattle.pc_tree.specs.declared.code.Finding.{Finding}
 use Rattle.pc_tree.specs.Tree.{FuncDef, Member, field_member, method_member, ClassDef, Item, constant_item, class_item}
 use Rattle.pc_tree.specs.Tree.{def_item, Module}
@@ -15,7 +16,6 @@ use Rattle.pc_scope.specs.Resolution.{method_at, function_of}
 use Rattle.pc_types.specs.Tree.{Tree}
 use Rattle.pc_class.specs.Facts.{ClassFacts}
 use Rattle.pc_class.specs.Findings.{base_class}
-use Rattle.pc_rules.proofs.Saying.{none_among, among_first}
 use Rattle.pc_module_rules.specs.Modules.{FunctionLabels, LawfulFunction, FunctionFinds, MembersLabels, LawfulMembers}
 use Rattle.pc_module_rules.specs.Modules.{MembersFind, ItemsLabels, LawfulModuleItems, ItemsFind, BeforeItem}
 use Rattle.pc_module_rules.specs.Modules.{before_next, nothing_before, Labelling, IsLawful, LabelsSay, constant_types}

@@ -2,6 +2,7 @@
 use Rattle.std.proofs.Common.{◌≡◌, List, [], ◌∷◌, ◌++◌, refl, sym, subst, inl, inr, arith, Contains}
 use Rattle.std.specs.Prelude.{◌⊎◌, Bool as Test, true, false, if◌then◌else◌, MatchOption, Option, Some, None}
 use Rattle.pc_source.specs.declared.place.Place.{Place}
+use Rattle.pc_tree.proofs.Among.{none_among}
 use Rattle.pc_tree.specs.declared.code.Code.{Code}
 use Rattle.pc_tree.specs.declared.code.Code.TheVariants.{A5, E09, E10}
 use Rattle.pc_tree.specs.declared.code.Finding.{Finding}
@@ -38,7 +39,7 @@ use Rattle.pc_rules.specs.Labels.{IsCodeAt}
 use Rattle.pc_rules.specs.Lawful.{Lawful}
 use Rattle.pc_rules.proofs.Silent.{Silent, items_silent, stored_items_silent, stored_fields_silent, called_silent}
 use Rattle.pc_rules.proofs.Silent.{calls_silent}
-use Rattle.pc_rules.proofs.Saying.{not_of_scopes, no_flow_of_scopes, none_among, IsPart, part_left, part_right, Said}
+use Rattle.pc_rules.proofs.Saying.{not_of_scopes, no_flow_of_scopes, IsPart, part_left, part_right, Said}
 use Rattle.pc_rules.proofs.Saying.{said_left, said_right, said_behind}
 use Rattle.pc_rules.proofs.SaidByLabels.{said, arguments_said, keywords_said}
 use Rattle.pc_module_rules.specs.StatementLabels.{OptionLabels, TargetLabels, StmtLabels, SuiteLabels, BranchesLabels}

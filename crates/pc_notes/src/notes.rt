@@ -6,6 +6,7 @@ ghost use Rattle.std.specs.Option.{option_copied};
 ghost use Rattle.pc_tree.specs.declared.code.Code.{Code as RustCode};
 ghost use Rattle.pc_tree.specs.Code.{finding};
 ghost use Rattle.pc_tree.specs.Tree.{module_of};
+ghost use Rattle.pc_annotations.specs.Named.{named_module};
 ghost use Rattle.pc_types.specs.Store.{KeepsTypes};
 ghost use Rattle.pc_notes.specs.Notes.{IsGivenEntry, Note, note_of, notes_of, plain_note, flow_note, typed};
 ghost use Rattle.pc_notes.specs.Notes.{is_same_place, is_same_code, entry_place, kept_flow, flow_noted, ExplainsFlow};
@@ -16,6 +17,7 @@ ghost use Rattle.pc_notes.specs.Texts.{AreFlowTexts, HasFirstFlows, HasGivenFlow
 
 use crate::rebuilding::transfer;
 use crate::sharing::{SharedType, SharedTypes, shared_text};
+use pc_annotations::ClassNames;
 use pc_source::{OutOfMemory, Place};
 use pc_tree::{Code, Finding, Findings, Module};
 use pc_types::{BoxStore, BoxType, TypeStore};
@@ -309,7 +311,8 @@ impl Notes {
         ensures { IfOk result (λ v. AreFlowTexts (module_of tree.now) code (notes_of self.now) v.items) }
     {
         let flows = self.first_flows(alloc, code)?;
-        Ok(texts_of(alloc, tree, &flows)?)
+        let names = ClassNames::of(alloc, tree)?;
+        Ok(texts_of(alloc, &names, &flows)?)
     }
 }
 
@@ -337,19 +340,19 @@ fn keep_first<'n>(
 /// Returns the flows of a map in the order of their places, with the texts of their types.
 fn texts_of(
     alloc: Global,
-    tree: &Module,
+    names: &ClassNames<'_>,
     flows: &BTreeMap<Place, &NotedFlow>,
 ) -> Result<Vec<(Place, RcStr, RcStr)>, OutOfMemory>
     requires { HasGivenFlows flows.now }
     ensures { IfOk result (λ v. (code : RustCode) (notes : List Note) → HasFirstFlows code notes flows.now
-        → AreFlowTexts (module_of tree.now) code notes v.items) }
+        → AreFlowTexts (named_module names.now) code notes v.items) }
 {
     let mut known = BTreeMap::new(alloc);
     let mut texts = Vec::with_capacity(alloc, flows.len())?;
     for entry in flows.iter() {
         let (place, flow) = entry;
-        let from = shared_text(&mut known, alloc, tree, &flow.from)?;
-        let into = shared_text(&mut known, alloc, tree, &flow.into)?;
+        let from = shared_text(&mut known, alloc, names, &flow.from)?;
+        let into = shared_text(&mut known, alloc, names, &flow.into)?;
         texts.push((*place, from, into))?;
     }
     Ok(texts)

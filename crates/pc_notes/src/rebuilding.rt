@@ -58,6 +58,7 @@ pub fn transfer<S: TypeStore, T: TypeStore>(
         taken.push(transfer(from, into, alloc, part)?)?;
     }
     let Some(made) = rebuild(into, alloc, from.head(ty), &taken)? else {
+        // A type that a store gave is within the limit of nodes.
         unreachable!()
     };
     Ok(made)

@@ -2,16 +2,15 @@
 
 ghost use Rattle.std.specs.Prelude.{◌≡◌, IfOk, OnOk};
 ghost use Rattle.std.specs.Rc.{rc_str_bytes};
-ghost use Rattle.pc_tree.specs.Tree.{module_of};
 ghost use Rattle.pc_types.specs.Boxed.{IsGiven};
+ghost use Rattle.pc_annotations.specs.Named.{named_module};
 ghost use Rattle.pc_annotations.specs.Text.{type_text};
 ghost use Rattle.pc_notes.specs.Notes.{IsGivenType, shared_tree};
 ghost use Rattle.pc_notes.specs.Texts.{AreNamed};
 
-use pc_annotations::type_text;
+use pc_annotations::{ClassNames, named_text};
 use pc_intern::is_alike;
 use pc_source::OutOfMemory;
-use pc_tree::Module;
 use pc_types::{BoxStore, BoxType, TypeStore};
 use std::alloc::Global;
 use std::collections::BTreeMap;
@@ -76,20 +75,20 @@ pub(crate) struct NamedType {
 pub(crate) fn shared_text(
     known: &mut BTreeMap<usize, NamedType>,
     alloc: Global,
-    tree: &Module,
+    names: &ClassNames<'_>,
     shared: &SharedType,
 ) -> Result<RcStr, OutOfMemory>
     requires given { IsGivenType shared.now }
-    requires named { AreNamed (module_of tree.now) known.old }
-    ensures text { IfOk result (λ t. rc_str_bytes t ≡ type_text (module_of tree.now) (shared_tree shared.now)) }
-    ensures named { OnOk result (AreNamed (module_of tree.now) known.new) }
+    requires named { AreNamed (named_module names.now) known.old }
+    ensures text { IfOk result (λ t. rc_str_bytes t ≡ type_text (named_module names.now) (shared_tree shared.now)) }
+    ensures named { OnOk result (AreNamed (named_module names.now) known.new) }
 {
     if let Some(named) = known.get(&shared.mark) {
         if is_alike(&named.ty, &shared.ty) {
             return Ok(named.text.clone()?);
         }
     }
-    let text = RcStr::from_string(type_text(&BoxStore::new(), alloc, tree, &shared.ty)?)?;
+    let text = RcStr::from_string(named_text(&BoxStore::new(), alloc, names, &shared.ty)?)?;
     let named = NamedType {
         ty: shared.ty.clone()?,
         text: text.clone()?,

@@ -1,5 +1,5 @@
 -- Loops over the members of a type and over the results of an operation on them.
-use Rattle.std.proofs.Common.{◌≡◌, ◌+◌, ◌<◌, ◌≤◌, ◌∙◌, ℕ, List, [], ◌∷◌, ◌++◌, Option, Some, None, refl, sym, ap}
+use Rattle.std.proofs.Common.{◌≡◌, ◌+◌, ◌<◌, ◌≤◌, ◌∙◌, ℕ, List, [], ◌∷◌, ◌++◌, refl, sym, ap}
 use Rattle.std.proofs.Common.{append_assoc, length, get_or, drop}
 use Rattle.std.specs.Prelude.{Bool as Test, true, false, ◌||◌, if◌then◌else◌, All, map, flat_map, option_to_list}
 use Rattle.std.specs.Option.{option_map}
@@ -13,42 +13,24 @@ use Rattle.pc_tree.proofs.Stops.{cons_at}
 use Rattle.pc_types.specs.Tree.{Tree, Any}
 use Rattle.pc_types.specs.Below.{Bases}
 use Rattle.pc_types.specs.Store.{Means, KeepsTypes}
-use Rattle.pc_class.specs.Tables.{ClassEntry, HasEntry, HasEntries, HasParameter, HasMethod}
 use Rattle.pc_flow.specs.Environment.{join_all}
 use Rattle.pc_flow.proofs.Given.{keeps_both}
 use Rattle.pc_flow.proofs.Rest.{mapped_rest, mapped_end}
 use Rattle.pc_rules.specs.Operations.{Offer, has_error, found_of, offers_label, operand_types}
 use Rattle.pc_rules.specs.Computed.Findings.{once_onto, once}
-use Rattle.pc_rules.specs.Computed.Standing.{HasIfAny, HasOffer, offer_with, MeansLabel}
+use Rattle.pc_rules.specs.Computed.Standing.{HasOffer, offer_with, MeansLabel}
 use Rattle.pc_operations.specs.JudgedOperations.{IsOffer}
 use Rattle.pc_rules.specs.declared.label.Label.{Label as RustLabel}
 use Rattle.pc_rules.specs.declared.label.Offer.{Offer as RustOffer}
+use Rattle.pc_rules.proofs.Kept.{any_kept}
 use Rattle.pc_rules.proofs.Once.{onto_append, once_error}
 
 module _ {Store Ty : Type 0} (has : Store → Ty → Type 0) (a b : Store) (k : KeepsTypes has a b) where
-  pub if_any_kept : (o : Option Ty) → HasIfAny (has a) o → HasIfAny (has b) o
-  if_any_kept None h = tt
-  if_any_kept (Some ty) h = k ty h
-
   pub offer_kept : (o : RustOffer Ty) → HasOffer (has a) o → HasOffer (has b) o
-  offer_kept o h = record { gives = k o.gives h.gives; takes = if_any_kept o.takes h.takes }
+  offer_kept o h = record { gives = k o.gives h.gives; takes = any_kept (has a) (has b) k o.takes h.takes }
 
   pub offers_kept : (os : List (RustOffer Ty)) → All (HasOffer (has a)) os → All (HasOffer (has b)) os
   offers_kept os h = All-weaker (HasOffer (has a)) (HasOffer (has b)) offer_kept os h
-
-  entry_kept : (e : ClassEntry Ty) → HasEntry (has a) e → HasEntry (has b) e
-  entry_kept e h = record {
-    fields = All-weaker (HasParameter (has a)) (HasParameter (has b)) (λ p. k p.ty) e.fields h.fields;
-    methods = All-weaker (HasMethod (has a)) (HasMethod (has b))
-        (λ m w. record {
-          params = All-weaker (HasParameter (has a)) (HasParameter (has b)) (λ p. k p.ty) m.params w.params;
-          ret = k m.ret w.ret;
-        }) e.methods h.methods;
-  }
-
-  -- the types of a table stay types of the store
-  pub entries_kept : (es : List (ClassEntry Ty)) → HasEntries (has a) es → HasEntries (has b) es
-  entries_kept es h = All-weaker (HasEntry (has a)) (HasEntry (has b)) entry_kept es h
 
 -- ---- the offers of so many members
 

@@ -1,4 +1,4 @@
-//! Equal types, and methods with equal demands.
+//! Methods with equal demands.
 
 ghost use Rattle.std.specs.Prelude.{◌≡◌, IfOk, IsTrue, true};
 ghost use Rattle.pc_class.specs.Parts.{parameter_name};
@@ -6,37 +6,10 @@ ghost use Rattle.pc_class.specs.Tables.{HasMethod, method_with};
 ghost use Rattle.pc_overrides.specs.Internal.Standing.{AreAlike};
 
 use pc_class::{Method, Parameter};
+use pc_flow::is_same_type;
 use pc_source::OutOfMemory;
 use pc_types::TypeStore;
 use std::alloc::Global;
-
-/// Returns true only if two types are equal, by comparing their heads and parts.
-pub(crate) fn is_same<S: TypeStore>(
-    store: &S,
-    alloc: Global,
-    s: &S::Ty,
-    t: &S::Ty,
-) -> Result<bool, OutOfMemory>
-    requires left { S.has store.now s.now }
-    requires right { S.has store.now t.now }
-    ensures { IfOk result (λ same. same ≡ true → S.tree s.now ≡ S.tree t.now) }
-{
-    let head = store.head(s);
-    if head != store.head(t) {
-        return Ok(false);
-    }
-    if head.part_count() == 0 {
-        return Ok(true);
-    }
-    let left = store.parts(alloc, s)?;
-    let right = store.parts(alloc, t)?;
-    for part in 0..left.len() {
-        if !is_same(store, alloc, &left[part], &right[part])? {
-            return Ok(false);
-        }
-    }
-    Ok(true)
-}
 
 /// Returns whether two parameters have the same name, and both a default or neither.
 fn agrees<Ty: Drop>(p: &Parameter<Ty>, q: &Parameter<Ty>) -> bool
@@ -58,13 +31,13 @@ pub(crate) fn is_alike<S: TypeStore>(
 {
     let left = x.params.as_slice();
     let right = y.params.as_slice();
-    if left.len() != right.len() || !is_same(store, alloc, &x.ret, &y.ret)? {
+    if left.len() != right.len() || !is_same_type(store, alloc, &x.ret, &y.ret)? {
         return Ok(false);
     }
     for number in 0..left.len() {
         let p = &left[number];
         let q = &right[number];
-        if !agrees(p, q) || !is_same(store, alloc, &p.ty, &q.ty)? {
+        if !agrees(p, q) || !is_same_type(store, alloc, &p.ty, &q.ty)? {
             return Ok(false);
         }
     }

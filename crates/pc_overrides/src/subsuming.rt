@@ -5,8 +5,8 @@ ghost use Rattle.pc_types.specs.Assignable.{IsPlain};
 ghost use Rattle.pc_class.specs.Tables.{HasMethod, method_with};
 ghost use Rattle.pc_overrides.specs.Internal.Standing.{Settles, PartSettles};
 
-use crate::alike::is_same;
 use pc_class::Method;
+use pc_flow::is_same_type;
 use pc_source::OutOfMemory;
 use pc_types::{Head, TypeStore};
 use std::alloc::Global;
@@ -50,7 +50,7 @@ fn subsumes<S: TypeStore>(
     if is_plain(store, alloc, new)? {
         return Ok(true);
     }
-    let same = is_same(store, alloc, new, old)?;
+    let same = is_same_type(store, alloc, new, old)?;
     Ok(same)
 }
 

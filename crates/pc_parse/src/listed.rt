@@ -12,7 +12,7 @@ ghost use Rattle.pc_grammar.specs.Faults.{IsModule, IsRefusal};
 use crate::stream::parse_from;
 use pc_source::Fault;
 use pc_token::TextToken;
-use pc_tree::Module;
+use pc_tree::{Keys, Module};
 use std::alloc::Global;
 
 /// The remaining tokens of a list, copied one at a time.
@@ -54,20 +54,21 @@ impl<'t, 'a> Iterator for Listed<'t, 'a> {
     }
 }
 
-/// Parses a list of tokens into a module. Python Language Reference 3.12, 10 "Full Grammar specification", the part in
-/// the profile.
+/// Parses a list of tokens into a module with these hash keys; for tests, since a check parses tokens as they come, by
+/// `parse_from`. Python Language Reference 3.12, 10 "Full Grammar specification", the part in the profile.
 ///
 /// # Errors
 ///
 /// `G1` at the first token after which no module can follow, or at the end of the last token if they end too early;
 /// otherwise `G2` at the first byte of the first whole expression or annotation that is deeper than 64. `OutOfMemory`
 /// if the tree cannot be allocated.
-pub fn parse(alloc: Global, tokens: &[TextToken<'_>]) -> Result<Module, Fault>
+pub fn parse(alloc: Global, keys: Keys, tokens: &[TextToken<'_>]) -> Result<Module, Fault>
+    ensures keyed { IfOk result (λ m. m.keys ≡ keys) }
     ensures found { IfOk result (λ m. IsModule (map lexeme_of tokens.now) (module_of m)) }
     ensures only { (m : ModuleTree) → IsModule (map lexeme_of tokens.now) m
         → MatchResult result (λ v. module_of v ≡ m) (λ e. e ≡ fault.OutOfMemory) }
     ensures refused { IfErr result (OnRefusal (IsRefusal (map lexeme_of tokens.now))) }
     ensures within { (len : ℕ) → AreWithin len (map lexeme_of tokens.now) → IfErr result (IsWithin len) }
 {
-    parse_from(alloc, Listed { tokens, at: 0 })
+    parse_from(alloc, keys, Listed { tokens, at: 0 })
 }

@@ -1,5 +1,5 @@
 //! The items of a module, its last line, and whole modules.
-ghost use Rattle.std.specs.Prelude.{◌≡◌, ◌&&◌, codes, bytes_eq};
+ghost use Rattle.std.specs.Prelude.{◌≡◌, ◌&&◌, IfOk, codes, bytes_eq};
 ghost use Rattle.pc_token.specs.declared.token.TokenKind.TheVariants as kind;
 ghost use Rattle.pc_token.specs.declared.token.Operator.TheVariants as sign;
 ghost use Rattle.pc_tree.specs.Tree.{name_of};
@@ -89,10 +89,11 @@ impl<X: AsStr + Drop, I: Iterator<Item = Result<Token<X>, Fault>> + Drop> Parser
         }))
     }
 
-    /// Reads a whole module. It has the hash keys of an empty text.
-    pub(crate) fn module(&mut self, alloc: Global) -> Result<Module, Fault>
+    /// Reads a whole module, which gets these hash keys.
+    pub(crate) fn module(&mut self, alloc: Global, keys: Keys) -> Result<Module, Fault>
         requires { IsReady I.can_next I.remaining self.old.reader }
-        ensures { ReadsModule X.text I.next_gives I.can_next I.remaining self.old self.new result }
+        ensures keyed { IfOk result (λ m. m.keys ≡ keys) }
+        ensures read { ReadsModule X.text I.next_gives I.can_next I.remaining self.old self.new result }
     {
         let headers = read_headers(&mut self.reader)?;
         let mut items = Vec::new(alloc);
@@ -108,7 +109,7 @@ impl<X: AsStr + Drop, I: Iterator<Item = Result<Token<X>, Fault>> + Drop> Parser
                         imports_any: headers.any,
                         items,
                         main,
-                        keys: Keys::of(&[]),
+                        keys,
                     });
                 }
             }

@@ -1,5 +1,5 @@
 //! Parsing a stream of tokens.
-ghost use Rattle.std.specs.Prelude.{◌⊎◌, ℕ, map, IfOk, IfErr};
+ghost use Rattle.std.specs.Prelude.{◌≡◌, ◌⊎◌, ℕ, map, IfOk, IfErr};
 ghost use Rattle.std.specs.Iterator.{IsFinite};
 ghost use Rattle.pc_source.specs.declared.fault.Fault.TheVariants as fault;
 ghost use Rattle.pc_source.specs.Answers.{OnRefusal};
@@ -14,12 +14,12 @@ use crate::parser::Parser;
 use pc_reader::Reader;
 use pc_source::{Fault, Refusal, RefusalCode};
 use pc_token::Token;
-use pc_tree::Module;
+use pc_tree::{Keys, Module};
 use std::alloc::Global;
 use std::convert::AsStr;
 
-/// Parses tokens that come one at a time, from any finite iterator, into a module. Python Language Reference 3.12, 10
-/// "Full Grammar specification", the part in the profile.
+/// Parses tokens that come one at a time, from any finite iterator, into a module with these hash keys. Python Language
+/// Reference 3.12, 10 "Full Grammar specification", the part in the profile.
 ///
 /// # Errors
 ///
@@ -28,10 +28,12 @@ use std::convert::AsStr;
 /// is deeper than 64. `OutOfMemory` if the tree cannot be allocated.
 pub fn parse_from<X: AsStr + Drop, I: Iterator<Item = Result<Token<X>, Fault>> + Drop>(
     alloc: Global,
+    keys: Keys,
     tokens: I,
 ) -> Result<Module, Fault>
     requires can { I.can_next tokens }
     requires ends { IsFinite (I.remaining tokens) }
+    ensures keyed { IfOk result (λ m. m.keys ≡ keys) }
     ensures read { IfOk result (λ m. IsRead X.text I.next_gives tokens (module_of m)) }
     ensures refused { IfErr result
         (OnRefusal (λ r. IsRefusedByTokens X.text I.next_gives tokens r
@@ -42,7 +44,7 @@ pub fn parse_from<X: AsStr + Drop, I: Iterator<Item = Result<Token<X>, Fault>> +
 {
     let reader = Reader::new(tokens)?;
     let mut parser = Parser::new(reader);
-    let module = parser.module(alloc)?;
+    let module = parser.module(alloc, keys)?;
     match parser.deep {
         Some(byte) => Err(Fault::Refused(Refusal {
             code: RefusalCode::G2,

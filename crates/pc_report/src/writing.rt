@@ -29,14 +29,11 @@ pub(crate) fn write_whole<W: Write + Drop>(
 ) -> Result<(), WriteFault>
     ensures { IsWritten W.contents bytes.now device.old device.new result }
 {
-    let mut at = 0;
-    while at < bytes.len() {
-        match device.write(&bytes[at..]) {
-            Ok(0) | Err(_) => return Err(WriteFault::Write),
-            Ok(count) => at += count,
-        }
+    if device.write_whole(bytes) {
+        Ok(())
+    } else {
+        Err(WriteFault::Write)
     }
-    Ok(())
 }
 
 impl Report {

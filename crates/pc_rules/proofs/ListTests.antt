@@ -2,6 +2,7 @@
 use Rattle.std.proofs.Common.{◌≡◌, List, [], ◌∷◌, refl, sym, ap, ◌∙◌, subst, inl, inr, arith, Contains}
 use Rattle.std.specs.Prelude.{Bool as Test, true, false, ◌||◌, if◌then◌else◌, Some}
 use Rattle.std.specs.List.{list_any}
+use Rattle.pc_tree.proofs.Among.{none_among, among_first}
 use Rattle.pc_tree.specs.declared.code.Code.TheVariants.{A7}
 use Rattle.pc_tree.specs.Tree.{Exprs, name, no_exprs, more_exprs, no_keywords}
 use Rattle.pc_types.specs.Tree.{Tree, Any, Object}
@@ -12,7 +13,6 @@ use Rattle.pc_rules.specs.Calls.{test_codes, test_label}
 use Rattle.pc_rules.specs.Labels.{item_types}
 use Rattle.pc_rules.specs.Lawful.{whole_call_label}
 use Rattle.pc_rules.specs.Laws.ListTests.{HasAnyOrObject, ListTestsAreDynamicPlaces}
-use Rattle.pc_rules.proofs.Saying.{none_among, among_first}
 
 second_true : (a b : Test) → b ≡ true → (a || b) ≡ true
 second_true true b e = refl

@@ -1,8 +1,7 @@
--- Lists: which are empty, the element at a number, and membership.
+-- Lists: which are empty, and the element at a number.
 use Rattle.std.proofs.Common.{◌≡◌, ℕ, zero, suc, List, [], ◌∷◌, ◌++◌, length, refl, sym, ap, ◌∙◌, inl, inr, arith}
-use Rattle.std.proofs.Common.{Contains, lt-ltb}
+use Rattle.std.proofs.Common.{lt-ltb}
 use Rattle.std.specs.Prelude.{◌⊎◌, Bool as Test, true, false, Some, nat_lt, slice_get, bytes_eq}
-use Rattle.std.proofs.lemmas.List.Elements.{Contains-append_right, Contains-append_cases, Contains-push_cases}
 use Rattle.std.proofs.lemmas.Option.{same_Some, slice_get_within}
 use Rattle.std.proofs.lemmas.Slice.Eq.{bytes_eq-Decides}
 use Rattle.pc_sound.proofs.TruthValues.{not_both}
@@ -51,27 +50,6 @@ get_one_more [] y zero z e = inr (refl, same_Some _ _ e)
 get_one_more [] y (suc i) z e = inl e
 get_one_more (x ∷ xs) y zero z e = inl e
 get_one_more (x ∷ xs) y (suc i) z e = elim (get_one_more xs y i z e) [ inl a ↦ inl a | inr b ↦ inr (ap suc b.0, b.1) ]
-
--- ---- what is among the elements
-
--- nothing is among no elements
-pub none_among : {A : Type 0} (x : A) → Contains [] x → ⊥
-none_among x c = omega (arith, c.1)
-
--- the first element is among all
-pub first_among : {A : Type 0} (x : A) (xs : List A) → Contains (x ∷ xs) x
-first_among x xs = (0, omega arith, refl)
-
--- each of the other elements is among all
-pub later_among : {A : Type 0} (x : A) (xs : List A) (y : A) → Contains xs y → Contains (x ∷ xs) y
-later_among x xs y c = Contains-append_right (x ∷ []) xs y c
-
--- a list holds its first element, or one of the others
-pub among_first : {A : Type 0} (x : A) (xs : List A) (y : A) → Contains (x ∷ xs) y → (x ≡ y) ⊎ Contains xs y
-among_first x xs y h = elim (Contains-append_cases (x ∷ []) xs y h) [
-  | inl a ↦ elim (Contains-push_cases [] x y a) [ inl b ↦ absurd (none_among y b) | inr c ↦ inl c ]
-  | inr b ↦ inr b
-]
 
 -- ---- texts
 

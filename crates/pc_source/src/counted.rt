@@ -1,10 +1,11 @@
 //! A device that counts its failed calls.
 
-ghost use Rattle.std.specs.Prelude.{◌≡◌, length};
+ghost use Rattle.std.specs.Prelude.{◌≡◌, IsTrue, false, length};
 ghost use Rattle.std.specs.Result.{is_err};
 ghost use Rattle.std.specs.Io.{ReadsAtMost, WritesAtMost};
 ghost use Rattle.std.specs.Io.KnownBytes.{Keeps, ReadConsumes, WriteAppends};
 ghost use Rattle.pc_source.specs.Devices.{write_fails, failures_after};
+ghost use Rattle.pc_source.specs.Taken.{TakesAll, TakesBeginning};
 
 use std::io;
 use std::io::{Read, Write};
@@ -41,6 +42,24 @@ impl<D: Drop> Counted<D> {
         ensures { result ≡ self.now.failures }
     {
         self.failures
+    }
+}
+
+impl<W: Write + Drop> Counted<W> {
+    /// Writes all bytes, in as many calls as the device needs, and makes no call after one that failed. Returns whether
+    /// the device accepted all of them; if not, it accepted only a proper prefix.
+    pub fn write_whole(&mut self, bytes: &[u8]) -> bool
+        ensures all { IsTrue result → TakesAll W.contents bytes.now self.old self.new }
+        ensures beginning { result ≡ false → TakesBeginning W.contents bytes.now self.old self.new }
+    {
+        let mut at = 0;
+        while at < bytes.len() {
+            match self.write(&bytes[at..]) {
+                Ok(0) | Err(_) => return false,
+                Ok(count) => at += count,
+            }
+        }
+        true
     }
 }
 

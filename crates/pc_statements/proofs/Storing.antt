@@ -14,15 +14,14 @@ use Rattle.pc_rules.specs.Operations.{StoreOffer, has_error, store_codes}
 use Rattle.pc_rules.specs.Computed.Findings.{once_onto, once}
 use Rattle.pc_statements.specs.Storing.{HasStoreOffer, IsStoreOffer, store_offer_with}
 use Rattle.pc_statements.specs.declared.store_offers.StoreOffer.{StoreOffer as RustStoreOffer}
-use Rattle.pc_operations.proofs.Offering.{if_any_kept}
+use Rattle.pc_rules.proofs.Kept.{any_kept}
 use Rattle.pc_rules.proofs.Once.{onto_append, once_error}
 
 module _ {Store Ty : Type 0} (has : Store → Ty → Type 0) (a b : Store) (k : KeepsTypes has a b) where
   stores_kept : (o : RustStoreOffer Ty) → HasStoreOffer (has a) o → HasStoreOffer (has b) o
   stores_kept o h = record {
-    takes = if_any_kept has a b k o.takes h.takes;
-    stores = if_any_kept has a b k o.stores
-        h.stores;
+    takes = any_kept (has a) (has b) k o.takes h.takes;
+    stores = any_kept (has a) (has b) k o.stores h.stores;
   }
 
   pub all_stores_kept : (os : List (RustStoreOffer Ty)) → All (HasStoreOffer (has a)) os

@@ -1,21 +1,20 @@
 -- The members of a class that clash, one after another.
-use Rattle.std.proofs.Common.{◌≡◌, ◌<◌, ◌≤◌, ◌^◌, ◌+◌, ℕ, zero, suc, arith, refl, ap, ◌∙◌, sym, subst, List, [], ◌∷◌}
+use Rattle.std.proofs.Common.{◌≡◌, ◌<◌, ◌≤◌, ◌+◌, ℕ, zero, suc, arith, refl, ap, ◌∙◌, sym, subst, List, [], ◌∷◌}
 use Rattle.std.proofs.Common.{◌++◌, map, length, get_or, drop, Bool, true, false, true≢false, append-nil, append_assoc}
-use Rattle.std.specs.Prelude.{◌||◌, ◌&&◌, if◌then◌else◌, Result, Ok, Err, IfOk, OnOk, Option, Some, None, slice_get}
-use Rattle.std.specs.Prelude.{bytes_eq}
+use Rattle.std.specs.Prelude.{◌||◌, Result, Ok, Err, IfOk, OnOk, Option, Some, slice_get}
 use Rattle.std.specs.List.{list_any}
 use Rattle.pc_source.specs.declared.place.Place.{Place}
 use Rattle.pc_tree.specs.Tree.{Member, field_member, method_member, member_of}
 use Rattle.pc_tree.specs.declared.tree.Member.{Member as RustMember}
-use Rattle.pc_tree.specs.Stopping.{HeldMember, held_text, held_by, is_field, is_field_of, is_among, is_clash, clashes}
+use Rattle.pc_tree.specs.Stopping.{HeldMember, held_text, is_field, is_field_of, is_among, is_clash, clashes}
 use Rattle.pc_tree.specs.Stopping.{clashes_among, own_members, is_reserved_member, name_of_member, one_if}
 use Rattle.pc_tree.proofs.Stops.{cons_at}
-use Rattle.pc_stopping.specs.declared.tables.TrieNode.{TrieNode}
+use Rattle.pc_shared_maps.specs.declared.shared.MapNode.{MapNode}
+use Rattle.pc_shared_maps.specs.SharedMaps.{held_at}
 use Rattle.pc_stopping.specs.declared.holdings.Holdings.{Holdings}
-use Rattle.pc_stopping.specs.Tables.{value_at}
-use Rattle.pc_stopping.specs.Holdings.{holding, held_as, held_at, holding_of, number_of, Has, HasIn}
+use Rattle.pc_stopping.specs.Holdings.{holding, held_as, holding_at, holding_of, Has, HasIn}
 use Rattle.pc_stopping.specs.Members.{clashes_with, held_unless}
-use Rattle.pc_stopping.proofs.HeldNames.{field_named, there_and_back}
+use Rattle.pc_stopping.proofs.HeldNames.{field_named}
 use Rattle.pc_stopping.proofs.Passed.{one_more}
 
 -- ---- results
@@ -53,21 +52,19 @@ clash_told hs (field_member f) = field_clash (is_among (map held_text hs) f.name
 clash_told hs (method_member f) = method_clash (is_among (map held_text hs) f.name.text)
     (list_any (is_field_of f.name.text) hs) (field_named f.name.text hs)
 
-looked_up : (digits : ℕ) (names : List (List ℕ)) (nodes : List TrieNode) (t : ℕ) (hs : List HeldMember) (k : ℕ) (x : List ℕ)
-    → Has digits names nodes t hs → k < 2 ^ digits → slice_get names k ≡ Some x → holding_of (value_at nodes digits t k)
-    ≡ held_as x hs
-looked_up digits names nodes t hs k x h small at = ap holding_of (h.numbered k small)
-    ∙ ap (λ (o : Option (List ℕ)). holding_of (number_of (held_at o hs))) at ∙ there_and_back (held_as x hs)
+looked_up : (names : List (List ℕ)) (tables : List MapNode) (t : ℕ) (hs : List HeldMember) (k : ℕ) (x : List ℕ)
+    → Has names tables t hs → slice_get names k ≡ Some x → holding_of (held_at tables t k) ≡ held_as x hs
+looked_up names tables t hs k x h at = h.numbered k ∙ ap (λ (o : Option (List ℕ)). holding_at o hs) at
 
-pub judged : (digits : ℕ) (names : List (List ℕ)) (nodes : List TrieNode) (t : ℕ) (hs : List HeldMember) (k : ℕ)
-    (m : Member) (b : List (List ℕ)) (again clash : Bool) → Has digits names nodes t hs → k < 2 ^ digits
+pub judged : (names : List (List ℕ)) (tables : List MapNode) (t : ℕ) (hs : List HeldMember) (k : ℕ) (m : Member)
+    (b : List (List ℕ)) (again clash : Bool) → Has names tables t hs
     → slice_get names k ≡ Some (name_of_member m).text
     → again ≡ is_among b (name_of_member m).text
-    → clash ≡ (again || clashes_with (holding_of (value_at nodes digits t k)) (is_field m))
+    → clash ≡ (again || clashes_with (holding_of (held_at tables t k)) (is_field m))
     → clash ≡ is_clash b hs m
-judged digits names nodes t hs k m b again clash h small at passed is =
+judged names tables t hs k m b again clash h at passed is =
     is ∙ ap (λ (o : Bool). again || o) (ap (λ o. clashes_with o (is_field m))
-    (looked_up digits names nodes t hs k (name_of_member m).text h small at) ∙ clash_told hs m)
+    (looked_up names tables t hs k (name_of_member m).text h at) ∙ clash_told hs m)
     ∙ ap (λ (o : Bool). o || clashes hs m) passed
 
 pub own_one : (b : List (List ℕ)) (hs : List HeldMember) (m : Member) (clash : Bool) → clash ≡ is_clash b hs m

@@ -8,8 +8,8 @@ use Rattle.std.proofs.lemmas.Slice.Eq.{bytes_eq-Decides}
 use Rattle.indexmap.specs.IndexMap.{IndexMap}
 use Rattle.pc_source.specs.declared.place.Place.{Place}
 use Rattle.pc_source.specs.ReservedNames.{is_reserved}
-use Rattle.pc_tree.specs.Tree.{Name, ClassDef, Item, constant_item, class_item, def_item}
-use Rattle.pc_tree.specs.Stopping.{HeldMember, is_among, name_of_item, members_of, own_members, is_first_binding}
+use Rattle.pc_tree.specs.Tree.{ClassDef, Item, constant_item, class_item, def_item}
+use Rattle.pc_tree.specs.Stopping.{is_among, name_of_item, members_of, own_members, is_first_binding}
 use Rattle.pc_tree.specs.Stopping.{option_text, clashes_among, clashing_in}
 use Rattle.pc_tree.proofs.Stops.{more_at}
 use Rattle.pc_tree.specs.Names.{at_text, first_of, bound_as}

@@ -1,18 +1,17 @@
 -- The holdings of a table by the numbers of names, with one more name or one more member.
-use Rattle.std.proofs.Common.{◌≡◌, ◌≢◌, ◌<◌, ◌≤◌, ◌^◌, ◌%◌, ◌/◌, ◌+◌, ◌⊎◌, inl, inr, ℕ, zero, suc, refl, ap, ◌∙◌, sym}
-use Rattle.std.proofs.Common.{subst, arith, List, [], ◌∷◌, ◌++◌, length, map, Bool, true, false, true≢false}
-use Rattle.std.specs.Prelude.{nat_eq, ◌&&◌, ◌||◌, if◌then◌else◌, Option, Some, None, slice_get, bytes_eq}
+use Rattle.std.proofs.Common.{◌≡◌, ◌≢◌, ◌<◌, ◌⊎◌, inl, inr, ℕ, zero, suc, refl, ap, ◌∙◌, sym}
+use Rattle.std.proofs.Common.{arith, List, [], ◌∷◌, ◌++◌, length, map, Bool, true, false, true≢false}
+use Rattle.std.specs.Prelude.{◌==◌, ◌&&◌, ◌||◌, if◌then◌else◌, Option, Some, None, slice_get, bytes_eq}
 use Rattle.std.specs.List.{list_any}
-use Rattle.std.proofs.lemmas.Bool.{eq-eqb}
 use Rattle.std.proofs.lemmas.Bool.Decides.{eqb_tells}
 use Rattle.std.proofs.lemmas.List.{map-append}
 use Rattle.std.proofs.lemmas.Slice.Eq.{bytes_eq-Decides}
 use Rattle.pc_tree.specs.Stopping.{HeldMember, held_text, is_field_of, is_among}
-use Rattle.pc_stopping.specs.declared.tables.TrieNode.{TrieNode}
+use Rattle.pc_shared_maps.specs.declared.shared.MapNode.{MapNode}
+use Rattle.pc_shared_maps.specs.SharedMaps.{held_at, KeepsMaps}
 use Rattle.pc_stopping.specs.declared.holdings.Holding.{Holding}
 use Rattle.pc_stopping.specs.declared.holdings.Holding.TheVariants.{Nothing, Method, Field}
-use Rattle.pc_stopping.specs.Tables.{value_at, behind, AreBounded, IsWith}
-use Rattle.pc_stopping.specs.Holdings.{holding, held_as, held_at, with_member, number_of, holding_of, IsReady, AreOnce, Has}
+use Rattle.pc_stopping.specs.Holdings.{holding, held_as, holding_at, with_member, number_of, holding_of, AreOnce, Has}
 
 -- ---- one member more
 
@@ -67,7 +66,7 @@ held_more t hs h =
     ∙ held_cases (is_among (map held_text hs) t) (list_any (is_field_of t) hs) h.is_field (bytes_eq h.text t)
     (field_named t hs)
 
-pub there_and_back : (h : Holding) → holding_of (number_of h) ≡ h
+pub there_and_back : (h : Holding) → holding_of (Some (number_of h)) ≡ h
 there_and_back Nothing = refl
 there_and_back Method = refl
 there_and_back Field = refl
@@ -116,101 +115,79 @@ once_more names x once new j k t e f = elim (at_end names x j t e) [
   ]
 ]
 
-held_at_more : (names : List (List ℕ)) (x : List ℕ) (hs : List HeldMember) → held_as x hs ≡ Nothing → (j : ℕ)
-    → held_at (slice_get (names ++ x ∷ []) j) hs ≡ held_at (slice_get names j) hs
-held_at_more [] x hs none zero = none
-held_at_more [] x hs none (suc j) = refl
-held_at_more (n ∷ names) x hs none zero = refl
-held_at_more (n ∷ names) x hs none (suc j) = held_at_more names x hs none j
+holding_at_more : (names : List (List ℕ)) (x : List ℕ) (hs : List HeldMember) → held_as x hs ≡ Nothing → (j : ℕ)
+    → holding_at (slice_get (names ++ x ∷ []) j) hs ≡ holding_at (slice_get names j) hs
+holding_at_more [] x hs none zero = none
+holding_at_more [] x hs none (suc j) = refl
+holding_at_more (n ∷ names) x hs none zero = refl
+holding_at_more (n ∷ names) x hs none (suc j) = holding_at_more names x hs none j
 
 -- a table has what it had when a name gets a number
-pub more_names : (digits : ℕ) (names : List (List ℕ)) (x : List ℕ) (nodes : List TrieNode) (t : ℕ) (hs : List HeldMember)
-    → is_among names x ≡ false → Has digits names nodes t hs → Has digits (names ++ x ∷ []) nodes t hs
-more_names digits names x nodes t hs new h = record {
-  ready = h.ready;
+pub more_names : (names : List (List ℕ)) (x : List ℕ) (tables : List MapNode) (t : ℕ) (hs : List HeldMember)
+    → is_among names x ≡ false → Has names tables t hs → Has (names ++ x ∷ []) tables t hs
+more_names names x tables t hs new h = record {
   once = once_more names x h.once new;
   within = h.within;
-  numbered = λ k small. h.numbered k small ∙ ap number_of (sym (held_at_more names x hs (h.unnamed x new) k));
+  numbered = λ k. h.numbered k ∙ sym (holding_at_more names x hs (h.unnamed x new) k);
   unnamed = λ text e. h.unnamed text (first_false (is_among names text) (bytes_eq x text)
       (sym (any_end (λ n. bytes_eq n text) names x) ∙ e));
 }
 
 -- ---- tables
 
-empty_value : (nodes : List TrieNode) → ((b : Bool) → behind nodes 0 b ≡ 0) → (d k : ℕ) → value_at nodes d 0 k ≡ 0
-unfolding value_at
-empty_value nodes none zero k = refl
-empty_value nodes none (suc d) k = ap (λ (u : ℕ). value_at nodes d u (k / 2)) (none (nat_eq (k % 2) 1))
-    ∙ empty_value nodes none d (k / 2)
-
-abbrev pub empty : TrieNode
-empty = record { even = 0; odd = 0 }
-
-all_empty : (t : ℕ) (b : Bool) → behind (empty ∷ empty ∷ empty ∷ []) t b ≡ 0
-all_empty zero true = refl
-all_empty zero false = refl
-all_empty (suc zero) true = refl
-all_empty (suc zero) false = refl
-all_empty (suc (suc zero)) true = refl
-all_empty (suc (suc zero)) false = refl
-all_empty (suc (suc (suc t))) b = refl
-
 -- at first nothing has a number, and nothing is had
-pub at_first : (digits : ℕ) → Has digits [] (empty ∷ empty ∷ empty ∷ []) 0 []
-at_first digits = record {
-  ready = record { bounded = λ t b. omega (arith, all_empty t b); values = omega arith };
+pub at_first : (tables : List MapNode) → 0 < length tables → ((k : ℕ) → held_at tables 0 k ≡ None) → Has [] tables 0 []
+at_first tables room empty = record {
   once = λ j k t e f. absurd (cc);
-  within = omega arith;
-  numbered = λ k small. empty_value (empty ∷ empty ∷ empty ∷ []) (all_empty 0) digits k;
+  within = room;
+  numbered = λ k. ap holding_of (empty k);
   unnamed = λ t e. refl;
 }
 
 -- the tables that were there stay
-pub kept : (digits : ℕ) (names : List (List ℕ)) (old new : List TrieNode) (table number value added : ℕ)
-    → IsWith old new digits table number value added → (t : ℕ) (hs : List HeldMember) → Has digits names old t hs
-    → Has digits names new t hs
-kept digits names old new table number value added w t hs h = record {
-  ready = record { bounded = w.bounded; values = omega (arith, w.more, h.ready.values) };
+pub kept : (names : List (List ℕ)) (old new : List MapNode) → KeepsMaps old new → (t : ℕ) (hs : List HeldMember)
+    → Has names old t hs → Has names new t hs
+kept names old new keeps t hs h = record {
   once = h.once;
-  within = omega (arith, w.more, h.within);
-  numbered = λ k small. w.kept digits t k h.within ∙ h.numbered k small;
+  within = omega (arith, keeps.more, h.within);
+  numbered = λ k. ap holding_of (keeps.same t k h.within) ∙ h.numbered k;
   unnamed = h.unnamed;
 }
 
 -- and the new one has a member more
-pub held : (digits : ℕ) (names : List (List ℕ)) (old new : List TrieNode) (table number added : ℕ) (m : HeldMember)
-    (hs : List HeldMember) → number < 2 ^ digits → slice_get names number ≡ Some m.text → Has digits names old table hs
-    → IsWith old new digits table number (number_of (with_member (holding_of (value_at old digits table number))
-    m.is_field)) added → Has digits names new added (hs ++ m ∷ [])
-held digits names old new table number added m hs small at h w = record {
-  ready = record { bounded = w.bounded; values = omega (arith, w.more, h.ready.values) };
+pub held : (names : List (List ℕ)) (old new : List MapNode) (table number added : ℕ) (m : HeldMember)
+    (hs : List HeldMember) → slice_get names number ≡ Some m.text → Has names old table hs → added < length new
+    → ((k : ℕ) → held_at new added k ≡ (if k == number then Some (number_of
+    (with_member (holding_of (held_at old table number)) m.is_field)) else held_at old table k))
+    → Has names new added (hs ++ m ∷ [])
+held names old new table number added m hs at h within has = record {
   once = h.once;
-  within = w.within;
-  numbered = λ k s. w.has k s small ∙ elim (eqb_tells k number) [
-    | inl e ↦ ap (λ (b : Bool). if b then number_of (with_member (holding_of (value_at old digits table number))
-        m.is_field) else value_at old digits table k) e.0 ∙ here ∙ sym (ap number_of (there k e.1))
-    | inr e ↦ ap (λ (b : Bool). if b then number_of (with_member (holding_of (value_at old digits table number))
-        m.is_field) else value_at old digits table k) e.0 ∙ h.numbered k s
-        ∙ ap number_of (sym (elsewhere (slice_get names k) (λ t is. apart k t e.1 is)))
+  within = within;
+  numbered = λ k. ap holding_of (has k) ∙ elim (eqb_tells k number) [
+    | inl e ↦ ap (λ (b : Bool). holding_of (if b then Some (number_of had) else held_at old table k)) e.0
+        ∙ there_and_back had ∙ here ∙ sym (there k e.1)
+    | inr e ↦ ap (λ (b : Bool). holding_of (if b then Some (number_of had) else held_at old table k)) e.0
+        ∙ h.numbered k ∙ sym (elsewhere (slice_get names k) (λ t is. apart k t e.1 is))
   ];
   unnamed = λ t e. held_more t hs m ∙ ap (λ (b : Bool). if b then with_member (held_as t hs) m.is_field else held_as t
       hs) (nameless t e) ∙ h.unnamed t e;
 }
   where
-    here : number_of (with_member (holding_of (value_at old digits table number)) m.is_field)
-        ≡ number_of (with_member (held_as m.text hs) m.is_field)
-    here = ap (λ (v : ℕ). number_of (with_member (holding_of v) m.is_field)) (h.numbered number small)
-        ∙ ap (λ (o : Option (List ℕ)). number_of (with_member (holding_of (number_of (held_at o hs))) m.is_field)) at
-        ∙ ap (λ (o : Holding). number_of (with_member o m.is_field)) (there_and_back (held_as m.text hs))
+    had : Holding
+    had = with_member (holding_of (held_at old table number)) m.is_field
 
-    there : (k : ℕ) → k ≡ number → held_at (slice_get names k) (hs ++ m ∷ []) ≡ with_member (held_as m.text hs)
+    here : had ≡ with_member (held_as m.text hs) m.is_field
+    here = ap (λ (o : Holding). with_member o m.is_field) (h.numbered number
+        ∙ ap (λ (o : Option (List ℕ)). holding_at o hs) at)
+
+    there : (k : ℕ) → k ≡ number → holding_at (slice_get names k) (hs ++ m ∷ []) ≡ with_member (held_as m.text hs)
         m.is_field
-    there k is = ap (λ (o : Option (List ℕ)). held_at o (hs ++ m ∷ [])) (ap (slice_get names) is ∙ at)
+    there k is = ap (λ (o : Option (List ℕ)). holding_at o (hs ++ m ∷ [])) (ap (slice_get names) is ∙ at)
         ∙ held_more m.text hs m ∙ ap (λ (b : Bool). if b then with_member (held_as m.text hs) m.is_field
         else held_as m.text hs) (itself m.text)
 
     elsewhere : (o : Option (List ℕ)) → ((t : List ℕ) → o ≡ Some t → bytes_eq m.text t ≡ false)
-        → held_at o (hs ++ m ∷ []) ≡ held_at o hs
+        → holding_at o (hs ++ m ∷ []) ≡ holding_at o hs
     elsewhere None other = refl
     elsewhere (Some t) other = held_more t hs m ∙ ap (λ (b : Bool). if b then with_member (held_as t hs) m.is_field
         else held_as t hs) (other t refl)

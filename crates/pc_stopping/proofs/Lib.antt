@@ -1,6 +1,5 @@
 pub mod Passed
 pub mod Earlier
-pub mod SharedTables
 pub mod HeldNames
 pub mod Clashes
 pub mod ClashingItems

@@ -1,16 +1,15 @@
 -- The tables of the members that classes have by name.
 -- Own device; which members a class has: own rule of the profile (the codes that stop a run).
-use Rattle.std.specs.Prelude.{◌≡◌, ◌<◌, ◌^◌, ℕ, zero, suc, Bool, true, false, List, length, map, Option, Some, None}
+use Rattle.std.specs.Prelude.{◌≡◌, ◌<◌, ◌≤◌, ℕ, zero, suc, Bool, true, false, List, length, map, Option, Some, None}
 use Rattle.std.specs.Prelude.{slice_get}
 use Rattle.std.specs.List.{list_any}
 use Rattle.pc_tree.specs.Stopping.{HeldMember, held_text, is_field_of, is_among}
 use Rattle.pc_tree.specs.Names.{texts_in}
-use Rattle.pc_stopping.specs.declared.tables.TrieNode.{TrieNode}
+use Rattle.pc_shared_maps.specs.declared.shared.MapNode.{MapNode}
+use Rattle.pc_shared_maps.specs.SharedMaps.{held_at}
 use Rattle.pc_stopping.specs.declared.holdings.Holding.{Holding}
 use Rattle.pc_stopping.specs.declared.holdings.Holding.TheVariants.{Nothing, Method, Field}
 use Rattle.pc_stopping.specs.declared.holdings.Holdings.{Holdings}
-use Rattle.pc_stopping.specs.declared.holdings.TheConstants.{DIGITS}
-use Rattle.pc_stopping.specs.Tables.{value_at, AreBounded}
 
 -- the holding of a name, given whether there is a member of that name and whether one is a field
 abbrev pub holding : (any field : Bool) → Holding
@@ -29,45 +28,39 @@ with_member Field false = Field
 with_member Method false = Method
 with_member Nothing false = Method
 
--- the value of a table that represents a holding, and the reverse
+-- the value of a table that represents a holding, and the reverse; without a value it is nothing
 abbrev pub number_of : Holding → ℕ
 number_of Nothing = 0
 number_of Method = 1
 number_of Field = 2
 
-abbrev pub holding_of : ℕ → Holding
-holding_of zero = Nothing
-holding_of (suc zero) = Method
-holding_of (suc (suc n)) = Field
+abbrev pub holding_of : Option ℕ → Holding
+holding_of None = Nothing
+holding_of (Some zero) = Nothing
+holding_of (Some (suc zero)) = Method
+holding_of (Some (suc (suc n))) = Field
 
 -- the holding of a name that may be missing; a missing name has nothing
-abbrev pub held_at : Option (List ℕ) → List HeldMember → Holding
-held_at None hs = Nothing
-held_at (Some text) hs = held_as text hs
-
--- nodes that can be added to: each successor of a node is a node, and the number of each holding is that of a node
-pub record IsReady (nodes : List TrieNode) : Type 0 where
-  pub bounded : AreBounded nodes
-  pub values : 2 < length nodes
+abbrev pub holding_at : Option (List ℕ) → List HeldMember → Holding
+holding_at None hs = Nothing
+holding_at (Some text) hs = held_as text hs
 
 -- no name has two numbers
 abbrev pub AreOnce : List (List ℕ) → Type 0
 AreOnce names = (j k : ℕ) (text : List ℕ) → slice_get names j ≡ Some text → slice_get names k ≡ Some text → j ≡ k
 
 -- a table has exactly the holdings of these members, by the numbers of their names
-pub record Has (digits : ℕ) (names : List (List ℕ)) (nodes : List TrieNode) (table : ℕ)
-    (hs : List HeldMember) : Type 0 where
-  pub ready : IsReady nodes
+pub record Has (names : List (List ℕ)) (tables : List MapNode) (table : ℕ) (hs : List HeldMember) : Type 0 where
   pub once : AreOnce names
-  pub within : table < length nodes
-  pub numbered : (k : ℕ) → k < 2 ^ digits → value_at nodes digits table k ≡ number_of (held_at (slice_get names k) hs)
+  pub within : table < length tables
+  pub numbered : (k : ℕ) → holding_of (held_at tables table k) ≡ holding_at (slice_get names k) hs
   pub unnamed : (text : List ℕ) → is_among names text ≡ false → held_as text hs ≡ Nothing
 
 -- a table of `Holdings` has exactly the holdings of these members
 abbrev pub HasIn : Holdings → ℕ → List HeldMember → Type 0
-HasIn h table hs = Has DIGITS (texts_in h.numbers) h.nodes.items table hs
+HasIn h table hs = Has (texts_in h.numbers) h.tables table hs
 
--- every earlier table is kept, and another can be added
+-- every earlier table is kept
 pub record Keeps (old new : Holdings) : Type 0 where
-  pub ready : IsReady new.nodes.items
+  pub more : length old.tables ≤ length new.tables
   pub kept : (table : ℕ) (hs : List HeldMember) → HasIn old table hs → HasIn new table hs

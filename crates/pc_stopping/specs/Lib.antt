@@ -1,4 +1,3 @@
 pub mod Found
 pub mod Holdings
 pub mod Members
-pub mod Tables

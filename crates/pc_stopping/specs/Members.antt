@@ -1,7 +1,7 @@
 -- The state of the walk over classes: a table for each name that earlier items bind.
 -- Own device; which members clash: own rule of the profile (the codes that stop a run).
 use Rattle.std.specs.Prelude.{◌≡◌, ℕ, Bool, true, false, List, [], ◌∷◌, map, if◌then◌else◌, Option, Some, None, is_some}
-use Rattle.std.specs.Prelude.{unwrap_or, bytes_eq}
+use Rattle.std.specs.Prelude.{unwrap_or}
 use Rattle.std.specs.Borrow.{Bor}
 use Rattle.indexmap.specs.IndexMap.{IndexMap}
 use Rattle.pc_tree.specs.Tree.{Member, Item}

@@ -1,23 +1,17 @@
 //! Tables of the members that classes have by name. Each class has a table, which shares the entries of its base.
-ghost use Rattle.std.specs.Prelude.{◌≡◌, ◌<◌, ◌^◌, ◌++◌, ◌∷◌, [], IfOk, OnOk, Some, slice_get, List, ℕ};
+ghost use Rattle.std.specs.Prelude.{◌≡◌, ◌<◌, ◌++◌, ◌∷◌, [], IfOk, OnOk, Some, slice_get, length, List, ℕ};
 ghost use Rattle.pc_tree.specs.Tree.{member_of};
 ghost use Rattle.pc_tree.specs.Stopping.{HeldMember, held_by, name_of_member, is_field};
 ghost use Rattle.pc_tree.specs.Names.{texts_in};
-ghost use Rattle.pc_stopping.specs.Tables.{value_at};
-ghost use Rattle.pc_stopping.specs.Holdings.{HasIn, IsReady, Keeps, number_of, holding_of, with_member};
+ghost use Rattle.pc_shared_maps.specs.SharedMaps.{held_at};
+ghost use Rattle.pc_stopping.specs.Holdings.{HasIn, Keeps, number_of, holding_of, with_member};
 
-use crate::tables::{TrieNode, table_with, value_in};
 use indexmap::IndexSet;
+use pc_shared_maps::SharedMaps;
 use pc_source::OutOfMemory;
 use pc_tree::{Member, NameSet};
 use std::alloc::Global;
 use std::hash::RandomState;
-
-/// Most binary digits that the number of a name has. A text of the profile has fewer names than that allows.
-pub const DIGITS: usize = 20;
-
-/// The first number with more digits than `DIGITS`.
-const MOST: usize = 1_048_576;
 
 /// The number of the empty table.
 pub const EMPTY: usize = 0;
@@ -31,11 +25,11 @@ pub enum Holding {
     Field,
 }
 
-/// The numbered names of members, and the nodes of the tables from these numbers to holdings.
+/// The numbered names of members, and the tables from these numbers to holdings.
 #[derive(Drop)]
 pub struct Holdings<'m> {
     pub numbers: NameSet<'m>,
-    pub nodes: Vec<TrieNode>,
+    pub tables: SharedMaps,
 }
 
 /// Returns the value of a table that represents a holding.
@@ -49,17 +43,15 @@ fn number_of(holding: Holding) -> usize
     }
 }
 
-/// Returns the holding that a value of a table represents.
-fn holding_of(value: usize) -> Holding
+/// Returns the holding that a value of a table represents; without a value it is nothing.
+fn holding_of(value: Option<usize>) -> Holding
     ensures { result ≡ holding_of value }
 {
-    if value == 0 {
-        return Holding::Nothing;
+    match value {
+        None | Some(0) => Holding::Nothing,
+        Some(1) => Holding::Method,
+        Some(_) => Holding::Field,
     }
-    if value == 1 {
-        return Holding::Method;
-    }
-    Holding::Field
 }
 
 /// Returns the holding of a name after one more member of that name.
@@ -81,37 +73,27 @@ impl<'m> Holdings<'m> {
     pub fn new(alloc: Global, keys: RandomState) -> Result<Holdings<'m>, OutOfMemory>
         ensures { IfOk result (λ h. HasIn h EMPTY []) }
     {
-        let empty = TrieNode { even: 0, odd: 0 };
-        let mut nodes = Vec::new(alloc);
-        nodes.push(empty)?;
-        nodes.push(empty)?;
-        nodes.push(empty)?;
-        Ok(Holdings {
-            numbers: IndexSet::with_hasher(alloc, keys),
-            nodes,
-        })
+        let numbers = IndexSet::with_hasher(alloc, keys);
+        let tables = SharedMaps::new(alloc)?;
+        Ok(Holdings { numbers, tables })
     }
 
-    /// Returns the number of a name, and adds the name if it is new. Fails with `OutOfMemory` if the set of names
-    /// cannot grow or the number has more than `DIGITS` digits.
+    /// Returns the number of a name, and adds the name if it is new.
     pub fn number(&mut self, name: &'m str) -> Result<usize, OutOfMemory>
         ensures named { IfOk result (λ k. slice_get (texts_in self.new.numbers) k ≡ Some name.now) }
-        ensures small { IfOk result (λ k. k < 2 ^ DIGITS) }
-        ensures nodes { self.new.nodes ≡ self.old.nodes }
+        ensures tables { self.new.tables ≡ self.old.tables }
         ensures kept { OnOk result ((t : ℕ) (hs : List HeldMember) → HasIn self.old t hs → HasIn self.new t hs) }
     {
         let (number, _) = self.numbers.insert_full(name)?;
-        if number >= MOST {
-            return Err(OutOfMemory);
-        }
         Ok(number)
     }
 
     /// Returns the holding in a table at the number of a name.
     pub fn held(&self, table: usize, number: usize) -> Holding
-        ensures { result ≡ holding_of (value_at self.now.nodes.items DIGITS table number) }
+        requires { table < length self.now.tables }
+        ensures { result ≡ holding_of (held_at self.now.tables table number) }
     {
-        holding_of(value_in(&self.nodes, DIGITS, table, number))
+        holding_of(self.tables.get(table, number))
     }
 
     /// Adds a table that is `table` with one more member, whose name has this number. Returns its number.
@@ -121,15 +103,17 @@ impl<'m> Holdings<'m> {
         number: usize,
         member: &Member,
     ) -> Result<usize, OutOfMemory>
-        requires { IsReady self.old.nodes.items }
+        requires { table < length self.old.tables }
+        ensures within { IfOk result (λ t. t < length self.new.tables) }
         ensures held { IfOk result
-            (λ t. (hs : List HeldMember) → number < 2 ^ DIGITS
+            (λ t. (hs : List HeldMember)
             → slice_get (texts_in self.old.numbers) number ≡ Some (name_of_member (member_of member.now)).text
             → HasIn self.old table hs → HasIn self.new t (hs ++ held_by (member_of member.now) ∷ [])) }
         ensures keeps { OnOk result (Keeps self.old self.new) }
     {
         let had = self.held(table, number);
         let value = number_of(with_member(had, member));
-        table_with(&mut self.nodes, DIGITS, table, number, value)
+        let added = self.tables.put(table, number, value)?;
+        Ok(added)
     }
 }

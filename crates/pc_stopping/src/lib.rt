@@ -11,7 +11,6 @@ mod members;
 mod names;
 mod reserved;
 mod stopping;
-mod tables;
 mod twice;
 
 pub use members::find_in_classes;

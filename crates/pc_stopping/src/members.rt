@@ -1,16 +1,17 @@
 //! E06: a member name used twice in a class, a field name that an ancestor has, or a method name that an ancestor has
 //! as a field. Own rule of the profile.
-ghost use Rattle.std.specs.Prelude.{◌≡◌, ◌<◌, ◌^◌, ◌||◌, ◌++◌, ◌∷◌, [], map, IfOk, OnOk, List, ℕ, Some, slice_get};
+ghost use Rattle.std.specs.Prelude.{◌≡◌, ◌<◌, ◌||◌, ◌++◌, ◌∷◌, [], map, IfOk, OnOk, List, ℕ, Option, Some, slice_get};
+ghost use Rattle.std.specs.Prelude.{length};
 ghost use Rattle.pc_tree.specs.declared.code.Code.TheVariants.{E06};
 ghost use Rattle.pc_tree.specs.Tree.{Item as ItemOf, item_of, member_of, module_of, option_name_of};
 ghost use Rattle.pc_tree.specs.Stopping.{HeldMember, is_field, is_among, is_reserved_member, name_of_member};
 ghost use Rattle.pc_tree.specs.Stopping.{clashes_among, clashing_in, clashing_members, own_members, option_text};
 ghost use Rattle.pc_tree.specs.Names.{texts_in};
 ghost use Rattle.pc_tree.specs.Code.{at_code};
-ghost use Rattle.pc_stopping.specs.Holdings.{HasIn, IsReady, Keeps};
+ghost use Rattle.pc_stopping.specs.Holdings.{HasIn, Keeps};
 ghost use Rattle.pc_stopping.specs.Members.{clashes_with, held_unless, base_at, Stands, IsTableOf};
 
-use crate::holdings::{DIGITS, EMPTY, Holding, Holdings};
+use crate::holdings::{EMPTY, Holding, Holdings};
 use crate::reserved::has_reserved_name;
 use indexmap::{IndexMap, IndexSet};
 use pc_source::{OutOfMemory, is_reserved};
@@ -54,10 +55,11 @@ fn table_behind(
     clash: bool,
     member: &Member,
 ) -> Result<usize, OutOfMemory>
-    requires { IsReady holdings.old.nodes.items }
+    requires { table < length holdings.old.tables }
+    ensures within { IfOk result (λ t. t < length holdings.new.tables) }
     ensures keeps { OnOk result (Keeps holdings.old holdings.new) }
     ensures has { IfOk result
-        (λ t. (all : List HeldMember) → number < 2 ^ DIGITS
+        (λ t. (all : List HeldMember)
         → slice_get (texts_in holdings.old.numbers) number ≡ Some (name_of_member (member_of member.now)).text
         → HasIn holdings.old table all
         → HasIn holdings.new t (all
@@ -82,7 +84,9 @@ fn find_member<'m>(
     table: usize,
     member: &'m Member,
 ) -> Result<usize, OutOfMemory>
-    requires { IsReady holdings.old.nodes.items }
+    requires inherited { inherited < length holdings.old.tables }
+    requires table { table < length holdings.old.tables }
+    ensures within { IfOk result (λ t. t < length holdings.new.tables) }
     ensures keeps { OnOk result (Keeps holdings.old holdings.new) }
     ensures passed { OnOk result
         ((text : List ℕ) → is_among (texts_in before.new) text
@@ -112,7 +116,7 @@ fn find_in_class<'m>(
     inherited: usize,
     members: &'m [Member],
 ) -> Result<usize, OutOfMemory>
-    requires { IsReady holdings.old.nodes.items }
+    requires { inherited < length holdings.old.tables }
     ensures keeps { OnOk result (Keeps holdings.old holdings.new) }
     ensures found { (hs : List HeldMember) → HasIn holdings.old inherited hs
         → OnOk result (found.new.items
@@ -152,7 +156,7 @@ fn find_in_item<'m>(
     bound: &NameMap<'m, usize>,
     item: &'m Item,
 ) -> Result<usize, OutOfMemory>
-    requires { IsReady holdings.old.nodes.items }
+    requires { (base : Option (List ℕ)) → base_at bound.now base < length holdings.old.tables }
     ensures keeps { OnOk result (Keeps holdings.old holdings.new) }
     ensures found { (before : List ItemOf) → Stands holdings.old bound.now before
         → OnOk result (found.new.items ≡ found.old.items ++ at_code E06 (clashing_in before (item_of item.now ∷ []))) }
@@ -178,8 +182,7 @@ fn find_in_item<'m>(
 ///
 /// # Errors
 ///
-/// `OutOfMemory` if the findings or the tables cannot grow, or if there are more distinct member names than a text of
-/// the profile can have.
+/// `OutOfMemory` only if an allocation failed.
 pub fn find_in_classes(
     found: &mut Findings,
     alloc: Global,

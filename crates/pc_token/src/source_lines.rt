@@ -36,7 +36,7 @@ pub fn lines(alloc: Global, source: &Source) -> Lines<'_>
     }
 }
 
-/// Returns the logical lines of a source.
+/// Returns the logical lines of a source in a list; for tests, since a check takes them from `lines` one by one.
 ///
 /// Python Language Reference 3.12, 2.1 "Line structure"; the refusals `L1` to `L8` are own rules of the profile.
 ///

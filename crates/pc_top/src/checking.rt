@@ -112,6 +112,7 @@ pub(crate) fn findings(alloc: Global, module: &Module) -> Result<CheckedModule, 
     ensures flows { IfOk result (λ v. TellsFlows (module_of «module».now) (notes_of v.notes)) }
 {
     let scopes = scopes(alloc, module)?;
+    // The class table makes its own: lending them to both would cost each function of the typing a lifetime.
     let parents = parents_of(alloc, module, &scopes)?;
     let mut store = InternStore::new(alloc, module.keys, parents)?;
     let notes = findings_by(&mut store, alloc, module, &scopes)?;

@@ -15,6 +15,6 @@ pub use fault::CheckFault;
 pub use laws::{no_needless_flow, one_listing_of_types, one_report};
 pub use pc_front::read_module;
 pub use pc_report::{Format, Report, Row, TypeEntry, TypeKind, TypeListing, TypeRow};
-pub use stream::{check_stream, types_stream};
+pub use stream::{FindingCounts, check_stream, types_stream};
 pub use top::check;
 pub use types::{type_at, types_of};

@@ -20,6 +20,15 @@ use std::io::{Read, Write};
 /// The greatest number of bytes read: one more than a source text may have.
 const MOST: usize = 1_048_577;
 
+/// The numbers of findings of a report.
+#[derive(Clone, Copy, Debug, PartialEq, Eq)]
+pub struct FindingCounts {
+    /// The number of errors.
+    pub errors: u64,
+    /// The number of dynamic places.
+    pub dynamic: u64,
+}
+
 /// Writes a report in a format, as JSON or as text.
 fn write_report<W: Write + Drop>(
     report: &Report,
@@ -57,10 +66,10 @@ pub fn check_stream<R: Read + Drop, W: Write + Drop>(
     writer: &mut Counted<W>,
     json: bool,
     format: Format,
-) -> Result<(u64, u64), CheckFault>
+) -> Result<FindingCounts, CheckFault>
     ensures reported { IfOk result
         (λ counts. IsReported W.contents
-        (R.remaining reader.old.device) json format writer.old writer.new counts.0 counts.1) }
+        (R.remaining reader.old.device) json format writer.old writer.new counts.errors counts.dynamic) }
     ensures refused { IfErr result (WhenRefused (IsRefusedStream (R.remaining reader.old.device))) }
     ensures within { IfErr result
         (WhenRefused (λ refusal. IsWithinStream (R.remaining reader.old.device) refusal.byte)) }
@@ -74,7 +83,10 @@ pub fn check_stream<R: Read + Drop, W: Write + Drop>(
     let bytes = read_at_most(alloc, reader, MOST)?;
     let report = report_of(alloc, bytes.as_slice(), Teardown::LeaveToExit)?;
     write_report(&report, writer, json, format)?;
-    Ok((report.errors(), report.dynamic()))
+    Ok(FindingCounts {
+        errors: report.errors(),
+        dynamic: report.dynamic(),
+    })
 }
 
 /// Writes a listing of types, as JSON or as text.
@@ -103,10 +115,10 @@ pub fn types_stream<R: Read + Drop, W: Write + Drop>(
     reader: &mut Counted<R>,
     writer: &mut Counted<W>,
     json: bool,
-) -> Result<(u64, u64), CheckFault>
+) -> Result<FindingCounts, CheckFault>
     ensures listed { IfOk result
         (λ counts. IsListed W.contents
-        (R.remaining reader.old.device) json writer.old writer.new counts.0 counts.1) }
+        (R.remaining reader.old.device) json writer.old writer.new counts.errors counts.dynamic) }
     ensures refused { IfErr result (WhenRefused (IsRefusedStream (R.remaining reader.old.device))) }
     ensures within { IfErr result
         (WhenRefused (λ refusal. IsWithinStream (R.remaining reader.old.device) refusal.byte)) }
@@ -121,5 +133,8 @@ pub fn types_stream<R: Read + Drop, W: Write + Drop>(
     let report = report_of(alloc, given.as_slice(), Teardown::Free)?;
     let listing = types_of(alloc, given.as_slice())?;
     write_listing(&listing, writer, json)?;
-    Ok((report.errors(), report.dynamic()))
+    Ok(FindingCounts {
+        errors: report.errors(),
+        dynamic: report.dynamic(),
+    })
 }

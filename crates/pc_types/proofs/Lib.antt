@@ -8,6 +8,7 @@ pub mod Deciding
 pub mod Descent
 pub mod Heads
 pub mod Incomparable
+pub mod JoinItself
 pub mod JoinNormal
 pub mod JoinReduced
 pub mod Joined

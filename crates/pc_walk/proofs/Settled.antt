@@ -2,11 +2,11 @@
 use Rattle.std.proofs.Common.{◌≡◌, ℕ, List, ◌++◌, Bool as Test, true, false, Option, Some, None, refl, sym, subst}
 use Rattle.pc_types.specs.Tree.{Tree}
 use Rattle.pc_types.specs.Below.{Bases}
+use Rattle.pc_types.proofs.JoinItself.{join_itself}
 use Rattle.pc_flow.specs.Agreement.{is_among, AgreeOutside, TakesIn, TakesInOutside}
 use Rattle.pc_flow.specs.Environment.{Env, current}
 use Rattle.pc_flow.specs.WellFormed.{IsWellFormedIfAny, IsWellFormedEnv}
 use Rattle.pc_flow.proofs.Conditions.{current_well_formed}
-use Rattle.pc_flow.proofs.Itself.{join_itself}
 use Rattle.pc_flow.proofs.Settled.{outside_both, true_false}
 use Rattle.pc_walk.specs.Untouched.{AgreesIfAny, TakesInIfAny, WayTakesIn}
 use Rattle.pc_walk.proofs.KeptLocals.{IsKeptIfAny}

@@ -23,14 +23,11 @@ pub fn framed(alloc: Global, message: &[u8]) -> Result<Vec<u8>, AllocError>
 pub fn write_whole<W: Write + Drop>(device: &mut Counted<W>, bytes: &[u8]) -> Result<(), SendFault>
     ensures { IsSent W.contents bytes.now device.old device.new result }
 {
-    let mut at = 0;
-    while at < bytes.len() {
-        match device.write(&bytes[at..]) {
-            Ok(0) | Err(_) => return Err(SendFault::Write),
-            Ok(count) => at += count,
-        }
+    if device.write_whole(bytes) {
+        Ok(())
+    } else {
+        Err(SendFault::Write)
     }
-    Ok(())
 }
 
 /// Writes a message with its header. Does not flush the device. Language Server Protocol 3.17, "Base Protocol".

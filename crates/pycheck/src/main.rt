@@ -7,7 +7,7 @@ ghost use Rattle.pycheck.specs.Status.{status};
 use pc_commands::{RemembersError, given_words, reason_of, tell};
 pub use pc_commands::{CheckOptions as Options, OptionFault, check_options as options};
 use pc_source::Counted;
-use pc_top::{CheckFault, check_stream, types_stream};
+use pc_top::{CheckFault, FindingCounts, check_stream, types_stream};
 use std::fs::File;
 use std::io;
 use std::io::Write;
@@ -16,11 +16,11 @@ use std::rt::{Env, Files};
 
 /// Returns the exit status of an outcome, the numbers of errors and of dynamic places: 0 without errors, 1 with errors,
 /// 2 after a refusal, and 3 if memory or a device failed. Own rule of the profile.
-pub fn status_of(outcome: &Result<(u64, u64), CheckFault>) -> u8
+pub fn status_of(outcome: &Result<FindingCounts, CheckFault>) -> u8
     ensures { result ≡ status outcome.now }
 {
     match outcome {
-        Ok((0, _)) => 0,
+        Ok(FindingCounts { errors: 0, .. }) => 0,
         Ok(_) => 1,
         Err(CheckFault::Refused(_)) => 2,
         Err(CheckFault::OutOfMemory | CheckFault::Read | CheckFault::Write) => 3,
@@ -56,7 +56,7 @@ fn checked<R: Print + Eprint + Files + AllocGlobal>(
     rt: &R,
     options: &Options,
     file: R::File,
-) -> Result<(u64, u64), CheckFault> {
+) -> Result<FindingCounts, CheckFault> {
     let mut input = Counted::new(RemembersError::new(file));
     let mut output = Counted::new(RemembersError::new(io::writer(rt)));
     let mut outcome = if options.types {

@@ -4,7 +4,8 @@ use pc_notes::Notes;
 use pc_scope::scopes;
 use pc_source::{Counted, Source, read_source};
 use pc_top::{
-    CheckFault, Format, Report, check, check_stream, findings_by, type_at, types_of, types_stream,
+    CheckFault, FindingCounts, Format, Report, check, check_stream, findings_by, type_at, types_of,
+    types_stream,
 };
 use pc_tree::{Code, Module};
 use pc_types::BoxStore;
@@ -77,7 +78,9 @@ impl ReportMaker for Checking {
         format: Format,
     ) -> Result<String, AllocError> {
         match check_stream(alloc, reader, writer, json, format) {
-            Ok((errors, dynamic)) => format!(in alloc; "errors {errors}, dynamic {dynamic}"),
+            Ok(FindingCounts { errors, dynamic }) => {
+                format!(in alloc; "errors {errors}, dynamic {dynamic}")
+            }
             Err(fault) => format!(in alloc; "{fault}"),
         }
     }
@@ -86,7 +89,7 @@ impl ReportMaker for Checking {
         let mut reader = Counted::new(bytes);
         let mut writer = Counted::new(Vec::new(alloc));
         match types_stream(alloc, &mut reader, &mut writer, false) {
-            Ok((errors, dynamic)) => {
+            Ok(FindingCounts { errors, dynamic }) => {
                 let listing = str::from_utf8(writer.inner().as_slice()).unwrap_or("no text");
                 format!(in alloc; "{listing}errors {errors}, dynamic {dynamic}")
             }

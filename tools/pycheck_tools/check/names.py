@@ -31,7 +31,7 @@ SHARED: Dict[str, Shared] = {
     "fault_text": Shared(3, "the text of a fault, for each kind of tables"),
     "findings_are_listed": Shared(2, "one law, of annotations and of expressions"),
     "is_alike": Shared(2, "one meaning, of types and of methods"),
-    "is_same": Shared(5, "one meaning, of types in three stores, of names and of kinds of tokens"),
+    "is_same": Shared(3, "one meaning, of types in boxes, of names and of kinds of tokens"),
     "join": Shared(2, "of operands, as Python's grammar has it, and of types, as the typing specification has it"),
     "join_or_object": Shared(2, "one meaning, over a store and over boxes"),
     "judge": Shared(6, "one meaning: each crate of tests judges its tables"),

@@ -38,7 +38,7 @@ use Rattle.pc_sound.specs.Values.{HeapTyping, HasType, IsWell}
 use Rattle.pc_sound.specs.Loaded.{IsLoaded}
 use Rattle.pc_sound.proofs.Steps.Judgment.{HasListed, Around, IsWellTyped, KeepsState, IsSafe, IsContextOf, Goes, Leads}
 use Rattle.pc_sound.proofs.Steps.Judgment.{IsWellTypedAnd, Ways, FlowEnds, IsLocal, Lasts}
-use Rattle.pc_sound.proofs.Lists.{among_first}
+use Rattle.pc_tree.proofs.Among.{among_first}
 use Rattle.pc_sound.proofs.Values.ValuesFlow.{of_static}
 use Rattle.pc_sound.proofs.Steps.SafeSteps.{ended}
 use Rattle.pc_sound.proofs.Steps.LeadingSteps.{ends_as, leads_from, leads_to}

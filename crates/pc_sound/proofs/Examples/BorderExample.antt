@@ -21,7 +21,7 @@ use Rattle.pc_sound.specs.Loading.{EndsLoaded}
 use Rattle.pc_sound.specs.OutsideCalls.{CanBeCalled}
 use Rattle.pc_sound.specs.BorderExample.{program, f, main, made_f, made_main, loaded, first_and_second, first_twice}
 use Rattle.pc_sound.specs.BorderExample.{list_and_text, one_each}
-use Rattle.pc_sound.proofs.Lists.{none_among}
+use Rattle.pc_tree.proofs.Among.{none_among}
 use Rattle.pc_sound.proofs.Examples.ExampleFindings.{no_classes_listed, finds_just}
 use Rattle.pc_sound.proofs.Modules.Loading.{loading_is_sound}
 

@@ -22,7 +22,7 @@ use Rattle.pc_class.specs.Findings.{has_default_before}
 use Rattle.pc_class.specs.Findings as class
 use Rattle.pc_types.proofs.Consistent.{static_assignable}
 use Rattle.pc_sound.specs.Examples.{FindsJust}
-use Rattle.pc_sound.proofs.Lists.{none_among}
+use Rattle.pc_tree.proofs.Among.{none_among}
 use Rattle.pc_sound.proofs.Examples.FindingLists.{Listing, equal_into}
 use Rattle.pc_sound.proofs.Examples.ExampleFindings.{none_stops}
 

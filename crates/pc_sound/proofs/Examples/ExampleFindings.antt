@@ -37,7 +37,7 @@ use Rattle.pc_module_rules.specs.Modules.{nothing_before}
 use Rattle.pc_module_rules.proofs.Scopes.{said_is_found}
 use Rattle.pc_module_rules.proofs.OneModule.{one_labelling}
 use Rattle.pc_sound.specs.Examples.{FindsJust}
-use Rattle.pc_sound.proofs.Lists.{among_first, first_among, later_among, none_among}
+use Rattle.pc_tree.proofs.Among.{among_first, first_among, later_among, none_among}
 use Rattle.pc_sound.proofs.Examples.FindingLists.{Listing, none_listed, nothing_listed, equal_listed, both_listed, like}
 use Rattle.pc_sound.proofs.Examples.FindingLists.{all_items_listed}
 

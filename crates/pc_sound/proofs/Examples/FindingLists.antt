@@ -48,7 +48,7 @@ use Rattle.pc_module_rules.specs.Statements.{AnnotationFinds, StmtFinds, SuiteFi
 use Rattle.pc_module_rules.specs.Modules as modules
 use Rattle.pc_module_rules.specs.Modules.{FunctionLabels, FunctionFinds, names_entered, entry_parameters, MembersLabels}
 use Rattle.pc_module_rules.specs.Modules.{MembersFind, ItemLabels, BeforeItem, before_next, ItemFinds}
-use Rattle.pc_sound.proofs.Lists.{among_first, first_among, later_among, none_among}
+use Rattle.pc_tree.proofs.Among.{among_first, first_among, later_among, none_among}
 
 -- the findings of a rule, as a list
 pub record Listing (P : Finding → Type 0) : Type 0 where

@@ -29,7 +29,7 @@ use Rattle.pc_machine.specs.Evaluation.{eval_node, eval_over, steps}
 use Rattle.pc_machine.specs.Free.{Step, free}
 use Rattle.pc_sound.specs.Values.{HeapTyping, HasType, HaveTypes, AllHave, IsWell}
 use Rattle.pc_sound.specs.Ends.{EndsWell}
-use Rattle.pc_sound.proofs.Steps.Judgment.{HasListed, Around, IsWellTyped, KeepsState, IsSafe, IsContextOf}
+use Rattle.pc_sound.proofs.Steps.Judgment.{HasListed, Around, IsWellTyped, KeepsState, IsSafe, IsContextOf, kept_with}
 use Rattle.pc_sound.proofs.Lists.{not_empty}
 use Rattle.pc_sound.proofs.Values.ValuesFlow.{later, of_static}
 use Rattle.pc_sound.proofs.Steps.SafeSteps.{bind_safe, emits_safe, act_safe, gives_injective, gives_not_stops}
@@ -64,17 +64,7 @@ also_safe around env {A} known m P Q fact safe = record { run = go }
         → m s events o s' → HasListed around.listed events ⊎ KeepsState around (λ k a. P k a × Q a) k s o s'
     go k s s' events o knows st r = elim (safe.run k s s' events o knows st r) [
       | inl l ↦ inl l
-      | inr kept ↦ inr (record {
-        typing = kept.typing;
-        grows = kept.grows;
-        well = kept.well;
-        same_frame =
-            kept.same_frame;
-        same_globals = kept.same_globals;
-        same_classes = kept.same_classes;
-        ends =
-            both kept.typing s s' events o r kept.ends;
-      })
+      | inr kept ↦ inr (kept_with kept (both kept.typing s s' events o r kept.ends))
     ]
 
 -- ---- an int literal as an index

@@ -10,6 +10,7 @@ use Rattle.std.proofs.lemmas.Bool.{false≢true, and_parts}
 use Rattle.std.proofs.lemmas.Option.{none-some}
 use Rattle.std.proofs.Math.Seq.{take-append_seam}
 use Rattle.pc_source.specs.declared.place.Place.{Place}
+use Rattle.pc_tree.proofs.Among.{none_among, among_first}
 use Rattle.pc_tree.specs.declared.code.Code.TheVariants.{E03, E20}
 use Rattle.pc_tree.specs.Code.{finding}
 use Rattle.pc_tree.specs.Tree.{Name, Expr, name, number, text, truth, nothing, tuple, list, dict, negative, negation}
@@ -30,7 +31,6 @@ use Rattle.pc_rules.specs.Operations.{in_error}
 use Rattle.pc_rules.specs.Context.{Context, local_label, name_label, constant_label, is_early}
 use Rattle.pc_rules.specs.Signatures.{initializer_context}
 use Rattle.pc_module_rules.specs.Modules.{Labelling, IsLawful, ItemsLabels, BeforeItem, before_next, nothing_before}
-use Rattle.pc_rules.proofs.Saying.{none_among, among_first}
 use Rattle.pc_sound.specs.Silent.{HasNoSilentError, tested}
 use Rattle.pc_sound.proofs.Lists.{get_at_end, one_longer}
 use Rattle.pc_sound.proofs.Settled.SettledParts.{tests_in_time}

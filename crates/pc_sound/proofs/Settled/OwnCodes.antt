@@ -3,6 +3,7 @@ use Rattle.std.proofs.Common.{◌≡◌, ℕ, List, [], ◌∷◌, ◌++◌, map
 use Rattle.std.specs.Prelude.{Bool as Test, true, false, ◌||◌, if◌then◌else◌, nat_le, nat_lt, Option, Some, None}
 use Rattle.std.specs.Prelude.{slice_get, flat_map, Contains}
 use Rattle.std.specs.List.{list_any}
+use Rattle.pc_tree.proofs.Among.{none_among, among_first}
 use Rattle.pc_tree.specs.declared.code.Code.{Code}
 use Rattle.pc_tree.specs.declared.code.Code.TheVariants.{A2, A7, E03, E13, E14, E26, E27}
 use Rattle.pc_tree.specs.declared.tree.ComparisonOperator.{ComparisonOperator}
@@ -39,7 +40,6 @@ use Rattle.pc_rules.specs.Labels.{Labels, whole_label, type_of, item_types}
 use Rattle.pc_rules.specs.Lawful.{Lawful, KeyValue, list_item, dict_parts, members_of_expected, list_label, DictLabel}
 use Rattle.pc_rules.specs.Lawful.{no_keys, int_keys, str_keys, other_keys, DictRule, int_literal, compare_label}
 use Rattle.pc_rules.specs.Lawful.{callee_of, whole_call_label}
-use Rattle.pc_rules.proofs.Saying.{none_among, among_first}
 use Rattle.pc_sound.specs.Silent.{IsSilentCode}
 
 -- none of these codes is silent everywhere

@@ -22,7 +22,7 @@ use Rattle.pc_sound.specs.Values.{HeapTyping}
 use Rattle.pc_sound.proofs.Steps.BoundLocals.{HasLocals}
 use Rattle.pc_sound.proofs.Steps.Judgment.{Around, IsWellTyped, IsContextOf, Leads, IsWellTypedAnd, Ways, Reaches}
 use Rattle.pc_sound.proofs.Steps.Judgment.{FlowEnds, Lasts}
-use Rattle.pc_sound.proofs.Lists.{among_first, none_among}
+use Rattle.pc_tree.proofs.Among.{among_first, none_among}
 use Rattle.pc_sound.proofs.Expressions.SimpleExpressions.{Covered}
 use Rattle.pc_sound.proofs.Settled.KeyedLabels.{StmtKeyed, SuiteKeyed, BranchesKeyed}
 use Rattle.pc_sound.proofs.Expressions.Conditions.{Decides}

@@ -29,7 +29,8 @@ use Rattle.pc_sound.specs.Values.{HeapTyping, HasType}
 use Rattle.pc_sound.proofs.Steps.BoundLocals.{HasLocals}
 use Rattle.pc_sound.proofs.Steps.Judgment.{AreListedCodes, Around, IsSafe, IsContextOf, Leads, IsWellTypedAnd, FlowEnds}
 use Rattle.pc_sound.proofs.Steps.Judgment.{Lasts}
-use Rattle.pc_sound.proofs.Lists.{first_among, not_empty}
+use Rattle.pc_tree.proofs.Among.{first_among}
+use Rattle.pc_sound.proofs.Lists.{not_empty}
 use Rattle.pc_sound.proofs.Values.ValuesFlow.{of_static}
 use Rattle.pc_sound.proofs.Expressions.SimpleExpressions.{Covered}
 use Rattle.pc_sound.proofs.Values.Flows.{Evaluates}

@@ -24,6 +24,7 @@ use Rattle.pc_machine.specs.State.{State}
 use Rattle.pc_machine.specs.Free.{Step}
 use Rattle.pc_sound.specs.Values.{HeapTyping, HasType}
 use Rattle.pc_sound.proofs.Steps.Judgment.{HasListed, AreListedCodes, Around, IsWellTyped, KeepsState, IsSafe}
+use Rattle.pc_sound.proofs.Steps.Judgment.{kept_with}
 use Rattle.pc_sound.proofs.Lists.{not_empty}
 use Rattle.pc_sound.proofs.Values.ValuesFlow.{of_static}
 use Rattle.pc_sound.proofs.Steps.SafeSteps.{weaken, stopped_as}
@@ -95,17 +96,8 @@ evaluated_safe {A} around env known p m P (c ∷ cs) allowed evaluates h = recor
         inl (record { place = p; is = allowed; event = evaluates.place s s' events a r })
     go k s s' events (Stops stop) knows st r = elim (h.run k s s' events (Stops stop) knows st r) [
       | inl l ↦ inl l
-      | inr kept ↦ inr (record {
-        typing = kept.typing;
-        grows = kept.grows;
-        well = kept.well;
-        same_frame =
-            kept.same_frame;
-        same_globals = kept.same_globals;
-        same_classes = kept.same_classes;
-        ends =
-            stopped_as (P kept.typing) (λ a. P kept.typing a × (c ∷ cs ≡ [])) stop kept.ends;
-      })
+      | inr kept ↦ inr (kept_with kept (stopped_as (P kept.typing) (λ a. P kept.typing a × (c ∷ cs ≡ [])) stop
+          kept.ends))
     ]
 
 -- ---- what is bound

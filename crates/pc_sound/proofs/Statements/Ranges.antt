@@ -38,7 +38,7 @@ use Rattle.pc_machine.specs.Evaluation.{IterableForm, range_call, any_iterable, 
 use Rattle.pc_machine.specs.Free.{Step, free}
 use Rattle.pc_sound.specs.Values.{HeapTyping, HasType}
 use Rattle.pc_sound.specs.Ends.{EndsWell}
-use Rattle.pc_sound.proofs.Steps.Judgment.{HasListed, Around, IsWellTyped, KeepsState, IsSafe, IsContextOf}
+use Rattle.pc_sound.proofs.Steps.Judgment.{HasListed, Around, IsWellTyped, KeepsState, IsSafe, IsContextOf, kept_with}
 use Rattle.pc_sound.proofs.Steps.SafeSteps.{bind_safe, emits_safe, looks_safe, act_safe, may_stop_safe, stopped_as}
 use Rattle.pc_sound.proofs.Settled.KeyedLabels.{Keyed}
 use Rattle.pc_sound.proofs.Expressions.SimpleExpressions.{Covered, GoodEval, allowed}
@@ -65,17 +65,7 @@ listed_safe around env {A} known m P Q p here evaluates safe = record { run = go
         inl (record { place = p; is = here; event = evaluates.place s s' events v r })
     go k s s' events (Stops stop) knows st r = elim (safe.run k s s' events (Stops stop) knows st r) [
       | inl l ↦ inl l
-      | inr kept ↦ inr (record {
-        typing = kept.typing;
-        grows = kept.grows;
-        well = kept.well;
-        same_frame =
-            kept.same_frame;
-        same_globals = kept.same_globals;
-        same_classes = kept.same_classes;
-        ends =
-            stopped_as (P kept.typing) (Q kept.typing) stop kept.ends;
-      })
+      | inr kept ↦ inr (kept_with kept (stopped_as (P kept.typing) (Q kept.typing) stop kept.ends))
     ]
 
 range_resolved : (r : NameMeaning) → is_range r ≡ true → r ≡ res.Builtin builtin.Range

@@ -26,7 +26,7 @@ use Rattle.pc_machine.specs.Evaluation.{exec_node, assign as assign_target, fail
 use Rattle.pc_sound.specs.Values.{HeapTyping, HasType, Extends}
 use Rattle.pc_sound.proofs.Steps.Judgment.{Around, IsWellTyped, IsSafe, IsContextOf, TellsLocals, Leads, IsWellTypedAnd}
 use Rattle.pc_sound.proofs.Steps.Judgment.{FlowEnds, Lasts}
-use Rattle.pc_sound.proofs.Lists.{first_among}
+use Rattle.pc_tree.proofs.Among.{first_among}
 use Rattle.pc_sound.proofs.Values.ValuesFlow.{of_static}
 use Rattle.pc_sound.proofs.Expressions.SimpleExpressions.{Covered, GoodEval}
 use Rattle.pc_sound.proofs.Settled.KeyedLabels.{Keyed, OptionKeyed, TargetKeyed, StmtKeyed}

@@ -73,6 +73,20 @@ pub record KeepsState (around : Around) {A : Type 0} (P : HeapTyping → A → T
   pub same_classes : s'.classes ≡ s.classes
   pub ends : EndsWell (P typing) out
 
+-- a step that kept these keeps them with other ends
+pub kept_with : {around : Around} {A B : Type 0} {P : HeapTyping → A → Type 0} {Q : HeapTyping → B → Type 0}
+    {k : HeapTyping} {s s' : State} {out : Out A} {out' : Out B} (kept : KeepsState around P k s out s')
+    → EndsWell (Q kept.typing) out' → KeepsState around Q k s out' s'
+kept_with kept ends = record {
+  typing = kept.typing;
+  grows = kept.grows;
+  well = kept.well;
+  same_frame = kept.same_frame;
+  same_globals = kept.same_globals;
+  same_classes = kept.same_classes;
+  ends = ends;
+}
+
 -- where this is known, the step is safe
 pub record IsSafe (around : Around) (env : Env) (known : HeapTyping → Type 0) {A : Type 0} (m : Step A)
     (P : HeapTyping → A → Type 0) : Type 0 where

@@ -15,7 +15,7 @@ use Rattle.pc_machine.specs.Free.{Step, ◌>>=◌, comes, may_end, may_stop, Emi
 use Rattle.pc_sound.specs.Values.{HeapTyping, Extends, IsWell}
 use Rattle.pc_sound.specs.Ends.{EndsWell}
 use Rattle.pc_sound.proofs.Steps.BoundLocals.{HasLocals}
-use Rattle.pc_sound.proofs.Steps.Judgment.{HasListed, AreListedCodes, Around, HasNames, IsWellTyped}
+use Rattle.pc_sound.proofs.Steps.Judgment.{HasListed, AreListedCodes, Around, HasNames, IsWellTyped, kept_with}
 use Rattle.pc_sound.proofs.Steps.Judgment.{KeepsState, IsSafe}
 use Rattle.pc_sound.proofs.Values.ValuesFlow.{later, extends_refl, extends_through}
 
@@ -120,16 +120,9 @@ module _ (around : Around) (env : Env) where
       ]
       go k s s' events out knows st (inr w) = elim (first.run k s s' events (Stops w.stop) knows st w.before) [
         | inl e ↦ inl e
-        | inr kept ↦ inr (record {
-          typing = kept.typing;
-          grows = kept.grows;
-          well = kept.well;
-          same_frame = kept.same_frame;
-          same_globals = kept.same_globals;
-          same_classes = kept.same_classes;
-          ends = subst (EndsWell (Q kept.typing)) (sym w.is) (stopped_as (P kept.typing) (Q kept.typing) w.stop
-              kept.ends);
-        })
+        | inr kept ↦
+            inr (kept_with kept (subst (EndsWell (Q kept.typing)) (sym w.is)
+            (stopped_as (P kept.typing) (Q kept.typing) w.stop kept.ends)))
       ]
 
   -- the state as it was
@@ -201,17 +194,7 @@ module _ (around : Around) (env : Env) where
   weaken {A} known known' m P Q less more h = record {
     run = λ k s s' events o knows st r. elim (h.run k s s' events o (less k knows) st r) [
       | inl e ↦ inl e
-      | inr kept ↦ inr (record {
-        typing = kept.typing;
-        grows = kept.grows;
-        well = kept.well;
-        same_frame =
-            kept.same_frame;
-        same_globals = kept.same_globals;
-        same_classes = kept.same_classes;
-        ends =
-            go kept.typing o kept.ends;
-      })
+      | inr kept ↦ inr (kept_with kept (go kept.typing o kept.ends))
     ];
   }
     where

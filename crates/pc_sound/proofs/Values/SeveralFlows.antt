@@ -19,7 +19,7 @@ use Rattle.pc_value.specs.Value.{Value, Out, Gives, Stops}
 use Rattle.pc_machine.specs.State.{State}
 use Rattle.pc_machine.specs.Free.{Step}
 use Rattle.pc_sound.specs.Values.{HeapTyping, HasType}
-use Rattle.pc_sound.proofs.Steps.Judgment.{HasListed, Around, IsWellTyped, KeepsState, IsSafe}
+use Rattle.pc_sound.proofs.Steps.Judgment.{HasListed, Around, IsWellTyped, KeepsState, IsSafe, kept_with}
 use Rattle.pc_sound.proofs.Values.ValuesFlow.{of_static}
 use Rattle.pc_sound.proofs.Steps.SafeSteps.{weaken, stopped_as}
 use Rattle.pc_sound.proofs.Settled.KeyedLabels.{Keyed}
@@ -120,17 +120,7 @@ module _ (around : Around) (ctx : Context) (eval : Expr → Step Value) (good : 
           inl (record { place = place_of e; is = here; event = (evaluates e).place s s' events v r })
       dynamic_run here k s s' events (Stops stop) knows st r = elim (part.run k s s' events (Stops stop) tt st r) [
         | inl l ↦ inl l
-        | inr kept ↦ inr (record {
-          typing = kept.typing;
-          grows = kept.grows;
-          well = kept.well;
-          same_frame =
-              kept.same_frame;
-          same_globals = kept.same_globals;
-          same_classes = kept.same_classes;
-          ends =
-              stopped_as (λ v. HasType around.bases kept.typing (type_of e m) v)
-              (λ v. HasType around.bases kept.typing (type_of e m) v × HasEach around.bases kept.typing ts v) stop
-              kept.ends;
-        })
+        | inr kept ↦ inr (kept_with kept (stopped_as (λ v. HasType around.bases kept.typing (type_of e m) v)
+            (λ v. HasType around.bases kept.typing (type_of e m) v × HasEach around.bases kept.typing ts v) stop
+            kept.ends))
       ]

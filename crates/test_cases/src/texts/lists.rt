@@ -5,7 +5,7 @@ use crate::texts::tables::fault_text;
 use pc_parse::{parse, parse_from};
 use pc_source::{Fault, Refusal, RefusalCode, read_source};
 use pc_token::{Line, TextToken, Token, TokenKind, tokens};
-use pc_tree::{ItemKind, Module};
+use pc_tree::{ItemKind, Keys, Module};
 use std::alloc::{AllocError, Global};
 
 /// The text before a suite of `main`.
@@ -44,7 +44,7 @@ fn parsed(alloc: Global, text: &str) -> Result<Module, Fault> {
     let source = read_source(alloc, text.as_bytes())?;
     let lines = tokens(alloc, &source)?;
     let items = items_of(alloc, lines.as_slice())?;
-    parse(alloc, items.as_slice())
+    parse(alloc, Keys::of(text.as_bytes()), items.as_slice())
 }
 
 /// Returns the tokens of lines as a stream gives them, with a fault after them at this byte.
@@ -69,7 +69,7 @@ fn broken_off(alloc: Global, text: &str) -> Result<Module, Fault> {
     let source = read_source(alloc, text.as_bytes())?;
     let lines = tokens(alloc, &source)?;
     let items = stream_of(alloc, lines.as_slice(), text.len())?;
-    parse_from(alloc, items.into_iter())
+    parse_from(alloc, Keys::of(text.as_bytes()), items.into_iter())
 }
 
 /// Returns whether a suite of `main` is part of a module, or the code of its refusal and the byte in the suite.

@@ -1,6 +1,6 @@
 use Rattle.std.proofs.Common.{rules, ◌≡◌, ◌<◌, ◌≤◌, ◌++◌, OnOk, None, length, ap, sym, ◌∙◌, subst, string_bytes}
 use Rattle.std.proofs.Common.{vec_len, arith}
-use Rattle.pc_tree.specs.Tree.{module_of}
+use Rattle.pc_annotations.specs.Named.{named_module}
 use Rattle.pc_types.specs.Shape.{parts}
 use Rattle.pc_types.specs.Head.{head_of}
 use Rattle.pc_types.specs.declared.head.Head.TheVariants as heads
@@ -22,7 +22,7 @@ write_parts-write_type-requires g t c =
 
 pub write_parts-loop-i-preserved : goal.write_parts-loop-i-preserved
 write_parts-loop-i-preserved g t c =
-    let m = module_of c.args.tree.now in
+    let m = named_module c.args.names.now in
     let tree = g.S.TypeStore.tree in
     let v = c.in_ok-parts.parts in
     let l : c.loop-i.i < length v.items = omega (arith, c.len-i-end.ensures, v.ok.0) in
@@ -33,7 +33,7 @@ write_parts-loop-i-preserved g t c =
 
 pub write_parts-returns : goal.write_parts-returns
 write_parts-returns g t c =
-    let m = module_of c.args.tree.now in
+    let m = named_module c.args.names.now in
     let tree = g.S.TypeStore.tree in
     let v = c.in_ok-parts.parts in
     let n : 0 < length v.items = omega (
@@ -47,19 +47,19 @@ write_parts-returns g t c =
 
 pub write_type-returns-in-Tuple : goal.write_type-returns-in-Tuple
 write_type-returns-in-Tuple g t c =
-    let e = text_is (module_of c.args.tree.now) (g.S.TypeStore.tree c.args.ty.now)
+    let e = text_is (named_module c.args.names.now) (g.S.TypeStore.tree c.args.ty.now)
     (g.met.S.TypeStore.normal c.args.store.now c.args.ty.now c.requires) in
     let h : head_of (g.S.TypeStore.tree c.args.ty.now) ≡ heads.Tuple c.in-Tuple.field-0 = sym c.head-head.ensures.head
     ∙ c.in-Tuple.is in
     subst (λ l. OnOk c.write_applied-in-Tuple.result (string_bytes c.write_applied-in-Tuple.new.out ≡ string_bytes
     c.args.out.now ++ l))
-    (sym (e ∙ ap (λ x. text_by_head (module_of c.args.tree.now) x
-    (part_texts (module_of c.args.tree.now) (g.S.TypeStore.tree c.args.ty.now))) h))
+    (sym (e ∙ ap (λ x. text_by_head (named_module c.args.names.now) x
+    (part_texts (named_module c.args.names.now) (g.S.TypeStore.tree c.args.ty.now))) h))
     c.write_applied-in-Tuple.ensures
 
 pub write_type-returns-in_default-head : goal.write_type-returns-in_default-head
 write_type-returns-in_default-head g t c =
-    let m = module_of c.args.tree.now in
+    let m = named_module c.args.names.now in
     let ty = g.S.TypeStore.tree c.args.ty.now in
     let e = text_is m ty (g.met.S.TypeStore.normal c.args.store.now c.args.ty.now c.requires) in
     let v = c.plain_text.ensures in

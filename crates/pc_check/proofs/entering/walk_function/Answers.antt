@@ -110,7 +110,7 @@ returns-clause-pushed g c =
     let env_is = ap (env_of tree) c.in_ok-env.ensures ∙ none_is tree n in
     let middle : Table × Env = (env_of tree first.declared.now, env_of tree c.enter_receiver.new.env) in
     let start : Table × Env = (env_of tree mid.declared.now, env_of tree env) in
-    let body = reached S later out c.check_suite.new.broken in
+    let body = reached S later out c.check_suite.new.exit.env in
     let g1 = c.enter_receiver.ensures.goes_on in
     let g2 = goes_further g1 c.enter.ensures.goes_on in
     let g3 = goes_further g2 c.check_suite.ensures.goes_on in
@@ -121,7 +121,7 @@ returns-clause-pushed g c =
     (parameters_with tree c.args.params.now))
     ∙ ap (enter_parameters resolve middle.0 middle.1) c.requires.params in
     let notes = ap (λ (b : BindingResult). b.found) e.is ∙ ap (λ (b : BindingResult). b.found) r.is in
-    let walked = walks_on S old mid later (Some env) None out c.check_suite.new.broken
+    let walked = walks_on S old mid later (Some env) None out c.check_suite.new.exit.env
     (λ f w. walk_suite f w (stmts_of_list c.deref.result.now)) g2 s
     ∙ ap (λ b. walk_suite context (reached S mid (Some env) None) (stmts_of_list b)) c.deref.ensures.value
     ∙ ap (λ (ns : List Note). walk_suite context (reached_by start.0 (Some start.1) None ns) def.body) notes in

@@ -96,16 +96,16 @@ check_suite-loop-statement-preserved g t c =
     let resolve = context.context.resolve in
     let bases = context.context.bases in
     let all = stmts_of_list c.args.body.now in
-    let before = reached S here.walk here.env here.broken in
-    let behind = reached S new c.in_ok-env.env c.check_next.new.broken in
-    let first = reached S c.args.walk.now c.args.env c.args.broken.now in
+    let before = reached S here.walk here.env here.exit.env in
+    let behind = reached S new c.in_ok-env.env c.check_next.new.exit.env in
+    let first = reached S c.args.walk.now c.args.env c.args.exit.now.env in
     let next = stmts_next c.args.body.now i c.statement-item.result c.loop-statement-test.true c.statement-item.is in
     let held = well_formed_if_any (S.has here.walk.store.now) S.tree
     here.walk.context.globals.now.outline.now.parents.now here.env
     v.stands.current in
-    let unsettled = c.args.breaking.now.items in
-    let middle = here.breaking.items in
-    let later = c.check_next.new.breaking.items in
+    let unsettled = c.args.exit.now.unsettled.items in
+    let middle = here.exit.unsettled.items in
+    let later = c.check_next.new.exit.unsettled.items in
     let one = c.in_ok-env.ensures.breaks in
     record {
       goes_on = goes_further v.goes_on on;
@@ -139,10 +139,11 @@ check_suite-returns-clause-breaks g t c =
     let here = c.loop-statement in
     let v = here.invariant in
     let all = stmts_of_list c.args.body.now in
-    let first = reached S c.args.walk.now c.args.env c.args.broken.now in
+    let first = reached S c.args.walk.now c.args.env c.args.exit.now.env in
     subst (λ (f : RustBodyContext _). BreaksStaySettled f.globals.now.outline.now.parents.now
-    (touched_by (meanings f.names.now) all) c.args.breaking.now.items here.breaking.items first.broken first.env
-    (option_map (env_of S.tree) here.broken)) v.goes_on.context (λ locals base h. (v.settled locals base h).taken_in)
+    (touched_by (meanings f.names.now) all) c.args.exit.now.unsettled.items here.exit.unsettled.items first.broken
+    first.env
+    (option_map (env_of S.tree) here.exit.env)) v.goes_on.context (λ locals base h. (v.settled locals base h).taken_in)
 
 pub check_suite-returns-clause-walked : goal.check_suite-returns-clause-walked
 check_suite-returns-clause-walked g t c =
@@ -151,7 +152,7 @@ check_suite-returns-clause-walked g t c =
     let v = here.invariant in
     let left = no_statement_left c.args.body.now here.statement-index (omega arith) in
     record {
-      is = sym (ap (walk_suite (body_context_in S here.walk) (reached S here.walk here.env here.broken)) left)
+      is = sym (ap (walk_suite (body_context_in S here.walk) (reached S here.walk here.env here.exit.env)) left)
           ∙ v.is;
       stands = v.stands;
     }
@@ -166,14 +167,14 @@ check_next-returns-in_ok-declare_unreached-in-None-clause-walked g t c =
     let new = c.declare_unreached.new.walk in
     let d = c.in_ok-declare_unreached-in-None.ensures in
     let declared = d.declared c.args.statement.now.first in
-    let way = option_map (env_of S.tree) c.args.broken.now in
+    let way = option_map (env_of S.tree) c.args.exit.now.env in
     rw c.in-None.is (record {
       is = λ i. record { table = declared.is i; env = None; broken = way; found = d.found i };
       stands = record {
         context = context_on S old new c.requires.stands.context c.declare_unreached.ensures.goes_on;
         declared = declared.holds;
         current = tt;
-        out = way_kept S old new c.args.broken.now c.declare_unreached.ensures.goes_on c.requires.stands.out;
+        out = way_kept S old new c.args.exit.now.env c.declare_unreached.ensures.goes_on c.requires.stands.out;
       };
     })
 
@@ -190,12 +191,13 @@ check_next-returns-in_ok-note_touched-in-Some-clause-breaks g t c = λ locals ba
     let bases = old.context.globals.now.outline.now.parents.now in
     let s = stmt_of c.args.statement.now in
     let touched = touched_by_stmt (meanings later.context.names.now) s in
-    noted_more bases (env_of S.tree) c.check_stmt.new.broken c.check_stmt.new.breaking.items touched
+    noted_more bases (env_of S.tree) c.check_stmt.new.exit.env c.check_stmt.new.exit.unsettled.items touched
     c.note_touched.new.unsettled.items locals base
     (c.in_ok-note_touched-in-Some.ensures c.args.statement.now.first)
     (c.in_ok-out-in-Some.ensures.breaks locals base
     (subst (λ (o : _). BreaksSettle bases locals (touched_by_stmt (meanings old.context.names.now) s)
-    c.args.breaking.now.items (option_map (env_of S.tree) c.args.broken.now) base (option_map (env_of S.tree) o))
+    c.args.exit.now.unsettled.items (option_map (env_of S.tree) c.args.exit.now.env) base
+    (option_map (env_of S.tree) o))
     c.in-Some.is h))
 
 pub check_next-returns-in_ok-note_touched-in-Some-clause-settled :
@@ -209,25 +211,26 @@ check_next-returns-in_ok-note_touched-in-Some-clause-settled g t c =
     let s = stmt_of c.args.statement.now in
     let touched = touched_by_stmt context.context.resolve s in
     let env = c.in-Some.env in
-    let before = reached S old (Some env) c.args.broken.now in
-    let behind = reached S later c.in_ok-out-in-Some.out c.check_stmt.new.broken in
+    let before = reached S old (Some env) c.args.exit.now.env in
+    let behind = reached S later c.in_ok-out-in-Some.out c.check_stmt.new.exit.env in
     let w = c.in_ok-out-in-Some.ensures.walked in
     let on = c.check_stmt.ensures.goes_on in
-    let stands = subst (λ (o : _). StandsIn S old o c.args.broken.now) c.in-Some.is c.requires.stands in
-    let long = subst (λ (o : _). IsLong (reached S old o c.args.broken.now)) c.in-Some.is c.requires.long in
-    let breaks = subst (λ (o : _). WayTakesIn bases c.args.breaking.now.items before.broken
+    let stands = subst (λ (o : _). StandsIn S old o c.args.exit.now.env) c.in-Some.is c.requires.stands in
+    let long = subst (λ (o : _). IsLong (reached S old o c.args.exit.now.env)) c.in-Some.is c.requires.long in
+    let breaks = subst (λ (o : _). WayTakesIn bases c.args.exit.now.unsettled.items before.broken
     (option_map (env_of S.tree) o)) c.in-Some.is c.requires.breaks in
-    let noted = subst (λ (f : RustBodyContext _). AreNoted c.check_stmt.new.broken c.check_stmt.new.breaking.items
+    let noted = subst (λ (f : RustBodyContext _). AreNoted c.check_stmt.new.exit.env
+    c.check_stmt.new.exit.unsettled.items
     (touched_by_stmt (meanings f.names.now) s) c.note_touched.new.unsettled.items) on.context
     (c.in_ok-note_touched-in-Some.ensures c.args.statement.now.first) in
     let one = c.in_ok-out-in-Some.ensures.breaks touched (Some (env_of S.tree env))
-    (starts_settled bases touched c.args.breaking.now.items before.broken (Some (env_of S.tree env)) breaks) in
+    (starts_settled bases touched c.args.exit.now.unsettled.items before.broken (Some (env_of S.tree env)) breaks) in
     let agree = subst (λ (x : Reached). WaysAgree touched (Some (env_of S.tree env)) x.env) (sym w.is)
     (step_agrees context touched before.table before.env before.broken before.found s (Some (env_of S.tree env))
     stands.current.well_formed long (self_among touched) (self_agrees touched (Some (env_of S.tree env)))) in
     in_body_context S old later (λ (f : RustBodyContext _). WayTakesIn f.globals.now.outline.now.parents.now
     c.note_touched.new.unsettled.items behind.broken behind.env) on
-    (noted_settles bases (env_of S.tree) c.check_stmt.new.broken c.check_stmt.new.breaking.items touched
+    (noted_settles bases (env_of S.tree) c.check_stmt.new.exit.env c.check_stmt.new.exit.unsettled.items touched
     c.note_touched.new.unsettled.items (env_of S.tree env) behind.env noted one agree)
 
 -- ---- statements
@@ -255,7 +258,7 @@ check_stmt-returns-in_ok-break_out-in-Break-clause-walked g t c =
     let old = c.args.walk.now in
     let new = c.break_out.new.walk in
     let stood = quiet_stands S old new c.break_out.ensures.goes_on b.quiet
-    (Some c.args.env) c.args.broken.now c.requires.stands in
+    (Some c.args.env) c.args.exit.now.env c.requires.stands in
     rw c.in-Break.is (record {
       is = λ i. record {
         table = env_of S.tree (b.quiet.declared i);
@@ -289,7 +292,7 @@ check_stmt-returns-in_ok-find_return-in-Return-clause-walked g t c =
     let new = c.find_return.new.walk in
     let a = c.in_ok-find_return-in-Return.ensures.finds in
     let on = c.find_return.ensures.goes_on in
-    let way = c.args.broken.now in
+    let way = c.args.exit.now.env in
     rw c.in-Return.is (record {
       is = found_reached S old new c.args.env _ on a None way;
       stands = found_stands S old new c.args.env _ on a None way tt c.requires.stands.out;
@@ -305,7 +308,7 @@ check_stmt-returns-in_ok-env-in-Assert-clause-walked g t c =
     let new = c.check_assert.new.walk in
     let a = c.in_ok-env-in-Assert.ensures in
     let env = c.in_ok-env-in-Assert.env in
-    let way = c.args.broken.now in
+    let way = c.args.exit.now.env in
     let F = body_context_in S old in
     let K = standing_in S old c.args.env in
     let condition = expr_of c.in-Assert.condition.value in
@@ -335,7 +338,7 @@ check_stmt-returns-in_ok-env-in-Annotated-clause-walked g t c =
     let old = c.args.walk.now in
     let new = c.bind_annotated.new.walk in
     let b = rw c.deref-in-Annotated.ensures at c.in_ok-env-in-Annotated.ensures.bound in
-    let way = c.args.broken.now in
+    let way = c.args.exit.now.env in
     rw c.in-Annotated.is (record {
       is = ap (behind_binding (body_context_in S old) (option_map (env_of S.tree) way)) b.is;
       stands = record {
@@ -355,7 +358,7 @@ check_stmt-returns-in_ok-env-in-Assign-clause-walked g t c =
     let old = c.args.walk.now in
     let new = c.assign_target.new.walk in
     let b = rw c.deref-in-Assign.ensures at c.in_ok-env-in-Assign.ensures.bound in
-    let way = c.args.broken.now in
+    let way = c.args.exit.now.env in
     rw c.in-Assign.is (record {
       is = ap (behind_binding (body_context_in S old) (option_map (env_of S.tree) way)) b.is;
       stands = record {
@@ -375,7 +378,7 @@ check_stmt-returns-in_ok-type_in-in-Expr-clause-walked g t c =
     let old = c.args.walk.now in
     let new = c.type_in.new.walk in
     let env = c.args.env in
-    let way = c.args.broken.now in
+    let way = c.args.exit.now.env in
     let a = c.in_ok-type_in-in-Expr.ensures.finds in
     let on = c.type_in.ensures.goes_on in
     rw c.in-Expr.is (record {
@@ -389,7 +392,7 @@ check_stmt-returns-in-While-clause-breaks g t c = on_ok c.check_while.result (λ
 pub check_stmt-returns-in-While-clause-walked : goal.check_stmt-returns-in-While-clause-walked
 check_stmt-returns-in-While-clause-walked g t c =
     let S = g.S.TypeStore in
-    let way = c.args.broken.now in
+    let way = c.args.exit.now.env in
     let kind = c.in-While in
     let new = c.check_while.new.walk in
     let is = ap (λ ss. while_loop c.args.first (expr_of c.deref-in-While-2.result.now) (stmts_of_list ss))
@@ -406,7 +409,7 @@ check_stmt-returns-in-For-clause-breaks g t c = on_ok c.check_for.result (λ loc
 pub check_stmt-returns-in-For-clause-walked : goal.check_stmt-returns-in-For-clause-walked
 check_stmt-returns-in-For-clause-walked g t c =
     let S = g.S.TypeStore in
-    let way = c.args.broken.now in
+    let way = c.args.exit.now.env in
     let kind = c.in-For in
     let new = c.check_for.new.walk in
     let name = name_of kind.name in
@@ -443,9 +446,9 @@ check_stmt-returns-in_ok-out-in-If-clause-breaks g t c = λ locals base h.
     let fork = c.in_ok-fork-in-If.fork in
     let later = branches_of_list c.deref-in-If.result.now in
     let suite = stmts_of_list c.deref-in-If-2.result.now in
-    let before = forked S old c.args.env None c.args.broken.now in
-    let behind = forked S mid fork.last fork.ways.met c.check_branches.new.broken in
-    let out = option_map (env_of S.tree) c.check_otherwise.new.broken in
+    let before = forked S old c.args.env None c.args.exit.now.env in
+    let behind = forked S mid fork.last fork.ways.met c.check_branches.new.exit.env in
+    let out = option_map (env_of S.tree) c.check_otherwise.new.exit.env in
     let if_is : stmt_of_kind first c.args.kind.now ≡ conditional first later suite =
     ap (stmt_of_kind first) c.in-If.is ∙ if_tree first c.in-If.branches c.in-If.suite
     ∙ sym (ap (λ ss. conditional first (branches_of_list c.in-If.branches.items) (stmts_of_list ss))
@@ -458,7 +461,8 @@ check_stmt-returns-in_ok-out-in-If-clause-breaks g t c = λ locals base h.
     (branches_agree context locals before.table before.last before.broken before.found later base
     c.requires.stands.current.well_formed c.requires.long.env_long parts.0 h.agree) in
     let two = subst (λ (x : RustBodyContext _). BreaksStaySettled x.globals.now.outline.now.parents.now
-    (touched_by (meanings x.names.now) suite) c.check_branches.new.breaking.items c.check_otherwise.new.breaking.items
+    (touched_by (meanings x.names.now) suite) c.check_branches.new.exit.unsettled.items
+    c.check_otherwise.new.exit.unsettled.items
     behind.broken (Some behind.last) out) c.check_branches.ensures.goes_on.context c.in_ok-out-in-If.ensures.breaks in
     two locals base (record { among = parts.1; agree = agree; taken_in = one })
 
@@ -473,16 +477,16 @@ check_stmt-returns-in_ok-out-in-If-clause-walked g t c =
     let fork = c.in_ok-fork-in-If.fork in
     let o = c.in_ok-out-in-If.ensures.walked in
     let suite = stmts_of_list c.deref-in-If-2.result.now in
-    let behind = forked S mid fork.last fork.ways.met c.check_branches.new.broken in
-    let before = reached S old (Some c.args.env) c.args.broken.now in
+    let behind = forked S mid fork.last fork.ways.met c.check_branches.new.exit.env in
+    let before = reached S old (Some c.args.env) c.args.exit.now.env in
     let stepped : Stmt → Reached = step context before.table before.env before.broken before.found in
     let is = ap (λ bs. conditional first (branches_of_list bs) suite) c.deref-in-If.ensures.value
     ∙ ap (λ ss. conditional first (branches_of_list c.in-If.branches.items) (stmts_of_list ss))
     c.deref-in-If-2.ensures.value
     ∙ sym (if_tree first c.in-If.branches c.in-If.suite) ∙ sym (ap (stmt_of_kind first) c.in-If.is) in
     record {
-      is = walks_on S old mid c.check_otherwise.new.walk (Some fork.last) c.check_branches.new.broken
-          c.in_ok-out-in-If.out c.check_otherwise.new.broken
+      is = walks_on S old mid c.check_otherwise.new.walk (Some fork.last) c.check_branches.new.exit.env
+          c.in_ok-out-in-If.out c.check_otherwise.new.exit.env
           (λ f w. behind_branches f behind.ways (walk_suite f w suite)) c.check_branches.ensures.goes_on o
           ∙ branches_from context behind _ suite f.is ∙ ap stepped is;
       stands = o.stands;
@@ -514,7 +518,7 @@ check_while-check_suite-requires g t c κs within =
     let head = env_of S.tree c.in_ok-head.head in
     let condition = expr_of c.args.condition.now in
     let body = stmts_of_list c.args.body.now in
-    let locals = c.in_ok-breaking.breaking.items in
+    let locals = c.in_ok-unsettled.unsettled.items in
     let bases = context.context.bases in
     let where_true : env_of S.tree ways.where_true ≡ narrowed_at context table true condition head =
     a.where_true.is ∙ sym (same_narrowed S mid new c.in_ok-head.head _ c.type_condition.ensures.goes_on a.finds true
@@ -528,7 +532,7 @@ check_while-check_suite-requires g t c κs within =
     ∙ head_at_long (body_context_in S old) (env_of S.tree old.declared.now) (bound_by body)
     (env_of S.tree c.args.env.now)
     c.requires.long ∙ sym same_table in
-    let touched = among_same locals (touched_by_while resolve condition body) (λ x. c.in_ok-breaking.ensures x) in
+    let touched = among_same locals (touched_by_while resolve condition body) (λ x. c.in_ok-unsettled.ensures x) in
     let agree = while_agrees context locals table head condition body a.finds.stands.current.well_formed head_long
     touched in
     let out = subst (λ (e : Env). AgreeOutside locals e (narrowed_at context table true condition head))
@@ -575,7 +579,7 @@ check_while-returns-clause-walked g t c = λ p way held.
     let ways = c.in_ok-where_true.field-0 in
     let s = c.in_ok-check_suite.ensures.walked in
     let on = c.while_start.ensures.goes_on in
-    let out = c.check_suite.new.broken in
+    let out = c.check_suite.new.exit.env in
     let head = c.in_ok-head.head in
     let condition = expr_of c.args.condition.now in
     let body = stmts_of_list c.args.body.now in
@@ -644,7 +648,7 @@ check_for-check_suite-requires g t c κs within =
     let item = S.tree c.in_ok-item.item in
     let found = notes_of mid.found.now in
     let inside = Some (env_of S.tree c.in_ok-inside.inside) in
-    let locals = c.in_ok-breaking.breaking.items in
+    let locals = c.in_ok-unsettled.unsettled.items in
     let env_long : length (env_of S.tree c.args.env.now) ≡ length (env_of S.tree first.declared.now) =
     c.requires.long ∙ sym (ap (λ ds. length (env_of S.tree ds)) a.finds.declared) in
     let head_long : length head ≡ length table = ap (λ (e : Env). length e) start.is
@@ -656,7 +660,8 @@ check_for-check_suite-requires g t c κs within =
     let touched = in_body_context S old mid (λ (f : RustBodyContext _). AreAmong locals
     (touched_by_for (meanings f.names.now) name body))
     (goes_further c.item_type.ensures.goes_on c.for_start.ensures.goes_on)
-    (among_same locals (touched_by_for (meanings old.context.names.now) name body) (λ x. c.in_ok-breaking.ensures x)) in
+    (among_same locals (touched_by_for (meanings old.context.names.now) name body)
+    (λ x. c.in_ok-unsettled.ensures x)) in
     let agree = for_agrees context locals table head name body place item found start.holds.well_formed head_long
     touched in
     let copy = env_of S.tree copied.field-0 in
@@ -746,7 +751,7 @@ check_for-returns-clause-walked g t c = λ p way held.
     (bind_item context table first (resolve name.text) (place_of e) label.type ((told ++ asked) ++ codes))) =
     λ i. inside_for context (copy i) (bound i) in
     let walked = walks_on S old later new (Some c.in_ok-inside.inside) (Some copied.field-0)
-    c.in_ok-check_suite.field-0 c.check_suite.new.broken (λ f w. walk_suite f w body) entry s in
+    c.in_ok-check_suite.field-0 c.check_suite.new.exit.env (λ f w. walk_suite f w body) entry s in
     record {
       is = ap (behind_loop context (option_map (env_of S.tree) way))
           (walked ∙ ap (λ (w : Reached). walk_suite context w body) from);
@@ -793,7 +798,7 @@ check_otherwise-meet-requires-clause-taken_in g t c =
     let ways = c.args.fork.ways in
     let touched = c.in_ok-touched.touched.items in
     let out = option_map (env_of S.tree) c.in_ok-out.out in
-    let fork = forked S old c.args.fork.last ways.met c.args.broken.now in
+    let fork = forked S old c.args.fork.last ways.met c.args.exit.now.env in
     let o = stmts_of_list c.args.otherwise.now in
     let later = among_same touched (touched_by (meanings new.context.names.now) o) (λ x. c.in_ok-touched.ensures x) in
     let among = subst (λ (f : RustBodyContext _). AreAmong touched (touched_by (meanings f.names.now) o)) on.context
@@ -818,7 +823,7 @@ check_otherwise-returns-clause-walked g t c =
     let s = c.in_ok-out.ensures.walked in
     let j = c.in_ok-joined.ensures in
     let joined = c.in_ok-joined.joined.met in
-    let broken = c.check_suite.new.broken in
+    let broken = c.check_suite.new.exit.env in
     let ways = option_map (env_of S.tree) c.args.fork.ways.met in
     let out = reached S mid c.in_ok-out.out broken in
     let met : option_map (env_of S.tree) joined ≡ with_way context.context.bases out.table ways out.env =
@@ -872,16 +877,16 @@ check_branches-loop-branch-preserved g t c =
     let all = branches_of_list c.args.branches.now in
     let condition = expr_of item.condition in
     let body = stmts_of_list item.body.items in
-    let first = forked S c.args.walk.now c.args.env None c.args.broken.now in
-    let before = forked S here.walk here.fork.last here.fork.ways.met here.broken in
-    let behind = forked S new c.in_ok-fork.fork.last c.in_ok-fork.fork.ways.met c.check_branch.new.broken in
+    let first = forked S c.args.walk.now c.args.env None c.args.exit.now.env in
+    let before = forked S here.walk here.fork.last here.fork.ways.met here.exit.env in
+    let behind = forked S new c.in_ok-fork.fork.last c.in_ok-fork.fork.ways.met c.check_branch.new.exit.env in
     let next = branches_next c.args.branches.now here.branch-index c.branch-item.result c.loop-branch-test.true
     c.branch-item.is in
     let one = branch_tree c.branch-item.result no_branches in
     let held = v.stands.current.well_formed in
     let is = w.is ∙ ap (walk_branches context before) one in
-    let unsettled = c.args.breaking.now.items in
-    let later = c.check_branch.new.breaking.items in
+    let unsettled = c.args.exit.now.unsettled.items in
+    let later = c.check_branch.new.exit.unsettled.items in
     record {
       goes_on = goes_further v.goes_on on;
       stands = w.stands;
@@ -918,10 +923,11 @@ check_branches-returns-clause-breaks g t c =
     let here = c.loop-branch in
     let v = here.invariant in
     let all = branches_of_list c.args.branches.now in
-    let first = forked S c.args.walk.now c.args.env None c.args.broken.now in
+    let first = forked S c.args.walk.now c.args.env None c.args.exit.now.env in
     subst (λ (f : RustBodyContext _). BreaksStaySettled f.globals.now.outline.now.parents.now
-    (touched_by_branches (meanings f.names.now) all) c.args.breaking.now.items here.breaking.items first.broken
-    (Some first.last) (option_map (env_of S.tree) here.broken)) v.goes_on.context
+    (touched_by_branches (meanings f.names.now) all) c.args.exit.now.unsettled.items here.exit.unsettled.items
+    first.broken
+    (Some first.last) (option_map (env_of S.tree) here.exit.env)) v.goes_on.context
     (λ locals base h. (v.kept locals base h).taken_in)
 
 pub check_branches-returns-clause-walked : goal.check_branches-returns-clause-walked
@@ -932,7 +938,7 @@ check_branches-returns-clause-walked g t c =
     let left = no_branch_left c.args.branches.now here.branch-index (omega arith) in
     record {
       is = sym (ap (walk_branches (body_context_in S here.walk)
-          (forked S here.walk here.fork.last here.fork.ways.met here.broken)) left) ∙ v.is;
+          (forked S here.walk here.fork.last here.fork.ways.met here.exit.env)) left) ∙ v.is;
       stands = v.stands;
       met = v.ways;
     }
@@ -951,7 +957,7 @@ check_branch-check_suite-requires g t c κs within =
     let resolve = context.context.resolve in
     let bases = context.context.bases in
     let table = env_of S.tree old.declared.now in
-    let broken = option_map (env_of S.tree) c.args.broken.now in
+    let broken = option_map (env_of S.tree) c.args.exit.now.env in
     let condition = expr_of (out-Branch c.args.branch.now).condition in
     let body = stmts_of_list (out-Branch c.args.branch.now).body.items in
     let touched = c.in_ok-touched.touched.items in
@@ -964,15 +970,18 @@ check_branch-check_suite-requires g t c κs within =
     (stmts_of_list ss)) x) c.deref.ensures.value) in
     let among = subst (λ (f : RustBodyContext _). AreAmong touched (touched_by_while (meanings f.names.now) condition
     body)) c.type_condition.ensures.goes_on.context here in
-    let noted : AreNoted c.args.broken.now c.args.breaking.now.items touched noted_now =
-    subst (λ (ts : List ℕ). AreNoted c.args.broken.now c.args.breaking.now.items ts noted_now) c.deref-2.ensures.value
+    let noted : AreNoted c.args.exit.now.env c.args.exit.now.unsettled.items touched noted_now =
+    subst (λ (ts : List ℕ). AreNoted c.args.exit.now.env c.args.exit.now.unsettled.items ts noted_now)
+    c.deref-2.ensures.value
     c.in_ok-note_locals.ensures in
     let start = narrowed_agrees context touched table (env_of S.tree last) true condition (Some (env_of S.tree last))
     c.requires.stands.current.well_formed agree.last_long (while_parts context touched condition body among).0
     (self_agrees touched (Some (env_of S.tree last))) in
-    let breaks = noted_settles bases (env_of S.tree) c.args.broken.now c.args.breaking.now.items touched noted_now
+    let breaks = noted_settles bases (env_of S.tree) c.args.exit.now.env c.args.exit.now.unsettled.items touched
+    noted_now
     (env_of S.tree last) (Some (narrowed_at context table true condition (env_of S.tree last))) noted
-    (way_more bases c.args.breaking.now.items touched broken (Some (env_of S.tree last)) c.requires.breaks) start in (
+    (way_more bases c.args.exit.now.unsettled.items touched broken (Some (env_of S.tree last)) c.requires.breaks)
+    start in (
       first_of (search (rules, the_lemmas), grind (the_lemmas, arith)),
       (
         within.0,
@@ -980,7 +989,7 @@ check_branch-check_suite-requires g t c κs within =
           within.1,
           (
             found_stands S old new last _ c.type_condition.ensures.goes_on a.finds
-                (Some ways.where_true) c.args.broken.now a.where_true.holds
+                (Some ways.where_true) c.args.exit.now.env a.where_true.holds
                 c.requires.stands.out,
             (
               subst (λ (t : _). IsLong (record {
@@ -1023,10 +1032,10 @@ check_branch-meet-requires-clause-taken_in g t c =
     let touched = c.in_ok-touched.touched.items in
     let condition = expr_of (out-Branch c.args.branch.now).condition in
     let body = stmts_of_list (out-Branch c.args.branch.now).body.items in
-    let fork = forked S old c.args.fork.last ways.met c.args.broken.now in
-    let out = reached S later c.in_ok-out.out c.check_suite.new.broken in
+    let fork = forked S old c.args.fork.last ways.met c.args.exit.now.env in
+    let out = reached S later c.in_ok-out.out c.check_suite.new.exit.env in
     let found = notes_of mid.found.now in
-    let start : reached S mid (Some where_true) c.args.broken.now ≡ record {
+    let start : reached S mid (Some where_true) c.args.exit.now.env ≡ record {
       table = fork.table;
       env = Some (narrowed_at context fork.table true condition fork.last);
       broken = fork.broken;
@@ -1037,9 +1046,10 @@ check_branch-meet-requires-clause-taken_in g t c =
       broken = fork.broken;
       found = found;
     } in
-    let walked = walks_on S old mid later (Some where_true) c.args.broken.now c.in_ok-out.out c.check_suite.new.broken
+    let walked = walks_on S old mid later (Some where_true) c.args.exit.now.env c.in_ok-out.out
+    c.check_suite.new.exit.env
     (λ f w. walk_suite f w (stmts_of_list c.deref-3.result.now)) g1 s
-    ∙ ap (λ ss. walk_suite context (reached S mid (Some where_true) c.args.broken.now) (stmts_of_list ss))
+    ∙ ap (λ ss. walk_suite context (reached S mid (Some where_true) c.args.exit.now.env) (stmts_of_list ss))
     c.deref-3.ensures.value in
     let last = among_same touched (touched_by_while (meanings mid.context.names.now) condition body)
     (λ x. c.in_ok-touched.ensures x ∙ ap (λ ss. is_among (touched_by_while (meanings mid.context.names.now) condition
@@ -1047,7 +1057,7 @@ check_branch-meet-requires-clause-taken_in g t c =
     let among = subst (λ (f : RustBodyContext _). AreAmong touched (touched_by_while (meanings f.names.now) condition
     body)) g1.context last in
     let branched = branch_out context touched fork.table fork.last fork.broken found condition body
-    (reached S mid (Some where_true) c.args.broken.now) out c.requires.stands.current.well_formed
+    (reached S mid (Some where_true) c.args.exit.now.env) out c.requires.stands.current.well_formed
     c.requires.settled.last_long c.requires.settled.broken_long among start walked in
     in_body_context S old later (λ (f : RustBodyContext _). WayTakesIn f.globals.now.outline.now.parents.now
     (ways.unsettled.items ++ touched) fork.ways out.env) g2
@@ -1067,12 +1077,12 @@ check_branch-returns-clause-breaks g t c = λ locals base h.
     let condition = expr_of (out-Branch c.args.branch.now).condition in
     let body = stmts_of_list (out-Branch c.args.branch.now).body.items in
     let touched = c.in_ok-touched.touched.items in
-    let unsettled = c.args.breaking.now.items in
+    let unsettled = c.args.exit.now.unsettled.items in
     let noted_now = c.note_locals.new.unsettled.items in
-    let left = c.check_suite.new.breaking.items in
+    let left = c.check_suite.new.exit.unsettled.items in
     let later = c.note_locals-2.new.unsettled.items in
-    let fork = forked S old c.args.fork.last c.args.fork.ways.met c.args.broken.now in
-    let broken = option_map (env_of S.tree) c.check_suite.new.broken in
+    let fork = forked S old c.args.fork.last c.args.fork.ways.met c.args.exit.now.env in
+    let broken = option_map (env_of S.tree) c.check_suite.new.exit.env in
     let parts = branch_parts context locals condition body
     (subst (λ bs. AreAmong locals (touched_by_branches resolve bs)) (branch_tree c.args.branch.now no_branches) h.among)
     in
@@ -1084,17 +1094,17 @@ check_branch-returns-clause-breaks g t c = λ locals base h.
     g1.context (subst (λ ss. BreaksStaySettled c.type_condition.new.walk.context.globals.now.outline.now.parents.now
     (touched_by (meanings c.type_condition.new.walk.context.names.now) (stmts_of_list ss)) noted_now left fork.broken
     (Some (env_of S.tree where_true)) broken) c.deref-3.ensures.value c.in_ok-out.ensures.breaks) in
-    let noted : AreNoted c.args.broken.now unsettled touched noted_now =
-    subst (λ (ts : List ℕ). AreNoted c.args.broken.now unsettled ts noted_now) c.deref-2.ensures.value
+    let noted : AreNoted c.args.exit.now.env unsettled touched noted_now =
+    subst (λ (ts : List ℕ). AreNoted c.args.exit.now.env unsettled ts noted_now) c.deref-2.ensures.value
     c.in_ok-note_locals.ensures in
-    let again : AreNoted c.check_suite.new.broken left touched later =
-    subst (λ (ts : List ℕ). AreNoted c.check_suite.new.broken left ts later) c.deref-4.ensures.value
+    let again : AreNoted c.check_suite.new.exit.env left touched later =
+    subst (λ (ts : List ℕ). AreNoted c.check_suite.new.exit.env left ts later) c.deref-4.ensures.value
     c.in_ok-note_locals-2.ensures in
-    noted_more bases (env_of S.tree) c.check_suite.new.broken left touched later locals base again
+    noted_more bases (env_of S.tree) c.check_suite.new.exit.env left touched later locals base again
     (suite locals base (record {
       among = parts.1;
       agree = agree;
-      taken_in = noted_more bases (env_of S.tree) c.args.broken.now unsettled touched noted_now locals base noted
+      taken_in = noted_more bases (env_of S.tree) c.args.exit.now.env unsettled touched noted_now locals base noted
           h.taken_in;
     }))
 
@@ -1113,12 +1123,12 @@ check_branch-returns-clause-breaks_settle g t c =
     let condition = expr_of (out-Branch c.args.branch.now).condition in
     let body = stmts_of_list (out-Branch c.args.branch.now).body.items in
     let touched = c.in_ok-touched.touched.items in
-    let unsettled = c.args.breaking.now.items in
+    let unsettled = c.args.exit.now.unsettled.items in
     let noted_now = c.note_locals.new.unsettled.items in
-    let left = c.check_suite.new.breaking.items in
+    let left = c.check_suite.new.exit.unsettled.items in
     let later = c.note_locals-2.new.unsettled.items in
-    let fork = forked S old c.args.fork.last c.args.fork.ways.met c.args.broken.now in
-    let broken = option_map (env_of S.tree) c.check_suite.new.broken in
+    let fork = forked S old c.args.fork.last c.args.fork.ways.met c.args.exit.now.env in
+    let broken = option_map (env_of S.tree) c.check_suite.new.exit.env in
     let here = among_same touched (touched_by_while (meanings mid.context.names.now) condition body)
     (λ x. c.in_ok-touched.ensures x ∙ ap (λ ss. is_among (touched_by_while (meanings mid.context.names.now) condition
     (stmts_of_list ss)) x) c.deref.ensures.value) in
@@ -1137,18 +1147,18 @@ check_branch-returns-clause-breaks_settle g t c =
     g1.context (subst (λ ss. BreaksStaySettled mid.context.globals.now.outline.now.parents.now
     (touched_by (meanings mid.context.names.now) (stmts_of_list ss)) noted_now left fork.broken
     (Some (env_of S.tree ways.where_true)) broken) c.deref-3.ensures.value c.in_ok-out.ensures.breaks) in
-    let noted : AreNoted c.args.broken.now unsettled touched noted_now =
-    subst (λ (ts : List ℕ). AreNoted c.args.broken.now unsettled ts noted_now) c.deref-2.ensures.value
+    let noted : AreNoted c.args.exit.now.env unsettled touched noted_now =
+    subst (λ (ts : List ℕ). AreNoted c.args.exit.now.env unsettled ts noted_now) c.deref-2.ensures.value
     c.in_ok-note_locals.ensures in
-    let again : AreNoted c.check_suite.new.broken left touched later =
-    subst (λ (ts : List ℕ). AreNoted c.check_suite.new.broken left ts later) c.deref-4.ensures.value
+    let again : AreNoted c.check_suite.new.exit.env left touched later =
+    subst (λ (ts : List ℕ). AreNoted c.check_suite.new.exit.env left ts later) c.deref-4.ensures.value
     c.in_ok-note_locals-2.ensures in
-    let before = noted_more bases (env_of S.tree) c.args.broken.now unsettled touched noted_now touched
+    let before = noted_more bases (env_of S.tree) c.args.exit.now.env unsettled touched noted_now touched
     (Some fork.last) noted (way_more bases unsettled touched fork.broken (Some fork.last) c.requires.breaks) in
     let behind = suite touched (Some fork.last) (record { among = parts.1; agree = where_true; taken_in = before }) in
     in_body_context S old new (λ (f : RustBodyContext _). WayTakesIn f.globals.now.outline.now.parents.now later broken
     (Some (env_of S.tree ways.where_false))) g3
-    (noted_settles bases (env_of S.tree) c.check_suite.new.broken left touched later fork.last
+    (noted_settles bases (env_of S.tree) c.check_suite.new.exit.env left touched later fork.last
     (Some (env_of S.tree ways.where_false)) again behind where_false)
 
 pub check_branch-returns-clause-walked : goal.check_branch-returns-clause-walked
@@ -1163,23 +1173,23 @@ check_branch-returns-clause-walked g t c =
     let s = c.in_ok-out.ensures.walked in
     let j = c.in_ok-ways.ensures in
     let joined = c.in_ok-ways.ways.met in
-    let broken = c.check_suite.new.broken in
+    let broken = c.check_suite.new.exit.env in
     let context = body_context_in S old in
     let condition = expr_of (out-Branch c.args.branch.now).condition in
     let body = stmts_of_list (out-Branch c.args.branch.now).body.items in
-    let fork = forked S old c.args.fork.last c.args.fork.ways.met c.args.broken.now in
+    let fork = forked S old c.args.fork.last c.args.fork.ways.met c.args.exit.now.env in
     let out = reached S later c.in_ok-out.out broken in
     let last = env_of S.tree ways.where_false in
     let met = option_map (env_of S.tree) joined in
     let g1 = c.type_condition.ensures.goes_on in
     let g2 = goes_further g1 c.check_suite.ensures.goes_on in
-    let walked = walks_on S old mid later (Some ways.where_true) c.args.broken.now c.in_ok-out.out broken
+    let walked = walks_on S old mid later (Some ways.where_true) c.args.exit.now.env c.in_ok-out.out broken
     (λ f w. walk_suite f w (stmts_of_list c.deref-3.result.now)) g1 s
-    ∙ ap (λ ss. walk_suite context (reached S mid (Some ways.where_true) c.args.broken.now) (stmts_of_list ss))
+    ∙ ap (λ ss. walk_suite context (reached S mid (Some ways.where_true) c.args.exit.now.env) (stmts_of_list ss))
     c.deref-3.ensures.value in
     let ways_met : met ≡ with_way context.context.bases out.table fork.ways out.env =
     j.joined.is ∙ (λ i. with_way (g2.context i).globals.now.outline.now.parents.now out.table fork.ways out.env) in
-    let start : reached S mid (Some ways.where_true) c.args.broken.now ≡ record {
+    let start : reached S mid (Some ways.where_true) c.args.exit.now.env ≡ record {
       table = fork.table;
       env = Some (narrowed_at context fork.table true condition fork.last);
       broken = fork.broken;
@@ -1208,7 +1218,7 @@ check_branch-returns-clause-walked g t c =
     record {
       is = quiet
           ∙ branch_walked context fork.table fork.last fork.ways fork.broken fork.found condition body
-          (reached S mid (Some ways.where_true) c.args.broken.now) out last met start walked a.where_false.is ways_met
+          (reached S mid (Some ways.where_true) c.args.exit.now.env) out last met start walked a.where_false.is ways_met
           ∙ sym (ap (walk_branches context fork) (branch_tree c.args.branch.now no_branches));
       stands = record {
         context = stood.context;
@@ -1236,10 +1246,10 @@ check_branch-returns-clause-settled g t c =
     let touched = c.in_ok-touched.touched.items in
     let condition = expr_of (out-Branch c.args.branch.now).condition in
     let body = stmts_of_list (out-Branch c.args.branch.now).body.items in
-    let fork = forked S old c.args.fork.last ways.met c.args.broken.now in
-    let out = reached S later c.in_ok-out.out c.check_suite.new.broken in
+    let fork = forked S old c.args.fork.last ways.met c.args.exit.now.env in
+    let out = reached S later c.in_ok-out.out c.check_suite.new.exit.env in
     let found = notes_of mid.found.now in
-    let start : reached S mid (Some where_true) c.args.broken.now ≡ record {
+    let start : reached S mid (Some where_true) c.args.exit.now.env ≡ record {
       table = fork.table;
       env = Some (narrowed_at context fork.table true condition fork.last);
       broken = fork.broken;
@@ -1250,9 +1260,10 @@ check_branch-returns-clause-settled g t c =
       broken = fork.broken;
       found = found;
     } in
-    let walked = walks_on S old mid later (Some where_true) c.args.broken.now c.in_ok-out.out c.check_suite.new.broken
+    let walked = walks_on S old mid later (Some where_true) c.args.exit.now.env c.in_ok-out.out
+    c.check_suite.new.exit.env
     (λ f w. walk_suite f w (stmts_of_list c.deref-3.result.now)) g1 s
-    ∙ ap (λ ss. walk_suite context (reached S mid (Some where_true) c.args.broken.now) (stmts_of_list ss))
+    ∙ ap (λ ss. walk_suite context (reached S mid (Some where_true) c.args.exit.now.env) (stmts_of_list ss))
     c.deref-3.ensures.value in
     let last = among_same touched (touched_by_while (meanings mid.context.names.now) condition body)
     (λ x. c.in_ok-touched.ensures x ∙ ap (λ ss. is_among (touched_by_while (meanings mid.context.names.now) condition
@@ -1260,7 +1271,7 @@ check_branch-returns-clause-settled g t c =
     let among = subst (λ (f : RustBodyContext _). AreAmong touched (touched_by_while (meanings f.names.now) condition
     body)) g1.context last in
     let branched = branch_out context touched fork.table fork.last fork.broken found condition body
-    (reached S mid (Some where_true) c.args.broken.now) out c.requires.stands.current.well_formed
+    (reached S mid (Some where_true) c.args.exit.now.env) out c.requires.stands.current.well_formed
     c.requires.settled.last_long c.requires.settled.broken_long among start walked in
     let new = c.meet.new.walk in
     let next = env_of S.tree c.in_ok-where_true.field-0.where_false in

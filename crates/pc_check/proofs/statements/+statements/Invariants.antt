@@ -15,20 +15,21 @@ abbrev pub invariant-check_suite-loop-statement : goal.invariant-check_suite-loo
 invariant-check_suite-loop-statement g l =
     let S = g.S.TypeStore in
     let rest = stmts_of_list (drop l.statement-index l.body) in
-    let before = reached S l.fn.walk l.fn.env l.fn.broken in
-    let here = reached S l.walk l.env l.broken in
+    let before = reached S l.fn.walk l.fn.env l.fn.exit.env in
+    let here = reached S l.walk l.env l.exit.env in
     let bases = l.walk.context.globals.now.outline.now.parents.now in
     let resolve = meanings l.walk.context.names.now in
     record {
       goes_on : WalkKept S l.fn.walk l.walk;
-      stands : StandsIn S l.walk l.env l.broken;
-      long : IsLong (reached S l.walk l.env l.broken);
-      breaks : Settles S l.walk l.breaking.items l.env l.broken;
+      stands : StandsIn S l.walk l.env l.exit.env;
+      long : IsLong (reached S l.walk l.env l.exit.env);
+      breaks : Settles S l.walk l.exit.unsettled.items l.env l.exit.env;
       settled : (locals : List ℕ) (base : Option Env)
-          → BreaksSettle bases locals (touched_by resolve (stmts_of_list l.body)) l.fn.breaking.items before.broken base
+          → BreaksSettle bases locals (touched_by resolve (stmts_of_list l.body)) l.fn.exit.unsettled.items
+          before.broken base
           before.env
-          → BreaksSettle bases locals (touched_by resolve rest) l.breaking.items here.broken base here.env;
-      is : walk_suite (body_context_in S l.walk) (reached S l.walk l.env l.broken) rest
+          → BreaksSettle bases locals (touched_by resolve rest) l.exit.unsettled.items here.exit.env base here.env;
+      is : walk_suite (body_context_in S l.walk) (reached S l.walk l.env l.exit.env) rest
           ≡ walk_suite (body_context_in S l.fn.walk) before (stmts_of_list l.body);
     }
 
@@ -36,20 +37,21 @@ abbrev pub invariant-check_branches-loop-branch : goal.invariant-check_branches-
 invariant-check_branches-loop-branch g l =
     let S = g.S.TypeStore in
     let rest = branches_of_list (drop l.branch-index l.branches) in
-    let here = forked S l.walk l.fork.last l.fork.ways.met l.broken in
-    let before = forked S l.fn.walk l.fn.env None l.fn.broken in
+    let here = forked S l.walk l.fork.last l.fork.ways.met l.exit.env in
+    let before = forked S l.fn.walk l.fn.env None l.fn.exit.env in
     let bases = l.walk.context.globals.now.outline.now.parents.now in
     let resolve = meanings l.walk.context.names.now in
     record {
       goes_on : WalkKept S l.fn.walk l.walk;
-      stands : StandsIn S l.walk (Some l.fork.last) l.broken;
+      stands : StandsIn S l.walk (Some l.fork.last) l.exit.env;
       ways : HoldsWay S l.walk l.fork.ways.met;
       settled : ForkSettles l.walk.context.globals.now.outline.now.parents.now l.fork.ways.unsettled.items here;
-      breaks : Settles S l.walk l.breaking.items (Some l.fork.last) l.broken;
+      breaks : Settles S l.walk l.exit.unsettled.items (Some l.fork.last) l.exit.env;
       kept : (locals : List ℕ) (base : Option Env)
-          → BreaksSettle bases locals (touched_by_branches resolve (branches_of_list l.branches)) l.fn.breaking.items
+          → BreaksSettle bases locals (touched_by_branches resolve (branches_of_list l.branches))
+          l.fn.exit.unsettled.items
           before.broken base (Some before.last)
-          → BreaksSettle bases locals (touched_by_branches resolve rest) l.breaking.items here.broken base
+          → BreaksSettle bases locals (touched_by_branches resolve rest) l.exit.unsettled.items here.exit.env base
           (Some here.last);
       is : walk_branches (body_context_in S l.walk) here rest
           ≡ walk_branches (body_context_in S l.fn.walk) before (branches_of_list l.branches);

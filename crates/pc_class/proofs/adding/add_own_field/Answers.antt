@@ -16,9 +16,9 @@ returns-in_ok-new-in-Field-clause-added g c front back h other =
     let has = HasParameter (g.S.TypeStore.has c.read_field.new.reader.store.now) in
     let x = c.in_ok-parameter-in-Field.parameter in
     let e = entry_seen c.args.entry.now in
-    added_one parameter_name field_name (parameter_with tree) (λ y. refl) has c.add_field.new.named
-    c.args.fields.now.items c.add_field.new.fields.items c.in_ok-new-in-Field.new front back x _
+    added_one parameter_name field_name (parameter_with tree) (λ y. refl) has c.add_member.new.named
+    c.args.fields.now.items c.add_member.new.members.items c.in_ok-new-in-Field.new front back x _
     (own_field m e) (field_bound m e (field_of c.in-Field.field) (ap member_of c.in-Field.is) c.if-not-entry.false)
     c.in_ok-parameter-in-Field.ensures.means
-    c.in_ok-parameter-in-Field.ensures.given c.in_ok-new-in-Field.ensures.fields other
+    c.in_ok-parameter-in-Field.ensures.given c.in_ok-new-in-Field.ensures.members other
     (c.in_ok-new-in-Field.ensures.held front back h)

@@ -16,12 +16,12 @@ returns-in_ok-new-in-Method-clause-added g c front back h other =
     let has = HasMethod (g.S.TypeStore.has c.read_method.new.reader.store.now) in
     let x = c.in_ok-method-in-Method.method in
     let e = entry_seen c.args.entry.now in
-    added_one stored_method_name class_method_name (method_with tree) (λ y. refl) has c.add_method.new.named
-    c.args.methods.now.items c.add_method.new.methods.items c.in_ok-new-in-Method.new front back x _
+    added_one stored_method_name class_method_name (method_with tree) (λ y. refl) has c.add_member.new.named
+    c.args.methods.now.items c.add_member.new.members.items c.in_ok-new-in-Method.new front back x _
     (own_method m c.args.class.now.number e) (method_bound m c.args.class.now.number e (func_of c.in-Method.def)
     (ap member_of c.in-Method.is) c.if-not-entry.false)
     c.in_ok-method-in-Method.ensures.means c.in_ok-method-in-Method.ensures.given
-    c.in_ok-new-in-Method.ensures.methods other (c.in_ok-new-in-Method.ensures.held front back h)
+    c.in_ok-new-in-Method.ensures.members other (c.in_ok-new-in-Method.ensures.held front back h)
 
 pub returns-then-not-entry-clause-added : goal.returns-then-not-entry-clause-added
 returns-then-not-entry-clause-added g c front back h other =

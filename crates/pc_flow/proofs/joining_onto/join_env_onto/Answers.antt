@@ -8,18 +8,18 @@ use Rattle.pc_flow.proofs.Loops.{one_more_among, join_begins, join_goes_on}
 use Rattle.pc_flow.proofs.Settled.{HoldsOf, IsSettled, none_joined, one_joined, onto_ends, onto_takes_in}
 use Rattle.pc_flow.proofs.joining_onto.join_env_onto.Goals as goal
 
-pub set_joined_onto-requires-clause-declared : goal.set_joined_onto-requires-clause-declared
-set_joined_onto-requires-clause-declared g c = each_kept g.S.TypeStore.has _ _ c.loop-local.invariant.kept
+pub set_joined-requires-clause-declared : goal.set_joined-requires-clause-declared
+set_joined-requires-clause-declared g c = each_kept g.S.TypeStore.has _ _ c.loop-local.invariant.kept
     c.args.declarations.now.declared.now c.requires.declared
 
-pub set_joined_onto-requires-clause-left : goal.set_joined_onto-requires-clause-left
-set_joined_onto-requires-clause-left g c =
+pub set_joined-requires-clause-left : goal.set_joined-requires-clause-left
+set_joined-requires-clause-left g c =
     let copy : c.in_ok-before.before ≡ c.args.a = c.in_ok-before.ensures in
     subst (λ (types : List (Option g.row.S-Ty.Denot)). HasEach (g.S.TypeStore.has c.loop-local.store) types) (sym copy)
     (each_kept g.S.TypeStore.has _ _ c.loop-local.invariant.kept c.args.a c.requires.left)
 
-pub set_joined_onto-requires-clause-right : goal.set_joined_onto-requires-clause-right
-set_joined_onto-requires-clause-right g c = each_kept g.S.TypeStore.has _ _ c.loop-local.invariant.kept c.args.b.now
+pub set_joined-requires-clause-right : goal.set_joined-requires-clause-right
+set_joined-requires-clause-right g c = each_kept g.S.TypeStore.has _ _ c.loop-local.invariant.kept c.args.b.now
     c.requires.right
 
 pub loop-local-init : goal.loop-local-init
@@ -51,17 +51,17 @@ loop-local-preserved g c =
     let i = c.loop-local.local-index in
     let x = get_or l i 0 in
     let copy : c.in_ok-before.before ≡ c.args.a = c.in_ok-before.ensures in
-    let next = subst (λ (a : List (Option g.row.S-Ty.Denot)). GivesEnv has tree c.set_joined_onto.new.store
-    c.set_joined_onto.new.met (slice_set (env_of tree c.loop-local.env) x
+    let next = subst (λ (a : List (Option g.row.S-Ty.Denot)). GivesEnv has tree c.set_joined.new.store
+    c.set_joined.new.met (slice_set (env_of tree c.loop-local.env) x
     (join_local c.args.declarations.now.parents.now (declared_type (declared_of tree ds) x)
     (current (env_of tree a) x) (current (env_of tree b) x)))) copy c.in_ok-is_settled.ensures.value in
     let one = subst (λ (a : List (Option g.row.S-Ty.Denot)). c.in_ok-is_settled.is_settled ≡ true
     → IsSettled tree c.args.declarations.now.parents.now ds a b x) copy c.in_ok-is_settled.ensures.settled in
     record {
-      kept = keeps_both has _ _ _ c.loop-local.invariant.kept c.set_joined_onto.ensures.kept;
+      kept = keeps_both has _ _ _ c.loop-local.invariant.kept c.set_joined.ensures.kept;
       value = join_goes_on has tree c.args.declarations.now.parents.now ds c.args.a b c.loop-local.store
-          c.set_joined_onto.new.store (is_among (take i l)) (is_among (take (i + 1) l)) x c.loop-local.env
-          c.set_joined_onto.new.met (one_more_among l i 0 x c.loop-local-test.true refl) c.loop-local.invariant.value next;
+          c.set_joined.new.store (is_among (take i l)) (is_among (take (i + 1) l)) x c.loop-local.env
+          c.set_joined.new.met (one_more_among l i 0 x c.loop-local-test.true refl) c.loop-local.invariant.value next;
       settled = subst (λ (u : List ℕ). HoldsOf (IsSettled tree c.args.declarations.now.parents.now ds c.args.a b) l u
           (take (i + 1) l)) (sym c.in_ok-note_unsettled.ensures)
           (one_joined (IsSettled tree c.args.declarations.now.parents.now ds c.args.a b) l c.loop-local.unsettled.items

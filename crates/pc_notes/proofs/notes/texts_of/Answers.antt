@@ -6,7 +6,7 @@ use Rattle.std.specs.List.{AllByRecursion}
 use Rattle.std.specs.List.Sorted.{IsStrictlySortedBy}
 use Rattle.std.specs.Borrow.{Bor}
 use Rattle.pc_source.specs.declared.place.Place.{Place}
-use Rattle.pc_tree.specs.Tree.{module_of}
+use Rattle.pc_annotations.specs.Named.{named_module}
 use Rattle.pc_notes.specs.declared.notes.NotedFlow.{NotedFlow}
 use Rattle.pc_notes.specs.declared.sharing.NamedType.{NamedType}
 use Rattle.pc_notes.specs.Texts.{FlowText, IsFlowText, IsNamed, place_cmp, places_of}
@@ -23,13 +23,13 @@ loop-entry-init c =
     record {
       places = ap (λ (l : List FlowText). places_of l ++ map (λ (e : Pair). e.0) c.into_iter-entry-iterator.result)
           c.in_ok-texts.ensures.items ∙ ap (map (λ (e : Pair). e.0)) all;
-      each = λ code notes has. subst (AllByRecursion (IsFlowText (module_of c.args.tree.now) code notes))
+      each = λ code notes has. subst (AllByRecursion (IsFlowText (named_module c.args.names.now) code notes))
           (sym c.in_ok-texts.ensures.items) tt;
       left = subst (AllByRecursion (IsPairOf c.args.flows.now)) (sym all)
           (pairs_found c.args.flows.now c.args.flows.now.entries c.iter-entry-items.ensures.found);
       given = c.requires;
       named = λ mark. subst (λ (es : List (ℕ × NamedType)). IfSome (lookup (λ k. is_eq (nat_cmp mark k)) es)
-          (IsNamed (module_of c.args.tree.now))) (sym c.new-known.ensures.empty) tt;
+          (IsNamed (named_module c.args.names.now))) (sym c.new-known.ensures.empty) tt;
     }
 
 pub loop-entry-preserved : goal.loop-entry-preserved
@@ -48,10 +48,10 @@ loop-entry-preserved c =
           ∙ places_more before text (map (λ (e : Pair). e.0) rest)
           ∙ ap (λ (l : List Pair). places_of before ++ map (λ (e : Pair). e.0) l) (sym left)
           ∙ c.loop-entry.invariant.places;
-      each = λ code notes has. subst (AllByRecursion (IsFlowText (module_of c.args.tree.now) code notes)) (sym after)
-          (all_more (IsFlowText (module_of c.args.tree.now) code notes) before text
+      each = λ code notes has. subst (AllByRecursion (IsFlowText (named_module c.args.names.now) code notes)) (sym after)
+          (all_more (IsFlowText (named_module c.args.names.now) code notes) before text
           (c.loop-entry.invariant.each code notes has)
-          (text_of_pair code (module_of c.args.tree.now) flows notes has pair pairs.0 text refl
+          (text_of_pair code (named_module c.args.names.now) flows notes has pair pairs.0 text refl
           c.in_ok-from.ensures.text
           c.in_ok-into.ensures.text));
       left = pairs.1;

@@ -3,7 +3,8 @@ use Rattle.std.specs.Prelude.{map}
 use Rattle.pc_class.specs.Tables.{classes_with}
 use Rattle.pc_flow.proofs.Given.{all_kept}
 use Rattle.pc_operations.specs.JudgedOperations.{offer_on}
-use Rattle.pc_operations.proofs.Offering.{entries_kept, offered_none, offered_more, offered_all}
+use Rattle.pc_rules.proofs.Kept.{entries_kept}
+use Rattle.pc_operations.proofs.Offering.{offered_none, offered_more, offered_all}
 use Rattle.pc_operations.proofs.offers.member_offers.Goals as goal
 
 pub loop-i-init : goal.loop-i-init
@@ -20,7 +21,8 @@ loop-i-preserved g c =
     let v = c.loop-i.invariant in
     record {
       members = all_kept g.S.TypeStore.has _ _ c.offer_on.ensures.kept c.in_ok-members.members.items v.members;
-      classes = entries_kept g.S.TypeStore.has _ _ c.offer_on.ensures.kept c.args.classes.now v.classes;
+      classes = entries_kept (g.S.TypeStore.has _) (g.S.TypeStore.has _) c.offer_on.ensures.kept c.args.classes.now
+          v.classes;
       offered = rw c.in_ok-push.ensures.items (offered_more g.S.TypeStore.has g.S.TypeStore.tree
           (offer_on c.args.parents.now (classes_with g.S.TypeStore.tree c.args.classes.now) c.args.operation)
           c.in_ok-members.members.items c.args.store.now c.loop-i.store c.offer_on.new.store c.loop-i.i

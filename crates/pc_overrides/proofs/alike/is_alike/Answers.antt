@@ -16,6 +16,6 @@ loop-number-preserved g c =
     let same = c.agrees.ensures c.if-not-agrees.false in record {
       many = many;
       same = one_more_alike tree left right i p q less less_right c.index-left-number.is c.index-right-number.is
-          (same_parameter tree p q same.0 (c.in_ok-is_same-2.ensures c.if-not-branch-2.false) same.1)
+          (same_parameter tree p q same.0 (c.in_ok-is_same_type-2.ensures c.if-not-branch-2.false) same.1)
           c.loop-number.invariant.same;
     }

@@ -23,20 +23,22 @@ returns-in_err-module-clause-refused g c = let p = err_from_is_err_and c.from_re
     rw (p.1, p.2) (blamed g.X.AsStr.text g.I.Iterator.next_gives c.args.tokens _
     (blame (λ o w. c.in_ok-reader.ensures.leads (at start) o
     (subst (λ z. Came g.X.AsStr.text g.I.Iterator.next_gives z (at start) o)
-    (ap (λ (q : Parser g.row.X.Denot g.row.I.Denot). q.reader) c.new-parser.ensures) w)) c.in_err-module.ensures))
+    (ap (λ (q : Parser g.row.X.Denot g.row.I.Denot). q.reader) c.new-parser.ensures) w)) c.in_err-module.ensures.read))
 
 pub returns-in-Some-clause-refused : goal.returns-in-Some-clause-refused
 returns-in-Some-clause-refused g c = inl (deep_module g.X.AsStr.text g.I.Iterator.next_gives c.args.tokens
     (λ st o x. c.in_ok-reader.ensures.leads st o (subst (λ z. Came g.X.AsStr.text g.I.Iterator.next_gives z st o)
     (ap (λ (q : Parser g.row.X.Denot g.row.I.Denot). q.reader) c.new-parser.ensures) x))
-    (ap (λ (q : Parser g.row.X.Denot g.row.I.Denot). q.deep) c.new-parser.ensures) c.in_ok-module.ensures c.in-Some.byte
+    (ap (λ (q : Parser g.row.X.Denot g.row.I.Denot). q.deep) c.new-parser.ensures) c.in_ok-module.ensures.read
+    c.in-Some.byte
     c.in-Some.is)
 
 pub returns-clause-read : goal.returns-clause-read
 returns-clause-read g c = shallow_module g.X.AsStr.text g.I.Iterator.next_gives c.args.tokens
     (λ st o x. c.in_ok-reader.ensures.leads st o (subst (λ z. Came g.X.AsStr.text g.I.Iterator.next_gives z st o)
     (ap (λ (q : Parser g.row.X.Denot g.row.I.Denot). q.reader) c.new-parser.ensures) x))
-    (ap (λ (q : Parser g.row.X.Denot g.row.I.Denot). q.deep) c.new-parser.ensures) c.in_ok-module.ensures c.in-None.is
+    (ap (λ (q : Parser g.row.X.Denot g.row.I.Denot). q.deep) c.new-parser.ensures) c.in_ok-module.ensures.read
+    c.in-None.is
 
 pub returns-in_err-reader-clause-within : goal.returns-in_err-reader-clause-within
 returns-in_err-reader-clause-within g c = stream_within g.X.AsStr.text g.I.Iterator.next_gives c.args.tokens _

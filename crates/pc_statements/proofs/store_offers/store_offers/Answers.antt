@@ -3,7 +3,7 @@ use Rattle.std.specs.Prelude.{map}
 use Rattle.pc_class.specs.Tables.{classes_with}
 use Rattle.pc_flow.proofs.Given.{all_kept}
 use Rattle.pc_statements.specs.Storing.{store_on}
-use Rattle.pc_operations.proofs.Offering.{entries_kept}
+use Rattle.pc_rules.proofs.Kept.{entries_kept}
 use Rattle.pc_statements.proofs.Storing.{stores_none, stores_more, stores_all}
 use Rattle.pc_statements.proofs.store_offers.store_offers.Goals as goal
 
@@ -21,7 +21,8 @@ loop-i-preserved g c =
     let v = c.loop-i.invariant in
     record {
       members = all_kept g.S.TypeStore.has _ _ c.store_on.ensures.kept c.in_ok-members.members.items v.members;
-      classes = entries_kept g.S.TypeStore.has _ _ c.store_on.ensures.kept c.args.classes.now v.classes;
+      classes = entries_kept (g.S.TypeStore.has _) (g.S.TypeStore.has _) c.store_on.ensures.kept c.args.classes.now
+          v.classes;
       offered = rw c.in_ok-push.ensures.items (stores_more g.S.TypeStore.has g.S.TypeStore.tree
           (store_on (classes_with g.S.TypeStore.tree c.args.classes.now) c.args.target) c.in_ok-members.members.items
           c.args.store.now c.loop-i.store c.store_on.new.store c.loop-i.i c.loop-i.offers.items c.index.result.now

@@ -1,7 +1,6 @@
-use Rattle.std.proofs.Common.{◌≡◌, ◌∙◌, ap, sym, ℕ}
-use Rattle.std.specs.Prelude.{Option, Some, unwrap_or}
+use Rattle.std.proofs.Common.{◌∙◌, ap, sym, ℕ}
+use Rattle.std.specs.Prelude.{Option, unwrap_or}
 use Rattle.std.specs.Option.{option_copied}
-use Rattle.std.specs.Borrow.{Bor}
 use Rattle.pc_tree.specs.Tree.{option_name_of}
 use Rattle.pc_tree.specs.Stopping.{option_text}
 use Rattle.pc_tree.specs.declared.tree.Name.{Name as RustName}

@@ -1,8 +1,8 @@
-use Rattle.std.proofs.Common.{◌≡◌, ◌∙◌, ◌++◌, ◌∷◌, ◌+◌, [], ap, sym, subst, append-nil, arith, map, drop, List, ℕ}
+use Rattle.std.proofs.Common.{◌∙◌, ◌++◌, ◌∷◌, ◌+◌, [], ap, sym, subst, append-nil, arith, map, drop, List, ℕ}
 use Rattle.pc_source.specs.declared.place.Place.{Place}
 use Rattle.pc_tree.specs.declared.code.Code.TheVariants.{E06}
 use Rattle.pc_tree.specs.Tree.{member_of}
-use Rattle.pc_tree.specs.Stopping.{HeldMember, name_of_member, clashes_among, own_members}
+use Rattle.pc_tree.specs.Stopping.{name_of_member, clashes_among, own_members}
 use Rattle.pc_tree.specs.Names.{text_seen, texts_in}
 use Rattle.pc_tree.specs.Code.{at_code}
 use Rattle.pc_tree.proofs.Finds.{stepped}
@@ -14,7 +14,8 @@ loop-member-init c =
     let none = ap (map text_seen) c.with_hasher-before.ensures.empty in
     let ms = map member_of c.args.members.now in
     record {
-      keeps = record { ready = c.requires; kept = λ t hs h. h };
+      keeps = record { more = omega arith; kept = λ t hs h. h };
+      within = c.requires;
       found = λ hs h. ap (λ (b : List (List ℕ)). c.args.found.now.items ++ at_code E06 (clashes_among b hs ms)) none;
       owns = λ hs h. owns_first c.args.holdings.now c.args.inherited hs ms (texts_in c.with_hasher-before.result) none
           h;
@@ -30,7 +31,8 @@ loop-member-preserved c =
     let text = (name_of_member (member_of m)).text in
     let rest = map member_of (drop (i + 1) c.args.members.now) in
     record {
-      keeps = record { ready = ens.keeps.ready; kept = λ t hs h. ens.keeps.kept t hs (inv.keeps.kept t hs h) };
+      keeps = record { more = omega (arith, ens.keeps.more, inv.keeps.more); kept = λ t hs h. ens.keeps.kept t hs (inv.keeps.kept t hs h) };
+      within = ens.within;
       found = λ hs h.
           ap (λ (ps : List Place). c.find_member.new.found.items ++ at_code E06 ps)
           (same_clashing (texts_in c.find_member.new.before) (text ∷ b) ens.passed hs rest)
@@ -47,6 +49,12 @@ loop-member-preserved c =
           c.loop-member-test.true c.member-item.is ens.passed o (ens.has hs (hs ++ o.own)
           (inv.keeps.kept c.args.inherited hs h) o.has);
     }
+
+pub find_member-requires-clause-inherited : goal.find_member-requires-clause-inherited
+find_member-requires-clause-inherited c = omega (arith, c.loop-member.invariant.keeps.more, c.requires)
+
+pub find_member-requires-clause-table : goal.find_member-requires-clause-table
+find_member-requires-clause-table c = c.loop-member.invariant.within
 
 pub returns-clause-found : goal.returns-clause-found
 returns-clause-found c hs h =

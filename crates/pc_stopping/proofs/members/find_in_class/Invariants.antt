@@ -1,4 +1,4 @@
-use Rattle.std.proofs.Common.{◌≡◌, ◌++◌, [], map, drop, List, ℕ}
+use Rattle.std.proofs.Common.{◌≡◌, ◌<◌, ◌++◌, [], length, map, drop, List}
 use Rattle.pc_tree.specs.declared.code.Code.TheVariants.{E06}
 use Rattle.pc_tree.specs.Tree.{member_of}
 use Rattle.pc_tree.specs.Stopping.{HeldMember, clashes_among, own_members}
@@ -11,6 +11,7 @@ use Rattle.pc_stopping.proofs.members.find_in_class.Given as goal
 abbrev pub invariant-loop-member : goal.invariant-loop-member
 invariant-loop-member l = record {
   keeps : Keeps l.fn.holdings l.holdings;
+  within : l.table < length l.holdings.tables;
   found : (hs : List HeldMember) → HasIn l.fn.holdings l.inherited hs
       → l.found.items ++ at_code E06 (clashes_among (texts_in l.before) hs
       (map member_of (drop l.member-index l.members))) ≡ l.fn.found.items ++ at_code E06

@@ -1,4 +1,4 @@
-use Rattle.std.proofs.Common.{◌≡◌, ◌∙◌, ◌++◌, ◌∷◌, ◌+◌, [], ap, sym, subst, refl, append-nil, arith, map, take, drop}
+use Rattle.std.proofs.Common.{◌∙◌, ◌++◌, ◌∷◌, ◌+◌, [], ap, sym, subst, refl, append-nil, arith, map, take, drop}
 use Rattle.std.proofs.Common.{reverse, List, ℕ}
 use Rattle.std.specs.Prelude.{is_some, unwrap_or, bytes_eq}
 use Rattle.std.specs.Borrow.{Bor}
@@ -14,7 +14,7 @@ use Rattle.pc_stopping.specs.Holdings.{HasIn}
 use Rattle.pc_stopping.specs.Members.{Stands}
 use Rattle.pc_tree.proofs.Finds.{stepped}
 use Rattle.pc_stopping.proofs.Clashes.{none_left}
-use Rattle.pc_stopping.proofs.ClashingItems.{stands_more, items_next, reverse_more}
+use Rattle.pc_stopping.proofs.ClashingItems.{base_has, stands_more, items_next, reverse_more}
 use Rattle.pc_stopping.proofs.members.find_in_classes.Goals as goal
 
 pub loop-item-init : goal.loop-item-init
@@ -31,7 +31,9 @@ loop-item-init c = record {
 }
 
 pub find_in_item-requires : goal.find_in_item-requires
-find_in_item-requires c = c.loop-item.invariant.stands.empty.ready
+find_in_item-requires c base = (base_has c.loop-item.holdings c.loop-item.bound
+    (reverse (map item_of (take c.loop-item.item-index c.args.program.now.items.items))) c.loop-item.invariant.stands
+    base).within
 
 pub loop-item-preserved : goal.loop-item-preserved
 loop-item-preserved c =

@@ -1,9 +1,9 @@
-use Rattle.std.proofs.Common.{◌≡◌, ◌∙◌, ◌++◌, ◌∷◌, [], ap, sym, subst, append-nil, map, List, ℕ}
+use Rattle.std.proofs.Common.{◌<◌, ◌∙◌, ◌++◌, ◌∷◌, [], ap, sym, subst, append-nil, length, List, ℕ}
 use Rattle.pc_source.specs.declared.place.Place.{Place}
 use Rattle.pc_tree.specs.declared.code.Code.TheVariants.{E06}
 use Rattle.pc_tree.specs.declared.tree.ItemKind.{ItemKind}
-use Rattle.pc_tree.specs.Tree.{Item, item_of_kind, class_of, member_of}
-use Rattle.pc_tree.specs.Stopping.{members_of, own_members, option_text, clashes_among, clashing_in}
+use Rattle.pc_tree.specs.Tree.{item_of_kind, class_of}
+use Rattle.pc_tree.specs.Stopping.{members_of, option_text, clashes_among, clashing_in}
 use Rattle.pc_tree.specs.Code.{at_code}
 use Rattle.pc_stopping.specs.Holdings.{HasIn}
 use Rattle.pc_stopping.specs.Members.{IsTableOf}
@@ -58,3 +58,7 @@ returns-else-is_reserved-clause-has c before s =
     (sym (free_class c.args.item.now.first k before (rw c.as_str.ensures.value at (sym c.is_reserved.ensures
     ∙ c.if-is_reserved.false)) none))
     (rw c.deref.ensures.value at (c.in_ok-own-in-Class.ensures.has hs has)))
+
+pub find_in_class-requires : goal.find_in_class-requires
+find_in_class-requires c = subst (λ (t : ℕ). t < length c.args.holdings.now.tables)
+    (sym c.base_table-inherited.ensures) (c.requires (option_text (class_of c.in-Class.class).base))

@@ -1,81 +1,37 @@
-use Rattle.std.proofs.Common.{◌∙◌, sym, ap, subst, refl, length, arith, List}
+use Rattle.std.proofs.Common.{◌∙◌, List, sym, ap, subst, arith}
 use Rattle.std.specs.Prelude.{slice_get}
-use Rattle.std.specs.Option.{option_map}
-use Rattle.std.proofs.lemmas.Option.{slice_get_read}
-use Rattle.pc_class.specs.Parts.{parameter_name}
-use Rattle.pc_class.specs.Tables.{ClassEntry, parameter_with, IsField}
-use Rattle.pc_class.proofs.TableReads.{number_within, named_none, named_some, field_there, get_contains, find_contains}
+use Rattle.pc_class.specs.Outlines.{IsMapOf}
+use Rattle.pc_class.specs.Parts.{parameter_name, entry_over, entries_in}
+use Rattle.pc_class.specs.Tables.{ClassEntry}
+use Rattle.pc_class.proofs.TableReads.{node_there, field_read, field_listed}
 use Rattle.pc_class.proofs.table.ClassTable.field.Goals as goal
 
-pub get-requires : goal.get-requires
-get-requires g c =
-    let p = c.self.inside.parts in
-    let n = c.index.result.now in
-    let less = c.if-class-len.false in
-    let long = c.len.ensures in
-    let is = slice_get_read p.classes.items (length p.classes.items) c.args.class n refl (omega arith)
-    c.index.ensures in
-    (c.self.invariant.0.each c.args.class n is).fields_held.is_map
+pub member_named-requires : goal.member_named-requires
+member_named-requires g c =
+    let node = node_there c.self.inside.parts c.self.invariant.0 c.args.class c.index.result.now c.index.ensures
+    (omega (arith, c.if-class-len.false, c.len.ensures)) in
+    node.fields_held.is_map
 
-pub index-requires-in-Some : goal.index-requires-in-Some
-index-requires-in-Some g c =
+pub returns-clause-value : goal.returns-clause-value
+returns-clause-value g c tree =
     let p = c.self.inside.parts in
-    let n = c.index.result.now in
-    let less = c.if-class-len.false in
-    let long = c.len.ensures in
-    let is = slice_get_read p.classes.items (length p.classes.items) c.args.class n refl (omega arith)
-    c.index.ensures in
-    let node = c.self.invariant.0.each c.args.class n is in
-    let l = number_within parameter_name p.named p.fields.items n.held.fields _ node.fields_held c.args.name.now
-    c.in-Some.number (sym c.get.ensures ∙ c.in-Some.is) in
-    omega arith
+    let node = node_there p c.self.invariant.0 c.args.class c.index.result.now c.index.ensures
+    (omega (arith, c.if-class-len.false, c.len.ensures)) in
+    let these = (entry_over p.fields.items p.methods.items (entries_in p) c.index.result.now).fields in
+    field_read tree c.args.self.now c.args.class _
+    (ap (λ (es : List (ClassEntry _)). slice_get es c.args.class) (sym c.self.view_is) ∙ node.is) c.args.name.now
+    c.member_named.result (c.member_named.ensures parameter_name these
+    (subst (λ (xs : List _). IsMapOf parameter_name p.named xs
+    c.index.result.now.held.fields these) (sym c.deref.ensures.value) node.fields_held))
 
-pub returns-in-None-clause-value : goal.returns-in-None-clause-value
-returns-in-None-clause-value g c tree =
+pub returns-clause-listed : goal.returns-clause-listed
+returns-clause-listed g c =
     let p = c.self.inside.parts in
-    let n = c.index.result.now in
-    let less = c.if-class-len.false in
-    let long = c.len.ensures in
-    let is = slice_get_read p.classes.items (length p.classes.items) c.args.class n refl (omega arith)
-    c.index.ensures in
-    let node = c.self.invariant.0.each c.args.class n is in
-    sym (
-    field_there tree c.args.self.now c.args.class _ (ap (λ (es : List (ClassEntry _)). slice_get es c.args.class)
-    (sym c.self.view_is) ∙ node.is) c.args.name.now
-    ∙ ap (option_map (parameter_with tree)) (named_none parameter_name p.named p.fields.items n.held.fields _
-    node.fields_held c.args.name.now (sym c.get.ensures ∙ c.in-None.is))
-    )
-
-pub returns-in-Some-clause-value : goal.returns-in-Some-clause-value
-returns-in-Some-clause-value g c tree =
-    let p = c.self.inside.parts in
-    let n = c.index.result.now in
-    let less = c.if-class-len.false in
-    let long = c.len.ensures in
-    let is = slice_get_read p.classes.items (length p.classes.items) c.args.class n refl (omega arith)
-    c.index.ensures in
-    let node = c.self.invariant.0.each c.args.class n is in
-    sym (
-    field_there tree c.args.self.now c.args.class _ (ap (λ (es : List (ClassEntry _)). slice_get es c.args.class)
-    (sym c.self.view_is) ∙ node.is) c.args.name.now
-    ∙ ap (option_map (parameter_with tree)) (named_some parameter_name p.named p.fields.items n.held.fields _
-    node.fields_held c.args.name.now c.in-Some.number c.index-in-Some.result.now (sym c.get.ensures ∙ c.in-Some.is)
-    c.index-in-Some.ensures)
-    )
-
-pub returns-in-Some-clause-listed : goal.returns-in-Some-clause-listed
-returns-in-Some-clause-listed g c =
-    let p = c.self.inside.parts in
-    let n = c.index.result.now in
-    let less = c.if-class-len.false in
-    let long = c.len.ensures in
-    let is = slice_get_read p.classes.items (length p.classes.items) c.args.class n refl (omega arith)
-    c.index.ensures in
-    let node = c.self.invariant.0.each c.args.class n is in
-    subst (λ (es : List (ClassEntry _)). IsField es c.index-in-Some.result.now) c.self.view_is (record {
-      class = _;
-      listed = get_contains _ c.args.class _ node.is;
-      among = find_contains _ _ c.index-in-Some.result.now (named_some parameter_name p.named p.fields.items
-          n.held.fields _ node.fields_held c.args.name.now c.in-Some.number c.index-in-Some.result.now
-          (sym c.get.ensures ∙ c.in-Some.is) c.index-in-Some.ensures);
-    })
+    let node = node_there p c.self.invariant.0 c.args.class c.index.result.now c.index.ensures
+    (omega (arith, c.if-class-len.false, c.len.ensures)) in
+    let these = (entry_over p.fields.items p.methods.items (entries_in p) c.index.result.now).fields in
+    field_listed c.args.self.now c.args.class _
+    (ap (λ (es : List (ClassEntry _)). slice_get es c.args.class) (sym c.self.view_is) ∙ node.is) c.args.name.now
+    c.member_named.result (c.member_named.ensures parameter_name these
+    (subst (λ (xs : List _). IsMapOf parameter_name p.named xs
+    c.index.result.now.held.fields these) (sym c.deref.ensures.value) node.fields_held))

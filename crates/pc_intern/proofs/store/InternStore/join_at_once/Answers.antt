@@ -3,7 +3,7 @@ use Rattle.pc_types.specs.Join.{join}
 use Rattle.pc_intern.specs.Store.{meaning}
 use Rattle.pc_intern.proofs.AtOnce.{join_first}
 use Rattle.pc_intern.proofs.Held.{within, meant}
-use Rattle.pc_intern.proofs.Itself.{join_itself}
+use Rattle.pc_types.proofs.JoinItself.{join_itself}
 use Rattle.pc_intern.proofs.store.InternStore.join_at_once.Goals.{then-is_same-via-then-is_same}
 use Rattle.pc_intern.proofs.store.InternStore.join_at_once.Goals.{then-is_same-via-else-is_same+then-is_never}
 use Rattle.pc_intern.proofs.store.InternStore.join_at_once.Goals as goal

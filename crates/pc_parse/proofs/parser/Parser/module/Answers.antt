@@ -10,8 +10,8 @@ use Rattle.pc_parse.proofs.Pieces.{more_items}
 use Rattle.pc_parse.proofs.Surplus.{surplus, item_fails, end_fails, module_read, kind_there, nothing_there}
 use Rattle.pc_parse.proofs.parser.Parser.module.Goals as goal
 
-pub returns-in_err-headers : goal.returns-in_err-headers
-returns-in_err-headers g c = let p = err_from_is_err_and c.from_residual.result c.from_residual.ensures.1 in
+pub returns-in_err-headers-clause-read : goal.returns-in_err-headers-clause-read
+returns-in_err-headers-clause-read g c = let p = err_from_is_err_and c.from_residual.result c.from_residual.ensures.1 in
     rw (p.1, p.2) c.in_err-headers.ensures
 
 pub loop-items-init : goal.loop-items-init
@@ -25,8 +25,8 @@ loop-items-init g c = let h = c.in_ok-headers.ensures in record {
   };
 }
 
-pub returns-in_err-item : goal.returns-in_err-item
-returns-in_err-item g c = let p = err_from_is_err_and c.from_residual-in_err-item.result
+pub returns-in_err-item-clause-read : goal.returns-in_err-item-clause-read
+returns-in_err-item-clause-read g c = let p = err_from_is_err_and c.from_residual-in_err-item.result
     c.from_residual-in_err-item.ensures.1 in
     rw (p.1, p.2) (item_fails c.loop-items.invariant.items c.in_err-item.ensures)
 
@@ -36,14 +36,15 @@ loop-items-preserved g c = let x = rw c.in-Item.is at c.in_ok-item.ensures in re
   items = more_items c.loop-items.invariant.items x c.in_ok-push-in-Item.ensures.items;
 }
 
-pub returns-then-is_some : goal.returns-then-is_some
-returns-then-is_some g c = let s = c.loop-items.invariant.items in let x = rw c.in-Last.is at c.in_ok-item.ensures in
+pub returns-then-is_some-clause-read : goal.returns-then-is_some-clause-read
+returns-then-is_some-clause-read g c = let s = c.loop-items.invariant.items in let x =
+    rw c.in-Last.is at c.in_ok-item.ensures in
     let k = kind_there c.piece.new.self.reader.ahead (ap is_some (sym c.kind.ensures) ∙ sym c.is_some.ensures
     ∙ c.if-is_some.true) in
     end_fails s x (surplus g.X.AsStr.text g.I.Iterator.next_gives c.piece.new.self.reader
     (module_over (top_of c.in_ok-headers.headers s.all) c.in-Last.main) c.misfit.result k.0 k.1 c.misfit.ensures)
 
-pub returns-in-Last : goal.returns-in-Last
-returns-in-Last g c = let x = rw c.in-Last.is at c.in_ok-item.ensures in
+pub returns-in-Last-clause-read : goal.returns-in-Last-clause-read
+returns-in-Last-clause-read g c = let x = rw c.in-Last.is at c.in_ok-item.ensures in
     module_read c.loop-items.invariant.items x (nothing_there c.piece.new.self.reader.ahead
     (ap is_some (sym c.kind.ensures) ∙ sym c.is_some.ensures ∙ c.if-is_some.false))

@@ -8,8 +8,7 @@ use Rattle.pc_tree.specs.Names.{text_seen}
 use Rattle.pc_tree.proofs.InSets.{has}
 use Rattle.pc_tree.specs.Stopping.{HeldMember}
 use Rattle.pc_stopping.specs.Holdings.{Has}
-use Rattle.pc_stopping.specs.declared.holdings.TheConstants.{DIGITS}
-use Rattle.pc_stopping.specs.declared.tables.TrieNode.{TrieNode}
+use Rattle.pc_shared_maps.specs.declared.shared.MapNode.{MapNode}
 use Rattle.pc_stopping.proofs.HeldNames.{more_names}
 use Rattle.pc_stopping.proofs.holdings.Holdings.number.Goals as goal
 
@@ -26,18 +25,18 @@ returns-clause-named c =
     ∙ ap Some (sym ((bytes_eq-Decides c.args.name.now (text_seen s.0)).0 s.2))
 
 -- a table has what it had, whether the name is new or not
-known_or_new : (nodes : List TrieNode) (t : ℕ) (hs : List HeldMember) (ks : List (Bor (List ℕ))) (x : Bor (List ℕ))
-    (b : Bool) → list_any (λ k. bytes_eq x.now k.now) ks ≡ b → Has DIGITS (map text_seen ks) nodes t hs
-    → Has DIGITS (map text_seen (if b then ks else ks ++ x ∷ [])) nodes t hs
-known_or_new nodes t hs ks x true e h = h
-known_or_new nodes t hs ks x false e h = subst (λ names. Has DIGITS names nodes t hs)
-    (sym (map-append text_seen ks (x ∷ []))) (more_names DIGITS (map text_seen ks) x.now nodes t hs
+known_or_new : (tables : List MapNode) (t : ℕ) (hs : List HeldMember) (ks : List (Bor (List ℕ))) (x : Bor (List ℕ))
+    (b : Bool) → list_any (λ k. bytes_eq x.now k.now) ks ≡ b → Has (map text_seen ks) tables t hs
+    → Has (map text_seen (if b then ks else ks ++ x ∷ [])) tables t hs
+known_or_new tables t hs ks x true e h = h
+known_or_new tables t hs ks x false e h = subst (λ names. Has names tables t hs)
+    (sym (map-append text_seen ks (x ∷ []))) (more_names (map text_seen ks) x.now tables t hs
     (sym (has text_seen x.now ks) ∙ e) h)
 
 pub returns-clause-kept : goal.returns-clause-kept
 returns-clause-kept c t hs h =
     let ks = c.args.self.now.numbers.keys in
-    subst (λ (all : List (Bor (List ℕ))). Has DIGITS (map text_seen all) c.args.self.now.nodes.items t hs)
+    subst (λ (all : List (Bor (List ℕ))). Has (map text_seen all) c.args.self.now.tables t hs)
     (sym c.in_ok-number.ensures.keys)
-    (known_or_new c.args.self.now.nodes.items t hs ks c.args.name (list_any (λ k. bytes_eq c.args.name.now k.now) ks)
+    (known_or_new c.args.self.now.tables t hs ks c.args.name (list_any (λ k. bytes_eq c.args.name.now k.now) ks)
     refl h)

@@ -1,0 +1,7 @@
+-- The module whose classes are named.
+use Rattle.pc_tree.specs.Tree.{Module, module_of}
+use Rattle.pc_annotations.specs.declared.names.ClassNames.{ClassNames}
+
+-- the module that the names are of
+abbrev pub named_module : ClassNames → Module
+named_module c = module_of c.tree.now

@@ -1,4 +1,0 @@
-use Rattle.pc_stopping.proofs.tables.+value_in.Given as goal
-
-abbrev pub decreases-value_in : goal.decreases-value_in
-decreases-value_in l = l.digits
