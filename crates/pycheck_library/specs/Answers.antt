@@ -7,8 +7,10 @@ use Rattle.pc_report.specs.Format.{format_number}
 use Rattle.pc_report.specs.Report.{errors_of, dynamic_count}
 use Rattle.pc_report.specs.declared.format.Format.{Format}
 use Rattle.pc_report.specs.declared.report.Row.{Row}
+use Rattle.pc_report.specs.declared.listing.TypeRow.{TypeRow}
 use Rattle.pc_top.specs.Headline.{Headline}
 use Rattle.pc_top.specs.Streaming.{report_bytes}
+use Rattle.pc_top.specs.TypesOfBytes.{ListsTypesOf, listing_bytes}
 use Rattle.pycheck_library.specs.Room.{IsPut}
 use Rattle.pycheck_library.specs.declared.answer.CheckAnswer.{CheckAnswer}
 
@@ -29,6 +31,18 @@ pub record IsReported (bytes : List ℕ) (json : Bool) (number : ℕ) (old new :
   pub format : Format
   pub named : format_number format ≡ number
   pub told : TellsReport json format rows old new answer
+
+-- the listing of the types of the bytes has the length of the answer and is put into the room; the numbers of errors and
+-- of dynamic places are those of the report of the bytes
+pub record IsListed (bytes : List ℕ) (json : Bool) (old new : List ℕ) (answer : CheckAnswer) : Type 0 where
+  pub rows : List Row
+  pub headline : Headline bytes rows
+  pub errors_are : answer.errors ≡ errors_of rows
+  pub dynamic_are : answer.dynamic ≡ dynamic_count rows
+  pub types : List TypeRow
+  pub lists : ListsTypesOf bytes types
+  pub length_is : answer.length ≡ length (listing_bytes json types)
+  pub put : IsPut (listing_bytes json types) old new
 
 -- the code and the byte are those of the refusal of the bytes, which stands within them
 pub record IsRefused (bytes : List ℕ) (answer : CheckAnswer) : Type 0 where

@@ -4,6 +4,8 @@
 mod answer;
 mod library;
 mod room;
+mod types;
 
 pub use answer::CheckAnswer;
 pub use library::pycheck_check;
+pub use types::pycheck_types;
