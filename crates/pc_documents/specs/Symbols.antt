@@ -5,7 +5,9 @@ use Rattle.serde_json.specs.Data.{Data, number, string, array, object, unsigned,
 use Rattle.serde_json.specs.View.{items_of}
 use Rattle.pc_source.specs.declared.fault.Refusal.{Refusal}
 use Rattle.pc_tree.specs.Tree.{Name, Member, field_member, method_member, Item, constant_item, class_item, def_item}
-use Rattle.pc_tree.specs.Tree.{Module}
+use Rattle.pc_tree.specs.Tree.{Module, member_of, item_of}
+use Rattle.pc_tree.specs.declared.tree.Item.{Item as RustItem}
+use Rattle.pc_tree.specs.declared.tree.Member.{Member as RustMember}
 use Rattle.pc_tree.specs.Stopping.{name_of_item, name_of_member}
 use Rattle.pc_front.specs.Bytes.{IsModuleOf, IsRefusalOf}
 use Rattle.pc_position.specs.declared.positions.Encoding.{Encoding}
@@ -57,6 +59,14 @@ member_data encoding text it = symbol_data encoding text (kind_of_member it) (na
 abbrev pub item_symbol : Encoding → List ℕ → Item → Data
 item_symbol encoding text it = symbol_data encoding text (kind_of_item it) (name_of_item it) (start_of_item it)
     (map (member_data encoding text) (members_of_item it))
+
+-- the symbol of a member, as the program represents it
+abbrev pub shown_member : Encoding → List ℕ → RustMember → Data
+shown_member encoding text it = member_data encoding text (member_of it)
+
+-- the symbol of an item, as the program represents it
+abbrev pub shown_item : Encoding → List ℕ → RustItem → Data
+shown_item encoding text it = item_symbol encoding text (item_of it)
 
 -- the symbols of a module, in text order
 abbrev pub symbols_of : Encoding → List ℕ → Module → List Data

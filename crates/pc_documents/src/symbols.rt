@@ -5,7 +5,8 @@ ghost use Rattle.serde_json.specs.View.{view};
 ghost use Rattle.pc_tree.specs.Tree.{name_of, member_of, item_of};
 ghost use Rattle.pc_position.specs.Positions.{IsPositionOf};
 ghost use Rattle.pc_documents.specs.Symbols.{named_data, symbol_data, kind_of_member, kind_of_item, start_of_item};
-ghost use Rattle.pc_documents.specs.Symbols.{members_of_item, member_data, item_symbol, AreSymbols, AreSymbolsAs};
+ghost use Rattle.pc_documents.specs.Symbols.{members_of_item, member_data, shown_member, shown_item};
+ghost use Rattle.pc_documents.specs.Symbols.{AreSymbols, AreSymbolsAs};
 
 use crate::diagnostics::range_value;
 use crate::documents::Document;
@@ -97,7 +98,7 @@ fn member_value(
     member: &Member,
 ) -> Result<(Value, Mark), AllocError>
     requires { IsPositionOf encoding text.now known.byte known.position }
-    ensures value { IfOk result (λ r. view r.0 ≡ member_data encoding text.now (member_of member.now)) }
+    ensures value { IfOk result (λ r. view r.0 ≡ shown_member encoding text.now member.now) }
     ensures mark { IfOk result (λ r. IsPositionOf encoding text.now r.1.byte r.1.position) }
 {
     let name = member.name();
@@ -125,8 +126,7 @@ fn member_values(
     members: &[Member],
 ) -> Result<(Vec<Value>, Mark), AllocError>
     requires { IsPositionOf encoding text.now known.byte known.position }
-    ensures value { IfOk result (λ r. map view r.0.items
-        ≡ map (λ m. member_data encoding text.now (member_of m)) members.now) }
+    ensures value { IfOk result (λ r. map view r.0.items ≡ map (shown_member encoding text.now) members.now) }
     ensures mark { IfOk result (λ r. IsPositionOf encoding text.now r.1.byte r.1.position) }
 {
     let mut values = Vec::with_capacity(alloc, members.len())?;
@@ -140,7 +140,6 @@ fn member_values(
 }
 
 /// Returns the symbols of an item's members, and the mark of the end of the last name. Counts from the mark `known`.
-#[tactic(auto, using(crate::proofs::Listing::members_listed))]
 fn parts_of(
     alloc: Global,
     encoding: Encoding,
@@ -168,7 +167,7 @@ fn item_symbol(
     item: &Item,
 ) -> Result<(Value, Mark), AllocError>
     requires { IsPositionOf encoding text.now known.byte known.position }
-    ensures value { IfOk result (λ r. view r.0 ≡ item_symbol encoding text.now (item_of item.now)) }
+    ensures value { IfOk result (λ r. view r.0 ≡ shown_item encoding text.now item.now) }
     ensures mark { IfOk result (λ r. IsPositionOf encoding text.now r.1.byte r.1.position) }
 {
     let name = item.name();
@@ -188,7 +187,7 @@ fn item_symbols(
     text: &[u8],
     items: &[Item],
 ) -> Result<Vec<Value>, AllocError>
-    ensures { IfOk result (λ v. map view v.items ≡ map (λ i. item_symbol encoding text.now (item_of i)) items.now) }
+    ensures { IfOk result (λ v. map view v.items ≡ map (shown_item encoding text.now) items.now) }
 {
     let mut values = Vec::with_capacity(alloc, items.len())?;
     let mut known = Mark::start();
@@ -201,7 +200,6 @@ fn item_symbols(
 }
 
 /// Returns the symbols of a text; none if it is refused or not known.
-#[tactic(auto, using(crate::proofs::Listing::items_listed))]
 fn text_symbols(
     alloc: Global,
     encoding: Encoding,
