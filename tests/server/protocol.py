@@ -4,7 +4,7 @@ import os
 import re
 import resource
 import subprocess
-from typing import Any, Dict, List, Optional, Tuple
+from typing import Any, Dict, List, Optional, Sequence, Tuple
 
 ROOT = os.path.join(os.path.dirname(os.path.abspath(__file__)), os.pardir, os.pardir)
 URI = "file:///module.py"
@@ -191,6 +191,11 @@ def diagnostic(code: str, place: Message, before: str = "", severity: Optional[i
     usual = 2 if code.startswith("A") else 1
     return {"code": code, "message": before + MEANINGS[code], "range": place, "source": "pycheck",
             "severity": usual if severity is None else severity}
+
+
+def symbol(kind: int, name: str, place: Message, chosen: Message, parts: Sequence[Message] = ()) -> Message:
+    """A symbol of a document, with its parts."""
+    return {"kind": kind, "name": name, "range": place, "selectionRange": chosen, "children": list(parts)}
 
 
 def note(message: str) -> Message:

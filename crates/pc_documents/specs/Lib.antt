@@ -5,3 +5,4 @@ pub mod Diagnostics
 pub mod Documents
 pub mod Hovers
 pub mod Said
+pub mod Symbols

@@ -28,7 +28,11 @@ fn position_value(alloc: Global, position: Position) -> Result<Value, AllocError
 }
 
 /// Returns a range between two positions as JSON.
-fn range_value(alloc: Global, start: Position, end: Position) -> Result<Value, AllocError>
+pub(crate) fn range_value(
+    alloc: Global,
+    start: Position,
+    end: Position,
+) -> Result<Value, AllocError>
     ensures { IfOk result (λ v. (encoding : _) (text : _) (from : _) (to : _)
         → IsPositionOf encoding text from start → IsPositionOf encoding text to end
         → view v ≡ range_data encoding text from to) }

@@ -7,6 +7,7 @@ mod diagnostics;
 mod documents;
 mod hover;
 mod settings;
+mod symbols;
 mod texts;
 mod told;
 
@@ -14,5 +15,6 @@ pub use checker::{CheckOutcome, Checker, FlowTypes, ReportedFinding};
 pub use diagnostics::unknown_values;
 pub use documents::{Document, document_of, forget, place_of, put, remove};
 pub use settings::{Settings, WARNING};
+pub use symbols::symbols_of;
 pub use texts::{checked_as, checked_text, is_sent};
 pub use told::said_as;

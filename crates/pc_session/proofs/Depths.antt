@@ -23,10 +23,11 @@ use Rattle.pc_documents.specs.Diagnostics.{range_data, diagnostic_data, item_dat
 use Rattle.pc_documents.specs.Diagnostics.{severity_of, message_text, limited, more_data, unknown_data, start_of}
 use Rattle.pc_documents.specs.Diagnostics.{end_of}
 use Rattle.pc_documents.specs.Documents.{OpenDocument}
+use Rattle.pc_documents.proofs.Listing.{symbols_as_low}
 use Rattle.pc_session.specs.declared.messages.LspMethod.{LspMethod}
 use Rattle.pc_session.specs.declared.messages.LspMethod.TheVariants.{Initialize, Initialized, Shutdown, Exit, DidOpen}
 use Rattle.pc_session.specs.declared.messages.LspMethod.TheVariants.{DidChange, DidSave, DidClose, Hover, Diagnostic}
-use Rattle.pc_session.specs.declared.messages.LspMethod.TheVariants.{CodeAction, Other}
+use Rattle.pc_session.specs.declared.messages.LspMethod.TheVariants.{CodeAction, DocumentSymbol, Other}
 use Rattle.pc_session.specs.declared.replies.ErrorCode.{ErrorCode}
 use Rattle.pc_session.specs.declared.replies.ErrorCode.TheVariants.{ParseError, InvalidRequest, MethodNotFound}
 use Rattle.pc_session.specs.declared.replies.ErrorCode.TheVariants.{InvalidParams, ServerNotInitialized, TooLong}
@@ -35,11 +36,12 @@ use Rattle.pc_session.specs.declared.session.Stage.TheVariants.{Fresh, Running, 
 use Rattle.pc_session.specs.Messages.{is_identifier, agreed_in}
 use Rattle.pc_session.specs.Publications.{IsPublished, IsSentWhere}
 use Rattle.pc_session.specs.Replies.{publish_data, result_data, full_data, hover_data, capabilities_data, refusal_of}
+use Rattle.pc_session.specs.Replies.{symbols_data}
 use Rattle.pc_session.specs.Sent.{IsTextOf, AreSent, SendsRefusal}
 use Rattle.pc_session.specs.Sessions.{IsTurn, OnOpen, OnChange, OnClose, OnNoMethod, OnFresh, OnRunning, OnRequest}
 use Rattle.pc_session.specs.Sessions.{OnNotice, OnStage, OnNotification, OnMethod, OnMessage, IsUnreadable, Step}
-use Rattle.pc_session.specs.Sessions.{IsPulled, IsHovered, RepliesWith, unknown_of, unknown_all, told_of, cleared}
-use Rattle.pc_session.specs.Sessions.{OnSpoiled, opened_in, changed_in, identifier_or_null}
+use Rattle.pc_session.specs.Sessions.{IsPulled, IsHovered, IsListed, RepliesWith, unknown_of, unknown_all, told_of}
+use Rattle.pc_session.specs.Sessions.{cleared, OnSpoiled, opened_in, changed_in, identifier_or_null}
 use Rattle.pc_session.specs.Spelled.{IsSpelled, AreSpelled}
 use Rattle.pc_session.specs.States.{State}
 
@@ -56,8 +58,8 @@ up a b h = omega arith
 
 -- ---- values
 
--- a value of depth 0 to 6 is shallow
-low : (d : Data) (n : ℕ) → n ≤ 6 → depth d ≤ n → depth d ≤ max_depth
+-- a value of depth 0 to 7 is shallow
+low : (d : Data) (n : ℕ) → n ≤ 7 → depth d ≤ n → depth d ≤ max_depth
 low d n small h = omega arith
 
 diagnostic_depth : (page : Option (List ℕ)) (e : Encoding) (text : List ℕ) (start end severity : ℕ)
@@ -136,6 +138,13 @@ full_low : (ds : List Data) → items_depth (items_of ds) ≤ 3 → depth (full_
 full_low ds h =
     let listed : suc (items_depth (items_of ds)) ≤ 4 = up _ 3 h in
     up _ 4 (max-le listed (max-le (z 4) (z 4)))
+
+listed_low : (id : Data) (symbols : List Data) → depth id ≡ 0 → items_depth (items_of symbols) ≤ 5
+    → depth (result_data id (symbols_data symbols)) ≤ max_depth
+listed_low id symbols flat h =
+    let own : depth id ≤ 6 = omega arith in
+    low (result_data id (symbols_data symbols)) 7 (omega arith)
+    (up _ 6 (max-le own (max-le (z 6) (max-le (up _ 5 h) (z 6)))))
 
 hover_low : (told : List ℕ) → depth (hover_data told) ≤ 5
 hover_low [] = z 5
@@ -259,6 +268,7 @@ module _ (finds : List ℕ → CheckOutcome → Type 0) where
   noticed Hover message old new replies h = turned h tt
   noticed Diagnostic message old new replies h = turned h tt
   noticed CodeAction message old new replies h = turned h tt
+  noticed DocumentSymbol message old new replies h = turned h tt
   noticed Other message old new replies h = turned h tt
 
   staged : (stage : Stage) (method : LspMethod) (message : Data) (old new : State) (replies : List Data)
@@ -280,6 +290,7 @@ module _ (finds : List ℕ → CheckOutcome → Type 0) where
   notified DidClose stage message old new replies h = staged stage DidClose message old new replies h
   notified Hover stage message old new replies h = staged stage Hover message old new replies h
   notified Diagnostic stage message old new replies h = staged stage Diagnostic message old new replies h
+  notified DocumentSymbol stage message old new replies h = staged stage DocumentSymbol message old new replies h
   notified CodeAction stage message old new replies h = staged stage CodeAction message old new replies h
   notified Other stage message old new replies h = staged stage Other message old new replies h
 
@@ -308,11 +319,24 @@ module _ (finds : List ℕ → CheckOutcome → Type 0) where
       ] in
       answered it.answered low_reply
 
+  listed : (message id : Data) (old new : State) (replies : List Data) → depth id ≡ 0
+      → RepliesWith (IsListed message id old) old replies new → AreShallow replies
+  listed message id old new replies flat it =
+      let Low : Data → Type 0 = λ d. depth d ≤ max_depth in
+      let low_reply : Low it.reply = elim it.is_reply [
+        | inl of_it ↦
+            subst Low (sym of_it.replied) (listed_low id of_it.symbols flat (symbols_as_low old.agreed.encoding
+            of_it.document.python of_it.document.text of_it.symbols of_it.are))
+        | inr none ↦ subst Low (sym none.1) (refusal_low InvalidParams id flat)
+      ] in
+      answered it.answered low_reply
+
   running : (method : LspMethod) (id message : Data) (old new : State) (replies : List Data) → depth id ≡ 0
       → OnRunning finds method id message old replies new → AreShallow replies
   running Shutdown id message old new replies flat h = answered h (result_low id null flat (z 5))
   running Hover id message old new replies flat h = hovered message id old new replies flat h
   running Diagnostic id message old new replies flat h = pulled message id old new replies flat h
+  running DocumentSymbol id message old new replies flat h = listed message id old new replies flat h
   running CodeAction id message old new replies flat h =
       answered h (result_low id (array no_items) flat (omega arith))
   running Initialize id message old new replies flat h = answered h (refusal_low InvalidRequest id flat)
@@ -338,6 +362,7 @@ module _ (finds : List ℕ → CheckOutcome → Type 0) where
   begun DidClose id message old new replies flat h = answered h (refusal_low ServerNotInitialized id flat)
   begun Hover id message old new replies flat h = answered h (refusal_low ServerNotInitialized id flat)
   begun Diagnostic id message old new replies flat h = answered h (refusal_low ServerNotInitialized id flat)
+  begun DocumentSymbol id message old new replies flat h = answered h (refusal_low ServerNotInitialized id flat)
   begun CodeAction id message old new replies flat h = answered h (refusal_low ServerNotInitialized id flat)
   begun Other id message old new replies flat h = answered h (refusal_low ServerNotInitialized id flat)
 

@@ -57,24 +57,30 @@ full_data diagnostics =
     object (member (codes "items") (array (items_of diagnostics))
     (member (codes "kind") (string (codes "full")) no_members))
 
+-- the result of a request for symbols
+abbrev pub symbols_data : List Data → Data
+symbols_data symbols = array (items_of symbols)
+
 -- the name of an encoding
 abbrev pub encoding_name : Encoding → List ℕ
 encoding_name Utf8 = codes "utf-8"
 encoding_name Utf16 = codes "utf-16"
 encoding_name Utf32 = codes "utf-32"
 
--- the capabilities of the server: it takes whole texts, counts characters in this encoding, and answers hover and pulls
+-- the capabilities of the server: it takes whole texts, counts characters in this encoding, and answers hover, symbols
+-- and pulls
 abbrev pub capabilities_data : Encoding → Data
 capabilities_data encoding =
     object (member (codes "capabilities")
     (object (member (codes "diagnosticProvider")
     (object (member (codes "interFileDependencies") (boolean false)
     (member (codes "workspaceDiagnostics") (boolean false) no_members)))
+    (member (codes "documentSymbolProvider") (boolean true)
     (member (codes "hoverProvider") (boolean true)
     (member (codes "positionEncoding") (string (encoding_name encoding))
     (member (codes "textDocumentSync")
     (object (member (codes "change") (number (unsigned 1)) (member (codes "openClose") (boolean true) no_members)))
-    no_members)))))
+    no_members))))))
     (member (codes "serverInfo")
     (object (member (codes "name") (string (codes "pycheck"))
     (member (codes "version") (string (codes "1.0.0")) no_members)))

@@ -11,9 +11,11 @@ use Rattle.pc_documents.specs.Checked.{IsCheckedAs, is_sent}
 use Rattle.pc_documents.specs.Diagnostics.{unknown_data}
 use Rattle.pc_documents.specs.Documents.{document_at, is_open, with_document, without_document, forgotten, OpenDocument}
 use Rattle.pc_documents.specs.Hovers.{IsToldAs}
+use Rattle.pc_documents.specs.Symbols.{AreSymbolsAs}
 use Rattle.pc_session.specs.declared.messages.LspMethod.{LspMethod}
 use Rattle.pc_session.specs.declared.messages.LspMethod.TheVariants.{Initialize, Shutdown, Exit, DidOpen, DidChange}
 use Rattle.pc_session.specs.declared.messages.LspMethod.TheVariants.{DidClose, Hover, Diagnostic, CodeAction}
+use Rattle.pc_session.specs.declared.messages.LspMethod.TheVariants.{DocumentSymbol}
 use Rattle.pc_session.specs.declared.replies.ErrorCode.{ErrorCode}
 use Rattle.pc_session.specs.declared.replies.ErrorCode.TheVariants.{ParseError, InvalidRequest, MethodNotFound}
 use Rattle.pc_session.specs.declared.replies.ErrorCode.TheVariants.{InvalidParams, ServerNotInitialized}
@@ -23,7 +25,7 @@ use Rattle.pc_session.specs.Messages.{method_in, is_identifier, is_reply, uri_in
 use Rattle.pc_session.specs.Messages.{position_in, agreed_in, is_older, is_python}
 use Rattle.pc_session.specs.Publications.{IsPublished}
 use Rattle.pc_session.specs.Replies.{publish_data, log_data, result_data, full_data, hover_data, capabilities_data}
-use Rattle.pc_session.specs.Replies.{refusal_of}
+use Rattle.pc_session.specs.Replies.{refusal_of, symbols_data}
 use Rattle.pc_session.specs.Spoiled.{Spoils}
 use Rattle.pc_session.specs.States.{State}
 
@@ -158,6 +160,19 @@ pub record IsOutdated (message : Data) (old : State) (replies : List Data) (new 
   pub older : is_older (version_in message) document.version ≡ true
   pub answered : IsAnswered (log_data (codes "didChange gives an older version: it was let be")) old replies new
 
+-- the reply to a request for symbols has those of the open document that the message names
+pub record IsListedOf (message id : Data) (old : State) (reply : Data) : Type 0 where
+  pub document : OpenDocument
+  pub named : named_document message old ≡ Some document
+  pub symbols : List Data
+  pub are : AreSymbolsAs old.agreed.encoding document.python document.text symbols
+  pub replied : reply ≡ result_data id (symbols_data symbols)
+
+-- the reply to a request for symbols: those of the document, or an error where the message names none that is open
+abbrev pub IsListed : Data → Data → State → Data → Type 0
+IsListed message id old reply = IsListedOf message id old reply
+    ⊎ ((named_document message old ≡ None) × (reply ≡ refusal_of InvalidParams id))
+
 module _ (finds : List ℕ → CheckOutcome → Type 0) where
   -- this is the document of its address from now on, and its diagnostics are published: nothing else changes
   pub record IsKept (document : OpenDocument) (old : State) (replies : List Data) (new : State) : Type 0 where
@@ -224,6 +239,7 @@ module _ (finds : List ℕ → CheckOutcome → Type 0) where
       IsTurn (result_data id null ∷ []) (at_stage ShutDown old) replies new
   OnRunning Hover id message old replies new = RepliesWith (IsHovered message id old) old replies new
   OnRunning Diagnostic id message old replies new = RepliesWith (IsPulled message id old) old replies new
+  OnRunning DocumentSymbol id message old replies new = RepliesWith (IsListed message id old) old replies new
   OnRunning CodeAction id message old replies new = IsAnswered (result_data id (array no_items)) old replies new
   OnRunning Initialize id message old replies new = IsAnswered (refusal_of InvalidRequest id) old replies new
   OnRunning method id message old replies new = IsAnswered (refusal_of MethodNotFound id) old replies new

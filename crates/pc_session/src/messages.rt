@@ -23,6 +23,7 @@ pub(crate) enum LspMethod {
     Hover,
     Diagnostic,
     CodeAction,
+    DocumentSymbol,
     Other,
 }
 
@@ -42,6 +43,7 @@ fn method_named(name: &str) -> LspMethod
         "textDocument/hover" => LspMethod::Hover,
         "textDocument/diagnostic" => LspMethod::Diagnostic,
         "textDocument/codeAction" => LspMethod::CodeAction,
+        "textDocument/documentSymbol" => LspMethod::DocumentSymbol,
         _ => LspMethod::Other,
     }
 }

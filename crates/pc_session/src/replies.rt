@@ -136,6 +136,7 @@ pub(crate) fn capabilities(alloc: Global, encoding: Encoding) -> Result<Value, A
     json!(in alloc; {
         "capabilities": {
             "diagnosticProvider": {"interFileDependencies": false, "workspaceDiagnostics": false},
+            "documentSymbolProvider": true,
             "hoverProvider": true,
             "positionEncoding": encoding,
             "textDocumentSync": {"change": 1, "openClose": true}

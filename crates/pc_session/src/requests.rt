@@ -5,7 +5,7 @@ ghost use Rattle.serde_json.specs.View.{view};
 ghost use Rattle.pc_documents.specs.Documents.{opened_of};
 ghost use Rattle.pc_session.specs.Answers.{after};
 ghost use Rattle.pc_session.specs.Replies.{refusal_of};
-ghost use Rattle.pc_session.specs.Sessions.{IsAnswered, IsPulled, IsHovered, OnRunning, OnFresh, OnRequest};
+ghost use Rattle.pc_session.specs.Sessions.{IsAnswered, IsPulled, IsHovered, IsListed, OnRunning, OnFresh, OnRequest};
 ghost use Rattle.pc_session.specs.Sessions.{named_document};
 ghost use Rattle.pc_session.specs.States.{state_of};
 
@@ -16,7 +16,7 @@ use crate::replies::{
 };
 use crate::session::{Answer, Session, SessionChange, Stage};
 use crate::settings::settings_in;
-use pc_documents::{Checker, Document, checked_as, document_of, said_as};
+use pc_documents::{Checker, Document, checked_as, document_of, said_as, symbols_of};
 use pc_source::OutOfMemory;
 use serde_json::Value;
 use std::alloc::Global;
@@ -90,6 +90,25 @@ fn pulled<C: Checker>(
     Ok(reply)
 }
 
+/// Returns the reply to a `textDocument/documentSymbol` request.
+fn listed(
+    session: &Session,
+    alloc: Global,
+    id: &Value,
+    message: &Value,
+) -> Result<Value, OutOfMemory>
+    ensures { IfOk result (λ v. IsListed (view message.now) (view id.now) (state_of session.now) (view v)) }
+{
+    let Some(document) = named(session, message) else {
+        let refused = error_reply(alloc, id, ErrorCode::InvalidParams)?;
+        return Ok(refused);
+    };
+    let symbols = symbols_of(alloc, &session.settings, document)?;
+    let result = Value::Array(symbols);
+    let reply = result_reply(alloc, id, result)?;
+    Ok(reply)
+}
+
 /// Answers a request in a running session.
 fn requested<C: Checker>(
     session: &Session,
@@ -115,6 +134,11 @@ fn requested<C: Checker>(
         }
         LspMethod::Diagnostic => {
             let reply = pulled(session, checker, alloc, id, message)?;
+            let answer = one(alloc, reply, SessionChange::Nothing)?;
+            Ok(answer)
+        }
+        LspMethod::DocumentSymbol => {
+            let reply = listed(session, alloc, id, message)?;
             let answer = one(alloc, reply, SessionChange::Nothing)?;
             Ok(answer)
         }

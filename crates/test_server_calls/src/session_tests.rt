@@ -30,6 +30,21 @@ const BEGIN: &str = "{\"id\":1,\"method\":\"initialize\",\"params\":{}}";
 const OPEN: &str =
     "{\"method\":\"textDocument/didOpen\",\"params\":{\"textDocument\":{\"uri\":\"a\",\"version\":3,\"text\":\"xy\"}}}";
 
+const OPEN_MODULE: &str = "\
+{\"method\":\"textDocument/didOpen\",\"params\":{\"textDocument\":{\"uri\":\"a\",\"version\":3,\
+\"text\":\"from __future__ import annotations\\nX = 1\\ndef main():\\n    print(X)\\nmain()\\n\"}}}";
+
+const ASK_SYMBOLS: &str =
+    "{\"id\":2,\"method\":\"textDocument/documentSymbol\",\"params\":{\"textDocument\":{\"uri\":\"a\"}}}";
+
+const SYMBOLS: &str = "\
+{\"id\":2,\"jsonrpc\":\"2.0\",\"result\":[{\"children\":[],\"kind\":14,\"name\":\"X\",\
+\"range\":{\"end\":{\"character\":1,\"line\":1},\"start\":{\"character\":0,\"line\":1}},\
+\"selectionRange\":{\"end\":{\"character\":1,\"line\":1},\"start\":{\"character\":0,\"line\":1}}},\
+{\"children\":[],\"kind\":12,\"name\":\"main\",\
+\"range\":{\"end\":{\"character\":8,\"line\":2},\"start\":{\"character\":0,\"line\":2}},\
+\"selectionRange\":{\"end\":{\"character\":8,\"line\":2},\"start\":{\"character\":4,\"line\":2}}}]}";
+
 const TOO_LONG: &str =
     "{\"error\":{\"code\":-32600,\"message\":\"the message is longer than 16,777,216 bytes\"},\"id\":null,\"jsonrpc\":\"2.0\"}";
 
@@ -55,6 +70,17 @@ fn a_new_text_is_published_and_kept(rt: HostRuntime) -> Result<(), Fail> {
     assert!(rt; told.ends_with(b"\"source\":\"pycheck\"}],\"uri\":\"a\",\"version\":3}}"));
     assert_eq!(rt; session.documents.len(), 1);
     assert!(rt; session.stage == Stage::Running);
+    Ok(())
+}
+
+#[test]
+fn symbols_are_those_of_the_module(rt: HostRuntime) -> Result<(), Fail> {
+    let alloc = rt.alloc();
+    let mut session = Session::new(alloc);
+    step(&mut session, &Refusing, alloc, BEGIN.as_bytes())?;
+    step(&mut session, &Refusing, alloc, OPEN_MODULE.as_bytes())?;
+    let told = step(&mut session, &Refusing, alloc, ASK_SYMBOLS.as_bytes())?;
+    assert!(rt; told == framed(alloc, SYMBOLS.as_bytes())?);
     Ok(())
 }
 
