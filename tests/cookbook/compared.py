@@ -233,7 +233,7 @@ def differences(module: types.ModuleType, file: str, count: int) -> Iterator[str
 
 
 def steps_of_queue(queue: Any, own: "collections.deque[int]", chance: Random, count: int) -> Iterator[str]:
-    """Yields the differences between a queue and Python's, over so many steps."""
+    """Yields the differences between a queue and Python's, over `count` steps."""
     for _ in range(count):
         value, step = chance.randrange(5), chance.random()
         if step < 0.5:

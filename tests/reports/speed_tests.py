@@ -18,7 +18,7 @@ FILES = 1000
 # Seconds on four processors, and therefore of processor time
 SECONDS = 3.0
 PROCESSORS = 4
-# A machine that pauses for a moment makes one run long: the least of so many counts
+# A machine that pauses for a moment makes one run long: the least of this many counts
 RUNS = 5
 # Work for one processor that takes a part of a second
 FILLED = "sum(range(5_000_000))"

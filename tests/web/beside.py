@@ -71,7 +71,7 @@ def nearly_utf8() -> List[bytes]:
 
 
 def large_module(size: int) -> bytes:
-    """Returns a module of nearly so many bytes, with many findings."""
+    """Returns a module of nearly `size` bytes, with many findings."""
     rows = ["from __future__ import annotations"]
     body = "def f{0}(a: list[int], b):\n    c = a[0] + b\n    if c is None:\n        return 1\n    return len(a) + \"x\"\n"
     length, number = 0, 0

@@ -88,7 +88,7 @@ class Node(RoomCase):
         self.assertRegex(done.stdout.decode(), r"^[1-9]\d+ wanting, [1-9]\d* own\n$")
 
     def test_the_largest_module_is_fast(self) -> None:
-        """In seconds of the processor, since other work may take it meanwhile."""
+        """Time is measured in seconds of the processor, since other work may take it meanwhile."""
         file = self.files([large_module(800_000)])[0]
         begun = resource.getrusage(resource.RUSAGE_CHILDREN)
         program("--json", file)

@@ -90,7 +90,7 @@ def field_type(module: Module, node: ast.Attribute) -> str:
 
 
 def class_of(module: Module, node: ast.Name) -> str:
-    """Returns the name of a local's class, as told by its annotation or by its place as the first parameter of a
+    """Returns the name of a local's class, given by its annotation or by its place as the first parameter of a
     method."""
     function = module.function(node)
     parent = module.parents.get(function) if function is not None else None

@@ -538,7 +538,7 @@ def checked_apart(words: List[str], crate: str, edits: List[Path], control: bool
 class Task(NamedTuple):
     """How the edits of a crate are to be tried: the function that checks edits, or their controls; the rounds; whether
     controls with a kept verdict are tried too; the moment after which no check begins; and whether the output of a
-    check with another result than expected is printed."""
+    check with an unexpected result is printed."""
 
     check: Callable[[List[Path], bool], str]
     crate: str

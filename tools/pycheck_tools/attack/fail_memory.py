@@ -252,7 +252,7 @@ class Failing:
 
 
 def numbers_up_to(asked: int, span: Optional[Tuple[int, int]]) -> Sequence[int]:
-    """Returns the numbers to be tried for so many requests."""
+    """Returns the numbers of the requests to be tried, out of `asked` requests."""
     first, last = span or (1, asked)
     last = min(last, asked)
     if span or last <= ALL_OF:

@@ -944,7 +944,7 @@ def show(found: Found, seed: str, kind: str, data: bytes) -> None:
 
 
 def fuzz(programs: Programs, seconds: int, seed: str) -> int:
-    """Tries inputs for so many seconds, and prints the findings and the counts. Returns the exit status."""
+    """Tries inputs for `seconds` seconds, and prints the findings and the counts. Returns the exit status."""
     counts: Counter[str] = collections.Counter()
     codes: Counter[str] = collections.Counter()
     seen: Counter[str] = collections.Counter()

@@ -68,7 +68,7 @@ class Want(NamedTuple):
 # A text, or bytes that are none, with the expected answer; if there is none, only the end of the run is examined
 Case = Tuple[Union[str, bytes], Optional[Want]]
 Make = Callable[[], Case]
-# A text with so many parts, and the expected answer to it
+# Makes a text from the number of its parts, and the expected answer to it
 Texts = Callable[[int], str]
 Wants = Union[Want, Callable[[int], Want]]
 # The exit status, the ends of the answer, the seconds and the MiB of a run
@@ -343,8 +343,8 @@ def any_lines() -> Case:
 
 
 def flows_into_long(letters: int, width: int, count: int) -> Case:
-    """Returns so many dynamic flows, a line each, into a class with so long a name, or into a tuple of so many of that
-    class. The text of the type is on each line of the report."""
+    """Returns `count` dynamic flows, a line each, into a class with a name of `letters` letters, or into a tuple of
+    `width` of that class. The text of the type is on each line of the report."""
     name = "C" + "a" * (letters - 1)
     into = f"tuple[{', '.join([name] * width)}]" if width else name
     line = f" t = ({', '.join(['c'] * width)})\n" + " t = a\n" * count if width else " c = a\n" * count

@@ -11,9 +11,9 @@ The pages are README.md, docs/PROFILE.md, docs/CODES.md and docs/COOKBOOK.md if 
 Other blocks are ignored. A page CODES.md also has an entry for each code, under a heading `### CODE TITLE`, and the
 first module of an entry is the one that shows the code.
 
-Prints each module that is answered otherwise, and what is wrong with the page: a code without an entry, an entry that does not
+Prints each module that is answered otherwise, and the faults of the page: a code without an entry, an entry that does not
 show its code, a module without a report, a page without a module to compare. Last it says how many modules agree and how many
-differ. The exit status is 1 where something was printed before that.
+differ. The exit status is 1 if something was printed before that.
 """
 from __future__ import annotations
 

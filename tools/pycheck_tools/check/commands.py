@@ -12,7 +12,7 @@ The pages are docs/TUTORIAL.md and docs/CORE.md if none is named. A page has blo
                  first two with the program PYCHECK
 
 Prints each fault, with the page and the line, and the actual output of a command. Last it says how many blocks were
-compared, and how many are wrong. The exit status is 1 where one is wrong, and where a page has none.
+compared, and how many are wrong. The exit status is 1 if one is wrong, or if a page has none.
 """
 from __future__ import annotations
 

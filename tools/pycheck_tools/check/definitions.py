@@ -11,7 +11,7 @@ which is one of the page's crate unless `CRATE` or CRATE/ precedes it, and each 
 first column that is, which is proofs/NAME.antt.
 
 Prints each name, file and code that is missing, and last how many names were found. The exit status is 1 if anything else
-was printed, and where no name was found.
+was printed, or if no name was found.
 """
 from __future__ import annotations
 

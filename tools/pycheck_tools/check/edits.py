@@ -5,15 +5,15 @@
 reads the edits crates/CRATE/must-fail/*.edit, which `rt ci` tries over whole crates, and wrong_bodies/CRATE/*.edit, each of
 functions alone, or of definitions with a law that they make false, which `tools/wrong_bodies --built` tries by these functions and
 laws. Each must be of the right form, fit the files of its crate, and change something; no two of a crate may have one name, and those
-of wrong_bodies/ change functions alone or name a law. One of must-fail/ names none, since `rt` reads no such line. So what
-`tools/wrong_bodies --list` finds is found here too. The edits in a folder wrong_bodies/CRATE/apart/, which the gate leaves out, must be
+of wrong_bodies/ change functions alone or name a law. One of must-fail/ names none, since `rt` reads no such line. This check
+therefore finds all that `tools/wrong_bodies --list` finds. The edits in a folder wrong_bodies/CRATE/apart/, which the gate leaves out, must be
 just those that wrong_bodies/APART.md has a row for, each refused. LOG is what `rt ci` or `rt must-fail` printed, in a file, or on standard
 input for `-`. Then the edits that it says were refused must be just those of must-fail/, whatever `rt ci` made of one that could not be
 applied, compiled or read. Where LOG counts the edits, of a crate or of all, its numbers must be those of the files.
 
-Prints what is wrong, then the edits whose refusal says little, since the prover only met a limit or missed a name, how many edits
-of the gate have a control, and last how many edits there are and how many of those of `rt ci` were refused. The exit status is 1 where something is wrong,
-where there is no edit, and where LOG tells of none.
+Prints the faults, then the edits whose refusal says little, since the prover only met a limit or missed a name, how many edits
+of the gate have a control, and last how many edits there are and how many of those of `rt ci` were refused. The exit status is 1 if something is wrong,
+if there is no edit, or if LOG tells of none.
 """
 from __future__ import annotations
 

@@ -5,7 +5,7 @@
 PAGE is docs/CODES.md if none is named. Reads the titles of refusals and, for each code, its meaning and how to mend
 it from crates/pc_code_texts/src, and the labels of errors and dynamic places from crates/pc_tree/src. Prints each title or
 label that is not that of the page's heading `### CODE TITLE`, each text that is no single sentence of ASCII, and each
-code without a text. Last it says how many codes agree and how many differ; the exit status is 1 where one differs.
+code without a text. Last it says how many codes agree and how many differ; the exit status is 1 if one differs.
 """
 from __future__ import annotations
 

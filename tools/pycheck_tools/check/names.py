@@ -6,7 +6,7 @@ A type is a struct, an enum, a trait or an alias, and a function one that is no 
 it, even if only those of its crate. The functions under SHARED may have one name in so many modules, for the reason given there.
 
 Prints each name that is in more modules, with these, and each under SHARED that is in another number of them. Last it says
-how many names there are. The exit status is 1 where something is wrong, and where there is no name.
+how many names there are. The exit status is 1 if something is wrong, or if there is no name.
 """
 from __future__ import annotations
 

@@ -10,7 +10,7 @@ The pages are README.md, CONTRIBUTING.md, SECURITY.md, CHANGELOG.md, docs/*.md, 
 - A block `diff` of CONTRIBUTING.md is a change that may be made to the present tree: after a line `--- FILE` the hunks of
   the file follow, each from a line `@@` on, and in each the lines that stay and those that go are in that file once, one after another.
 
-Prints each fault, and last how many links and hunks there are. The exit status is 1 where something is wrong, and where there is no
+Prints each fault, and last how many links and hunks there are. The exit status is 1 if something is wrong, or if there is no
 link or no hunk.
 """
 from __future__ import annotations

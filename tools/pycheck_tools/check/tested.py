@@ -19,7 +19,7 @@ out, and how many tests a folder of tests has, as `tests/NAME/run`, N tests: the
 Prints each call of the list that does not exist, each public call that is not on the list, or twice, each file that does
 not call what it is listed for, and each of these numbers that is wrong; and last how many calls there are, how many
 are laws, and how many have no test.
-The exit status is 1 where something is wrong. `--calls` prints all calls instead, with the files of tests that name
+The exit status is 1 if something is wrong. `--calls` prints all calls instead, with the files of tests that name
 them.
 """
 from __future__ import annotations

@@ -7,7 +7,7 @@ crates/NAME/src, of tools/ and of tests/, and the definitions of crates/NAME/spe
 alone do not count. Those under EXPLAINED may be there twice, as long as docs/DECISIONS.md has the words given there.
 
 Prints all duplicates that are not explained, and each explanation that is not needed or not on the page. Last it says how many
-functions and definitions were compared. The exit status is 1 where something is wrong, and where there was nothing to compare.
+functions and definitions were compared. The exit status is 1 if something is wrong, or if there was nothing to compare.
 """
 from __future__ import annotations
 

@@ -298,7 +298,7 @@ def run_here(data: bytes, most: int, out: int) -> None:
 
 
 def run_of(data: bytes, most: int) -> Run:
-    """Returns the run of a module, with at most so many places."""
+    """Returns the run of a module, with at most `most` places."""
     reading, writing = os.pipe()
     child = os.fork()
     if child == 0:

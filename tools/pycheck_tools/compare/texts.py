@@ -82,7 +82,7 @@ def rows_of(table: str) -> Iterator[Tuple[Tuple[str, str], str]]:
 
 
 def written_texts(each: int) -> Iterator[Named]:
-    """Yields the name and the bytes of each text of examples/, and of every so many of the tables."""
+    """Yields the name and the bytes of each text of examples/, and of one in `each` of the tables."""
     for file in sorted((ROOT / "examples").rglob("*.py")):
         yield file.name, file.read_bytes()
     for file in sorted(TABLES.glob("*.modules")):

@@ -30,7 +30,7 @@ OF_TESTS = {"test", "tests", "idle_test", "site-packages", "dist-packages", "__p
 
 
 def sample(folder: Path, count: int) -> List[str]:
-    """Returns so many modules of a folder, spread over it, in the order of their paths."""
+    """Returns `count` modules of a folder, spread over it, in the order of their paths."""
     found = sorted(str(it) for it in folder.rglob("*.py") if not OF_TESTS & set(it.relative_to(folder).parts))
     step = max(1, len(found) // count)
     return found[::step][:count]

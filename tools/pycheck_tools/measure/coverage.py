@@ -54,7 +54,7 @@ SUITES: Dict[str, List[str]] = {
     "cookbook": ["tests/cookbook/run {pycheck} {pyrun}"],
     "memory": ["tests/memory/run {pycheck} {pyrun} {test_tables} {pycheck_server}"],
 }
-# A block of functions of a type, of a trait where it names one before
+# A block of functions of a type, of a trait if it names one before
 BLOCK = re.compile(r"(?:unsafe )?(?:impl|trait)(?:<[^{]*?>)? (?:(\w+)\S* for )?&?(\w+)")
 NEEDED = re.compile(r"\{(\w+)\}")
 # Before a program begins, its marks are mapped to a file that all of its processes share, so that a process may end in

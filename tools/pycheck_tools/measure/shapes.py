@@ -52,7 +52,7 @@ Thing = Callable[[int], Tuple[str, str]]
 
 
 def each(count: int, line: str) -> str:
-    """Returns so many lines, each with its number and the one before."""
+    """Returns `count` lines, each with its number and the one before."""
     if "{i}" not in line:
         return line * count
     return "".join(line.replace("{i}", str(i)).replace("{before}", str(i - 1)) for i in range(1, count + 1))
@@ -131,7 +131,7 @@ def unions(count: int) -> str:
 
 
 def union_of(count: int, name: str = "A") -> str:
-    """Returns the union of so many classes."""
+    """Returns the union of `count` classes."""
     return " | ".join(f"{name}{i}" for i in range(1, count + 1))
 
 
@@ -246,14 +246,14 @@ USES: Dict[str, str] = {
 
 
 def product(thing: str, parts: int, use: str, uses: int) -> str:
-    """Returns a module in which a thing of so many parts is used so many times."""
+    """Returns a module in which a thing of `parts` parts is used `uses` times."""
     before, lines = THINGS[thing](parts)
     main = "def g(a: object):\n    pass\ndef main():\n    i = 0\n    y = 0\n" + lines
     return before + main + each(uses, USES[use]) + "main()\n"
 
 
 def longest_product(thing: str, use: str, most: int) -> str:
-    """Returns the longest such module within so many bytes, of which the thing takes about half."""
+    """Returns the longest such module within `most` bytes, of which the thing takes about half."""
     parts = parts_of(thing, most // 2)
     ends = ends_of_uses(use, most)
     room = most - len(HEADER + product(thing, parts, use, 0))
@@ -262,20 +262,20 @@ def longest_product(thing: str, use: str, most: int) -> str:
 
 @functools.lru_cache(maxsize=None)
 def parts_of(thing: str, most: int) -> int:
-    """Returns the greatest number of parts of a thing with which a module that does not use it stays within so many
+    """Returns the greatest number of parts of a thing with which a module that does not use it stays within `most`
     bytes."""
     return greatest(lambda n: product(thing, n, "first", 0), most) if thing != "nothing" else 1
 
 
 @functools.lru_cache(maxsize=None)
 def ends_of_uses(use: str, most: int) -> List[int]:
-    """Returns the end of each use when it is repeated, up to so many bytes."""
+    """Returns the end of each use when it is repeated, up to `most` bytes."""
     lengths = (len(each(1, USES[use].replace("{i}", str(i)))) for i in itertools.count(1))
     return list(itertools.takewhile(lambda end: end <= most, itertools.accumulate(lengths)))
 
 
 def greatest(shape: Shape, most: int) -> int:
-    """Returns the greatest number with which a module of a shape stays within so many bytes."""
+    """Returns the greatest number with which a module of a shape stays within `most` bytes."""
     least, past = 1, 2
     while len(HEADER + shape(past)) <= most:
         least, past = past, 2 * past
@@ -289,7 +289,7 @@ def greatest(shape: Shape, most: int) -> int:
 
 
 def longest(shape: Shape, most: int) -> str:
-    """Returns the longest module of a shape within so many bytes."""
+    """Returns the longest module of a shape within `most` bytes."""
     return HEADER + shape(greatest(shape, most))
 
 
@@ -307,7 +307,7 @@ def processor_time() -> float:
 
 
 def timed(program: str, most: int, text: str) -> Taken:
-    """Returns the seconds of processor time of a check, which is ended after so many."""
+    """Returns the seconds of processor time of a check, which is ended after `most` seconds."""
     with tempfile.NamedTemporaryFile("w", suffix=".py") as file:
         file.write(text)
         file.flush()
