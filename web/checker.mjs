@@ -1,14 +1,14 @@
-// The proved check, as the module of WebAssembly answers it: what `crates/pycheck_library` says of `pycheck_check`.
-// The page and the command stand on this file alone.
+// The proved check by the module of WebAssembly, with the answers that `crates/pycheck_library` states for
+// `pycheck_check`. The page and the command use no other way to the module.
 
 // The kinds of an answer
 export const REPORTED = 0, REFUSED = 1, OUT_OF_MEMORY = 2;
-// Where each number of an answer stands, and how many bytes an answer has
+// The place of each number in an answer, and how many bytes an answer has
 const KIND = 0, LETTER = 4, DIGIT = 5, BYTE = 8, LENGTH = 16, ERRORS = 24, DYNAMIC = 32, ANSWER = 40;
-// Room for the report of a module of so many bytes; one of a longer report is checked again, with room for it
+// Room for the report of a module of so many bytes; one with a longer report is checked again, with enough room
 const roomFor = (bytes) => (1 << 16) + 4 * bytes;
 
-/** Makes the check from the bytes of the module. */
+/** Returns the check, made from the bytes of the module. */
 export async function checkerOf(bytes) {
   const { instance } = await WebAssembly.instantiate(bytes, {});
   return (text, asked = {}) => answered(instance.exports, text, asked.json ?? true, asked.format ?? 2);
@@ -21,8 +21,8 @@ export function isSupported() {
 }
 
 /**
- * Checks bytes, and gives `kind`, and of a report `text`, `errors` and `dynamic`, of a refusal `code` and `byte`.
- * A module so deep that the engine's own stack does not suffice counts as one for which memory is wanting.
+ * Checks bytes. Returns `kind`, for a report `text`, `errors` and `dynamic`, and for a refusal `code` and `byte`.
+ * A module so deep that the engine's own stack does not suffice counts as one for which memory ran out.
  */
 function answered(wasm, bytes, json, format) {
   try {

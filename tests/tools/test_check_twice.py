@@ -25,7 +25,7 @@ class CheckTwice(Case):
         setattr(self.twice, "ROOT", self.room)
 
     def same(self) -> List[List[str]]:
-        """The names that stand for the same, in the folder of the test."""
+        """Returns the names of duplicates, in the folder of the test."""
         found: Dict[str, List[str]] = defaultdict(list)
         for place, lines in self.twice.pieces():
             if lines:
@@ -77,7 +77,7 @@ class CheckTwice(Case):
         self.assertEqual(self.told(), (1, wanted))
 
     def told(self) -> Tuple[int, str]:
-        """The exit status of the check, and what it prints."""
+        """Returns the exit status of the check, and its output."""
         said = io.StringIO()
         with contextlib.redirect_stdout(said):
             return self.twice.run(argparse.Namespace()), said.getvalue()

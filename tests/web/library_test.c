@@ -1,5 +1,5 @@
-// Checks files by the library, as the program does: `library_test text|json FORMAT FILE`. Each is checked with no room first,
-// then with a byte less than the report has, of which nothing may be written, and then with room for it.
+// Checks files with the library, as the program does: `library_test text|json FORMAT FILE`. Each is checked first
+// with no room, then with a byte less than the report has, when nothing may be written, and then with room for it.
 #include <pycheck.h>
 #include <stdio.h>
 #include <stdlib.h>

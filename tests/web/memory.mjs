@@ -1,5 +1,6 @@
-// Lets memory end during a check, at many places: each answer must be that memory is wanting, with nothing written into the
-// room, or the module's own; and once all is given back the answer must be its own again. Prints how often it was wanting.
+// Lets memory end during a check, at many places. Each answer must be that memory ran out, with nothing written into
+// the room, or the module's own; once everything is freed, the answer must be its own again. Prints how often memory
+// ran out.
 import { readFileSync } from "node:fs";
 
 const ROOM = 1 << 16, MARK = 0xee;
@@ -7,7 +8,7 @@ const [wasm, ...names] = process.argv.slice(2);
 const { exports } = (await WebAssembly.instantiate(readFileSync(wasm), {})).instance;
 const counts = { wanting: 0, own: 0 };
 
-/** The answer to a text where no more than `left` bytes are left: its kind, and what is in the room. */
+/** Returns the answer to a text when at most `left` bytes are left: its kind, and the bytes in the room. */
 function answered(text, left) {
   exports.heap_forget();
   const [answer, at, room] = [40, text.length, ROOM].map((size) => exports.heap_take(BigInt(size)));
