@@ -1,7 +1,6 @@
 #!/usr/bin/env node
-// Checks a Python module, as the program `pycheck` does: same words, same output, same statuses, but for `--types`, which
-// it says it cannot do. The check is the proved one, as a module of WebAssembly; this script, which reads the words and
-// the file, is only tested.
+// Checks a Python module, as the program `pycheck` does: same words, same output, same statuses. The check is the proved
+// one, as a module of WebAssembly; this script, which reads the words and the file, is only tested.
 import { closeSync, openSync, readFileSync, readSync, writeSync } from "node:fs";
 import { isUtf8 } from "node:buffer";
 import { spawnSync } from "node:child_process";
@@ -13,8 +12,6 @@ import { asked } from "./words.mjs";
 const FLAG = "--experimental-wasm-memory64";
 // One more than a source text may have; the program too reads no further
 const MOST = 1_048_577;
-// The one thing that the program does and the module does not
-const TYPELESS = "pycheck: --types: the module pycheck.wasm lists no types; the program does\n";
 // What the system says where Node has other words
 const REASONS = {
   EISDIR: "Is a directory",
@@ -89,7 +86,6 @@ async function run(words) {
   const wanted = asked(words);
   if (wanted.help) return help(wanted.help);
   if (wanted.mistake) return write(2, wanted.mistake), 3;
-  if (wanted.types) return write(2, TYPELESS), 3;
   let bytes;
   try {
     bytes = read(wanted.file);
