@@ -1,17 +1,17 @@
-// The proved check by the module of WebAssembly, with the answers that `crates/pycheck_library` states for
-// `pycheck_check`. The page and the command use no other way to the module.
+// The proved check, as the module of WebAssembly answers it: what `crates/pycheck_library` says of `pycheck_check` and of
+// `pycheck_types`. The page and the command stand on this file alone.
 
 // The kinds of an answer
 export const REPORTED = 0, REFUSED = 1, OUT_OF_MEMORY = 2;
 // The place of each number in an answer, and how many bytes an answer has
 const KIND = 0, LETTER = 4, DIGIT = 5, BYTE = 8, LENGTH = 16, ERRORS = 24, DYNAMIC = 32, ANSWER = 40;
-// Room for the report of a module of so many bytes; one with a longer report is checked again, with enough room
-const roomFor = (bytes) => (1 << 16) + 4 * bytes;
+// Room for the report, or for the types, of a module of so many bytes; one that has more is asked again, with room for it
+const roomFor = (bytes, types) => (1 << 16) + (types ? 32 : 4) * bytes;
 
-/** Returns the check, made from the bytes of the module. */
+/** Makes the check from the bytes of the module. It is asked for a report, or with `types` for the listing of types. */
 export async function checkerOf(bytes) {
   const { instance } = await WebAssembly.instantiate(bytes, {});
-  return (text, asked = {}) => answered(instance.exports, text, asked.json ?? true, asked.format ?? 2);
+  return (text, asked = {}) => answered(instance.exports, text, { json: true, types: false, format: 2, ...asked });
 }
 
 /** Whether this system runs modules with addresses of 64 bits. */
@@ -21,25 +21,28 @@ export function isSupported() {
 }
 
 /**
- * Checks bytes. Returns `kind`, for a report `text`, `errors` and `dynamic`, and for a refusal `code` and `byte`.
- * A module so deep that the engine's own stack does not suffice counts as one for which memory ran out.
+ * Checks bytes, and gives `kind`, of a refusal `code` and `byte`, and else `text`, which is the report or the listing of
+ * types, and the numbers of the report, `errors` and `dynamic`.
+ * A module so deep that the engine's own stack does not suffice counts as one for which memory is wanting.
  */
-function answered(wasm, bytes, json, format) {
+function answered(wasm, bytes, asked) {
   try {
-    const first = tried(wasm, bytes, json, format, roomFor(bytes.length));
-    return first.kind === REPORTED && first.text === null ? tried(wasm, bytes, json, format, first.length) : first;
+    const first = tried(wasm, bytes, asked, roomFor(bytes.length, asked.types));
+    return first.kind === REPORTED && first.text === null ? tried(wasm, bytes, asked, first.length) : first;
   } catch (fault) {
     if (fault instanceof RangeError || fault instanceof WebAssembly.RuntimeError) return { kind: OUT_OF_MEMORY };
     throw fault;
   }
 }
 
-function tried(wasm, bytes, json, format, room) {
+function tried(wasm, bytes, { json, types, format }, room) {
   wasm.heap_forget();
   const [answer, text, out] = [ANSWER, bytes.length, room].map((size) => wasm.heap_take(BigInt(size)));
   if (!answer || !text || !out) return { kind: OUT_OF_MEMORY };
   new Uint8Array(wasm.memory.buffer).set(bytes, Number(text));
-  wasm.pycheck_check(answer, text, BigInt(bytes.length), json ? 1 : 0, format, out, BigInt(room));
+  const given = [answer, text, BigInt(bytes.length), json ? 1 : 0], lent = [out, BigInt(room)];
+  if (types) wasm.pycheck_types(...given, ...lent);
+  else wasm.pycheck_check(...given, format, ...lent);
   const found = answerAt(new DataView(wasm.memory.buffer, Number(answer), ANSWER));
   if (found.kind === REPORTED && found.length <= room) {
     found.text = new Uint8Array(wasm.memory.buffer, Number(out), found.length).slice();

@@ -1,13 +1,16 @@
-// The page: the text, its report while one types, and the words about each finding.
+// The page: the text, its report as one types, and what is said of each finding and of the types of expressions.
 import { checkerOf, isSupported } from "./checker.mjs";
 import { findingAt, shownOf } from "./findings.mjs";
 import { fragmentOf, textOf } from "./link.mjs";
+import { rowsOf, smallestAt } from "./types.mjs";
 
 // At most so many findings are listed and marked; more would only slow the page down
 const MOST_LISTED = 500, MOST_MARKED = 5000;
+// So much is shown of an expression, and of its type
+const MOST_OF_TEXT = 60, MOST_OF_TYPE = 200;
 const FIRST = "ages", INDENT = "    ";
 const at = (name) => document.getElementById(name);
-const page = { check: null, texts: null, shown: { summary: "", findings: [] }, waiting: 0, took: 0 };
+const page = { check: null, texts: null, shown: { summary: "", findings: [] }, typed: null, waiting: 0, took: 0 };
 
 /** Returns an element with a class and parts: texts, or elements. */
 function element(name, style, ...parts) {
@@ -154,12 +157,63 @@ function findingUnder(event) {
   return findingAt(around, place);
 }
 
-/** Shows the finding under the pointer beside it. */
+/** The part of the marks that draws some characters of the text, from a place on. */
+function drawn(place, length) {
+  const nodes = document.createTreeWalker(at("marks"), NodeFilter.SHOW_TEXT), range = document.createRange();
+  for (let left = place; nodes.nextNode(); ) {
+    const node = nodes.currentNode, isText = !node.parentElement.classList.contains("empty");
+    if (isText && left < node.length) {
+      range.setStart(node, left);
+      range.setEnd(node, Math.min(node.length, left + length));
+      break;
+    }
+    left -= isText ? node.length : 0;
+  }
+  return range.getBoundingClientRect();
+}
+
+/** The place of the character under the pointer, if there is one: it is before or behind the nearest place of a caret. */
+function placeUnder({ clientX: x, clientY: y }) {
+  const caret = document.caretPositionFromPoint?.(x, y), text = at("text").value;
+  if (caret?.offsetNode !== at("text")) return undefined;
+  const isPair = (place) => text.codePointAt(place) > 0xffff;
+  const before = caret.offset - (isPair(caret.offset - 2) ? 2 : 1);
+  return [before, caret.offset].find((place) => {
+    if (place < 0) return false;
+    const { left, right, top, bottom } = drawn(place, isPair(place) ? 2 : 1);
+    return left <= x && x < right && top <= y && y < bottom;
+  });
+}
+
+/** The text that is there, its bytes and the rows of its types. They are listed when a type is first asked for. */
+function typed() {
+  const text = at("text").value;
+  if (page.typed?.text !== text) {
+    const bytes = new TextEncoder().encode(text);
+    page.typed = { text, bytes, rows: rowsOf(page.check(bytes, { types: true })) };
+  }
+  return page.typed;
+}
+
+const cut = (text, most) => (text.length > most ? `${text.slice(0, most)}…` : text);
+
+/** What is said of the type of the smallest expression at a place: a paragraph, or none where there is no expression. */
+function typeAt(place) {
+  const { text, bytes, rows } = typed();
+  const row = smallestAt(rows, new TextEncoder().encode(text.slice(0, place)).length);
+  if (!row) return [];
+  const expression = new TextDecoder().decode(bytes.subarray(row.start, row.end));
+  const [shown, type] = [cut(expression, MOST_OF_TEXT), cut(row.type, MOST_OF_TYPE)].map((it) => element("code", "", it));
+  return [element("p", "type", "Type of ", shown, ": ", type)];
+}
+
+/** Says beside the pointer what is found under it, and the type of the expression there. */
 function showHint(event) {
-  const found = findingUnder(event), hint = at("hint");
-  hint.hidden = !found;
-  if (!found) return;
-  hint.replaceChildren(...saidOf(found));
+  const found = findingUnder(event), place = placeUnder(event), hint = at("hint");
+  const said = [...(found ? saidOf(found) : []), ...(place === undefined ? [] : typeAt(place))];
+  hint.hidden = !said.length;
+  if (!said.length) return;
+  hint.replaceChildren(...said);
   const { width, height } = hint.getBoundingClientRect();
   hint.style.left = `${Math.max(8, Math.min(event.clientX, innerWidth - width - 8))}px`;
   const below = event.clientY + 20;

@@ -1,7 +1,6 @@
 #!/usr/bin/env node
-// Checks a Python module, as the program `pycheck` does: same words, same output, same statuses, except for `--types`,
-// which it refuses. The check is the proved one, as a module of WebAssembly; this script, which reads the words and the
-// file, is only tested.
+// Checks a Python module, as the program `pycheck` does: same words, same output, same statuses. The check is the proved
+// one, as a module of WebAssembly; this script, which reads the words and the file, is only tested.
 import { closeSync, openSync, readFileSync, readSync, writeSync } from "node:fs";
 import { isUtf8 } from "node:buffer";
 import { spawnSync } from "node:child_process";
@@ -13,9 +12,7 @@ import { asked } from "./words.mjs";
 const FLAG = "--experimental-wasm-memory64";
 // One byte more than a source text may have; the program reads no further either
 const MOST = 1_048_577;
-// The only option of the program that the module does not support
-const TYPELESS = "pycheck: --types: the module pycheck.wasm lists no types; the program does\n";
-// The words of the system for faults that Node words differently
+// What the system says where Node has other words
 const REASONS = {
   EISDIR: "Is a directory",
   ELOOP: "Too many levels of symbolic links",
@@ -89,7 +86,6 @@ async function run(words) {
   const wanted = asked(words);
   if (wanted.help) return help(wanted.help);
   if (wanted.mistake) return write(2, wanted.mistake), 3;
-  if (wanted.types) return write(2, TYPELESS), 3;
   let bytes;
   try {
     bytes = read(wanted.file);

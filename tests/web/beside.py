@@ -17,8 +17,8 @@ from typing import Any, List, Sequence, Tuple
 ROOT = Path(__file__).resolve().parents[2]
 WEB = ROOT / "web"
 EXAMPLES = sorted((ROOT / "examples").rglob("*.py"))
-# The words for each form and format of a report
-FORMS = ((), ("--format", "1"), ("--json",), ("--json", "--format=1"))
+# The words for each form and format of a report, and for each form of a listing of types
+FORMS = ((), ("--format", "1"), ("--json",), ("--json", "--format=1"), ("--types",), ("--types", "--json"))
 MEMORY64 = "--experimental-wasm-memory64"
 # More modules, made at random, the same each time
 MADE = 300

@@ -1,10 +1,11 @@
-// The answers of the check of web/ on files. Prints for each line of standard input, the name of a file, and each form and format, a
-// line with the kind, the status and the text in base64, or the refusal.
+// What the check of web/ answers of files: for each line of standard input, the name of a file, and each form and format, a
+// line with the status, and the text in base64, or the refusal.
 import { readFileSync } from "node:fs";
 import { createInterface } from "node:readline";
 import { REFUSED, REPORTED, checkerOf } from "../../web/checker.mjs";
 
-const FORMS = [{ json: false, format: 2 }, { json: false, format: 1 }, { json: true, format: 2 }, { json: true, format: 1 }];
+const REPORTS = [{ json: false, format: 2 }, { json: false, format: 1 }, { json: true, format: 2 }, { json: true, format: 1 }];
+const FORMS = [...REPORTS, { json: false, types: true }, { json: true, types: true }];
 const check = await checkerOf(readFileSync(new URL("../../web/pycheck.wasm", import.meta.url)));
 
 function lineOf(answer) {

@@ -24,15 +24,15 @@ class Library(RoomCase):
     def compare(self, file: Path) -> None:
         """Asserts that the library answers a file in each form as the program does."""
         for form in FORMS:
-            words = ("json" if "--json" in form else "text", 1 if "1" in "".join(form) else 2, file)
-            done = run(self.made, *words)
+            what = "types" if "--types" in form else 1 if "1" in "".join(form) else 2
+            done = run(self.made, "json" if "--json" in form else "text", what, file)
             self.assertEqual((done.returncode, done.stdout, done.stderr), program(*form, file), (file, form))
 
-    def test_reports_of_all_examples(self) -> None:
+    def test_reports_and_types_of_all_examples(self) -> None:
         for file in EXAMPLES:
             self.compare(file)
 
-    def test_reports_of_modules_made_at_random(self) -> None:
+    def test_reports_and_types_of_modules_made_at_random(self) -> None:
         for file in self.files([*made_modules()[:100], large_module(1_000_000), b"", b"#" * 1_048_577]):
             self.compare(file)
 

@@ -6,6 +6,7 @@ import itertools
 import json
 import os
 import random
+import re
 import resource
 import shutil
 import subprocess
@@ -55,20 +56,29 @@ class Node(RoomCase):
             given = (int(found), base64.b64decode(text), b"") if status < 2 else (int(found), b"", f"{text}\n".encode())
             self.assertEqual(given, (status, out, err), (file, form))
 
-    def test_reports_of_all_examples(self) -> None:
+    def test_reports_and_types_of_all_examples(self) -> None:
         self.assertGreater(len(EXAMPLES), 90)
         self.compare(EXAMPLES)
 
-    def test_reports_of_modules_made_at_random(self) -> None:
+    def test_reports_and_types_of_modules_made_at_random(self) -> None:
         self.compare(self.files(made_modules()))
 
     def test_bytes_that_are_nearly_utf8(self) -> None:
         """They use the one instruction of x86-64 that is replaced by one of WebAssembly."""
         self.compare(self.files(nearly_utf8()))
 
-    def test_reports_of_the_longest_texts(self) -> None:
+    def test_reports_and_types_of_the_longest_texts(self) -> None:
         texts = [large_module(1_000_000), b"#" * 1_048_576, b"#" * 1_048_577, b"", b"\xef\xbb\xbf", b"\0", b"\xff"]
         self.compare(self.files(texts))
+
+    def test_types_at_single_bytes(self) -> None:
+        """They are those of rows that were worked by hand: the page has its own code for what `type_at` of `pc_top` does."""
+        table = (ROOT / "crates" / "test_tables" / "data" / "reports" / "types.listed").read_text(encoding="utf-8")
+        rows = re.findall(r"^(\d+)\n(.*?)  ⇒ ([^\n]*)$", table.partition("\n§ AT:")[2], flags=re.M | re.S)
+        self.assertGreater(len(rows), 10)
+        lines = [f"{byte} {base64.b64encode(text.encode()).decode()}\n" for byte, text, _ in rows]
+        done = run(*self.need_node(), HERE / "types.mjs", input="".join(lines).encode())
+        self.assertEqual(done.stdout.decode().splitlines(), [found for _, _, found in rows], done.stderr.decode())
 
     def test_the_deepest_texts(self) -> None:
         """As deep as the profile allows a text to be, and one step deeper: the engine's own stack suffices."""
@@ -85,7 +95,7 @@ class Node(RoomCase):
         files = [ROOT / "examples" / f"{name}.py" for name in ("ages", "clean", "dynamic")]
         done = run(*self.need_node(), HERE / "memory.mjs", WEB / "pycheck.wasm", *files)
         self.assertEqual(done.returncode, 0, done.stderr.decode())
-        self.assertRegex(done.stdout.decode(), r"^[1-9]\d+ wanting, [1-9]\d* own\n$")
+        self.assertRegex(done.stdout.decode(), "^{0}{0}$".format(r"\w+: [1-9]\d+ wanting, [1-9]\d* own\n"))
 
     def test_the_largest_module_is_fast(self) -> None:
         """Time is measured in seconds of the processor, since other work may take it meanwhile."""
@@ -172,14 +182,14 @@ class Command(RoomCase):
             self.assertEqual(found, program(*words, cwd=self.room), words)
             self.assertEqual((found[0], found[1], found[2][:7]), (3, b"", b"error: "), words)
 
-    def test_types(self) -> None:
-        """The module lists no types: the command says so, in place of a report or of the types, and the program lists
-        them."""
-        for words in (("--types",), ("--json", "--types"), ("--types", "--")):
-            status, out, err = self.said(*words, EXAMPLES[0])
-            self.assertEqual((status, out), (3, b""), words)
-            self.assertEqual(err, b"pycheck: --types: the module pycheck.wasm lists no types; the program does\n")
-            self.assertGreater(len(program(*words, EXAMPLES[0])[1]), 0, words)
+    def test_types_of_each_example(self) -> None:
+        listed = 0
+        for number, file in enumerate(EXAMPLES):
+            words = (*(("--types",), ("--json", "--types"), ("--types", "--"))[number % 3], file)
+            found = self.said(*words)
+            self.assertEqual(found, program(*words), words)
+            listed += found[0] < 2 and found[1] not in (b"", b'{"types":[]}\n')
+        self.assertGreater(listed, 40)
 
     def test_words_that_are_not_utf8(self) -> None:
         command = [*self.need_node(), str(WEB / "pycheck.mjs")]
@@ -191,11 +201,11 @@ class Command(RoomCase):
 
     def test_output_that_cannot_be_written(self) -> None:
         commands = ([*self.need_node(), str(WEB / "pycheck.mjs")], [os.environ["PYCHECK"]])
-        for word in ("--help", "--version", str(EXAMPLES[0])):
+        for words in (["--help"], ["--version"], [str(EXAMPLES[0])], ["--types", str(EXAMPLES[0])]):
             with open("/dev/full", "wb") as full:
-                found, wanted = (subprocess.run([*it, word], stdout=full, stderr=subprocess.PIPE) for it in commands)
-            self.assertEqual((found.returncode, found.stderr), (wanted.returncode, wanted.stderr), word)
-            self.assertEqual(found.returncode, 3, word)
+                found, wanted = (subprocess.run([*it, *words], stdout=full, stderr=subprocess.PIPE) for it in commands)
+            self.assertEqual((found.returncode, found.stderr), (wanted.returncode, wanted.stderr), words)
+            self.assertEqual(found.returncode, 3, words)
 
     def test_a_module_with_another_sum_is_not_run(self) -> None:
         shutil.copytree(WEB, self.room / "web")

@@ -7,13 +7,30 @@ import json
 import threading
 import time
 import unittest
-from typing import Any, ClassVar, Dict, List
+from typing import Any, ClassVar, Dict, Iterable, List
 
 import browser
 from beside import EXAMPLES, ROOT, WEB, program
 
 SHOWN = """[...document.querySelectorAll('#findings .where')].map(it => it.textContent).concat(
   document.getElementById('summary').textContent).join('\\n') + '\\n'"""
+# The middle of a character by its line and column, from 1, in points of the window: all are of one width
+MIDDLE = """((line, column) => {
+  const text = document.getElementById('text'), style = getComputedStyle(text), box = text.getBoundingClientRect();
+  const canvas = document.createElement('canvas').getContext('2d');
+  canvas.font = style.font;
+  return [box.x + parseFloat(style.paddingLeft) + (column - 0.5) * canvas.measureText('0').width,
+          box.y + parseFloat(style.paddingTop) + (line - 0.5) * parseFloat(style.lineHeight)];
+})(%d, %d)"""
+# The place in a part of which, from 0 to 1 of its width, the snake of the text is drawn
+SNAKE = """(part => {
+  const node = [...document.getElementById('marks').childNodes].find(it => it.data.includes('\\u{1f40d}'));
+  const range = document.createRange(), at = node.data.indexOf('\\u{1f40d}');
+  range.setStart(node, at), range.setEnd(node, at + 2);
+  const box = range.getBoundingClientRect();
+  return [box.x + part * box.width, box.y + box.height / 2];
+})(%f)"""
+HINT = "document.getElementById('hint').hidden ? '' : document.getElementById('hint').textContent"
 # Milliseconds to the first answer. A page that opens alone has it within 300; here other work takes the processors
 FIRST_ANSWER = 3000
 
@@ -166,13 +183,45 @@ class Pages(unittest.TestCase):
         said = self.advice_after("sorted", "def f(a: list[int]) -> int:\n    return max(a)\n")
         self.assertIn("`max` is a built-in of Python that the profile leaves out".replace("`", ""), said)
 
+    def hint(self, line: int, column: int) -> str:
+        """What is said beside the pointer over a character; nothing where nothing is said."""
+        return self.hint_at(self.page.value(MIDDLE % (line, column)))
+
+    def hint_at(self, point: List[float]) -> str:
+        """What is said beside the pointer at a point of the window."""
+        self.page.ask("Input.dispatchMouseEvent", type="mouseMoved", x=point[0], y=point[1])
+        return str(self.page.value(HINT))
+
+    def types(self, line: int, columns: Iterable[int]) -> List[str]:
+        """What is said of types at the characters of a line."""
+        return [self.hint(line, column).partition("Type of ")[2] for column in columns]
+
     def test_a_pointer_over_a_place_is_told_what_the_code_means(self) -> None:
-        box = self.page.value("(() => { const r = document.querySelector('mark').getBoundingClientRect();"
-                              " return [r.x + r.width / 2, r.y + r.height / 2] })()")
-        self.page.ask("Input.dispatchMouseEvent", type="mouseMoved", x=box[0], y=box[1])
-        said = self.page.value("document.getElementById('hint').hidden ? '' : document.getElementById('hint').textContent")
-        for words in ("4:12 E12 flow", "A value that does not fit where it goes.", "Test for the values that do not fit"):
+        said = self.hint(4, 20)
+        for words in ("4:12 E12 flow", "A value that does not fit where it goes.", "Test for the values that do not fit",
+                      "Type of ages.get(name): int | None"):
             self.assertIn(words, said)
+
+    def test_a_pointer_over_an_expression_is_told_its_type(self) -> None:
+        """That of the smallest one around the character; also behind the last character of one."""
+        # `return ages.get(name)`, and nothing behind it
+        ages, call, name = "ages: dict[str, int]", "ages.get(name): int | None", "name: str"
+        self.assertEqual(self.types(4, range(5, 29)), 7 * [""] + 5 * [ages] + 4 * [call] + 5 * [name] + 3 * [""])
+        # `= {"Ada": 36, "`
+        both, key, value = '{"Ada": 36, "Bob": 41}: dict[str, int]', '"Ada": str', "36: int"
+        self.assertEqual(self.types(10, range(10, 24)), 2 * [""] + [both] + 6 * [key] + [both] + 3 * [value] + [both])
+        self.assertEqual([self.hint(1, 8), self.hint(2, 1)], ["", ""])
+
+    def test_types_are_those_of_the_present_text(self) -> None:
+        text = "from __future__ import annotations\ndef main():\n    print(\"\U0001f40d\u00e9\")\n    print(1 < 2)\nmain()\n"
+        self.put(text)
+        self.assertEqual(self.types(4, (4, 5, 11, 12, 13)), ["", "print(1 < 2): None", "1: int", "1: int", "1 < 2: bool"])
+        for part in (0.25, 0.75):
+            self.assertEqual(self.hint_at(self.page.value(SNAKE % part)), "Type of \"\U0001f40d\u00e9\": str")
+        self.put(text.replace("1 < 2", f"[{30 * '1, '}1]"))
+        self.assertEqual(self.hint(4, 11), f"Type of [{19 * '1, '}1,…: list[int]")
+        self.put("import os\n")
+        self.assertEqual(self.hint(1, 9), "")
 
     def test_keys_go_from_finding_to_finding(self) -> None:
         self.page.value("document.getElementById('text').focus(); document.getElementById('text').setSelectionRange(0, 0)")

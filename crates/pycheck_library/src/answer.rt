@@ -11,7 +11,8 @@ use pc_source::{Refusal, RefusalCode};
 #[repr(C)]
 #[derive(Clone, Copy, Debug, PartialEq, Eq)]
 pub struct CheckAnswer {
-    /// 0 with a report, 1 after a refusal, 2 where an allocation failed, 3 where the number names no format.
+    /// 0 with a report, or with a listing of types; 1 after a refusal; 2 where an allocation failed; 3 where the number
+    /// names no format.
     pub kind: u32,
     /// The letter of the code of a refusal, in ASCII.
     pub letter: u8,
@@ -19,11 +20,11 @@ pub struct CheckAnswer {
     pub digit: u8,
     /// The byte that a refusal names.
     pub byte: u64,
-    /// How many bytes the report has.
+    /// How many bytes the report, or the listing, has.
     pub length: u64,
-    /// How many errors the report lists.
+    /// How many errors the report of the module lists.
     pub errors: u64,
-    /// How many dynamic places the report lists.
+    /// How many dynamic places the report of the module lists.
     pub dynamic: u64,
 }
 
