@@ -6,7 +6,7 @@ import { rowsOf, smallestAt } from "./types.mjs";
 
 // At most so many findings are listed and marked; more would only slow the page down
 const MOST_LISTED = 500, MOST_MARKED = 5000;
-// So much is shown of an expression, and of its type
+// The most characters that are shown of an expression, and of its type
 const MOST_OF_TEXT = 60, MOST_OF_TYPE = 200;
 const FIRST = "ages", INDENT = "    ";
 const at = (name) => document.getElementById(name);

@@ -12,7 +12,7 @@ import { asked } from "./words.mjs";
 const FLAG = "--experimental-wasm-memory64";
 // One byte more than a source text may have; the program reads no further either
 const MOST = 1_048_577;
-// What the system says where Node has other words
+// The words of the system for errors that Node words otherwise
 const REASONS = {
   EISDIR: "Is a directory",
   ELOOP: "Too many levels of symbolic links",
