@@ -34,7 +34,7 @@ from ..rt_files import NAME, Function, modules_of, without_text
 
 PAGE = ROOT / "docs/TESTED.md"
 HEADING = "## Which test calls which public call"
-OF_TESTS = ("test_rows", "test_layers", "test_cases", "test_typing", "test_tables", "test_server_calls")
+OF_TESTS = ("test_rows", "test_layers", "test_cases", "test_runs", "test_typing", "test_tables", "test_server_calls")
 NONE, LAW = "none", "law"
 
 ROW = re.compile(r"^\|(.+)\|(.+)\|\s*$")

@@ -23,10 +23,8 @@ from ..rt_files import closing, without_text
 
 PAGE = "docs/DECISIONS.md"
 FEWEST = 6
-EXPLAINED: Dict[FrozenSet[str], str] = {
-    frozenset({"crates/pc_flow/src/alike.rt: is_same", "crates/pc_overrides/src/alike.rt: is_same"}):
-        "`is_same` in `alike.rt` of `pc_flow` and of `pc_overrides`",
-}
+# Where the same stands, and the words of the page that say why; nothing does at present
+EXPLAINED: Dict[FrozenSet[str], str] = {}
 BRACKETS = re.compile(r"[{}()\[\];,]+")
 FUNCTION = re.compile(r"\bfn\s+(\w+)")
 CLAUSE = re.compile(r"\b(?:requires|ensures|decreases)\b")
