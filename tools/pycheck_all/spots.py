@@ -11,7 +11,7 @@ from .statements import MODULE, Outline, tokens
 # How many bytes of a logical line are read before and after a spot; a longer line is some table of data
 BYTES_BEFORE, BYTES_AFTER = 1 << 15, 1 << 12
 GLUED = re.compile(r"\w*$")
-# A prefix of a string has two letters at most; a longer word is none
+# A prefix of a string has two letters at most; longer words are not prefixes
 LONGEST_PREFIX = 8
 NAME = re.compile(r"\w+$")
 # After these a bracket begins a value: it neither calls nor picks an item

@@ -27,7 +27,7 @@ Path = Tuple[str, ...]
 
 
 class NoToml(Exception):
-    """A text is no TOML; the text of the exception says where and why."""
+    """A text is not TOML; the text of the exception says where and why."""
 
 
 class Other(NamedTuple):
