@@ -228,7 +228,7 @@ class Draft:
         found = self.statements[at]
         place, spaces, word = self.context(at), b" " * found.indent, found.word
         if found.tries and place == FUNCTION and found.code.startswith(b"def ") and self.has_suite(at):
-            # It replaced a method, in a class that was itself replaced since
+            # This `def` replaced a method of a class that has been replaced itself since
             lines = [spaces + b"if True:"]
         elif found.tries:
             rest = self.statements[at + 1 :]

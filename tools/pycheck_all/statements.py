@@ -64,40 +64,40 @@ class Statement:
 
     @property
     def shape(self) -> Shape:
-        """Its beginning, computed once for each text that it has."""
+        """The beginning of the statement, computed once for each text that it has."""
         if self.kept is None or self.kept.text is not self.text:
             self.kept = shape_of(self.text)
         return self.kept
 
     @property
     def code(self) -> bytes:
-        """Its text without the blank and comment lines before it and without its end."""
+        """The text of the statement without the blank and comment lines before it and without its end."""
         return self.shape.code
 
     @property
     def lead(self) -> int:
-        """The byte of its first word."""
+        """The byte of the statement's first word."""
         return self.shape.lead
 
     @property
     def indent(self) -> int:
-        """The columns before its first word."""
+        """The columns before the statement's first word."""
         return self.shape.indent
 
     @property
     def word(self) -> bytes:
-        """Its first word, or b"@" for a decorator."""
+        """The statement's first word, or b"@" for a decorator."""
         found = re.match(rb"\w+|@", self.code)
         return found[0] if found else b""
 
     @property
     def opens(self) -> bool:
-        """Whether it begins like a statement that has a suite."""
+        """Whether the statement begins like one that has a suite."""
         return self.colon > 0 and self.word in OPENERS
 
     @property
     def awaits(self) -> bool:
-        """Whether it ends in the colon that opens a suite."""
+        """Whether the statement ends in the colon that opens a suite."""
         if self.tries:
             return self.code.endswith(b":")
         return self.opens and not re.sub(rb"#[^\n]*", b"", self.text[self.colon :]).strip()

@@ -210,7 +210,7 @@ class Reader:
 
 def table_of(text: str, path: Path) -> Any:
     """Returns the value at a path: a table as a dictionary, and None if nothing is there. Raises NoToml if the text is
-    no TOML, or has the table twice."""
+    not TOML, or has the table twice."""
     reader = Reader(text)
     found: Any = {}
     heads: Set[Path] = set()

@@ -10,7 +10,7 @@ from .texts import CONTROLS
 TAB = 4
 NEAR = 8
 REPLACEMENT = "\ufffd"
-# Characters that control a terminal, noncharacters, and those that turn the direction of a line; a tab is not one of
+# Characters that control a terminal, noncharacters, and those that change the direction of a line; a tab is not one of
 # them
 UNFIT = re.compile(f"(?!\t)[{CONTROLS}]")
 
