@@ -101,7 +101,7 @@ class Places:
             yield from node.args[:1] if tested else node.args
             yield from (keyword.value for keyword in node.keywords)
         elif isinstance(node, ast.Compare) and isinstance(node.ops[0], (ast.Is, ast.IsNot)):
-            # The None of `is None` is no expression of the profile
+            # The None of `is None` is not an expression of the profile
             yield node.left
         elif not isinstance(node, (ast.Name, ast.Constant)):
             yield from (child for child in ast.iter_child_nodes(node) if isinstance(child, ast.expr))
