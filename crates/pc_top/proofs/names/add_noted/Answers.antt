@@ -1,14 +1,11 @@
-use Rattle.std.proofs.Common.{◌≡◌, ◌++◌, List, [], ◌∷◌, map, ap, sym, refl, arith, ◌∙◌}
+use Rattle.std.proofs.Common.{◌++◌, map, ap, sym, arith, ◌∙◌}
 use Rattle.std.proofs.lemmas.List.{take_all}
 use Rattle.pc_annotations.specs.Named.{named_module}
 use Rattle.pc_notes.specs.Notes.{name_shown}
 use Rattle.pc_report.specs.TypeListing.{fact_of}
 use Rattle.pc_top.specs.NamesRead.{noted_fact}
+use Rattle.pc_top.proofs.ModuleTypes.{mapped_twice}
 use Rattle.pc_top.proofs.names.add_noted.Goals as goal
-
-mapped_twice : {A B C : Type 0} (f : B → C) (g : A → B) (xs : List A) → map f (map g xs) ≡ map (λ x. f (g x)) xs
-mapped_twice f g [] = refl
-mapped_twice f g (x ∷ xs) = ap (λ l. f (g x) ∷ l) (mapped_twice f g xs)
 
 pub returns : goal.returns
 returns c =
@@ -19,5 +16,5 @@ returns c =
     ∙ ap (λ l. map fact_of c.args.entries.now.items ++ map (λ n. noted_fact m (name_shown n)) l)
     (all ∙ c.deref-name-items.ensures.value)
     ∙ ap (λ l. map fact_of c.args.entries.now.items ++ l)
-    (sym (mapped_twice (noted_fact m) name_shown c.in_ok-noted.noted.items)
+    (sym (mapped_twice name_shown (noted_fact m) c.in_ok-noted.noted.items)
     ∙ ap (map (noted_fact m)) c.in_ok-noted.ensures.names)
