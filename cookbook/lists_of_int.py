@@ -25,7 +25,7 @@ def min_of(values: list[int]) -> int | None:
             smallest = value
     return smallest
 
-# sorted(values): a new list with the values in order; equal ones stay in the order in which they stood.
+# sorted(values): a new list with the values in order; equal values keep their order.
 # Does not differ. There is no `key` and no `reverse`.
 def sorted_of(values: list[int]) -> list[int]:
     result = slice_of_list(values)

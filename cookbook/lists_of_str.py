@@ -24,7 +24,7 @@ def min_of_str(values: list[str]) -> str | None:
             smallest = value
     return smallest
 
-# sorted(values): a new list with the values in order; equal ones stay in the order in which they stood.
+# sorted(values): a new list with the values in order; equal values keep their order.
 # Does not differ. There is no `key` and no `reverse`.
 def sorted_of_str(values: list[str]) -> list[str]:
     result = slice_of_list_str(values)

@@ -16,7 +16,7 @@ class Queue:
     def put(self, value: int) -> None:
         self.values.append(value)
 
-    # What stood first, or None if the queue is empty. On average, less than one value is copied for each that is taken.
+    # Takes the first value, or gives None if the queue is empty. On average, each take copies less than one value.
     def take(self) -> int | None:
         if self.size() == 0:
             return None
@@ -26,7 +26,7 @@ class Queue:
             self.forget_taken()
         return value
 
-    # Leaves out of the list what has been taken.
+    # Removes the taken values from the list.
     def forget_taken(self) -> None:
         left: list[int] = []
         for at in range(self.size()):
@@ -39,8 +39,8 @@ class Node:
     value: int
     next: Node | None = None
 
-# A queue of linked nodes. Chain() is an empty one. An attribute is not narrowed by a test, so each method gives it to a
-# local first, and tests that.
+# A queue of linked nodes. Chain() is an empty one. A test does not narrow an attribute, so each method assigns it
+# to a local first, and tests that.
 @dataclass
 class Chain:
     first: Node | None = None
@@ -60,7 +60,7 @@ class Chain:
         self.last = node
         self.count = self.count + 1
 
-    # What stood first, or None if the chain is empty.
+    # Takes the first value, or gives None if the chain is empty.
     def take(self) -> int | None:
         first = self.first
         if first is None:
@@ -71,7 +71,7 @@ class Chain:
         self.count = self.count - 1
         return first.value
 
-    # Takes out each node with this value. Differs from `remove` of a deque, which takes out the first such value and
+    # Removes each node with this value. Differs from `remove` of a deque, which removes the first such value and
     # raises ValueError if there is none.
     def remove_all(self, value: int) -> None:
         before: Node | None = None
@@ -83,7 +83,7 @@ class Chain:
                 self.unlink(before, node)
             node = node.next
 
-    # Takes out a node, given the one before it.
+    # Removes a node, given the one before it.
     def unlink(self, before: Node | None, node: Node) -> None:
         if before is None:
             self.first = node.next
@@ -93,7 +93,7 @@ class Chain:
             self.last = before
         self.count = self.count - 1
 
-    # Turns the order round, as `reverse` of a deque does.
+    # Reverses the order, as `reverse` of a deque does.
     def reverse(self) -> None:
         before: Node | None = None
         node = self.first

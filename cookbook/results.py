@@ -1,8 +1,8 @@
-# A result in place of an exception: `parse` gives a document, or says in which line the text is none, and why. A caller
-# tells the two apart by isinstance. One that forgets to is told: `.values` of the result is an error of the report.
+# A result in place of an exception: `parse` gives a document, or the first line that is wrong, and why. A caller tells
+# the two apart by isinstance. In one that forgets to, `.values` of the result is an error of the report.
 #
 # A text has lines `name = number`, empty lines, and comments from `#` to the end of a line. This is a part of TOML.
-# Differs from tomllib.loads: nothing else of TOML is taken, and there is a ParseError where tomllib raises
+# Differs from tomllib.loads: nothing else of TOML is accepted, and there is a ParseError where tomllib raises
 # TOMLDecodeError. Numbers may begin with 0, a carriage return counts as white space, and a comment may have any
 # character.
 from __future__ import annotations
@@ -36,7 +36,7 @@ def parse(text: str) -> Document | ParseError:
             document.values[entry.name] = entry.value
     return document
 
-# What a line says: an entry, nothing, or an error.
+# The content of a line: an entry, nothing, or an error.
 def entry_of(line: str, number: int) -> Entry | ParseError | None:
     text = strip(without_comment(line))
     if text == "":

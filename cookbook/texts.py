@@ -57,7 +57,7 @@ def join(separator: str, parts: list[str]) -> str:
         result = result + parts[at]
     return result
 
-# text.find(part, start): the place where the part first stands, from `start` on, or -1.
+# text.find(part, start): the place where the part first occurs, from `start` on, or -1.
 # Does not differ, a negative `start` included, which counts from the end. There is no end of the search.
 def find(text: str, part: str, start: int = 0) -> int:
     at = start
@@ -71,7 +71,7 @@ def find(text: str, part: str, start: int = 0) -> int:
         at = at + 1
     return -1
 
-# text.startswith(part, at): whether the part stands at this place.
+# text.startswith(part, at): whether the part is at this place.
 # Differs for a negative place, which counts from the end in Python: the answer is False.
 def starts_at(text: str, part: str, at: int) -> bool:
     if at < 0 or at + len(part) > len(text):
@@ -82,7 +82,7 @@ def starts_at(text: str, part: str, at: int) -> bool:
     return True
 
 # text.replace(old, new): the text with `new` in place of each `old`.
-# Does not differ: for an empty `old`, `new` stands before each character and at the end. There is no `count`.
+# Does not differ: for an empty `old`, `new` is put before each character and at the end. There is no `count`.
 def replace(text: str, old: str, new: str) -> str:
     if old != "":
         return join(new, split(text, old))

@@ -9,8 +9,8 @@ from typing import Any, List
 
 
 def main(words: List[str], module: ModuleType, itself: Any) -> int:
-    """Runs the tests of a module, where a word names the program for those of `itself`. Prints what failed and what was
-    skipped, and last `N passed, M failed, K skipped`; the exit status."""
+    """Runs the tests of a module; a word names the program for those of `itself`. Prints those that failed and were
+    skipped, and last `N passed, M failed, K skipped`. Returns the exit status."""
     if len(words) > 1:
         print(module.__doc__, file=sys.stderr)
         return 3

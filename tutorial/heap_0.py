@@ -1,4 +1,4 @@
-"""A heap: a list whose smallest item stands first."""
+"""A heap: a list whose smallest item is first."""
 
 
 # Puts an item in.

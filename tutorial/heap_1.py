@@ -1,6 +1,6 @@
 from __future__ import annotations
 
-# A heap: a list whose smallest item stands first.
+# A heap: a list whose smallest item is first.
 
 # Puts an item in.
 def push(heap, item):

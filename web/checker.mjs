@@ -3,7 +3,7 @@
 
 // The kinds of an answer
 export const REPORTED = 0, REFUSED = 1, OUT_OF_MEMORY = 2;
-// Where each number of an answer stands, and how many bytes an answer has
+// The place of each number in an answer, and how many bytes an answer has
 const KIND = 0, LETTER = 4, DIGIT = 5, BYTE = 8, LENGTH = 16, ERRORS = 24, DYNAMIC = 32, ANSWER = 40;
 // Room for the report, or for the types, of a module of so many bytes; one that has more is asked again, with room for it
 const roomFor = (bytes, types) => (1 << 16) + (types ? 32 : 4) * bytes;

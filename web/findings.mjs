@@ -1,14 +1,14 @@
-// What the page shows of an answer: each finding with its place in the text and with what is said of it.
+// The findings that the page shows for an answer, each with its place in the text and with the words about it.
 import { REFUSED, REPORTED } from "./checker.mjs";
 
-// Of an attribute the word at its end tells more than its code does, of all else the one at its beginning
+// The word that tells more than the code: for an attribute the one at its end, for all else the one at the beginning
 const ATTRIBUTE = "E15", ANNOTATION = "E09", OF_TESTED = "is None", OF_UNKNOWN = "unknown name";
 const TYPES = new Set("int bool str None object list dict tuple List Dict Tuple Optional Union".split(" "));
 const FIRST = /^[\p{L}\p{N}_]+/u, LAST = /\.\s*([\p{L}\p{N}_]+)$/u;
-// How far before an attribute a test of its value is looked for
+// How far before an attribute a test of its value is searched for
 const NEAR = 4096;
 
-/** The places in a text, in units of UTF-16, of bytes of its UTF-8 in ascending order. */
+/** Returns the places in a text, in units of UTF-16, of bytes of its UTF-8 in ascending order. */
 function placesOf(text, bytes) {
   const places = new Map();
   let unit = 0, byte = 0;
@@ -30,7 +30,7 @@ function isTested(before, value) {
   return new RegExp(`(?<![\\w.])${escaped}\\s+is\\s+(?:not\\s+)?None\\b`).test(before);
 }
 
-/** The word that tells the case of a finding; empty where there is none. */
+/** Returns the word that tells the case of a finding; empty if there is none. */
 function wordAt(text, { code, from, to }) {
   const place = text.slice(from, to);
   if (code !== ATTRIBUTE) return FIRST.exec(place)?.[0] ?? "";
@@ -40,7 +40,7 @@ function wordAt(text, { code, from, to }) {
   return isTested(text.slice(Math.max(0, from - NEAR), from), value) ? OF_TESTED : found[1];
 }
 
-/** How a finding is mended: what is said of its case, or else of its code. */
+/** Returns how to mend a finding: the sentence for its case, or else for its code. */
 function adviceOf(texts, text, finding) {
   const word = wordAt(text, finding);
   const of = (wanted) => texts.cases.find((it) => it.code === finding.code && it.words.includes(wanted))?.write;
@@ -50,13 +50,13 @@ function adviceOf(texts, text, finding) {
   return said?.replaceAll("`NAME`", `\`${word}\``) ?? texts.codes[finding.code].mend;
 }
 
-/** What the page says of a code. */
+/** Returns the texts of the page about a code. */
 function saidOf(texts, text, finding) {
   const { title, kind, meaning, run } = texts.codes[finding.code];
   return { ...finding, title, kind, meaning, run, advice: adviceOf(texts, text, finding) };
 }
 
-/** The place of a refusal: the character at its byte, or the end of the text. */
+/** Returns the place of a refusal: the character at its byte, or the end of the text. */
 function refusalOf(texts, text, { code, byte }) {
   const from = placesOf(text, [byte]).get(byte), before = text.slice(0, from);
   const line = before.split("\n").length, column = [...before.slice(before.lastIndexOf("\n") + 1)].length + 1;
@@ -65,7 +65,7 @@ function refusalOf(texts, text, { code, byte }) {
   return { ...saidOf(texts, text, { code, line, column, from, to }), where: `refused ${code} at byte ${byte}`, forms };
 }
 
-/** The findings of a report, each with the line that the program prints of it. */
+/** Returns the findings of a report, each with the line that the program prints for it. */
 function findingsOf(texts, text, report) {
   const bytes = report.findings.flatMap((it) => [it.start, it.end]).sort((a, b) => a - b);
   const places = placesOf(text, bytes);
@@ -76,7 +76,7 @@ function findingsOf(texts, text, report) {
   });
 }
 
-/** What the page shows of an answer: a line that sums it up, what it is, and the findings. */
+/** Returns the parts of an answer that the page shows: a line that sums it up, its kind, and the findings. */
 export function shownOf(texts, text, answer) {
   if (answer.kind === REFUSED) {
     const refusal = refusalOf(texts, text, answer);
@@ -87,7 +87,7 @@ export function shownOf(texts, text, answer) {
   return { summary: `errors ${answer.errors}, dynamic ${answer.dynamic}`, findings: findingsOf(texts, text, report) };
 }
 
-/** The innermost finding around a place of the text, if there is one. */
+/** Returns the innermost finding around a place of the text, if there is one. */
 export function findingAt(findings, place) {
   const around = findings.filter((it) => it.from <= place && place <= it.to);
   return around.reduce((best, it) => (best && best.to - best.from <= it.to - it.from ? best : it), undefined);

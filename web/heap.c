@@ -1,11 +1,10 @@
-// The heap of the page: blocks of size classes over a memory that grows, until it may grow no more. All that was taken
-// is given back at once by `heap_forget`. It stands in the place of the C library's `malloc` and is trusted;
-// tests/web/heap_test.c tests it.
+// The heap of the page: blocks of size classes over a memory that grows, until it may grow no more. `heap_forget` frees
+// all blocks at once. The heap replaces the C library's `malloc` and is trusted; tests/web/heap_test.c tests it.
 
 #ifdef HEAP_TEST
 #include "heap_test.h"
 #else
-// How many pages the memory has; and asks for more, and tells whether there were so many.
+// Returns how many pages the memory has; and asks for more, and returns whether there were so many.
 #define memory_pages() __builtin_wasm_memory_size(0)
 #define memory_grow(pages) (__builtin_wasm_memory_grow(0, pages) != (size)-1)
 #define memory_base ((size)&__heap_base)
@@ -14,19 +13,19 @@ extern unsigned char __heap_base;
 
 typedef __SIZE_TYPE__ size;
 
-// What the proved code is told: whether there is a block, and where. A block that is not there has an address too.
+// The answer to the proved code: whether there is a block, and where. A missing block has an address too.
 typedef struct {
   size is_there;
   void *block;
 } Taken;
 
-// What stands before each block, in 16 bytes, so that blocks begin at multiples of 16.
+// The head before each block, in 16 bytes, so that blocks begin at multiples of 16.
 typedef struct {
   size class;
   size unused;
 } Head;
 
-// A block that was given back, with the next one of its class.
+// A freed block, with the next one of its class.
 typedef struct Free {
   struct Free *next;
 } Free;
@@ -39,7 +38,7 @@ static size top, end;
 static Free *given_back[CLASSES];
 static unsigned char nowhere[16];
 
-// The class of a size: one for each 16 bytes up to 64, and then four for each power of two.
+// Returns the class of a size: one for each 16 bytes up to 64, and then four for each power of two.
 static size class_of(size wanted) {
   if (wanted <= SMALL) return (wanted + STEP - 1) / STEP;
   size class = SMALL / STEP, room = SMALL;
@@ -47,14 +46,14 @@ static size class_of(size wanted) {
   return class + (wanted - room + room / 4 - 1) / (room / 4);
 }
 
-// How many bytes a block of a class has, its head counted.
+// Returns how many bytes a block of a class has, its head included.
 static size size_of(size class) {
   if (class <= SMALL / STEP) return class * STEP;
   size above = class - SMALL / STEP - 1, room = (size)SMALL << above / 4;
   return room + room / 4 * (above % 4 + 1);
 }
 
-// Has the memory end at least so many bytes behind the top.
+// Makes the memory end at least so many bytes after the top. Returns whether it does.
 static int reach(size wanted) {
   if (end - top >= wanted) return 1;
   size pages = (wanted - (end - top) + PAGE - 1) / PAGE;
@@ -67,15 +66,15 @@ static int reach(size wanted) {
   return 1;
 }
 
-// Gives all blocks back. The memory stays as large as it is.
+// Frees all blocks. The memory stays as large as it is.
 void heap_forget(void) {
   top = (memory_base + 15) & ~(size)15;
   end = memory_pages() * PAGE;
   for (size class = 0; class < CLASSES; class++) given_back[class] = 0;
 }
 
-// A block of so many bytes, or none where the memory may grow no more. One of no bytes has room too, since a block that
-// is given back holds the next one.
+// Returns a block of so many bytes, or none if the memory may grow no more. One of no bytes has room too, since a freed
+// block holds the next one.
 void *heap_take(size bytes) {
   if (!top) heap_forget();
   if (bytes > LARGEST) return 0;
@@ -104,18 +103,18 @@ static void give_back(void *block) {
 
 static Taken told(void *block) { return (Taken){block != 0, block ? block : nowhere}; }
 
-// A block of so many bytes. No alignment beyond 16 is asked for, which each block has.
+// Returns a block of so many bytes. No alignment beyond 16 is asked for, which each block has.
 Taken rattle_alloc(size bytes, size alignment) {
   (void)alignment;
   return told(heap_take(bytes));
 }
 
-// Gives a block back.
+// Frees a block.
 void rattle_dealloc(void *block) {
   if (block) give_back(block);
 }
 
-// The block with room for so many bytes, of which the first `kept` are as they were; else the block is left as it is.
+// Returns a block with room for so many bytes, the first `kept` copied; if there is none, the old one is unchanged.
 Taken rattle_realloc(void *block, size kept, size bytes, size alignment) {
   (void)alignment;
   if (bytes > LARGEST) return told(0);

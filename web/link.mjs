@@ -3,7 +3,7 @@
 // One byte more than a source text may have; no link is unpacked further
 const MOST = 1_048_577;
 
-/** All bytes of a stream, or the first of them. */
+/** Returns all bytes of a stream, or the first of them. */
 async function bytesOf(stream, most = Infinity) {
   const parts = [];
   let length = 0;
@@ -16,14 +16,14 @@ async function bytesOf(stream, most = Infinity) {
   return new Uint8Array(await new Blob(parts).arrayBuffer()).subarray(0, most);
 }
 
-/** The fragment that holds a text. */
+/** Returns the fragment that holds a text. */
 export async function fragmentOf(text) {
   const bytes = await bytesOf(new Blob([text]).stream().pipeThrough(new CompressionStream("deflate-raw")));
   const letters = Array.from(bytes, (byte) => String.fromCharCode(byte)).join("");
   return `#text=${btoa(letters).replaceAll("+", "-").replaceAll("/", "_").replaceAll("=", "")}`;
 }
 
-/** The text that a fragment holds; null where it holds none. */
+/** Returns the text that a fragment holds; null if it holds none. */
 export async function textOf(fragment) {
   const packed = /^#text=([\w-]+)$/.exec(fragment)?.[1];
   if (!packed) return null;

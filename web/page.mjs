@@ -4,15 +4,15 @@ import { findingAt, shownOf } from "./findings.mjs";
 import { fragmentOf, textOf } from "./link.mjs";
 import { rowsOf, smallestAt } from "./types.mjs";
 
-// So many findings are listed and marked; more would only slow the page down
+// At most so many findings are listed and marked; more would only slow the page down
 const MOST_LISTED = 500, MOST_MARKED = 5000;
-// So much is shown of an expression, and of its type
+// The most characters that are shown of an expression, and of its type
 const MOST_OF_TEXT = 60, MOST_OF_TYPE = 200;
 const FIRST = "ages", INDENT = "    ";
 const at = (name) => document.getElementById(name);
 const page = { check: null, texts: null, shown: { summary: "", findings: [] }, typed: null, waiting: 0, took: 0 };
 
-/** An element with a class and parts: texts, or elements. */
+/** Returns an element with a class and parts: texts, or elements. */
 function element(name, style, ...parts) {
   const made = document.createElement(name);
   if (style) made.className = style;
@@ -20,31 +20,31 @@ function element(name, style, ...parts) {
   return made;
 }
 
-/** The parts of a sentence, with what stands between backquotes as code. */
+/** Returns the parts of a sentence, with text between backquotes as code. */
 function worded(sentence) {
   return sentence.split("`").map((part, number) => (number % 2 ? element("code", "", part) : part));
 }
 
-/** What a finding means, as a sentence. */
+/** Returns the meaning of a finding, as a sentence. */
 function meaningOf({ meaning }) {
   return worded(`${meaning[0].toUpperCase()}${meaning.slice(1)}.`);
 }
 
-/** What is said of a finding, in paragraphs. */
+/** Returns the words about a finding, in paragraphs. */
 function saidOf(found) {
   const { where, kind, run, advice } = found;
   const parts = [meaningOf(found), worded(run), worded(advice)].filter((it) => it.join(""));
   return [element("strong", `where ${kind}`, where), ...parts.map((it) => element("p", "", ...it))];
 }
 
-/** What to write in place of each form that a refusal may be of, folded up. */
+/** Returns what to write in place of each form that a refusal may be about, folded. */
 function formsOf({ forms }) {
   if (!forms.length) return [];
   const rows = forms.map((it) => element("li", "", ...worded(`${it.form}: ${it.write}`)));
   return [element("details", "", element("summary", "", "What to write instead"), element("ul", "", ...rows))];
 }
 
-/** Marks the places of the findings below the text; of findings inside others the inner one is seen. */
+/** Marks the places of the findings below the text; a finding inside another one is marked over it. */
 function showMarks(text, findings) {
   const edges = findings.slice(0, MOST_MARKED).flatMap((it) => [it.from, it.to]);
   const cuts = [...new Set([0, ...edges, text.length])].sort((a, b) => a - b);
@@ -65,7 +65,7 @@ function showMarks(text, findings) {
   at("marks").replaceChildren(...parts, "\n");
 }
 
-/** Lists the findings; a press goes to the place. */
+/** Lists the findings; a click goes to the place. */
 function showList(findings) {
   const rows = findings.slice(0, MOST_LISTED).map((it) => {
     const where = element("span", `where ${it.kind}`, it.where);
@@ -98,7 +98,7 @@ function showNumbers(text) {
   at("numbers").textContent = Array.from({ length: lines }, (_, number) => number + 1).join("\n");
 }
 
-/** Checks once nothing was typed for as long as the last check took. */
+/** Checks as soon as nothing was typed for as long as the last check took. */
 function checkSoon() {
   at("marks").textContent = `${at("text").value}\n`;
   at("summary").setAttribute("aria-busy", "true");
@@ -134,7 +134,7 @@ function step(back) {
   goTo(back ? findings.findLast(isBefore) ?? findings.at(-1) : findings.find(isAfter) ?? findings[0]);
 }
 
-/** Says what is found at the caret. */
+/** Shows the finding at the caret. */
 function showAtCaret() {
   const { selectionStart: from, selectionEnd: to } = at("text"), { findings } = page.shown;
   const found = findings.find((it) => it.from === from && it.to === to) ?? findingAt(findings, from);
@@ -144,7 +144,7 @@ function showAtCaret() {
   rows.forEach((row, number) => row.toggleAttribute("aria-current", findings[number] === found));
 }
 
-/** The place of the text under the pointer, if a mark is there. */
+/** Returns the place of the text under the pointer, if a mark is there. */
 function findingUnder(event) {
   const mark = document.elementsFromPoint(event.clientX, event.clientY).find((it) => it.localName === "mark");
   if (!mark) return undefined;
@@ -218,7 +218,7 @@ function showHint(event) {
   hint.style.top = `${below + height < innerHeight ? below : Math.max(8, event.clientY - height - 12)}px`;
 }
 
-/** What a key of the editor does beside typing. */
+/** Handles the keys of the editor that do more than typing. */
 function press(event) {
   const text = at("text");
   if (event.key === "F8") {
@@ -252,7 +252,7 @@ function changeTheme() {
   document.documentElement.dataset.theme = now === "dark" ? "light" : "dark";
 }
 
-/** Offers the examples: those of the first page, and those that are worked by hand. */
+/** Offers the examples: those of the first page, and those that are worked out by hand. */
 function offerExamples() {
   const groups = { "First page": element("optgroup", ""), Worked: element("optgroup", "") };
   for (const [label, group] of Object.entries(groups)) group.label = label;

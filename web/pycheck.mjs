@@ -10,9 +10,9 @@ import { REFUSED, REPORTED, checkerOf, isSupported } from "./checker.mjs";
 import { asked } from "./words.mjs";
 
 const FLAG = "--experimental-wasm-memory64";
-// One more than a source text may have; the program too reads no further
+// One byte more than a source text may have; the program reads no further either
 const MOST = 1_048_577;
-// What the system says where Node has other words
+// The words of the system for errors that Node words otherwise
 const REASONS = {
   EISDIR: "Is a directory",
   ELOOP: "Too many levels of symbolic links",
@@ -20,7 +20,7 @@ const REASONS = {
   EIO: "Input/output error",
 };
 
-/** Reads a file to its end, or one byte further than a source text may go. */
+/** Reads a file to its end, or up to one byte more than a source text may have. */
 function read(name) {
   const device = openSync(name);
   try {
@@ -47,7 +47,7 @@ function write(device, text) {
   }
 }
 
-/** What the system says of a fault, as the program tells it. */
+/** Returns the system's words for a fault, as the program prints them. */
 function reasonOf(fault) {
   const said = /^[A-Z0-9_]+: ([^,]+)/.exec(fault.message)?.[1] ?? fault.message;
   return REASONS[fault.code] ?? said[0].toUpperCase() + said.slice(1);
@@ -55,13 +55,13 @@ function reasonOf(fault) {
 
 const beside = (name) => readFileSync(fileURLToPath(new URL(name, import.meta.url)));
 
-/** The module's bytes; null where they are not those of its sum. */
+/** Returns the module's bytes; null if they do not have its sum. */
 function wasm() {
   const bytes = beside("pycheck.wasm"), sum = createHash("sha256").update(bytes).digest("hex");
   return beside("SHA256SUMS").toString().split("\n").includes(`${sum}  pycheck.wasm`) ? bytes : null;
 }
 
-/** Whether a word is not UTF-8, where the system tells: Node has U+FFFD in the place of such bytes. */
+/** Whether a word is not UTF-8, if the system tells: Node has U+FFFD in place of such bytes. */
 function isBroken(words) {
   if (!words.some((word) => word.includes("\uFFFD"))) return false;
   try {
@@ -72,7 +72,7 @@ function isBroken(words) {
   }
 }
 
-/** Prints help or the version, and gives the exit status. */
+/** Prints help or the version, and returns the exit status. */
 function help(text) {
   try {
     return write(1, text), 0;
@@ -81,7 +81,7 @@ function help(text) {
   }
 }
 
-/** Runs the command, and gives the exit status. */
+/** Runs the command, and returns the exit status. */
 async function run(words) {
   const wanted = asked(words);
   if (wanted.help) return help(wanted.help);

@@ -1,5 +1,5 @@
-// What compiled code calls that the processor does not have: moves of memory, and numbers of 128 bits. Trusted;
-// tests/web/runtime_test.c compares the numbers with those of the host's compiler.
+// Functions that compiled code calls for operations that the processor lacks: moves of memory, and numbers of 128 bits.
+// Trusted; tests/web/runtime_test.c compares the numbers with those of the host's compiler.
 
 typedef __SIZE_TYPE__ size;
 typedef unsigned long long half;
@@ -22,7 +22,7 @@ void *memset(void *to, int byte, size bytes) { return __builtin_memset(to, byte,
 #define NAME(name) test##name
 #endif
 
-// The whole product of two halves.
+// Returns the whole product of two halves.
 static Wide product(half a, half b) {
   half a_low = (unsigned)a, a_high = a >> 32, b_low = (unsigned)b, b_high = b >> 32;
   half low = a_low * b_low, middle = a_high * b_low + (low >> 32), other = a_low * b_high + (unsigned)middle;
@@ -32,14 +32,14 @@ static Wide product(half a, half b) {
   return found;
 }
 
-// The product of two numbers, in 128 bits.
+// Returns the product of two numbers, in 128 bits.
 __int128 NAME(__multi3)(__int128 x, __int128 y) {
   Wide a = {.whole = x}, b = {.whole = y}, found = product(a.part.low, b.part.low);
   found.part.high += a.part.high * b.part.low + a.part.low * b.part.high;
   return found.whole;
 }
 
-// A number moved to the left by fewer than 128 bits.
+// Returns a number shifted to the left by fewer than 128 bits.
 __int128 NAME(__ashlti3)(__int128 x, int bits) {
   Wide a = {.whole = x};
   if (bits & 64) {
@@ -52,7 +52,7 @@ __int128 NAME(__ashlti3)(__int128 x, int bits) {
   return a.whole;
 }
 
-// A number moved to the right by fewer than 128 bits, with zeros from the left.
+// Returns a number shifted to the right by fewer than 128 bits, with zeros from the left.
 __int128 NAME(__lshrti3)(__int128 x, int bits) {
   Wide a = {.whole = x};
   if (bits & 64) {

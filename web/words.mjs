@@ -1,5 +1,5 @@
-// What the words of the command line ask for, as the program `pycheck` takes them: the same requests, and for words that
-// are none the same messages. The program reads its words by a library, whose order of steps is followed here.
+// Reads the words of the command line as the program `pycheck` does: the same requests, and the same messages for
+// mistakes. The program reads its words with a library, whose order of steps is followed here.
 
 const HELP = `Checks the types of a module of the profile, and prints the report
 
@@ -20,10 +20,10 @@ const MORE = "For more information, try '--help'.\n";
 // Each option by its name, as messages show it
 const SHOWN = { json: "--json", types: "--types", format: "--format <N>", help: "--help", version: "--version" };
 const REQUESTS = { help: HELP, version: VERSION, h: HELP, V: VERSION };
-// From which likeness on a name is one that may be meant
+// The least likeness of a name that may be meant
 const ALIKE = 0.7;
 
-/** Ends the reading of words: the text of `help`, or of a `mistake`. */
+/** Ends the reading of words, with the text of `help`, or of a `mistake`. */
 class Ended extends Error {
   constructor(answer) {
     super();
@@ -34,13 +34,13 @@ class Ended extends Error {
 const mistaken = (said) => new Ended({ mistake: `error: ${said}\n\n${MORE}` });
 const withUsage = (said, given) => mistaken(`${said}\n\n${usage(given)}`);
 
-/** The line of usage, with the options that were given; with all where nothing was. */
+/** Returns the line of usage, with the options that were given, or with all if none was. */
 function usage(given) {
   const options = [...new Set(given)].filter((name) => name !== "file").map((name) => `${SHOWN[name]} `);
   return `Usage: pycheck ${given.length === 0 ? "[OPTIONS] " : options.join("")}<FILE>`;
 }
 
-/** The characters of `left` that `right` has too at nearly the same place, and which places of `right` they take. */
+/** Returns the characters of `left` that `right` has at nearly the same place, and the places of `right` they take. */
 function matching(left, right, range) {
   const kept = [], taken = right.map(() => false);
   left.forEach((letter, at) => {
@@ -56,7 +56,7 @@ function matching(left, right, range) {
   return { kept, other: right.filter((_, place) => taken[place]) };
 }
 
-/** How alike two texts are, from 0 to 1: the similarity of Jaro. */
+/** Returns how alike two texts are, from 0 to 1: the similarity of Jaro. */
 function likeness(word, name) {
   const left = [...word], right = [...name];
   const range = Math.max(0, Math.floor(Math.max(left.length, right.length) / 2) - 1);
@@ -66,7 +66,7 @@ function likeness(word, name) {
   return (found / left.length + found / right.length + (found - moved) / found) / 3;
 }
 
-/** The option that a name may mean; of two that are as much alike the later one. */
+/** Returns the option that a name may mean; of two that are equally alike the later one. */
 function similar(word) {
   let best, most = ALIKE;
   for (const name of Object.keys(SHOWN)) {
@@ -83,7 +83,7 @@ class Reader {
   pending;
   isPlain = false;
 
-  /** Takes the option or file that waits for the end of its values as given. */
+  /** Counts the option or file that waits for the end of its values as given. */
   settle() {
     const name = this.pending;
     this.pending = undefined;
@@ -94,7 +94,7 @@ class Reader {
     this.give(name);
   }
 
-  /** As `settle` does, before a message that is told in any case. */
+  /** Does the same as `settle`, before a message that is given in any case. */
   settleQuietly() {
     try {
       this.settle();
@@ -103,7 +103,7 @@ class Reader {
     }
   }
 
-  /** Notes an option or the file as given, which may be so once. */
+  /** Records an option or the file as given, which is allowed once. */
   give(name) {
     if (this.given.includes(name)) {
       throw withUsage(`the argument '${SHOWN[name]}' cannot be used multiple times`, []);
@@ -111,7 +111,7 @@ class Reader {
     this.given.push(name);
   }
 
-  /** A word that begins with two dashes: `name` is before the first `=`, `value` after it. */
+  /** Reads a word that begins with two dashes: `name` is before the first `=`, `value` after it. */
   takeLong(name, value) {
     if (!Object.hasOwn(SHOWN, name)) throw this.unknownLong(name);
     if (name === "format") {
@@ -129,7 +129,7 @@ class Reader {
     }
   }
 
-  /** What is said of a word with two dashes that is no option. */
+  /** Reports a word with two dashes that is no option. */
   unknownLong(name) {
     this.settleQuietly();
     const meant = similar(name), said = `unexpected argument '--${name}' found`;
@@ -137,7 +137,7 @@ class Reader {
     return withUsage(`${said}\n\n  tip: a similar argument exists: '--${meant}'`, [...this.given, meant]);
   }
 
-  /** A word of one dash and letters, of which the first tells. */
+  /** Reads a word of one dash and letters, of which the first decides. */
   takeShort(letter) {
     if (Object.hasOwn(REQUESTS, letter)) {
       this.settle();
@@ -146,7 +146,7 @@ class Reader {
     throw withUsage(`unexpected argument '-${letter}' found\n\n  tip: to pass '-${letter}' as a value, use '-- -${letter}'`, []);
   }
 
-  /** A word that is no option: the number of a format that waits for one, or the file. */
+  /** Reads a word that is no option: the number of a format that waits for one, or the file. */
   takePlain(word) {
     if (!this.isPlain && this.pending === "format" && this.values.format === undefined) {
       this.values.format = word;
@@ -159,7 +159,7 @@ class Reader {
     }
   }
 
-  /** Any word. */
+  /** Reads any word. */
   take(word) {
     const [, name, value] = /^--([^=]*)(?:=(.*))?$/s.exec(word) ?? [];
     if (this.isPlain || !/^-./s.test(word)) this.takePlain(word);
@@ -168,7 +168,7 @@ class Reader {
     else this.takeShort([...word][1]);
   }
 
-  /** What all words ask for together. */
+  /** Returns the request of all words together. */
   end() {
     this.settle();
     if (this.values.file === undefined) {
@@ -185,7 +185,7 @@ class Reader {
   }
 }
 
-/** The form, whether types are listed, the format and the file that the words ask for; or `help`, or a `mistake`. */
+/** Returns the form, whether types are listed, the format and the file of the words; or `help`, or a `mistake`. */
 export function asked(words) {
   const reader = new Reader();
   try {

@@ -1,6 +1,6 @@
-"""The functions of cookbook/, each with what Python's own functions give for it, on random input.
+"""The functions of cookbook/, compared with Python's own functions on random input.
 
-`differences` calls the functions of a file on as many cases as are asked for, and says where they differ. The random
+`differences` calls the functions of a file on as many cases as are asked for, and yields the differences. The random
 numbers come from a seed, so the cases are the same each time.
 """
 from __future__ import annotations
@@ -21,7 +21,7 @@ except ImportError:
 
 COOKBOOK = Path(__file__).resolve().parent.parent.parent / "cookbook"
 WHITE_SPACE = " \t\n\r"
-# Letters that stand close together, white space of the functions and other white space, digits and what is like one
+# Adjacent letters, white space of the functions and other white space, digits and characters like digits
 ALPHABETS = ("ab", "a ", " \t\n\rab", "ab\u00a0\x0b\x0c\x1c\u2003 \n", "a\u00e9\u4e2d\U0001f600",
              "0123456789", "12_+- \n", "0_\u0663\u00b2x")
 HAS_TOMLLIB = tomllib is not None
@@ -29,14 +29,14 @@ Random = random.Random
 
 
 class Case(NamedTuple):
-    """A call: what is passed, what comes back, and the first argument afterwards, where the function changes it."""
+    """A call: its arguments, its result, and the first argument afterwards, if the function changes it."""
     given: Tuple[Any, ...]
     result: Any
     changed: Any = None
 
 
 def module_of(source: str, name: str = "cookbook_module") -> types.ModuleType:
-    """The module of a source."""
+    """Returns the module of a source."""
     made = types.ModuleType(name)
     sys.modules[name] = made
     exec(compile(source, name, "exec"), made.__dict__)
@@ -44,13 +44,13 @@ def module_of(source: str, name: str = "cookbook_module") -> types.ModuleType:
 
 
 def some_text(chance: Random, longest: int = 9) -> str:
-    """A text of characters that make the function decide."""
+    """Returns a text of characters that reach each case of the function."""
     alphabet = chance.choice(ALPHABETS)
     return "".join(chance.choice(alphabet) for _ in range(chance.randrange(longest + 1)))
 
 
 def part_of(text: str, chance: Random) -> str:
-    """A part of a text, or another short text."""
+    """Returns a part of a text, or another short text."""
     if text and chance.random() < 0.7:
         at = chance.randrange(len(text))
         return text[at:at + chance.randrange(3)]
@@ -58,7 +58,8 @@ def part_of(text: str, chance: Random) -> str:
 
 
 def words(text: str) -> List[str]:
-    """What stands between the white space of the functions: text.split() itself, if there is no other white space."""
+    """Returns the words between the white space of the functions: text.split() itself, if there is no other white
+    space."""
     found = re.findall(r"[^ \t\n\r]+", text)
     if set(text) & set("".join(filter(str.isspace, text))) <= set(WHITE_SPACE):
         assert found == text.split(), text
@@ -66,7 +67,7 @@ def words(text: str) -> List[str]:
 
 
 def number(text: str) -> Optional[int]:
-    """What int(text) gives, or None where it raises ValueError or takes a character that the function does not."""
+    """Returns int(text), or None if it raises ValueError or accepts a character that the function does not."""
     if set(text) - set("0123456789+-_" + WHITE_SPACE):
         return None
     try:
@@ -76,7 +77,7 @@ def number(text: str) -> Optional[int]:
 
 
 def place(chance: Random, length: int) -> int:
-    """A place in something of this length, or beyond an end of it."""
+    """Returns a place in something of this length, or beyond an end of it."""
     return chance.randrange(-length - 3, length + 4)
 
 
@@ -131,7 +132,7 @@ def replace(chance: Random) -> Case:
 
 
 def sliced(make: Callable[[Random], Any]) -> Callable[[Random], Case]:
-    """The cases of a slice of what is made so."""
+    """Returns the cases of a slice of a value that is made this way."""
     def slice_case(chance: Random) -> Case:
         whole = make(chance)
         start, stop = place(chance, len(whole)), place(chance, len(whole))
@@ -156,18 +157,18 @@ def int_of(chance: Random) -> Case:
 
 
 def ints(chance: Random) -> List[int]:
-    """A list of small numbers, so that many are equal; truth values are numbers too."""
+    """Returns a list of small numbers, so that many are equal; truth values are numbers too."""
     most = chance.choice([0, 3, 10, 60])
     return [chance.choice([chance.randrange(-5, 6), chance.random() < 0.5]) for _ in range(chance.randrange(most + 1))]
 
 
 def strs(chance: Random) -> List[str]:
-    """A list of short texts."""
+    """Returns a list of short texts."""
     return [some_text(chance, 2) for _ in range(chance.randrange(chance.choice([0, 3, 10, 60]) + 1))]
 
 
 def of_list(make: Callable[[Random], List[Any]], own: Callable[[List[Any]], Any]) -> Callable[[Random], Case]:
-    """The cases of a function of one list."""
+    """Returns the cases of a function of one list."""
     def list_case(chance: Random) -> Case:
         values = make(chance)
         return Case((values,), own(list(values)))
@@ -175,7 +176,7 @@ def of_list(make: Callable[[Random], List[Any]], own: Callable[[List[Any]], Any]
 
 
 def inserted(make: Callable[[Random], List[Any]]) -> Callable[[Random], Case]:
-    """The cases of `insert`."""
+    """Returns the cases of `insert`."""
     def insert_case(chance: Random) -> Case:
         values, more = make(chance), make(chance)
         at, value = place(chance, len(values)), more[0] if more else values[0] if values else None
@@ -188,7 +189,7 @@ def inserted(make: Callable[[Random], List[Any]]) -> Callable[[Random], Case]:
 
 
 def of_lists(make: Callable[[Random], List[Any]], suffix: str) -> Dict[str, Callable[[Random], Case]]:
-    """The functions for lists of one type."""
+    """Returns the cases of the functions for lists of one type."""
     return {
         "max_of" + suffix: of_list(make, lambda values: max(values, default=None)),
         "min_of" + suffix: of_list(make, lambda values: min(values, default=None)),
@@ -208,14 +209,15 @@ FUNCTIONS: Dict[str, Dict[str, Callable[[Random], Case]]] = {
 
 
 def cases(file: str, name: str, count: int) -> Iterator[Case]:
-    """Cases of a function of a file."""
+    """Yields cases of a function of a file."""
     chance = Random(f"{file} {name}")
     for _ in range(count):
         yield FUNCTIONS[file][name](chance)
 
 
 def differences(module: types.ModuleType, file: str, count: int) -> Iterator[str]:
-    """Where a function of the module gives something else than is wanted, or changes what it is given."""
+    """Yields a line for each case in which a function of the module has another result than expected, or changes its
+    argument."""
     for name in FUNCTIONS[file]:
         function = getattr(module, name)
         for case in cases(file, name, count):
@@ -231,7 +233,7 @@ def differences(module: types.ModuleType, file: str, count: int) -> Iterator[str
 
 
 def steps_of_queue(queue: Any, own: "collections.deque[int]", chance: Random, count: int) -> Iterator[str]:
-    """Where a queue differs from Python's, over so many steps."""
+    """Yields the differences between a queue and Python's, over `count` steps."""
     for _ in range(count):
         value, step = chance.randrange(5), chance.random()
         if step < 0.5:
@@ -252,7 +254,8 @@ def steps_of_queue(queue: Any, own: "collections.deque[int]", chance: Random, co
 
 
 def differences_of_queues(module: types.ModuleType, count: int) -> Iterator[str]:
-    """Where the queues differ from Python's: each begins empty, or a list's queue with the list's values."""
+    """Yields the differences between the queues and Python's: each begins empty, or a list's queue with the list's
+    values."""
     chance = Random("queues")
     for _ in range(count // 20):
         values = ints(chance)
@@ -260,13 +263,13 @@ def differences_of_queues(module: types.ModuleType, count: int) -> Iterator[str]
         yield from steps_of_queue(module.Chain(), collections.deque(), chance, 40)
 
 
-# What stands in a line of a document: before a name, a name, a sign, a number, and behind it
+# The parts of a line of a document: before a name, a name, a sign, a number, and the rest
 PIECES = (["", " ", "\t"], ["a", "b-1", "_", "C", "", "\u00e9", "a b"], ["=", " = ", "= ", " =", " ", "=="],
           ["1", "-23", "+4", "5_6", "70", "7_", "_8", "", "9 9", "--1", "1" * 30], ["", "", " ", " # = 1", "#"])
 
 
 def some_document(chance: Random) -> str:
-    """A text that is nearly a document. No number begins with 0, which TOML does not take."""
+    """Returns a text that is nearly a document. No number begins with 0, which TOML does not accept."""
     lines = []
     for _ in range(chance.randrange(4)):
         pieces = [chance.choice(choices) for choices in PIECES]
@@ -277,7 +280,8 @@ def some_document(chance: Random) -> str:
 
 
 def differences_of_results(module: types.ModuleType, count: int) -> Iterator[str]:
-    """Where `parse` takes another text than tomllib, or takes it for something else, or names another line."""
+    """Yields a line for each text that `parse` and tomllib do not both accept, for each other result, and for each
+    other line of an error."""
     assert tomllib
     chance, met = Random("results"), collections.Counter()  # type: ignore
     for _ in range(count):

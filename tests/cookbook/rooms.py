@@ -1,4 +1,5 @@
-"""What the tests of the cookbook share: the programs, the modules and their functions, and a folder for each test."""
+"""Shared parts of the tests of the cookbook: the programs, the modules and their functions, and a folder for each
+test."""
 from __future__ import annotations
 
 import ast
@@ -25,12 +26,12 @@ class Part(NamedTuple):
 
 
 def source_of(name: str) -> str:
-    """The text of a module of the cookbook."""
+    """Returns the text of a module of the cookbook."""
     return (COOKBOOK / name).read_text(encoding="utf-8")
 
 
 def parts_of(source: str) -> Dict[str, Part]:
-    """The functions and classes of a module but for main, in their order."""
+    """Returns the functions and classes of a module except main, in their order."""
     lines, found = source.splitlines(), {}
     for node in ast.parse(source).body:
         if isinstance(node, (ast.FunctionDef, ast.ClassDef)) and node.name != "main":
@@ -51,13 +52,13 @@ class RoomCase(unittest.TestCase):
         self.room = Path(room.name)
 
     def write(self, source: str) -> str:
-        """Writes a module into the folder."""
+        """Writes a module into the folder, and returns its path."""
         file = self.room / "module.py"
         file.write_text(source, encoding="utf-8")
         return str(file)
 
     def assert_clean(self, file: str) -> None:
-        """The report of a file lists nothing."""
+        """Asserts that the report of a file lists nothing."""
         done = subprocess.run([PYCHECK, file], capture_output=True, text=True, timeout=60)
         self.assertEqual((done.returncode, done.stdout, done.stderr), (0, CLEAN, ""), file)
 
@@ -67,13 +68,13 @@ class RoomCase(unittest.TestCase):
         return self.write(source.split(MAIN)[0] + MAIN + "".join(f"    {line}\n" for line in statements) + "\nmain()\n")
 
     def end_of_run(self, file: str) -> str:
-        """How a run ends by pyrun."""
+        """Returns how a run ends by pyrun."""
         done = subprocess.run([PYRUN, "--fuel", FUEL, file], capture_output=True, text=True, timeout=60)
         self.assertEqual((done.returncode, done.stderr), (0, ""))
         return done.stdout.splitlines()[-1]
 
     def assert_holds(self, source: str, statements: List[str]) -> None:
-        """With this main a module is clean, and a run comes to its end, by pyrun and by Python."""
+        """Asserts that with this main a module is clean, and that a run reaches its end, by pyrun and by Python."""
         file = self.with_main(source, statements)
         self.assert_clean(file)
         self.assertEqual(self.end_of_run(file), "end Done")

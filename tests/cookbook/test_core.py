@@ -1,4 +1,4 @@
-"""tutorial/shop and docs/CORE.md: the core of a shop, what mypy says of its callers, and runs of the core."""
+"""tutorial/shop and docs/CORE.md: the core of a shop, mypy's errors in its callers, and runs of the core."""
 from __future__ import annotations
 
 import shutil
@@ -18,7 +18,7 @@ class Core(RoomCase):
     source = (SHOP / "core.py").read_text(encoding="utf-8")
 
     def said_by_mypy(self, text: str) -> List[str]:
-        """The lines of mypy's errors in a caller of the core."""
+        """Returns the lines of mypy's errors in a caller of the core."""
         if not shutil.which("mypy"):
             self.skipTest("mypy is not there")
         shutil.copy(SHOP / "core.py", self.room)
@@ -41,7 +41,7 @@ class Core(RoomCase):
                          ["caller.py:3", "caller.py:4"])
 
     def test_a_call_from_outside_is_one_of_a_main(self) -> None:
-        """Of calls at random, what they give by Python holds in runs of the module with a main that makes them."""
+        """The results of random calls by Python hold in runs of the module with a main that makes these calls."""
         chance, core = Random("shop"), module_of(self.source)
         counts = {name: chance.randrange(40) for name in NAMES[:2]}
         shop = core.Shop({name: core.Item(100 + count, count) for name, count in counts.items()})

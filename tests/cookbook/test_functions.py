@@ -1,4 +1,4 @@
-"""The modules of the cookbook: clean, alike where they are copies, and the same as Python's own on random input."""
+"""The modules of the cookbook: clean, alike if they are copies, and the same as Python's own on random input."""
 from __future__ import annotations
 
 import re
@@ -20,7 +20,7 @@ CHECKS: Dict[str, Callable[[types.ModuleType], Iterator[str]]] = {
     "queues.py": lambda module: compared.differences_of_queues(module, CASES),
     "results.py": lambda module: compared.differences_of_results(module, CASES),
 }
-# Mistakes that the comparison must find: a file, what stands there once, and what is put in its place
+# Mistakes that the comparison must find: a file, a text that occurs there once, and its replacement
 MISTAKES = [
     ("texts.py", "text[start] in characters", 'text[start] in " \\t"'),
     ("texts.py", "text[stop - 1] in characters", "text[stop - 1] == characters"),
@@ -124,7 +124,7 @@ class Functions(RoomCase):
             self.assertRegex(source_of(file), r"(?m)^# (Differs|They differ) from ", file)
 
     def same_as_python(self, file: str) -> None:
-        """A module gives what Python's own functions give."""
+        """Asserts that a module has the results of Python's own functions."""
         self.assertEqual(list(CHECKS[file](module_of(source_of(file))))[:5], [])
 
     def test_texts(self) -> None:

@@ -14,13 +14,13 @@ LEAST_SHOWN = 5
 
 
 def rows_of(page: str) -> Dict[str, Tuple[List[str], Set[str], str]]:
-    """The functions of the tables: the parameters, what is to be copied too, and how each differs."""
+    """Returns the functions of the tables: the parameters, the functions to be copied too, and how each differs."""
     return {name: (parameters.split(", "), set(re.findall(r"`(\w+)`", calls)), differs)
             for name, parameters, calls, differs in ROW.findall(page)}
 
 
 def faults_of_rows(page: str) -> List[str]:
-    """What the tables say otherwise than the modules."""
+    """Returns the differences between the tables and the modules."""
     rows, faults = rows_of(page), []
     for file in ("texts.py", "lists_of_int.py"):
         parts = parts_of(source_of(file))
@@ -40,7 +40,7 @@ def faults_of_rows(page: str) -> List[str]:
 
 
 def faults_of_lines(page: str) -> List[str]:
-    """The blocks `py` that stand in no module."""
+    """Returns the blocks `py` that are in no module."""
     sources = [path.read_text(encoding="utf-8") for path in sorted(COOKBOOK.glob("*.py"))]
     blocks = re.findall(r"^```py\n(.*?)^```$", page, re.MULTILINE | re.DOTALL)
     faults = [block for block in blocks if not any(block in source for source in sources)]

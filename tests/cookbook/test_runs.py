@@ -1,4 +1,4 @@
-"""The modules of the cookbook in runs of pyrun, with a main that asserts what Python's own functions give."""
+"""The modules of the cookbook in runs of pyrun, with a main that asserts the results of Python's own functions."""
 from __future__ import annotations
 
 import collections
@@ -8,7 +8,7 @@ from compared import FUNCTIONS, Random, cases
 from rooms import RoomCase, source_of
 
 CASES = 25
-# What a model of 128 bits can hold
+# The greatest number that a model of 128 bits can hold
 LARGEST = 2 ** 126
 ESCAPES = {"\\": "\\\\", '"': '\\"', "\n": "\\n", "\t": "\\t", "\r": "\\r"}
 # Lists are compared item by item, since == on lists is a free answer of the model
@@ -53,7 +53,7 @@ def is_shown(value: Any) -> bool:
 
 
 def literal(value: Any) -> str:
-    """A value as it is written in the profile."""
+    """Returns a value as source text of the profile."""
     if isinstance(value, list):
         return "[" + ", ".join(map(literal, value)) + "]"
     if isinstance(value, str):
@@ -62,7 +62,7 @@ def literal(value: Any) -> str:
 
 
 def asserted(call: str, wanted: Any) -> str:
-    """A statement that fails where a call gives something else."""
+    """Returns a statement that fails if a call has another result."""
     if isinstance(wanted, list):
         return f"assert same({call}, {literal(wanted)})"
     if wanted is None or isinstance(wanted, bool):
@@ -71,7 +71,7 @@ def asserted(call: str, wanted: Any) -> str:
 
 
 def asserts_of(file: str, name: str) -> List[str]:
-    """What holds of a function of a file."""
+    """Returns the assertions about a function of a file."""
     found = []
     for case in cases(file, name, 4 * CASES):
         if is_shown([*case.given, case.result, case.changed]):
@@ -82,7 +82,7 @@ def asserts_of(file: str, name: str) -> List[str]:
 
 
 def asserts_of_queues() -> List[str]:
-    """What holds of both queues, step by step."""
+    """Returns the assertions about both queues, step by step."""
     chance, own = Random("runs"), collections.deque([7])
     steps = ["queue = Queue([7])", "chain = Chain()", "chain.put(7)"]
     for step in range(60):
@@ -100,7 +100,7 @@ class Runs(RoomCase):
     """Runs of the modules."""
 
     def with_functions(self, file: str) -> str:
-        """A module with what compares lists, of texts where the functions are for them."""
+        """Writes a module with the functions that compare lists, of texts if the functions are for them."""
         kind = "int" if file == "lists_of_int.py" else "str"
         if file == "texts.py":
             more = MORE.split("def inserted")[0].format(type=kind)

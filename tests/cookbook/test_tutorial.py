@@ -23,12 +23,12 @@ MISTAKES = [("while at > 0", "while at > 1"), ("(at - 1) // 2", "at // 2"), ("co
 
 
 def source(name: str) -> str:
-    """The text of a step."""
+    """Returns the text of a step."""
     return (FOLDER / name).read_text(encoding="utf-8")
 
 
 def step(module: Any, ours: List[int], own: List[int], chance: Random) -> Tuple[str, Any, Any]:
-    """Does the same to both heaps: what was done, and what each gave."""
+    """Does the same to both heaps. Returns what was done, and the result of each."""
     item, kind = chance.randrange(-9, 10), chance.randrange(6)
     if kind < 2:
         heapq.heappush(own, item)
@@ -45,7 +45,8 @@ def step(module: Any, ours: List[int], own: List[int], chance: Random) -> Tuple[
 
 
 def differences(module: types.ModuleType) -> Iterator[str]:
-    """Where the heap gives something else than Python's, has other items, or is no heap."""
+    """Yields a line for each step after which the heap has another result than Python's, has other items, or is no
+    heap."""
     chance, ours, own = Random("heap"), list[int](), list[int]()
     for _ in range(STEPS):
         try:
@@ -60,7 +61,7 @@ def differences(module: types.ModuleType) -> Iterator[str]:
 
 
 def asserts() -> List[str]:
-    """What Python's heap gives, as statements of a main."""
+    """Returns the results of Python's heap, as statements of a main."""
     chance, own, lines = Random("main"), [5, 3, 8, 1], ["heap = [5, 3, 8, 1]", "heapify(heap)"]
     heapq.heapify(own)
     for _ in range(40):

@@ -1,4 +1,5 @@
-"""Tests tools/compare types: how types are spelled, which copies mypy is given; with stand-ins, and the programs."""
+"""Tests tools/compare types: the spelling of types, and the copies that mypy is given; with stand-ins, and the
+programs."""
 import os
 import shutil
 import subprocess
@@ -12,7 +13,7 @@ ROOT = Path(__file__).resolve().parent.parent.parent
 sys.path.insert(0, str(ROOT / "tools"))
 from pycheck_tools.compare import types  # noqa: E402
 
-# Says of each line `NAME  # pycheck: TYPE` that NAME has that type; `# error` makes it end with status 1
+# Lists for each line `NAME  # pycheck: TYPE` that NAME has that type; `# error` makes it end with status 1
 PYCHECK = f"""#!{sys.executable} -IS
 import json, sys
 at, rows, status = 0, [], 0
@@ -26,7 +27,7 @@ print(json.dumps({{"types": rows}}))
 sys.exit(status)
 """
 
-# Says of `reveal_type(NAME)` what a comment `# mypy: TYPE` at the end of its line says, at the place of the name
+# Reveals for `reveal_type(NAME)` the text of a comment `# mypy: TYPE` at the end of its line, at the place of the name
 MYPY = f"""#!{sys.executable} -IS
 import sys
 if "--version" in sys.argv:
@@ -146,7 +147,7 @@ class TypesByThemselves(unittest.TestCase):
 
 
 def compared(words: List[str], mypy: str) -> Tuple[int, List[str]]:
-    """The status of the tool, and the lines that it prints."""
+    """Returns the status of the tool, and the lines that it prints."""
     tool = [sys.executable, "-I", "-S", "-B", str(ROOT / "tools" / "compare"), "types"]
     done = subprocess.run([*tool, *words], capture_output=True, env={**os.environ, "MYPY": mypy}, timeout=1800)
     return done.returncode, (done.stdout + done.stderr).decode().splitlines()

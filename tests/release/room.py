@@ -1,4 +1,5 @@
-"""What the tests of the shipped programs share: copies of the tree as a clone has them, an environment of few tools,
+"""Shared parts of the tests of the shipped programs: copies of the tree as a clone has them, an environment of few
+tools,
 and the commands that run there."""
 from __future__ import annotations
 
@@ -15,9 +16,9 @@ from pathlib import Path
 from typing import Any, Dict, Iterator, List, Optional, Sequence, Tuple
 
 ROOT = Path(__file__).resolve().parents[2]
-# All that the shipped programs need: a shell, gzip, the sums, find, grep, and the small tools of every system
+# All tools that the shipped programs need: a shell, gzip, the sums, find, grep, and the small tools of every system
 TOOLS = "sh gzip sha256sum find grep uname mktemp chmod mv rm mkdir dirname readlink id cat".split()
-# What the tools that build and write need beside these
+# The further tools that the building and writing tools need
 MORE_TOOLS = "touch cp cmp basename env bash tee sed wc tail".split()
 # The parts of the tree that the commands need
 PARTS = (
@@ -36,7 +37,8 @@ Done = subprocess.CompletedProcess
 
 
 def files_of(parts: Sequence[str]) -> Iterator[Path]:
-    """The files that a clone has in these parts of the tree: all but what was built, unpacked or kept by Python."""
+    """Yields the files that a clone has in these parts of the tree: all but those that were built, unpacked or kept by
+    Python."""
     for part in parts:
         if (ROOT / part).is_file():
             yield ROOT / part
@@ -48,8 +50,8 @@ def files_of(parts: Sequence[str]) -> Iterator[Path]:
 
 
 def nobody() -> Optional[List[str]]:
-    """The words that start a command as a user who may not write everywhere: none where this user is one, and None
-    where there is no way."""
+    """Returns the words that start a command as a user who may not write everywhere: none if this user is one, and None
+    if that is not possible."""
     if os.geteuid() != 0:
         return []
     words = [shutil.which("setpriv") or "setpriv", "--reuid=65534", "--regid=65534", "--clear-groups"]
@@ -60,7 +62,7 @@ def nobody() -> Optional[List[str]]:
 
 
 def run(words: Sequence[object], cwd: Path, environment: Dict[str, str], **how: Any) -> "Done[str]":
-    """Runs a command, and takes its two outputs as text where `how` says nothing else of them."""
+    """Runs a command, and reads its two outputs as text unless `how` says otherwise."""
     streams: Dict[str, Any] = {"stdin": subprocess.DEVNULL, "stdout": subprocess.PIPE, "stderr": subprocess.PIPE, **how}
     if "input" in how:
         del streams["stdin"]
@@ -79,7 +81,7 @@ class RoomCase(unittest.TestCase):
         self.few = self.folder_of_tools("few", TOOLS)
 
     def remove_room(self) -> None:
-        """Removes the room, also where a test took rights away."""
+        """Removes the room, even if a test took rights away."""
         for at, _, _ in os.walk(self.room):
             with contextlib.suppress(OSError):
                 os.chmod(at, 0o755)
@@ -106,7 +108,7 @@ class RoomCase(unittest.TestCase):
         return folder
 
     def put_tool(self, name: str, text: str) -> None:
-        """Puts a shell script among the few tools, in the place of the tool of that name."""
+        """Puts a shell script among the few tools, replacing the tool of that name."""
         path = self.few / name
         path.unlink(missing_ok=True)
         path.write_text("#!/bin/sh\n" + text, encoding="utf-8")
@@ -114,7 +116,7 @@ class RoomCase(unittest.TestCase):
 
     def run_few(self, *words: object, user: Sequence[str] = (), cwd: Optional[Path] = None,
                 more: Optional[Dict[str, str]] = None) -> "Done[str]":
-        """Runs a command with the few tools on PATH, and nothing in its environment beside that but `more`."""
+        """Runs a command with the few tools on PATH, and an environment of PATH and `more` alone."""
         return run([*user, *words], cwd or self.clone, {"PATH": str(self.few), **(more or {})})
 
     def ship(self, name: str, program: bytes) -> None:
@@ -127,7 +129,7 @@ class RoomCase(unittest.TestCase):
         (release / "SHA256SUMS").write_text("".join(f"{it}\n" for it in lines), encoding="ascii")
 
     def shipped(self, name: str) -> bytes:
-        """The shipped program, unpacked."""
+        """Returns the shipped program, unpacked."""
         return gzip.decompress((self.clone / "release" / f"{name}.gz").read_bytes())
 
     def put_built(self, name: str, program: bytes) -> Path:
@@ -139,24 +141,24 @@ class RoomCase(unittest.TestCase):
         return path
 
     def require_nobody(self) -> List[str]:
-        """The words for a user who may not write everywhere, or the test is skipped."""
+        """Returns the words for a user who may not write everywhere, or skips the test."""
         words = nobody()
         if words is None:
             self.skipTest("this user is root, and setpriv cannot start a command as nobody")
         return words
 
     def assert_answer(self, done: "Done[str]", status: int, output: str) -> None:
-        """The command ended with this status and output, and said nothing else."""
+        """Asserts that the command ended with this status and output, and printed no errors."""
         self.assertEqual((done.stderr, done.returncode, done.stdout), ("", status, output))
 
     def assert_not_run(self, done: "Done[str]", *told: str) -> None:
-        """The command ended with status 3, printed nothing, and told these words."""
+        """Asserts that the command ended with status 3, printed nothing, and gave a reason with these words."""
         self.assertEqual((done.returncode, done.stdout), (3, ""), done.stderr)
         for words in told:
             self.assertIn(words, done.stderr)
 
 
 def report_of(module: Path) -> Tuple[int, str]:
-    """The exit status and the report that stands beside an example."""
+    """Returns the exit status and the report beside an example."""
     report = module.with_suffix(".txt").read_text(encoding="utf-8")
     return (0 if report.splitlines()[-1].startswith("errors 0,") else 1), report

@@ -1,11 +1,11 @@
-"""A broken byte in what is shipped or unpacked is told, and nothing is run."""
+"""A broken byte in a shipped or unpacked file is reported, and nothing is run."""
 from __future__ import annotations
 
 import gzip
 
 from room import ROOT, RoomCase, report_of
 
-# The part of a packed file that says nothing of its content: flags, time, level and system
+# The part of a packed file that does not affect its content: flags, time, level and system
 HEADER = range(3, 10)
 
 
@@ -13,14 +13,14 @@ class Broken(RoomCase):
     """The shipped file, the unpacked program, or the sums."""
 
     def check(self, *told: str) -> None:
-        """Nothing is run or left behind, and these words are told."""
+        """Asserts that nothing is run or left behind, and that the reason has these words."""
         before = sorted(it.name for it in (self.clone / "release").iterdir())
         self.assert_not_run(self.run_few("./pycheck", "examples/ages.py"), "nothing is run", *told)
         self.assertEqual(sorted(it.name for it in (self.clone / "release").iterdir()), before)
         self.assertFalse((self.room / "ran").exists())
 
     def program_that_tells(self) -> bytes:
-        """A program that would tell that it was run."""
+        """Returns a program that would report that it was run."""
         return f"#!/bin/sh\n: >'{self.room}/ran'\n".encode()
 
     def test_a_broken_byte_anywhere_in_the_shipped_file(self) -> None:

@@ -77,7 +77,7 @@ class Core(RoomCase):
         self.assertEqual(done.returncode, 0, done.stderr)
 
     def block(self, language: str) -> str:
-        """The first block of a language on the page."""
+        """Returns the first block of a language on the page."""
         found = re.search(f"^```{language}\n(.*?)^```$", self.page, re.MULTILINE | re.DOTALL)
         assert found is not None
         return found[1]
@@ -155,7 +155,7 @@ class Core(RoomCase):
         self.assertIn("::error file=src/shop/core/prices.py", done.stdout)
 
     def shown(self, *names: str) -> Dict[str, List[Any]]:
-        """What an editor shows of files of the project that are opened in it, by their names."""
+        """Returns what an editor shows for files of the project that are opened in it, by their names."""
         messages: List[Dict[str, Any]] = [
             {"id": 1, "method": "initialize", "params": {"rootUri": self.project.as_uri(), "capabilities": {}}},
             {"method": "initialized", "params": {}},

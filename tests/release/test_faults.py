@@ -1,5 +1,4 @@
-"""How the commands tell that a file or a device fails: the command, the file and the system's reason, and exit status
-3."""
+"""A failing file or device is reported with the command, the file and the system's reason, and exit status 3."""
 from __future__ import annotations
 
 from pathlib import Path
@@ -11,10 +10,10 @@ COMMANDS = {"pycheck": ["./pycheck"], "pyrun": ["./pyrun", "--fuel", "4"]}
 
 
 class Faults(RoomCase):
-    """Each command, with the same words but for its name."""
+    """Each command, with the same words except its name."""
 
     def check(self, file: str, reason: str, user: List[str]) -> None:
-        """Each command tells this reason of the file, and prints nothing."""
+        """Asserts that each command gives this reason for the file, and prints nothing."""
         for name, words in COMMANDS.items():
             with self.subTest(name):
                 done = self.run_few(*words, file, user=user)

@@ -1,5 +1,5 @@
-"""What the gate says and does, with a small script in the place of the toolchain and others in that of the slow
-steps; and what CI installs before it."""
+"""The output and the status of the gate, with a small script in place of the toolchain and others in place of the slow
+steps; and the packages that CI installs before it."""
 from __future__ import annotations
 
 import os
@@ -9,7 +9,7 @@ from typing import List
 
 from room import MORE_TOOLS, PROGRAMS, TOOLS, Done, RoomCase
 
-# The toolchain: it gives the programs of the folder `gives`
+# The toolchain: it copies the programs of the folder `gives`
 TOOLCHAIN = """for name in {names}; do
   mkdir -p "crates/$name/out"
   cp "{room}/gives/$name" "crates/$name/out/$name" && chmod 755 "crates/$name/out/$name"
@@ -28,7 +28,7 @@ CHECKS = {"definitions": "definitions", "edits": "edits", "tested": "tested", "p
 
 
 class Gate(RoomCase):
-    """`./test` in a clone, whose steps pass but for what a test puts in their place."""
+    """`./test` in a clone, whose steps pass unless a test replaces them."""
 
     def setUp(self) -> None:
         super().setUp()
@@ -46,11 +46,11 @@ class Gate(RoomCase):
         self.put_step("tools/wrong_bodies", "echo '5 passed, 0 failed, 0 skipped'")
 
     def prove(self, status: int, last: str) -> None:
-        """Has the toolchain end with this status and this last line."""
+        """Makes the toolchain end with this status and this last line."""
         self.put_tool("rt", TOOLCHAIN.format(names=" ".join(PROGRAMS), room=self.room, status=status, last=last))
 
     def put_step(self, path: str, text: str) -> None:
-        """Puts a shell script in the place of a step's command."""
+        """Replaces a step's command by a shell script."""
         file = self.clone / path
         file.parent.mkdir(parents=True, exist_ok=True)
         file.write_text(f"#!/bin/sh\n{text}\n", encoding="utf-8")
@@ -61,13 +61,13 @@ class Gate(RoomCase):
         return self.run_few("./test", *words)
 
     def last_lines(self, done: "Done[str]", number: int) -> List[str]:
-        """The last lines of what the gate says, but for the time it took, which has to be the very last."""
+        """Returns the last lines of the gate, without the time it took, which has to be the very last."""
         *lines, last = done.stderr.splitlines()
         self.assertRegex(last, r"^the gate took \d+ seconds$")
         return lines[-number:]
 
     def assert_failed(self, done: "Done[str]", steps: str) -> None:
-        """The gate failed at these steps, and said so at the end."""
+        """Asserts that the gate failed at these steps, and listed them at the end."""
         self.assertEqual(done.returncode, 1)
         self.assertEqual(self.last_lines(done, 1), [f"FAILED: {steps}"])
 

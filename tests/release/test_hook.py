@@ -41,7 +41,7 @@ class Hook(RoomCase):
         shutil.copy(ROOT / "examples" / "clean.py", self.project)
 
     def configure(self, args: str, own: bool = True) -> None:
-        """Writes the configuration of the project, with words of its own for the hook, or those that the hook has."""
+        """Writes the configuration of the project, with words of its own for the hook, or without."""
         config = CONFIG.format(clone=self.clone, revision=self.revision, args=args)
         config = config if own else config.partition("    args:")[0]
         (self.project / ".pre-commit-config.yaml").write_text(config, encoding="utf-8")
@@ -81,7 +81,7 @@ class Hook(RoomCase):
         self.assertEqual(done.returncode, 0, done.stdout + done.stderr)
 
     def assert_hook(self, status: int, *said: str) -> None:
-        """The hook ends with a status of pre-commit, and shows these texts."""
+        """Asserts that the hook ends with a status of pre-commit, and shows these texts."""
         done = self.run_hook()
         self.assertEqual(done.returncode, status, done.stdout + done.stderr)
         for text in said:

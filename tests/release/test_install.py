@@ -1,4 +1,4 @@
-"""The tree as pip installs it: by its own build backend, without an index."""
+"""The tree as pip installs it: with its own build backend, without an index."""
 from __future__ import annotations
 
 import importlib.util
@@ -33,14 +33,14 @@ class Tree(RoomCase):
             "PATH": os.environ["PATH"], "HOME": str(self.room), "PYTHONPATH": str(self.site), "LC_ALL": "C.UTF-8"}
 
     def install(self, what: str) -> "Done[str]":
-        """Has pip install something into a folder, without an index and without other packages."""
+        """Makes pip install something into a folder, without an index and without other packages."""
         if importlib.util.find_spec("pip") is None:
             self.skipTest("python3 has no pip: on Debian it is in the package python3-pip")
         words = [sys.executable, "-m", "pip", "install", "--no-index", "--no-deps", "--disable-pip-version-check"]
         return run([*words, "--target", self.site, what], self.room, self.environment)
 
     def assert_installed(self, done: "Done[str]") -> None:
-        """The commands are there, and check."""
+        """Asserts that the commands exist, and check."""
         self.assertEqual(done.returncode, 0, done.stdout + done.stderr)
         module = ROOT / "examples" / "ages.py"
         status, report = report_of(module)

@@ -1,5 +1,5 @@
-"""The tools that build the programs, write the shipped ones and compare the two. The toolchain is played by a small
-script here: these tests are of what the tools do with what it made."""
+"""The tools that build the programs, write the shipped ones and compare the two. A small script replaces the toolchain:
+these tests are about what the tools do with the programs that it made."""
 from __future__ import annotations
 
 import hashlib
@@ -10,7 +10,7 @@ from typing import Dict
 from room import MORE_TOOLS, PROGRAMS, ROOT, TOOLS, RoomCase, report_of
 
 ANEW = "tools/ship release writes the shipped programs anew"
-# The toolchain: it notes its words, and gives the program of this folder
+# The toolchain: it records its words, and copies the program of this folder
 TOOLCHAIN = """echo "rt $*" >>"$ROOM/asked"
 [ "$1" = run ] || exit 0
 name=$(basename "$PWD")
@@ -26,7 +26,7 @@ class Making(RoomCase):
         self.few = self.folder_of_tools("more", [*TOOLS, *MORE_TOOLS])
 
     def files(self) -> Dict[str, bytes]:
-        """The files in release/ by their name, but for unpacked programs."""
+        """Returns the files in release/ by their name, without unpacked programs."""
         files = (it for it in (self.clone / "release").iterdir() if it.name not in PROGRAMS)
         return {it.name: it.read_bytes() for it in files}
 
@@ -40,7 +40,7 @@ class Comparing(Making):
             self.put_built(name, self.shipped(name))
 
     def assert_differs(self, *told: str) -> None:
-        """The step fails, says what differs, and what writes it anew."""
+        """Asserts that the step fails, names the difference, and says how to write the files anew."""
         done = self.run_few("tools/ship", "release", "--check")
         self.assertEqual(done.returncode, 1, done.stdout)
         for words in (*told, ANEW):
@@ -126,7 +126,7 @@ class Writing(Making):
 
 
 class Building(Making):
-    """`tools/ship build`, and `./pycheck` where the shipped program does not serve."""
+    """`tools/ship build`, and `./pycheck` if the shipped program cannot run."""
 
     def setUp(self) -> None:
         super().setUp()
@@ -137,7 +137,7 @@ class Building(Making):
         self.sums = {it: hashlib.sha256(self.shipped(it)).hexdigest() for it in PROGRAMS}
 
     def asked(self) -> str:
-        """What the toolchain was asked."""
+        """Returns the words with which the toolchain was called."""
         return (self.room / "asked").read_text(encoding="utf-8")
 
     def test_all_are_built_and_their_sums_stand_beside_the_shipped_ones(self) -> None:

@@ -1,4 +1,4 @@
-"""The shipped programs answer in a clone without a toolchain, and where they do not serve, this is said."""
+"""The shipped programs answer in a clone without a toolchain; if they cannot run, the reason is given."""
 from __future__ import annotations
 
 import os
@@ -11,11 +11,11 @@ from typing import Any, Dict, List
 from room import LIMIT, PROGRAMS, ROOT, RoomCase, files_of, report_of, run
 
 RUN_OF_README = "58 59\n62 65\n58 65\nend TypeError\n"
-# What a program of these tests says, so that it can be told from the shipped one
+# The output of a program of these tests, which tells it from the shipped one
 OTHER = b'#!/bin/sh\necho "another program: $*"\n'
 OLD = 1_000_000_000  # a time in seconds, long before any file of the clone
 AGES = ROOT / "examples" / "ages.py"
-# What the repository may grow by with each submission, in bytes
+# How many bytes the repository may grow by with each submission
 GROWTH = 3 << 20
 
 
@@ -126,7 +126,7 @@ class Unwritable(RoomCase):
         (self.clone / "release").chmod(0o555)
 
     def check(self, **environment: str) -> None:
-        """The example is answered, twice, and nothing is left in the clone."""
+        """Asserts that the example is answered, twice, and nothing is left in the clone."""
         before = sorted(it.name for it in (self.clone / "release").iterdir())
         for _ in range(2):
             done = self.run_few("./pycheck", "examples/ages.py", user=self.user, more=environment)
@@ -134,7 +134,7 @@ class Unwritable(RoomCase):
         self.assertEqual(sorted(it.name for it in (self.clone / "release").iterdir()), before)
 
     def unpacked(self) -> List[str]:
-        """The programs that were unpacked below the home, by their folder."""
+        """Returns the programs that were unpacked below the home, by their folder."""
         return [str(it.parents[1].relative_to(self.home)) for it in self.home.rglob("pycheck") if it.is_file()]
 
     def test_it_is_unpacked_into_the_named_cache(self) -> None:
@@ -183,7 +183,7 @@ class Unwritable(RoomCase):
         self.assert_not_taken()
 
     def assert_not_taken(self) -> None:
-        """The program that stands among the temporary files is not taken."""
+        """Asserts that the program among the temporary files is not used."""
         done = self.run_few("tools/ship", "program", "pycheck", user=self.user, more={"TMPDIR": str(self.home)})
         self.assertEqual((done.returncode, done.stdout), (1, ""))
         self.assertIn("cannot be unpacked", done.stderr)
@@ -199,7 +199,7 @@ class Unwritable(RoomCase):
 
 
 class BuiltHere(RoomCase):
-    """What was built in the clone is taken where it is newer than the sources."""
+    """A program that was built in the clone is used if it is newer than the sources."""
 
     def test_a_newer_program_is_taken(self) -> None:
         self.put_built("pycheck", OTHER)
@@ -228,10 +228,10 @@ class BuiltHere(RoomCase):
 
 
 class WhereItDoesNotServe(RoomCase):
-    """A system, a processor or a C library that the shipped program is not for, or tools that are not there."""
+    """A system, a processor or a C library that the shipped program is not for, or missing tools."""
 
     def assert_told(self, *words: str) -> None:
-        """No program is found, the reason is told, and nothing is built without a toolchain."""
+        """Asserts that no program is found, the reason is given, and nothing is built without a toolchain."""
         found = self.run_few("tools/ship", "program", "pycheck")
         self.assertEqual((found.returncode, found.stdout), (1, ""), found.stderr)
         done = self.run_few("./pycheck", "examples/ages.py")

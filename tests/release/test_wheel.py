@@ -1,4 +1,4 @@
-"""The wheel: the same bytes each time, what it holds, and that pip installs it without an index."""
+"""The wheel: the same bytes each time, its contents, and that pip installs it without an index."""
 from __future__ import annotations
 
 import base64
@@ -25,25 +25,25 @@ class Wheel(RoomCase):
         return run(words, self.room, {**os.environ, **more})
 
     def wheel(self, out: str = "out") -> Path:
-        """The clone's wheel."""
+        """Returns the path of the clone's wheel."""
         done = self.make(self.clone, out)
         self.assertEqual((done.returncode, done.stderr), (0, ""))
         return Path(done.stdout.rstrip("\n"))
 
     def version(self) -> str:
-        """The version that the shipped program prints."""
+        """Returns the version that the shipped program prints."""
         name, version = self.run_few("./pycheck", "--version").stdout.split()
         self.assertEqual(name, "pycheck")
         return version
 
     def metadata(self, wheel: zipfile.ZipFile) -> email.message.Message:
-        """The wheel's metadata."""
+        """Returns the wheel's metadata."""
         (path,) = (it for it in wheel.namelist() if it.endswith(".dist-info/METADATA"))
         return email.message_from_string(wheel.read(path).decode())
 
 
 class Bytes(Wheel):
-    """What a wheel is, without its being installed."""
+    """The contents of a wheel that is not installed."""
 
     def test_two_builds_are_the_same_bytes(self) -> None:
         first = self.wheel("first")
@@ -129,7 +129,7 @@ class Bytes(Wheel):
         self.assert_no_wheel("the versions differ", "pyrun --version says 9.9.9")
 
     def assert_no_wheel(self, *told: str) -> None:
-        """There is no wheel, and these words are told."""
+        """Asserts that there is no wheel, and that the reason has these words."""
         done = self.make(self.clone, "out")
         self.assertEqual((done.returncode, done.stdout), (1, ""))
         for words in told:

@@ -1,4 +1,4 @@
-"""The baseline: what is known does not fail and is counted, what is new fails, and what is gone is told."""
+"""The baseline: known findings do not fail and are counted, new ones fail, and those that are gone are reported."""
 from __future__ import annotations
 
 import json
@@ -12,11 +12,11 @@ class Baselines(Test):
     """A baseline that is written, and the code that changes after it."""
 
     def module(self, *lines: str) -> str:
-        """A module with these lines in its function."""
+        """Returns a module with these lines in its function."""
         return HEADER + "def main():\n    pass\n" + "".join(lines) + "\nmain()\n"
 
     def known(self, *words: str) -> "tuple[int, list[str]]":
-        """The status and the lines with the baseline."""
+        """Returns the status and the lines with the baseline."""
         done = self.check("--baseline", "known.json", *words)
         return done.status, done.output.splitlines()
 

@@ -1,4 +1,4 @@
-"""What the border of guards says of values, and how long it takes."""
+"""The answers of the border of guards to values, and how long it takes."""
 from __future__ import annotations
 
 import importlib
@@ -14,7 +14,7 @@ from pycheck_all import pycheck_guards
 
 
 class Looking(Guards):
-    """What the border says of values."""
+    """The answers of the border to values."""
 
     def test_types_and_values(self) -> None:
         found = "expected {}, found {}".format
@@ -50,7 +50,7 @@ class Looking(Guards):
                     self.look(types.read(text), value)
 
     def look(self, wanted: pycheck_guards.Type, *values: Any) -> None:
-        """Looks at values of one type."""
+        """Examines values of one type at the border."""
         walk = pycheck_guards.Walk()
         for name, value in zip("xyz", values):
             walk.meet(value, wanted, None, name)
@@ -149,7 +149,7 @@ class Looking(Guards):
 
 
 class Poser(type):
-    """A type of types that tells wrong things of its types."""
+    """A type of types that gives wrong answers about its types."""
 
     @property
     def __name__(cls) -> str:  # type: ignore[override]
@@ -185,9 +185,9 @@ class Down(Up):
 
 
 class Speed(unittest.TestCase):
-    """What the border takes for an instance of four fields."""
+    """The time of the border for an instance of four fields."""
 
-    # 10 microseconds where the loop takes one; it takes from a half to one and a half
+    # 10 microseconds if the loop takes one; the border takes from a half to one and a half
     TIMES = 10
 
     def test_beside_a_plain_loop(self) -> None:
@@ -214,7 +214,7 @@ KINDS = {"name": (str,), "price": (int, bool), "count": (int, bool), "note": (st
 
 
 def plain_loop(values: List[Up]) -> None:
-    """Looks at the fields of instances as simply as can be."""
+    """Examines the fields of instances as simply as possible."""
     for value in values:
         fields = vars(value)
         for name, kinds in KINDS.items():

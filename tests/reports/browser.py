@@ -15,12 +15,12 @@ SECONDS = 120
 
 
 def found() -> Optional[str]:
-    """The browser that is there, or none."""
+    """Returns the path of a browser, or none."""
     return next(filter(None, map(shutil.which, ("chromium", "chromium-browser", "google-chrome"))), None)
 
 
 class Browser:
-    """A browser with one empty page. What its console says gathers in `told`."""
+    """A browser with one empty page. The messages of its console are collected in `told`."""
 
     def __init__(self, path: str) -> None:
         self.folder = tempfile.mkdtemp(prefix="reports-browser-")
@@ -65,7 +65,7 @@ class Browser:
         shutil.rmtree(self.folder, ignore_errors=True)
 
     def ask(self, method: str, **words: Any) -> Dict[str, Any]:
-        """Asks, and waits for the answer."""
+        """Sends a command, and returns the answer."""
         self.number += 1
         message: Dict[str, Any] = {"id": self.number, "method": method, "params": words}
         if self.session:
@@ -79,7 +79,7 @@ class Browser:
                 return dict(answer["result"])
 
     def read(self) -> Dict[str, Any]:
-        """The next message; what it says of the console is kept."""
+        """Returns the next message; the messages of the console are kept."""
         end = time.monotonic() + SECONDS
         while b"\0" not in self.rest:
             if not select.select([self.reading], [], [], max(0, end - time.monotonic()))[0]:
@@ -106,7 +106,7 @@ class Browser:
             self.read()
 
     def value(self, expression: str) -> Any:
-        """The value of an expression in the page."""
+        """Returns the value of an expression in the page."""
         answer = self.ask("Runtime.evaluate", expression=expression, returnByValue=True)
         if "exceptionDetails" in answer:
             raise AssertionError(str(answer["exceptionDetails"]))

@@ -1,4 +1,4 @@
-"""What is said of an error for its case: each row of the table of docs/CODES.md, by the word at its place."""
+"""The sentence for the case of an error: each row of the table of docs/CODES.md, by the word at its place."""
 from __future__ import annotations
 
 import json
@@ -8,9 +8,9 @@ from typing import Dict, Iterator, List, Tuple
 from support import HEADER, ROOT, Test
 
 TABLE = re.compile(r"^\| Code \| Words \| Advice \|\n\|[-|]+\n((?:\|.*\n)+)", re.MULTILINE)
-# A function whose test says nothing of the attribute that it reads
+# A function whose test says nothing about the attribute that it reads
 TESTED = "def f(item: Item) -> int:\n    if item.parent {} None:\n        return item.parent.id\n    return 0\n"
-# An expression with an error of the code at the word, which stands for {}
+# An expression with an error of the code at the word, which replaces {}
 USES = {
     "E02": "print({}(1))",
     "E09": "x: {} = 1",
@@ -21,7 +21,7 @@ USES = {
 
 
 def rows() -> Iterator[Tuple[str, str, str]]:
-    """The code, the word and the advice of each case on the page."""
+    """Yields the code, the word and the advice of each case on the page."""
     for table in TABLE.findall((ROOT / "docs" / "CODES.md").read_text(encoding="utf-8")):
         for line in table.splitlines():
             code, words, advice = (it.strip() for it in line.split("|")[1:-1])
@@ -33,7 +33,7 @@ class Cases(Test):
     """The advice under an error."""
 
     def advice(self, lines: List[str]) -> Dict[str, Dict[str, str]]:
-        """What is said under the errors of a function with each line, by their codes."""
+        """Returns the text under the errors of a function with each line, by their codes."""
         for number, line in enumerate(lines):
             self.write(f"{number:03}.py", HEADER + f"def main():\n    {line}\n\nmain()\n")
         said = [dict(it) for it in self.messages()]
@@ -43,7 +43,7 @@ class Cases(Test):
         return found
 
     def messages(self) -> Iterator[Dict[str, str]]:
-        """The path, the code and the message of each finding."""
+        """Yields the path, the code and the message of each finding."""
         for it in json.loads(self.check("--output", "sarif", ".").output)["runs"][0]["results"]:
             path = it["locations"][0]["physicalLocation"]["artifactLocation"]["uri"]
             yield {"path": path, "code": it["ruleId"], "text": it["message"]["text"]}

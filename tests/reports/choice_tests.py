@@ -1,4 +1,4 @@
-"""What is shown of the findings, and what is said of codes."""
+"""The choice of the findings that are shown, and the texts about codes."""
 from __future__ import annotations
 
 import json
@@ -84,7 +84,7 @@ class Hiding(Test):
 
 
 class Explained(Test):
-    """What is said of a code, by its label too, and of all."""
+    """The texts about a code, also named by its label, and about all codes."""
 
     def test_labels(self) -> None:
         named = (("flow", "E12 flow"), ("ANY-FLOW", "A1 any-flow"), ("too deep", "G2 Too deep"), ("e12", "E12 flow"))

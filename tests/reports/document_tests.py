@@ -1,4 +1,6 @@
-"""What docs/PROJECTS.md and README.md show: each command of tools/check_all there is run, and prints what stands there."""
+"""The examples of docs/PROJECTS.md and README.md: each command of tools/check_all there is run, and prints the lines
+that
+the page shows."""
 from __future__ import annotations
 
 import re
@@ -21,7 +23,7 @@ BLOCK = re.compile(r"(?:^(?:    .*)?\n)+", re.MULTILINE)
 
 
 def blocks(page: Path) -> Iterator[List[str]]:
-    """The blocks of a page that are indented by four, as lines."""
+    """Yields the blocks of a page that are indented by four, as lines."""
     for found in BLOCK.finditer(page.read_text(encoding="utf-8")):
         lines = [line[4:] for line in found[0].split("\n")]
         while lines and not lines[-1]:
@@ -33,7 +35,7 @@ def blocks(page: Path) -> Iterator[List[str]]:
 
 
 def calls(lines: List[str]) -> Iterator[Tuple[str, List[str]]]:
-    """The commands of a block, each with the lines that it prints."""
+    """Yields the commands of a block, each with the lines that it prints."""
     starts = [at for at, line in enumerate(lines) if line.startswith("$ ")]
     for at, end in zip(starts, [*starts[1:], len(lines)]):
         yield lines[at][2:], lines[at + 1 : end]
@@ -49,7 +51,7 @@ class Document(Test):
         self.assertEqual(self.shown_by(GUARDS), 3)
 
     def shown_by(self, page: Path) -> int:
-        """Tries what a page shows, and counts the commands."""
+        """Tries the commands that a page shows, and returns how many there are."""
         shutil.copytree(ROOT / "examples", self.folder / "examples")
         shown = 0
         for lines in blocks(page):
@@ -68,7 +70,7 @@ class Document(Test):
             self.assert_prints(call, wanted)
 
     def assert_prints(self, call: str, wanted: List[str]) -> None:
-        """A command of a page prints these lines, and no others."""
+        """Asserts that a command of a page prints these lines, and no others."""
         with self.subTest(call):
             words = shlex.split(call)
             words[:1] = [sys.executable, str(COMMAND)] if words[0] == "tools/check_all" else words[:1]

@@ -1,5 +1,5 @@
--- Opens files with a language server, as docs/EDITORS.md has it, and prints the codes that are shown of each once those of
--- the last file are there. The variable FILES has their paths, SERVER the words of the server, one on each line.
+-- Opens files with a language server, as docs/EDITORS.md describes, and prints the codes that are shown for each, once
+-- those of the last file have come. The variable FILES has their paths, SERVER the words of the server, one a line.
 local function lines(name)
   return vim.split(assert(os.getenv(name), name .. " is not set"), "\n")
 end

@@ -13,20 +13,20 @@ from support import CLEAN, COMMAND, ERROR, HERE, Test
 
 from pycheck_all import program
 
-# What an editor is shown of the module with an error
+# The diagnostic of the module with an error
 FOUND = ["E13"]
 ORDINARY = "import json\n"
 REFUSED = ["N1"]
 
 
 def frame(message: Any) -> bytes:
-    """A message with its header."""
+    """Returns a message with its header."""
     body = message if isinstance(message, bytes) else json.dumps(message).encode()
     return b"Content-Length: %d\r\n\r\n" % len(body) + body
 
 
 def messages_in(output: bytes) -> List[Dict[str, Any]]:
-    """The messages that were written."""
+    """Returns the messages that were written."""
     found = []
     while output:
         head, _, rest = output.partition(b"\r\n\r\n")
@@ -50,23 +50,23 @@ class Server(Test):
         self.write("marked.py", "# pycheck: core\n" + ERROR)
 
     def uri(self, name: str) -> str:
-        """The URI of a file of the project."""
+        """Returns the URI of a file of the project."""
         return "file://" + str(self.folder / name).replace("prices", "pri%63es")
 
     def opened(self, name: str, language: str = "python") -> Dict[str, Any]:
-        """The notification that a file of the project is open."""
+        """Returns the notification that a file of the project is open."""
         path = self.folder / name
         text = path.read_text(encoding="utf-8") if path.exists() else ERROR
         document = {"uri": self.uri(name), "languageId": language, "version": 1, "text": text}
         return {"jsonrpc": "2.0", "method": "textDocument/didOpen", "params": {"textDocument": document}}
 
     def begun(self, root: str = "") -> Dict[str, Any]:
-        """The request that begins a session, with a folder of the project."""
+        """Returns the request that begins a session, with a folder of the project."""
         params = {"processId": None, "rootUri": f"file://{self.folder / root}", "capabilities": {}}
         return {"jsonrpc": "2.0", "id": 1, "method": "initialize", "params": params}
 
     def ran(self, given: bytes, words: Sequence[str] = ()) -> Tuple[int, bytes, str]:
-        """The exit status and the outputs for an input."""
+        """Returns the exit status and the outputs for an input."""
         done = subprocess.run(
             [sys.executable, str(COMMAND), "--server", *words], input=given, capture_output=True, timeout=120, cwd="/",
             env={**os.environ, "PYCHECK_SERVER": self.server},
@@ -74,7 +74,7 @@ class Server(Test):
         return done.returncode, done.stdout, done.stderr.decode()
 
     def session(self, *messages: Any, words: Sequence[str] = (), root: str = "") -> List[Dict[str, Any]]:
-        """What is written for some messages, in a session that begins and ends as it should."""
+        """Returns the replies to some messages, in a session that begins and ends as it should."""
         ends = [{"jsonrpc": "2.0", "id": 2, "method": "shutdown"}, {"jsonrpc": "2.0", "method": "exit"}]
         parts = [self.begun(root), {"jsonrpc": "2.0", "method": "initialized", "params": {}}, *messages, *ends]
         status, output, _ = self.ran(b"".join(map(frame, parts)), words)
@@ -82,7 +82,7 @@ class Server(Test):
         return messages_in(output)
 
     def shown(self, *names: str, words: Sequence[str] = (), root: str = "") -> Dict[str, List[str]]:
-        """The codes that are shown of files that are opened; of those that are left out nothing is."""
+        """Returns the codes that are shown for files that are opened; none are for files that are left out."""
         found = {}
         for it in self.session(*map(self.opened, names), words=words, root=root):
             if it.get("method") == "textDocument/publishDiagnostics":
@@ -114,7 +114,7 @@ class Server(Test):
 
     def test_which_settings_count(self) -> None:
         self.configure('core = ["core"]\n')
-        # Of folders above that one which is open, only those of the same checkout count
+        # Above the open folder, only folders of the same checkout count
         both = {"core/prices.py": FOUND, "web.py": REFUSED}
         self.assertEqual(self.shown("core/prices.py", "web.py", root="core"), {"core/prices.py": FOUND})
         self.write("deep/web.py", ORDINARY)

@@ -1,4 +1,4 @@
-"""What is hostile, broken, endless or slow: each gets a plain message and the status 3, and stops no others."""
+"""Hostile, broken, endless or slow files: each gets a plain message and the status 3, and stops no others."""
 from __future__ import annotations
 
 import os
@@ -17,7 +17,7 @@ class Folders(Test):
     """Folders that are deep, or cannot be read."""
 
     def nest(self, name: str, depth: int) -> None:
-        """Makes folders of a name in one another, with a module in the last one."""
+        """Makes nested folders of one name, with a module in the innermost."""
         descriptor = os.open(self.folder, os.O_RDONLY)
         for _ in range(depth):
             os.mkdir(name, dir_fd=descriptor)
@@ -56,10 +56,10 @@ class Folders(Test):
 
 
 class Baselines(Test):
-    """Files that are no baseline, and such as cannot be written."""
+    """Files that are no baseline, and baselines that cannot be written."""
 
     def refused(self, done: Done, said: str) -> None:
-        """Nothing was checked, and this is said."""
+        """Asserts that nothing was checked, and that this message was printed."""
         self.assertEqual((done.status, done.output, done.error), (3, "", f"check_all: error: {said}\n"))
 
     def test_endless_and_waiting_files(self) -> None:
@@ -95,7 +95,7 @@ class Baselines(Test):
 
 
 class Writing(Test):
-    """Links in what is checked, where a file is written."""
+    """Links in the checked folders, at the path of a file to be written."""
 
     def setUp(self) -> None:
         super().setUp()
@@ -103,7 +103,7 @@ class Writing(Test):
         self.own = self.write("own/own.txt", "mine\n")
 
     def refused(self, path: str, *words: str, cwd: "Path | None" = None) -> None:
-        """Neither the page nor the baseline is written over a link, nor read."""
+        """Asserts that neither the page nor the baseline is written over a link, nor read."""
         for option in ("--page", "--write-baseline"):
             with self.subTest(option=option, path=path):
                 command = [sys.executable, str(COMMAND), option, path, *words]
@@ -141,7 +141,7 @@ class Time(Test):
     """Files that take too long."""
 
     def test_programs_that_do_not_end(self) -> None:
-        """They sleep, have a child that holds their outputs, close their outputs, or write without end."""
+        """The programs sleep, have a child that holds their outputs, close their outputs, or write without end."""
         for name in "abcdef":
             self.write(f"{name}.py", ERROR)
         program = self.program(
@@ -196,12 +196,12 @@ class Many(Test):
         self.write("a.py", HEADER + "def main():\n" + '    print(1 + "a")\n' * 12_000 + "\nmain()\n")
         before = os.times()
         self.assertEqual(self.check("--page", "page.html", "a.py").status, 1)
-        # A second; twelve where each line was compared with all findings
+        # A second; twelve if each line were compared with all findings
         self.assertLess(os.times().children_user - before.children_user, 5)
 
 
 class Other(Test):
-    """What else may fail."""
+    """Other failures."""
 
     def test_reports_that_are_deep(self) -> None:
         self.write("a.py", CLEAN)

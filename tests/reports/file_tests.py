@@ -1,4 +1,4 @@
-"""Which files are checked, in which order, and under which names."""
+"""The choice of the files that are checked, their order, and their names."""
 from __future__ import annotations
 
 import os
@@ -17,7 +17,7 @@ class Files(Test):
     """Files and folders that are named."""
 
     def paths(self, *words: str) -> "list[str]":
-        """The paths of the findings, in their order; each module of these tests has one."""
+        """Returns the paths of the findings, in their order; each module of these tests has one."""
         return [line.partition(":")[0] for line in self.lines(*words)[:-1]]
 
     def test_order_of_a_folder(self) -> None:
@@ -156,8 +156,8 @@ class Files(Test):
         )
 
     def as_nobody(self, *words: str) -> str:
-        """What the command prints in a process without rights."""
-        # What is imported late, while it can be read
+        """Returns the output of the command in a process without rights."""
+        # Import lazy modules now, while they can be read
         import concurrent.futures.thread  # noqa: F401
 
         import pycheck_all

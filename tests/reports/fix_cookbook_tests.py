@@ -16,7 +16,7 @@ def main():
 
 main()
 """
-# Expressions, and what is called in their place
+# Expressions, and the calls that replace them
 CALLS = [
     ("text.strip()", "strip(text)"),
     ('text.strip(" a")', 'strip(text, " a")'),
@@ -55,10 +55,10 @@ LEFT = [
 
 
 class Cookbook(FixTest):
-    """What is called, and what is left."""
+    """The calls that are made, and the text that is left."""
 
     def functions(self, text: str) -> "list[str]":
-        """The names of the functions of a module, in order."""
+        """Returns the names of the functions of a module, in order."""
         return [it.name for it in ast.parse(text).body if isinstance(it, ast.FunctionDef)]
 
     def test_calls(self) -> None:

@@ -23,7 +23,7 @@ def main():
 
 main()
 """
-# Lines of `f`, and what of them becomes of it
+# Lines of `f`, and the lines that replace them
 REWRITTEN = [
     ("count = 0\n    for n in ns: count += n\n    print(count)", "count = 0\n    for n in ns:\n        count = count + n\n    print(count)"),
     ('text = "a"\n    text += "b"\n    print(text)', 'text = "a"\n    text = text + "b"\n    print(text)'),
@@ -41,7 +41,7 @@ LEFT = [
 
 
 def module(lines: str) -> str:
-    """A module in whose function `f` these lines stand."""
+    """Returns a module with these lines in its function `f`."""
     return HEADER + FRAME.replace("{}", lines)
 
 
@@ -69,7 +69,7 @@ class Guesses(FixTest):
         self.assert_left(module(f"{lines}\n    print(1 / 2)"), module(f"{lines}\n    del text"))
 
     def test_a_result_with_another_error_tells_nothing(self) -> None:
-        """The number is a list, so that its type is wrong."""
+        """The number is a list, so its type is wrong."""
         self.assert_left(module("n: int = ns\n    m = n\n    m += m"), module(f"{REWRITTEN[1][0]}\n    print(other2)"))
 
     def test_the_same_output_as_before(self) -> None:

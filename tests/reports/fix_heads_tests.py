@@ -48,7 +48,7 @@ main()
 
 
 class Heads(FixTest):
-    """What is rewritten, and what is left."""
+    """The text that is rewritten, and the text that is left."""
 
     def test_script(self) -> None:
         self.assert_fixed(SCRIPT, SCRIPT_FIXED)
@@ -104,7 +104,7 @@ class Heads(FixTest):
 
 
 class Command(FixTest):
-    """What the command shows and writes."""
+    """The output of the command, and the files that it writes."""
 
     def test_diff(self) -> None:
         path = self.write("count.py", SCRIPT)
@@ -179,7 +179,7 @@ class Command(FixTest):
 
 
 class Further(FixTest):
-    """A rewrite that does not help is taken back."""
+    """A rewrite that does not help is undone."""
 
     def test_useless(self) -> None:
         from pycheck_all import fix_heads
@@ -187,7 +187,7 @@ class Further(FixTest):
         from pycheck_all.fixing import Fixer
 
         def useless(module: Module):  # type: ignore[no-untyped-def]
-            """Puts a comment before what is refused, which does not help."""
+            """Puts a comment before the refused text, which does not help."""
             yield Fix("useless", 0, len(module.data), (Edit(0, 0, b"# why\n"),))
 
         for text in ("import json\n", HEADER + 'def main():\n    print("a" + 1)\n\nmain()\n'):

@@ -1,5 +1,6 @@
-"""Modules of Python's own library, as the machine has them: each is brought nearer to the profile, what is left is
-listed, and it does what it did. Nothing of them is copied into the tree."""
+"""Modules of Python's own library, as the machine has them: each is brought nearer to the profile, the refusals that
+are left
+are listed, and it does the same as before. None of them is copied into the tree."""
 from __future__ import annotations
 
 import ast
@@ -24,7 +25,7 @@ from pycheck_all.program import Program
 
 LIBRARY = Path(sysconfig.get_path("stdlib"))
 SECONDS = 1200
-# Runs texts of a module one after the other, without what C has in its place, and prints what each prints
+# Runs texts of a module one after the other, without their counterparts in C, and prints the output of each
 RUNNER = r"""
 import contextlib, io, json, random, sys, types
 given = json.load(sys.stdin)
@@ -42,8 +43,8 @@ json.dump(said, sys.stdout)
 
 
 class Outcome(NamedTuple):
-    """What came of a module: its text before and after, the rewrites, how many refusals are listed before and after,
-    whether all are, and whether a second run changes something."""
+    """The result for a module: its text before and after, the rewrites, how many refusals are listed before and after,
+    whether all are, and whether a second run changes anything."""
 
     before: str
     after: str
@@ -75,14 +76,14 @@ def outcome(name: str) -> Outcome:
 
 @functools.lru_cache(maxsize=None)
 def outcomes() -> Dict[str, Outcome]:
-    """What came of each module that this version of Python has as one file."""
+    """Returns the result for each module that this version of Python has as one file."""
     names = [it for it in USES if (LIBRARY / f"{it}.py").is_file()]
     with concurrent.futures.ProcessPoolExecutor(running.processors()) as pool:
         return dict(zip(names, pool.map(outcome, names)))
 
 
 def docstrings(text: str) -> int:
-    """How many docstrings a module has."""
+    """Returns how many docstrings a module has."""
     kinds = (ast.Module, ast.ClassDef, ast.FunctionDef, ast.AsyncFunctionDef)
     nodes = [it for it in ast.walk(ast.parse(text)) if isinstance(it, kinds)]
     return sum(ast.get_docstring(it, clean=False) is not None for it in nodes)
@@ -100,7 +101,7 @@ class Library(FixTest):
                 self.assertFalse(it.changes)
                 self.assertGreater(it.left, 0)
                 if it.complete:
-                    # A docstring is one refusal, and each rewrite of one takes it away
+                    # A docstring is one refusal, and each rewrite of one removes it
                     self.assertLessEqual(it.left, it.listed - it.made.count("docstring"))
 
     def test_docstrings_become_comments(self) -> None:

@@ -39,7 +39,7 @@ def main():
 
 main()
 """
-# What is run before and after; some of it ends in an exception, and so it must after
+# The code that is run before and after; some of it ends in an exception, and must do so after the rewrite too
 LINES = [
     "item.count += n",
     "box.price *= show(n) + 1",
@@ -67,7 +67,7 @@ LINES = [
 
 
 def module(lines: str, method: str = "pass") -> str:
-    """A module in whose function `f` these lines stand, and in whose method this one."""
+    """Returns a module with these lines in its function `f`, and this one in its method."""
     return HEADER + CLASSES.format(method, lines)
 
 
@@ -75,7 +75,7 @@ class Places(FixTest):
     """Augmented assignments."""
 
     def assert_lines(self, lines: str, wanted: str) -> None:
-        """Lines of `f` become others."""
+        """Asserts that lines of `f` are rewritten to others."""
         self.assert_fixed(module(lines), module(wanted))
 
     def test_fields(self) -> None:
@@ -200,7 +200,7 @@ class Ranges(FixTest):
     """Loops over `range` with two bounds."""
 
     def assert_loop(self, head: str, wanted: str, line: str = "print(i)") -> None:
-        """A loop in `f` becomes another one."""
+        """Asserts that a loop in `f` is rewritten to another one."""
         self.assert_fixed(module(f"{head}:\n        {line}"), module(f"{wanted}\n        {line}"))
 
     def test_bounds(self) -> None:

@@ -1,4 +1,4 @@
-"""What is fixed, run by pyrun and by Python: the same places in the same order, and the same end."""
+"""Fixed modules, run by pyrun and by Python: the same places in the same order, and the same end."""
 from __future__ import annotations
 
 import random
@@ -19,7 +19,7 @@ MORE_PLACES = 50
 
 
 class Runs(FixTest):
-    """Modules with the lines that the tests of the rewrites have."""
+    """Modules with the lines of the tests of the rewrites."""
 
     def setUp(self) -> None:
         super().setUp()
@@ -29,8 +29,8 @@ class Runs(FixTest):
             self.skipTest(str(fault))
 
     def assert_alike_in_the_model(self, texts: Sequence[str], least: int) -> None:
-        """Both run each fixed module alike, but for what the page names; so many of them at least are modules of the
-        profile then."""
+        """Asserts that both run each fixed module alike, except for the differences that the page names, and that at
+        least this many of them are then modules of the profile."""
         compared = 0
         for text in texts:
             fixed = self.fixed(text)

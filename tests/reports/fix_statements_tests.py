@@ -6,7 +6,7 @@ import random
 from fix_support import MAIN, FixTest
 from support import HEADER
 
-# What random bodies are made of: all names are of numbers, but for `xs`
+# The parts of random bodies: all names are of numbers, except `xs`
 LINES = [
     "a, b = b, a",
     "a, b = show(1), a",
@@ -36,7 +36,7 @@ LINES = [
 
 
 def module(lines: str) -> str:
-    """A module in whose function `f` these lines stand, among others that print what they come to."""
+    """Returns a module with these lines in its function `f`, among others that print the results."""
     whole = ["a, b, c = n, 2, 3", "xs = [3, n, 1]", *lines.split("\n"), "show(a)", "print(b, c, xs)"]
     text = "def show(x):\n    print(x)\n    return x\n\ndef f(n):\n" + "\n".join(f"    {it}" for it in whole)
     return HEADER + text + "\n\ndef main():\n    f(1)\n    f(4)\n\nmain()\n"

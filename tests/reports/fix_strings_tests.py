@@ -1,4 +1,4 @@
-"""Rewrites of strings, numbers, f-strings and of how statements stand on lines."""
+"""Rewrites of strings, numbers, f-strings and of the lines of statements."""
 from __future__ import annotations
 
 import random
@@ -14,7 +14,7 @@ PARTS = ["a {n}", "{s}", "{n + 1}{s}", "{{{n}}}", "{s!s}", "{(n, s)}", "{[n]}", 
 
 
 class Strings(FixTest):
-    """What is rewritten, and what is left."""
+    """The text that is rewritten, and the text that is left."""
 
     def test_strings(self) -> None:
         self.assert_body("x = r'\\d' + u\"t\" + '\\x41'", 'x = "\\\\d" + "t" + "A"')

@@ -1,4 +1,4 @@
-"""What the tests of --fix share: a module is fixed in this process, and run by Python before and after."""
+"""Shared parts of the tests of --fix: a module is fixed in this process, and run by Python before and after."""
 from __future__ import annotations
 
 import os
@@ -12,7 +12,7 @@ from pycheck_all.fixing import Fixer
 from pycheck_all.program import Program
 
 MAIN = "\ndef main():\n    pass\n\nmain()\n"
-# Runs modules that stand one after the other on standard input, and prints how each ends
+# Runs modules that follow one another on standard input, and prints how each ends
 RUNNER = r"""
 import contextlib, io, json, sys
 ends = []
@@ -29,7 +29,8 @@ json.dump(ends, sys.stdout)
 
 
 def runs(texts: Sequence[str]) -> List[Tuple[str, str]]:
-    """The output of each module, and the exception that ends it, if one does: by Python, in a process of its own."""
+    """Runs each module by Python, in a process of its own. Returns its output, and the exception that ends it, if one
+    does."""
     import json
 
     words = [sys.executable, "-I", "-W", "ignore", "-c", RUNNER]
@@ -45,43 +46,44 @@ class FixTest(Test):
         self.used = Program(os.environ["PYCHECK"])
 
     def fixed(self, text: str) -> str:
-        """The text after it was fixed."""
+        """Returns the text after it was fixed."""
         return Fixer(self.used, 30).fix(text.encode()).after.decode()
 
     def made(self, text: str) -> List[str]:
-        """The rewrites that are made of a text."""
+        """Returns the rewrites that are made in a text."""
         return Fixer(self.used, 30).fix(text.encode()).made
 
     def assert_fixed(self, text: str, wanted: str) -> None:
-        """A text becomes another one, which stays as it is."""
+        """Asserts that a text is rewritten to another one, which then stays as it is."""
         self.assertEqual(self.fixed(text), wanted)
         self.assertEqual(self.fixed(wanted), wanted)
 
     def assert_body(self, lines: str, wanted: str, before: str = "") -> None:
-        """Lines of a function `f`, of a module that has what else the profile needs, become others."""
+        """Asserts that lines of a function `f`, in a module with everything else that the profile needs, are rewritten
+        to others."""
         frame = HEADER + before + "def f(a, b, c):\n{}\n" + MAIN
 
         def body(given: str) -> str:
-            """The module with these lines."""
+            """Returns the module with these lines."""
             return frame.format("\n".join(f"    {it}" if it else it for it in given.split("\n")))
 
         self.assert_fixed(body(lines), body(wanted))
 
     def assert_left(self, *texts: str) -> None:
-        """Texts are left as they are."""
+        """Asserts that texts are left as they are."""
         for text in texts:
             with self.subTest(text):
                 self.assertEqual(self.fixed(text), text)
 
     def assert_bodies_left(self, *bodies: str) -> None:
-        """Lines of a function are left as they are."""
+        """Asserts that lines of a function are left as they are."""
         for lines in bodies:
             with self.subTest(lines):
                 self.assert_body(lines, lines)
 
     def assert_alike(self, texts: Sequence[str], changed: int) -> None:
-        """Modules run by Python alike before and after they are fixed; so many of them at least are changed, and none
-        once more."""
+        """Asserts that Python runs modules alike before and after they are fixed, that at least this many of them are
+        changed, and that none is changed once more."""
         after = [self.fixed(it) for it in texts]
         for text, other in zip(texts, after):
             self.assertEqual(self.fixed(other), other)

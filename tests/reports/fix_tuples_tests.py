@@ -1,4 +1,4 @@
-"""Rewrites of targets that take the items of a tuple, as an annotation, a display or the report of the result tells it."""
+"""Rewrites of targets that take the items of a tuple, told by an annotation, a display or the report of the result."""
 from __future__ import annotations
 
 import random
@@ -23,7 +23,7 @@ def main():
 
 main()
 """
-# Lines of `f`, and what becomes of them: where an annotation or a display tells the type, and where the report does
+# Lines of `f`, and the lines that replace them: if an annotation or a display tells the type, and if the report does
 TOLD = [
     ("a, b = pair_of\nprint(a, b)", "a = pair_of[0]\nb = pair_of[1]\nprint(a, b)"),
     ("[a, b] = two(n)\nprint(a, b)", "pair = two(n)\na = pair[0]\nb = pair[1]\nprint(a, b)"),
@@ -47,7 +47,7 @@ LEFT = [
     "a, b = xs", "a, b = made(n)", "a, b = other", "q = (n, n, n)\na, b = q", "for a, b in [xs, xs]:\n    print(a)",
     "for a, b in xs:\n    print(a)", "a, b, c = pair_of", "for a, b in [(1, 2), xs]:\n    print(a)",
 ]
-# Those that the program need not be asked for
+# Lines for which the program need not be asked
 OTHERS = [
     "(a, b), c = (pair_of, n)", "a, *b = pair_of", "a, b = (pair_of  # why\n        )", "a, b = pair_of\nprint(locals())",
     "for a, (b, c) in pairs:\n    print(a)", "for a, b in pairs: # why\n    print(a, locals())",
@@ -56,7 +56,7 @@ OTHERS = [
 
 
 def module(lines: str) -> str:
-    """A module in whose function `f` these lines stand."""
+    """Returns a module with these lines in its function `f`."""
     return FRAME.replace("HERE", lines.replace("\n", "\n    "))
 
 

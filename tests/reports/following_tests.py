@@ -14,21 +14,21 @@ class Following(Test):
     """Modules whose bodies are the lines of one function, from line 9 on; places were counted by hand."""
 
     def full(self, *lines: str) -> str:
-        """What is shown of a module with these lines."""
+        """Returns the output for a module with these lines."""
         body = "".join(f"    {line}\n" for line in lines)
         self.write("a.py", f"{HEADS}def g(a: A, n: int):\n{body}{MAIN}")
         return self.check("--output", "full", "a.py").output
 
     def heads(self, output: str) -> List[str]:
-        """The places and codes that have lines of their own."""
+        """Returns the places and codes that have lines of their own."""
         return [" ".join(it) for it in re.findall(r"^a\.py:(\d+:\d+): \w+ (\w+)", output, re.MULTILINE)]
 
     def under(self, output: str) -> List[str]:
-        """The places that are shown under errors."""
+        """Returns the places that are shown under errors."""
         return re.findall(r"= And at (.*), since its type is unknown\.", output)
 
     def expect(self, lines: List[str], heads: List[str], under: List[str]) -> None:
-        """Compares what has lines of its own, and what is under an error."""
+        """Compares the places that have lines of their own, and those under an error."""
         output = self.full(*lines)
         self.assertEqual(self.heads(output), heads)
         self.assertEqual(self.under(output), under)

@@ -1,4 +1,4 @@
-"""The forms of output, each compared with what was worked by hand for the folder of modules."""
+"""The forms of output, each compared with the output worked out by hand for the folder of modules."""
 from __future__ import annotations
 
 import json
@@ -29,17 +29,17 @@ class Forms(Test):
         modules(self.folder)
 
     def expected(self, name: str) -> str:
-        """An expected output."""
+        """Returns an expected output."""
         return (EXPECTED / name).read_text(encoding="utf-8")
 
     def compare(self, form: str, name: str) -> None:
-        """Compares what is printed, letter by letter."""
+        """Compares the output, letter by letter."""
         done = self.check("--output", form, ".")
         self.assertEqual(done.output, self.expected(name))
         self.assertEqual(done.status, 3)
 
     def document(self, form: str) -> Any:
-        """A document in JSON that is printed, and nothing else."""
+        """Returns a document in JSON that is the whole output."""
         done = self.check("--output", form, ".")
         self.assertEqual(done.status, 3)
         return json.loads(done.output)
@@ -88,10 +88,10 @@ class Forms(Test):
 
 
 class Sarif(Test):
-    """What the schema of SARIF 2.1.0 requires of the parts of a log."""
+    """The requirements of the schema of SARIF 2.1.0 on the parts of a log."""
 
     def require(self, part: Any, kind: str) -> Any:
-        """A part, which has what the schema requires of its kind."""
+        """Returns a part, after checking that it has everything that the schema requires of its kind."""
         for name in SCHEMA_REQUIRES[kind]:
             self.assertIn(name, part, kind)
         if "message" in SCHEMA_REQUIRES[kind]:
@@ -126,7 +126,7 @@ class Sarif(Test):
 
 
 class Details(Test):
-    """What the folder of modules does not show."""
+    """Details that the folder of modules does not show."""
 
     def test_full_is_the_form_for_terminals(self) -> None:
         self.write("a.py", ERROR)

@@ -1,4 +1,4 @@
-"""Cores that are made at random: functions that write into what they are given at one type, and read it at another."""
+"""Cores that are made at random: functions that write into their arguments at one type, and read them at another."""
 from __future__ import annotations
 
 import ast
@@ -21,12 +21,12 @@ VALUES = {"int": ["7", "-1", "0"], "str": ['"a"', '""'], "bool": ["True", "False
 
 @functools.lru_cache(maxsize=None)
 def tree_of(text: str) -> Tree:
-    """A type, from its text."""
+    """Returns a type, from its text."""
     return parsed(ast.parse(text, mode="eval").body)
 
 
 def parsed(node: ast.expr) -> Tree:
-    """A type, from its node."""
+    """Returns a type, from its node."""
     if isinstance(node, ast.BinOp):
         left = parsed(node.left)
         return ("union", *(left[1:] if left[0] == "union" else [left]), parsed(node.right))
@@ -46,7 +46,7 @@ class Making:
         self.locals = 0
 
     def text(self) -> str:
-        """The whole module."""
+        """Returns the whole module."""
         lines = ["from __future__ import annotations", "from dataclasses import dataclass"]
         if self.rng.random() < 0.5:
             lines += ["numbers = [1, 2]", "ages: dict[str, int | None] = {}"]
@@ -59,20 +59,20 @@ class Making:
         return "\n".join([*lines, "def main():", "    pass", "main()"]) + "\n"
 
     def own_fields(self, name: str) -> List[Tuple[str, str]]:
-        """The fields of a class, without those of its base."""
+        """Returns the fields of a class, without those of its base."""
         types = [it for it in LOCATED if it != "Tree"] if name == "Tree" else PLAIN
         own = [(f"{name[:2].lower()}{at}", self.rng.choice(types)) for at in range(2)]
         return [*own, ("next", "Tree | None")] if name == "Tree" else own
 
     def made_class(self, name: str, base: str) -> List[str]:
-        """A class with a method."""
+        """Returns a class with a method."""
         own = self.fields[name][len(self.fields.get(base, [])) :]
         head = ["@dataclass", f"class {name}({base}):" if base else f"class {name}:"]
         method = self.function("leap" if base else "step", ["self"])
         return [*head, *(f"    {field}: {text}" for field, text in own), *("    " + line for line in method)]
 
     def function(self, name: str, given: List[str]) -> List[str]:
-        """A function or a method that uses its parameters in turn."""
+        """Returns a function or a method that uses its parameters in turn."""
         known = [(f"p{at}", self.rng.choice(LOCATED)) for at in range(self.rng.randint(1, 3))]
         notes = [*given, *(f"{it}: {text}" for it, text in known)]
         lines = [f"def {name}({', '.join(notes)}) -> int:", "    total = 0"]
@@ -82,7 +82,7 @@ class Making:
         return [*lines, "    return total"]
 
     def use(self, it: str, tree: Tree, depth: int) -> List[str]:
-        """Lines that read a value, or write into it; with `total` and the value in sight."""
+        """Returns lines that read a value, or write into it, with `total` and the value in scope."""
         head, parts = str(tree[0]), [part for part in tree[1:] if isinstance(part, tuple)]
         if head == "union":
             return self.one_of(it, parts, depth)
@@ -98,7 +98,7 @@ class Making:
         return lines.get(head, [f"if {it} is None:", "    total = total + 1"])
 
     def one_of(self, it: str, parts: List[Tree], depth: int) -> List[str]:
-        """Lines for each member of a union that a test can tell."""
+        """Returns lines for each member of a union that a test can tell."""
         self.locals += 1
         name = f"v{self.locals}"
         lines = [f"{name} = {it}"]
@@ -108,7 +108,7 @@ class Making:
         return lines
 
     def held(self, it: str, head: str, parts: List[Tree], depth: int) -> List[str]:
-        """Lines for what is in a list, a dict or a tuple."""
+        """Returns lines for the contents of a list, a dict or a tuple."""
         if head == "tuple":
             at = self.rng.randrange(len(parts))
             return self.use(f"{it}[{at}]", parts[at], depth + 1)
@@ -125,7 +125,7 @@ class Making:
         return [*loop, *("    " + line for line in self.use(f"{it}[{name}]", parts[0], depth + 1))]
 
     def value(self, tree: Tree, depth: int) -> str:
-        """An expression of a type."""
+        """Returns an expression of a type."""
         head, parts = str(tree[0]), [part for part in tree[1:] if isinstance(part, tuple)]
         if head == "union":
             return "None" if depth > 1 and ("None",) in parts else self.value(self.rng.choice(parts), depth)
@@ -138,5 +138,5 @@ class Making:
 
 
 def made_core(rng: random.Random) -> str:
-    """A core that is made at random; it need not be clean."""
+    """Returns a core that is made at random; it need not be clean."""
     return Making(rng).text()

@@ -1,5 +1,5 @@
-"""Each check of the border is needed: with it a call is refused, and says where; without it the core raises one of the
-four exceptions, or a value comes in that the model of runs does not have."""
+"""Each check of the border is needed: with it a call is refused, with its place; without it the core raises one of the
+four exceptions, or accepts a value that the model of runs does not have."""
 from __future__ import annotations
 
 import importlib
@@ -122,7 +122,7 @@ def main():
 
 main()
 """
-# What stands before the calls: classes from outside whose objects pass for others
+# The lines before the calls: classes from outside whose objects pass for others
 OUTSIDE = """
 def raises(*_):
     raise TypeError("outside")
@@ -161,8 +161,8 @@ def with_fields(kind, fields):
 
 
 class Row(NamedTuple):
-    """A check, as an edit that takes it away; a call; what it is told; and whether it is let in without the check, and
-    without an exception."""
+    """A check, as an edit that removes it; a call; its message; and whether it is let in without the check, and without
+    an exception."""
 
     name: str
     old: str
@@ -252,13 +252,14 @@ class Needed(unittest.TestCase):
         self.assertEqual(made.written, f"{self.folder}/core_api.py: guards of 17 functions, 4 classes and 3 methods")
 
     def forget(self) -> None:
-        """Has the modules read anew."""
+        """Makes Python import the modules anew."""
         for name in ("core", "core_api", "pycheck_guards"):
             sys.modules.pop(name, None)
         importlib.invalidate_caches()
 
     def call(self, border: str, call: str) -> "Tuple[Optional[BaseException], bool]":
-        """The exception of a call over this border, or none; and whether the core was entered as it was raised."""
+        """Returns the exception of a call over this border, or none, and whether the core was entered when it was
+        raised."""
         (self.folder / "pycheck_guards.py").write_text(border, encoding="utf-8")
         self.forget()
         names = {name: importlib.import_module(module) for name, module in (("core", "core"), ("api", "core_api"))}

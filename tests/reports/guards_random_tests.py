@@ -38,7 +38,8 @@ class TooLong(BaseException):
 
 
 class Entrance(NamedTuple):
-    """A way into a core: how a core writes it, and the types of what it takes, an instance first if it is a method."""
+    """An entry of a core: how a core writes it, and the types of its parameters, an instance first if it is a
+    method."""
 
     words: str
     trees: List[Tree]
@@ -46,7 +47,7 @@ class Entrance(NamedTuple):
 
 
 class Outcome(NamedTuple):
-    """How a call ended: what it gave and its arguments as they lie in memory, or the exception; and what it printed."""
+    """How a call ended: its result and its arguments as they are in memory, or the exception; and its output."""
 
     end: str
     heap: List[str]
@@ -59,7 +60,7 @@ def stopped(_: int, __: Optional[FrameType]) -> None:
 
 
 def outcome(call: Callable[[], Any], whole: Callable[[Any], Any]) -> "Tuple[Outcome, Optional[BaseException]]":
-    """How a call ends, and its exception."""
+    """Returns how a call ends, and its exception."""
     printed = io.StringIO()
     signal.signal(signal.SIGALRM, stopped)
     signal.setitimer(signal.ITIMER_REAL, SECONDS)
@@ -74,7 +75,7 @@ def outcome(call: Callable[[], Any], whole: Callable[[Any], Any]) -> "Tuple[Outc
 
 
 def entrances(core: ModuleType) -> Iterator[Entrance]:
-    """The functions, classes and methods of a core."""
+    """Yields the functions, classes and methods of a core."""
     for name, it in list(vars(core).items()):
         if getattr(it, "__module__", "") != core.__name__:
             continue
@@ -88,13 +89,13 @@ def entrances(core: ModuleType) -> Iterator[Entrance]:
 
 
 def trees_of(function: Any) -> List[Tree]:
-    """The types of the parameters of a function."""
+    """Returns the types of the parameters of a function."""
     names = inspect.signature(function).parameters
     return [tree_of(function.__annotations__.get(name, "object")) for name in names]
 
 
 def texts() -> Iterator[bytes]:
-    """Modules: some of tools/attack fuzz, and those whose functions write at one type and read at another."""
+    """Yields modules: some of tools/attack fuzz, and some whose functions write at one type and read at another."""
     for number in range(10_000):
         yield made_core(random.Random(f"guards/{number}")).encode()
         found = fuzz.made_module(random.Random(f"guards/{number}"))
@@ -114,29 +115,29 @@ class Random(Test):
         self.addCleanup(lambda: sys.modules.pop("pycheck_guards", None))
 
     def guarded(self, text: bytes, number: int) -> Optional[str]:
-        """The name of a core with this text, of which guards are written; none where it is not clean."""
+        """Writes guards of a core with this text, and returns its name; none if it is not clean."""
         path = self.write(f"core{number}.py", text)
         made = guards.make(guards.Asked(str(path), "", False), Program(os.environ["PYCHECK"]), 60)
         return path.stem if made.written else None
 
     def loaded(self, name: str) -> ModuleType:
-        """A module, anew."""
+        """Imports a module anew."""
         sys.modules.pop(name, None)
         importlib.invalidate_caches()
         with contextlib.redirect_stdout(io.StringIO()), warnings.catch_warnings():
-            # Such as `1 is None`, which a random core has
+            # A warning about `1 is None` and the like, which a random core has
             warnings.simplefilter("ignore", SyntaxWarning)
             return importlib.import_module(name)
 
     def is_importable(self, name: str) -> bool:
-        """Whether the main of a core comes to its end, and there is something to call."""
+        """Whether the main of a core runs to its end, and there is something to call."""
         try:
             return any(way.trees for way in entrances(self.loaded(name)))
         except Exception:
             return False
 
     def cores(self) -> "Iterator[Tuple[str, random.Random]]":
-        """Cores with their guards, each with what its calls are drawn from."""
+        """Yields cores with their guards, each with the random numbers for its calls."""
         for number, text in enumerate(texts()):
             name = self.guarded(text, number)
             if name and self.is_importable(name):
@@ -162,7 +163,7 @@ class Random(Test):
                 self.try_core(name, rng)
 
     def try_core(self, name: str, rng: random.Random) -> None:
-        """Calls the guards of a core, and the same from within."""
+        """Calls the guards of a core, and makes the same calls from within."""
         core, api = self.loaded(name), self.loaded(f"{name}_api")
         ways, changes = list(entrances(core)), bool(constants_of(core))
         accepted: List[Tuple[List[str], Outcome]] = []
@@ -178,7 +179,7 @@ class Random(Test):
     def call(
         self, core: ModuleType, api: ModuleType, way: Entrance, rng: random.Random
     ) -> Optional[Tuple[List[str], Outcome]]:
-        """One call; lines that do the same within the core, and how it ended, if it was accepted."""
+        """Makes one call. If it was accepted, returns lines that do the same within the core, and how it ended."""
         values = Values(core, rng, rng.choice([0, 0, 0.05, 0.2]), rng.choice([0, 0.4, 0.8]))
         given = [values.made(tree) for tree in way.trees]
         lines, is_shared = self.spelled(core, way, given)
@@ -195,8 +196,8 @@ class Random(Test):
         return (lines, ended) if lines is not None else None
 
     def spelled(self, core: ModuleType, way: Entrance, given: List[Any]) -> "Tuple[Optional[List[str]], bool]":
-        """Lines of a core that build these arguments, and call it with them, none where there are no such lines; and
-        whether something is met twice."""
+        """Returns lines of a core that build these arguments, and call it with them, none if there are no such lines;
+        and whether a value is reached twice."""
         spelling = Spelling(core)
         try:
             for value, tree in zip(given, way.trees):
@@ -210,7 +211,8 @@ class Random(Test):
         return [*lines, f"return ({', '.join([called, *words])},)"], spelling.is_shared
 
     def compare(self, name: str, accepted: List[Tuple[List[str], Outcome]], changes: bool) -> None:
-        """The core with a main that does the same is clean, and each part of it ends as the call did."""
+        """Asserts that the core with a main that does the same is clean, and that each part of it ends as the call
+        did."""
         text = (self.folder / f"{name}.py").read_text(encoding="utf-8").replace("def main(", f"def {OWN_MAIN}(")
         last = max(at for at, line in enumerate(text.split("\n")) if line.startswith("main()"))
         own = [line for at, (lines, _) in enumerate(accepted) for line in (f"def call_{at}():", *indented(lines))]
@@ -231,5 +233,5 @@ class Random(Test):
 
 
 def indented(lines: List[str]) -> List[str]:
-    """Lines within a function."""
+    """Returns lines within a function."""
     return ["    " + line for line in lines]

@@ -1,4 +1,4 @@
-"""Guards of a core: what is written, when it is, and what the border says of a value."""
+"""Guards of a core: their text, when they are written, and the answers of the border to a value."""
 from __future__ import annotations
 
 import contextlib
@@ -44,7 +44,7 @@ def main():
 
 main()
 """
-# What is written of it, in its parts that are not the same everywhere
+# The guards of this core, without the parts that every module of guards has
 WRITTEN = '''
 import typing as _typing
 from typing import Any
@@ -88,7 +88,7 @@ def shown(value: Any) -> Any:
 def main() -> Any:
     return _typing.cast(Any, _core.main)()
 '''
-# All that guards say
+# The whole comment of guards
 SENTENCE = (
     "Where the report of the core is clean, a call through this module either raises a TypeError here, or the core"
     " raises none of the four exceptions, as long as nobody rebinds names of the core or writes into these values from"
@@ -138,7 +138,7 @@ class Guards(Test):
         self.addCleanup(self.forget)
 
     def forget(self) -> None:
-        """Has what lies in the folder read anew."""
+        """Makes Python read the files of the folder anew."""
         for name in [it for it, module in sys.modules.items() if self.lies_here(module)]:
             del sys.modules[name]
         importlib.invalidate_caches()
@@ -148,7 +148,7 @@ class Guards(Test):
         return str(getattr(module, "__file__", "")).startswith(str(self.folder))
 
     def api(self, text: str) -> Any:
-        """The guards of a core with this text."""
+        """Returns the guards of a core with this text."""
         self.forget()
         for path in self.folder.glob("*.py"):
             path.unlink()
@@ -159,11 +159,11 @@ class Guards(Test):
             return importlib.import_module("shop_api")
 
     def files(self) -> List[str]:
-        """What lies in the folder."""
+        """Returns the files in the folder."""
         return sorted(it.name for it in self.folder.iterdir())
 
     def told(self, call: Callable[[], object]) -> str:
-        """What a call that is not let in is told."""
+        """Returns the message to a call that is not let in."""
         with self.assertRaises(TypeError) as caught:
             call()
         entered = [it.filename for it in traceback.extract_tb(caught.exception.__traceback__)]
@@ -172,7 +172,7 @@ class Guards(Test):
 
 
 class Writing(Guards):
-    """When guards are written, and what stands in them."""
+    """When guards are written, and their contents."""
 
     def test_what_is_written(self) -> None:
         self.write("shop.py", CORE)

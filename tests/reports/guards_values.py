@@ -23,7 +23,7 @@ class NotSpelled(Exception):
 
 
 def fields_of(core: ModuleType) -> Fields:
-    """The fields of the classes of a core, with their types."""
+    """Returns the fields of the classes of a core, with their types."""
     classes = [it for it in vars(core).values() if isinstance(it, type) and it.__module__ == core.__name__]
     found: Fields = {}
     for it in classes:
@@ -33,12 +33,12 @@ def fields_of(core: ModuleType) -> Fields:
 
 
 def constants_of(core: ModuleType) -> Dict[str, Any]:
-    """The lists and dicts that constants of a core are."""
+    """Returns the lists and dicts that are constants of a core."""
     return {name: it for name, it in vars(core).items() if isinstance(it, (list, dict)) and name[0] != "_"}
 
 
 class Values:
-    """Makes values for the types of a core. Some are those of before, some are wrong."""
+    """Makes values for the types of a core. Some are values made before, some are wrong."""
 
     def __init__(self, core: ModuleType, rng: random.Random, wrong: float, again: float) -> None:
         self.core, self.rng, self.fields = core, rng, fields_of(core)
@@ -46,7 +46,7 @@ class Values:
         self.pool: List[Tuple[Any, Any]] = [(None, it) for it in constants_of(core).values()]
 
     def made(self, tree: Tree, depth: int = 0) -> Any:
-        """A value, mostly of the type."""
+        """Returns a value, mostly of the type."""
         head = tree[0]
         if self.rng.random() < self.wrong:
             others = [it for _, it in self.pool]
@@ -64,7 +64,7 @@ class Values:
         return found
 
     def new(self, tree: Tree, depth: int) -> Any:
-        """A value that was not there before."""
+        """Returns a new value."""
         head, parts = str(tree[0]), [it for it in tree[1:] if isinstance(it, tuple)]
         size = self.rng.randrange(3 if depth < 4 else 1)
         if head == "list":
@@ -78,12 +78,12 @@ class Values:
         return self.plain(head, depth)
 
     def made_key(self, tree: Tree) -> Any:
-        """A key of a dict."""
+        """Returns a key of a dict."""
         keys: List[Any] = ["a", "b", ""] if tree == ("str",) else [1, 0, -3]
         return self.rng.choice(keys)
 
     def plain(self, head: str, depth: int) -> Any:
-        """A value of a type without parts."""
+        """Returns a value of a type without parts."""
         if head == "object":
             heads = ["int", "str", "None", *(self.fields if depth < 3 else [])]
             tree: Tree = (self.rng.choice(heads),)
@@ -92,7 +92,7 @@ class Values:
         return self.rng.choice(ATOMS[head])
 
     def instance(self, head: str, depth: int) -> Any:
-        """An instance of a class or of a descendant; now and then of one with a field that comes back to it."""
+        """Returns an instance of a class or of a descendant; now and then one with a field that leads back to it."""
         made_of = getattr(self.core, head)
         kinds = [name for name in self.fields if issubclass(getattr(self.core, name), made_of)]
         kind = self.rng.choice(kinds)
@@ -106,7 +106,7 @@ class Values:
 
 
 class Spelling:
-    """Lines of a core that build values as they lie in memory now."""
+    """Lines of a core that build values as they are in memory now."""
 
     def __init__(self, core: ModuleType) -> None:
         self.fields = fields_of(core)
@@ -117,7 +117,8 @@ class Spelling:
         self.is_shared = False
 
     def note(self, value: Any, tree: Tree) -> None:
-        """Notes what a value reaches, each list and dict with the first type at which it is met, if there is one."""
+        """Records everything that a value reaches, each list and dict with the first type at which it is reached, if
+        there is one."""
         kind = type(value)
         tree = member_for(value, tree, self.fields)
         known = self.types.get(id(value))
@@ -132,7 +133,7 @@ class Spelling:
                 self.note_parts(value, tree)
 
     def note_parts(self, value: Any, tree: Tree) -> None:
-        """Notes what lies in a list, a dict or an instance."""
+        """Records the contents of a list, a dict or an instance."""
         part = tree[-1] if tree[0] in ("list", "dict") else ("object",)
         wanted = part if isinstance(part, tuple) else ("object",)
         if type(value) is list:
@@ -146,7 +147,7 @@ class Spelling:
                 self.note(vars(value)[name], field)
 
     def lines(self) -> List[str]:
-        """The lines that build all that was noted."""
+        """Returns the lines that build all recorded values."""
         made, filled, late = [], [], []
         for at, value in self.values.items():
             self.names[at] = self.constants.get(at) or f"w{len(self.names)}"
@@ -176,7 +177,8 @@ class Spelling:
         order.append(at)
 
     def instance(self, at: int, before: Sequence[int], made: List[str]) -> List[str]:
-        """Adds the line that makes an instance, and gives those that set the fields for which it was too early."""
+        """Adds the line that makes an instance, and returns those that set the fields whose values did not exist
+        yet."""
         value, given, late = self.values[at], [], []
         kind = type(value).__name__
         for name, tree in self.fields[kind].items():
@@ -192,13 +194,13 @@ class Spelling:
         return late
 
     def filling(self, name: str, value: Any) -> List[str]:
-        """The lines that put into a list or a dict what it has."""
+        """Returns the lines that fill a list or a dict."""
         if type(value) is list:
             return [f"{name}.append({self.word(it)})" for it in value]
         return [f"{name}[{self.word(key)}] = {self.word(it)}" for key, it in value.items()]
 
     def word(self, value: Any) -> str:
-        """An expression for a value."""
+        """Returns an expression for a value."""
         if id(value) in self.names:
             return self.names[id(value)]
         if type(value) is tuple:
@@ -210,7 +212,7 @@ class Spelling:
 
 
 def parts_of(value: Any) -> List[Any]:
-    """What lies in a list, a tuple, a dict or an instance; nothing in others."""
+    """Returns the contents of a list, a tuple, a dict or an instance; nothing for others."""
     if isinstance(value, (list, tuple)):
         return list(value)
     if isinstance(value, dict):
@@ -220,14 +222,14 @@ def parts_of(value: Any) -> List[Any]:
 
 
 def instances_in(value: Any) -> List[Any]:
-    """The value itself, or the instances in a tuple."""
+    """Returns the value itself, or the instances in a tuple."""
     if type(value) is tuple:
         return [it for part in value for it in instances_in(part)]
     return [value] if hasattr(type(value), "__dataclass_fields__") else []
 
 
 def member_for(value: Any, tree: Tree, fields: Fields) -> Tree:
-    """The member of a type that a value of its kind has."""
+    """Returns the member of a type that a value of its kind has."""
     heads: Dict[type, str] = {list: "list", dict: "dict", tuple: "tuple"}
     head = heads.get(type(value))
     for part in tree[1:] if tree[0] == "union" else [tree]:
@@ -237,7 +239,7 @@ def member_for(value: Any, tree: Tree, fields: Fields) -> Tree:
 
 
 def spelled_type(value: Any, tree: Tree) -> str:
-    """An annotation for a list or a dict."""
+    """Returns an annotation for a list or a dict."""
     if tree == ("object",):
         key = "int" if value and isinstance(next(iter(value)), int) else "str"
         return "list[object]" if type(value) is list else f"dict[{key}, object]"
@@ -245,7 +247,7 @@ def spelled_type(value: Any, tree: Tree) -> str:
 
 
 def text_of(tree: Tree) -> str:
-    """A type as it is written."""
+    """Returns a type as source text."""
     parts = [text_of(it) for it in tree[1:] if isinstance(it, tuple)]
     if tree[0] == "union":
         return " | ".join(parts)
@@ -253,8 +255,8 @@ def text_of(tree: Tree) -> str:
 
 
 def shape(values: Any) -> List[str]:
-    """Values as they lie in memory, as lines in which each list, dict and instance has a number: two heaps of one form
-    have the same lines."""
+    """Returns values as they are in memory, as lines in which each list, dict and instance has a number: two heaps of
+    one form have the same lines."""
     numbers: Dict[int, int] = {}
     lines: List[str] = []
     queue: List[Any] = [values]
@@ -267,6 +269,6 @@ def shape(values: Any) -> List[str]:
         lines.append(f"{type(value).__name__} {known} {len(parts)}")
         queue += parts
         if not isinstance(value, tuple):
-            # A tuple has no place of its own
+            # A tuple has no identity of its own
             numbers.setdefault(id(value), len(numbers))
     return lines

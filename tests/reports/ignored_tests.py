@@ -1,4 +1,5 @@
-"""What git ignores, read without git: compared with git where there is one, and that nothing of a folder is run."""
+"""Files that git ignores, found without git: compared with git if there is one, and shown to run nothing in a
+folder."""
 from __future__ import annotations
 
 import os
@@ -21,18 +22,18 @@ PIECES = [
     "[]a]", "[[:alpha:]]", "[![:alpha:]]", "[[:no:]]", "[[:]", "[a", "[a-]", "[\\]]", "[--a]", "[[:al", "\\", "\\a",
     "\\*", "\\ ", " ", "!", "#", ".py", ".", "*.py", "\xe4", "]", "-", "\\/", "\t",
 ]  # fmt: skip
-# The ends of lines, and what begins a file
+# The ends of lines, and the beginning of a file
 ENDS = ["\n", "\n", "\n", "\r\n", " \n", "  \n", "\\ \n", "\n\n", "\r\r\n", "\0x\n", "\t\n"]
 
 
 def pattern_of(rng: random.Random) -> str:
-    """A pattern at random."""
+    """Returns a pattern at random."""
     begin = rng.choice(["", "", "", "", "!", "/", "#", "\\!", "\\#", "**/"])
     return begin + "".join(rng.choice(PIECES) for _ in range(rng.randrange(1, 5))) + rng.choice(["", "", "", "/", "/"])
 
 
 def patterns_of(rng: random.Random, most: int) -> bytes:
-    """A file of patterns at random."""
+    """Returns a file of patterns at random."""
     lines = [pattern_of(rng) + rng.choice(ENDS) for _ in range(rng.randrange(1, most))]
     text = rng.choice(["", "", "", "\ufeff"]) + "".join(lines)
     return (text if rng.randrange(4) else text.rstrip("\n")).encode()
@@ -51,7 +52,7 @@ class Repositories(Test):
             it.mkdir()
 
     def git(self, *words: str, cwd: "Path | None" = None, given: bytes = b"") -> bytes:
-        """Runs git, without any configuration but that of the test's own home."""
+        """Runs git, with no configuration but that of the test's own home."""
         settings = {"HOME": str(self.home), "XDG_CONFIG_HOME": None, "GIT_CONFIG_NOSYSTEM": "1"}
         done = subprocess.run(
             [str(GIT), "-c", "user.name=a", "-c", "user.email=a", "-c", "protocol.file.allow=always", *words],
@@ -61,14 +62,14 @@ class Repositories(Test):
         return done.stdout
 
     def kept_by_git(self, cwd: "Path | None" = None) -> Set[str]:
-        """The modules that git does not ignore."""
+        """Returns the modules that git does not ignore."""
         cwd = cwd or self.top
         names = self.git("ls-files", "-z", "--cached", "--others", "--exclude-standard", cwd=cwd).split(b"\0")
         modules = (os.fsdecode(it) for it in names if it.endswith(b".py"))
         return {it for it in modules if os.path.lexists(cwd / it) and not it.startswith(".") and "/." not in it}
 
     def kept_here(self, cwd: "Path | None" = None) -> Set[str]:
-        """The modules that the walk finds."""
+        """Returns the modules that the walk finds."""
         from pycheck_all.files import Walk
 
         before, folder = {it: os.environ.get(it) for it in ("HOME", "XDG_CONFIG_HOME")}, os.getcwd()
@@ -84,7 +85,7 @@ class Repositories(Test):
                 os.environ.update({name: value} if value is not None else {})
 
     def agree(self, cwd: "Path | None" = None) -> Set[str]:
-        """Asserts that both find the same modules, and gives them."""
+        """Asserts that both find the same modules, and returns them."""
         found = self.kept_here(cwd)
         self.assertEqual(sorted(found), sorted(self.kept_by_git(cwd)))
         return found
@@ -94,7 +95,7 @@ class BesideGit(Repositories):
     """The same answers as git's."""
 
     def paths(self, rng: random.Random) -> Iterator[str]:
-        """Some paths at random, no one a folder of another one."""
+        """Yields some paths at random, none of which is a folder of another one."""
         met: Set[str] = set()
         for _ in range(40):
             names = [rng.choice(NAMES) for _ in range(rng.randrange(1, 5))]
@@ -138,7 +139,7 @@ class BesideGit(Repositories):
                 self.tree(random.Random(f"trees/{seed}"))
 
     def tree(self, rng: random.Random) -> None:
-        """Makes a repository at random, and compares what is left of it, in it and in a folder of it."""
+        """Makes a repository at random, and compares the modules that are left, in it and in a folder of it."""
         shutil.rmtree(self.top)
         self.top.mkdir()
         self.git("init", "-q")
@@ -162,7 +163,7 @@ class BesideGit(Repositories):
         self.git("--literal-pathspecs", "add", "-f", "--", *forced)
         self.agree()
         inner = rng.choice(every)
-        # Of a folder that is ignored itself git tells nothing, while it is checked where it is named
+        # Git reports nothing in a folder that is itself ignored, while such a folder is checked if it is named
         if self.kept_by_git(inner):
             self.agree(inner)
 
@@ -262,7 +263,7 @@ class Kinds(Repositories):
 
 
 class Hostile(Test):
-    """Folders that would have git run a command: it leaves no trace."""
+    """Folders that would make git run a command: it leaves no trace."""
 
     def setUp(self) -> None:
         super().setUp()
@@ -270,14 +271,14 @@ class Hostile(Test):
         self.config = f'[core]\n\tbare = false\n\tworktree = .\n\tfsmonitor = "touch {self.trace}; false"\n'
 
     def repository(self, folder: str) -> None:
-        """Writes what makes a folder one of git."""
+        """Makes a folder a repository of git."""
         self.write(f"{folder}/HEAD", "ref: refs/heads/main\n")
         self.write(f"{folder}/objects/.keep", "")
         self.write(f"{folder}/refs/.keep", "")
         self.write(f"{folder}/config", "[core]\n\trepositoryformatversion = 0\n" + self.config)
 
     def assert_silent(self, *words: str, found: Sequence[str]) -> None:
-        """A check finds these files, and leaves no trace."""
+        """Asserts that a check finds these files, and leaves no trace."""
         paths = [it.partition(":")[0] for it in self.lines(*words)[:-1]]
         self.assertEqual(paths, list(found))
         self.assertFalse(self.trace.exists())
@@ -357,7 +358,7 @@ class Hostile(Test):
         self.assertEqual(done.status, 1)
 
     def top_git(self) -> Path:
-        """The folder of git of the test's repository."""
+        """Returns the folder of git of the test's repository."""
         return self.folder / "top" / ".git"
 
 

@@ -1,4 +1,4 @@
-"""What is said to write instead: each row of the tables of docs/PROFILE.md, told by what stands at a refusal."""
+"""The advice on what to write instead: each row of the tables of docs/PROFILE.md, found by the text at a refusal."""
 from __future__ import annotations
 
 import json
@@ -10,9 +10,9 @@ from support import HEADER, ROOT, Test
 
 CLASSES = HEADER + "from dataclasses import dataclass\n\n@dataclass\n"
 TABLE = re.compile(r"^\| Python \| Answer \| Write \|\n\|[-|]+\n((?:\|.*\n)+)", re.MULTILINE)
-# What a second row of the same form is named by: its example is a class without @dataclass
+# The name of a second row with the same form: its example is a class without @dataclass
 EXCEPTIONS = "class Odd(Exception):"
-# What a text is made of that takes long where its time does not grow with its length alone
+# Pieces of a text that takes long unless its time grows with its length alone
 PIECES = [
     *(bytes([it]) for it in b"\\'\"()[:,=<@*.#x0 \n\t\xff"),
     *(b"([{", b"[a, ", b"'a' ", b"''' ", b"'\n", b"\\'''\n", b'\\"x\\\n', b'"\\', b"not ", b"a < ", b"a.", b"f'"),
@@ -21,12 +21,12 @@ PIECES = [
 
 
 def cells(line: str) -> List[str]:
-    """The cells of a row of a table."""
+    """Returns the cells of a row of a table."""
     return [it.strip().replace("\\|", "|") for it in re.split(r"(?<!\\)\|", line)[1:-1]]
 
 
 def rows_of_the_page() -> Dict[str, Tuple[str, str]]:
-    """Of each form that is refused: its cell, and what the page says to write; by its text without backquotes."""
+    """Returns for each refused form, by its text without backquotes, its cell, and what the page says to write."""
     page = (ROOT / "docs" / "PROFILE.md").read_text(encoding="utf-8")
     found = [cells(line) for table in TABLE.findall(page) for line in table.splitlines()]
     refused = [(form, write) for form, answer, write in found if re.search(r"`[SLING]\d`", answer)]
@@ -34,12 +34,12 @@ def rows_of_the_page() -> Dict[str, Tuple[str, str]]:
 
 
 def said(form: str, write: str) -> str:
-    """The sentence for a row."""
+    """Returns the sentence for a row."""
     return f"There is {form}: write {write}." if form.startswith("no ") else f"Instead of {form} write {write}."
 
 
 def repeated(length: int) -> Iterator[bytes]:
-    """Texts that repeat a piece: by itself, in a string and in a bracket."""
+    """Yields texts that repeat a piece: by itself, in a string and in a bracket."""
     for piece in PIECES:
         for head in (b"", b'x = """', b"f("):
             yield head + piece * (length // len(piece))
@@ -49,7 +49,7 @@ class LeftOut(Test):
     """The advice under a refusal."""
 
     def advice(self, texts: Dict[str, str]) -> Dict[str, str]:
-        """What is said to write instead under the first refusal of each text."""
+        """Returns what to write instead under the first refusal of each text."""
         for number, text in enumerate(texts.values()):
             self.write(f"{number:03}.py", text)
         files = json.loads(self.check("--output", "json", ".").output)["files"]
@@ -209,7 +209,7 @@ class LeftOut(Test):
         self.assertEqual(self.check("a.py").status, 0)
 
     def test_time_grows_with_the_length(self) -> None:
-        """Of texts that repeat a piece: what takes as long as the square of their length takes some seconds here."""
+        """For texts that repeat a piece: quadratic time would be some seconds here."""
         for text in repeated(1 << 15):
             self.compare_time(text, 3)
 
@@ -225,7 +225,7 @@ class LeftOut(Test):
             self.compare_time(text, 30)
 
     def compare_time(self, text: bytes, seconds: float) -> None:
-        """Compares how long everything takes that is told of a text, with a time of the processor that is plenty."""
+        """Compares the time of all texts about a file with a generous bound on the time of the processor."""
         from pycheck_all import codes, silent, source
 
         with self.subTest(text[:20]):

@@ -1,5 +1,6 @@
-"""Calls that print what modules of Python's library do, before and after `--fix`: each of a module `m`, with a source
-`r` of numbers by chance."""
+"""Calls that print the results of modules of Python's library, before and after `--fix`: each calls a module `m`, with
+a source
+`r` of random numbers."""
 from typing import Dict
 
 USES: Dict[str, str] = {

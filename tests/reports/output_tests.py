@@ -1,5 +1,4 @@
-"""What is printed of hostile names, lines of source and baselines: no control character, and no command that is not
-meant."""
+"""The output for hostile names, lines of source and baselines: no control character, and no unintended command."""
 from __future__ import annotations
 
 import json
@@ -30,10 +29,11 @@ NAMES = [
 
 
 class Harmless(Test):
-    """What the tests share."""
+    """Shared parts of the tests."""
 
     def assert_harmless(self, text: str, commands: bool = False) -> None:
-        """A text has no control character but line feeds, and no line that is a command unless that is meant."""
+        """Asserts that a text has no control character but line feeds, and no line that is a command unless that is
+        intended."""
         for line in text.split("\n"):
             self.assertIsNone(texts.CONTROL.search(line), repr(line))
             if line.lstrip().startswith("::"):
@@ -52,7 +52,7 @@ class Harmless(Test):
 
 
 class Output(Harmless):
-    """Everything that is printed."""
+    """All output."""
 
     def test_each_form_of_hostile_names(self) -> None:
         self.hostile()
@@ -150,7 +150,7 @@ class Baselines(Harmless):
     ENTRY: Dict[str, Any] = {"path": "a.py", "code": "E13", "line": 'print(1 + "a")', "count": 1}
 
     def refused(self, data: "str | bytes", said: str) -> None:
-        """A baseline is refused, in a line."""
+        """Asserts that a baseline is refused, in a line."""
         self.write("known.json", data)
         for option in ("--baseline", "--write-baseline"):
             done = self.check(option, "known.json", "--all-refusals", "a.py")

@@ -16,7 +16,7 @@ MYPY = shutil.which("mypy", path=os.pathsep.join([os.environ.get("PATH", ""), "/
 
 
 def others() -> Dict[str, str]:
-    """The other Pythons that are there, of those that must run the package: the version and the path of each."""
+    """Returns the other Pythons on this machine that must run the package: the version and the path of each."""
     names = [f"python3.{minor}" for minor in range(9, 20)]
     paths = [*map(shutil.which, names), *glob.glob(os.path.expanduser("~/.pyenv/versions/*/bin/python3"))]
     told = "import sys; print('.'.join(map(str, sys.version_info[:2])), sys.version_info >= (3, 9))"
@@ -30,7 +30,7 @@ def others() -> Dict[str, str]:
 
 
 class Package(Test):
-    """What must hold of the files of the package."""
+    """The requirements on the files of the package."""
 
     @unittest.skipUnless(MYPY, "there is no mypy")
     def test_types(self) -> None:
@@ -39,7 +39,7 @@ class Package(Test):
         self.assertEqual((done.returncode, done.stderr), (0, b""), done.stdout.decode())
 
     def copied_check(self) -> List[str]:
-        """The words that run tools/check over the files of the test's own folder."""
+        """Returns the words that run tools/check over the files of the test's own folder."""
         for name in ("check", "pycheck_tools", "pycheck_all"):
             source, copy = ROOT / "tools" / name, self.folder / "tools" / name
             if source.is_dir():

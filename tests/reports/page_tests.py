@@ -1,4 +1,4 @@
-"""The page: what it marks and says, by itself and in a browser where there is one."""
+"""The page: its marks and texts, by itself and in a browser if there is one."""
 from __future__ import annotations
 
 import html
@@ -11,7 +11,7 @@ from typing import List, Optional, Tuple
 import browser
 from support import CLEAN, ERROR, HEADER, Test, modules
 
-# Of elements, what the page leaves open
+# The elements that the page need not close
 VOID = {"meta", "link"}
 
 
@@ -42,15 +42,15 @@ class Outline(HTMLParser):
 
 
 def text_of(fragment: str) -> str:
-    """The text of a fragment of the page."""
+    """Returns the text of a fragment of the page."""
     return html.unescape(re.sub(r"<[^>]*>", "", fragment))
 
 
 class Pages(Test):
-    """The page of the folder of modules, and of one module that has much."""
+    """The page of the folder of modules, and of one large module."""
 
     def page(self, *words: str) -> str:
-        """The page that is written."""
+        """Returns the page that is written."""
         self.check("--page", "page.html", *words)
         return (self.folder / "page.html").read_text(encoding="utf-8")
 
@@ -163,13 +163,13 @@ class InBrowser(Test):
         self.assertEqual(self.browser.value("document.querySelector(':target').className"), "line")
 
     def test_the_console_is_heard(self) -> None:
-        """The test of the console can fail: what a page says there is kept."""
+        """The test of the console can fail: messages of a page are kept."""
         self.write("loud.html", "<!doctype html><script>console.error('loud')</script>")
         self.browser.open(self.folder / "loud.html", 400, "light")
         self.assertIn("loud", " ".join(self.browser.told))
 
 
-# The marks that take some room; the marks whose text is less than 4.5 to 1 against their ground; the links to nowhere
+# The marks that take some room; the marks whose text has a contrast of less than 4.5 to 1; the links to nowhere
 SHOWN = "[...document.querySelectorAll('mark.place')].filter(it => it.getClientRects().length).length"
 UNREADABLE = """(() => {
   const parts = text => text.match(/[\\d.]+/g).slice(0, 3).map(it => it / 255)

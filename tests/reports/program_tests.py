@@ -1,4 +1,4 @@
-"""Which program is asked, what happens where it fails, and the words and outputs of the command."""
+"""The choice of the program that is asked, its failures, and the words and outputs of the command."""
 from __future__ import annotations
 
 import os
@@ -21,7 +21,7 @@ class Programs(Test):
             self.write(name, ERROR)
 
     def told(self, lines: str) -> str:
-        """What is told of b.py, if its program does this; the others are checked all the same."""
+        """Returns the message about b.py, if its program does this; the others are checked all the same."""
         program = self.program(f'case "$3" in *b.py) {lines};; esac\nreal "$@"')
         done = self.check("--program", program, "a.py", "b.py", "c.py")
         shown = done.output.splitlines()
@@ -101,7 +101,7 @@ class Programs(Test):
         words = [sys.executable, str(COMMAND), "--program", program, "."]
         process = subprocess.Popen(
             words, cwd=self.folder, stdout=subprocess.PIPE, stderr=subprocess.PIPE, env=variables({}),
-            # What a shell starts in the background ignores this signal, and hands that on
+            # A process that a shell starts in the background ignores this signal, and so do its children
             preexec_fn=lambda: signal.signal(signal.SIGINT, signal.SIG_DFL),
         )
         began = time.monotonic()
@@ -113,20 +113,20 @@ class Programs(Test):
 
 
 class Choice(Test):
-    """Which program is asked."""
+    """The choice of the program that is asked."""
 
     def setUp(self) -> None:
         super().setUp()
         self.write("a.py", ERROR)
 
     def stand_in(self, name: str, said: str) -> str:
-        """A program that says what its version is; its path."""
+        """Writes a program that prints its version, and returns its path."""
         path = self.write(name, f"#!/bin/sh\necho {said}\n")
         path.chmod(0o755)
         return str(path)
 
     def version(self, *words: str, **changed: "str | None") -> str:
-        """What the command says of the version."""
+        """Returns the version that the command prints."""
         return self.checked([*words, "--version"], b"", changed).output
 
     def test_option_before_variable(self) -> None:
@@ -135,7 +135,7 @@ class Choice(Test):
         self.assertEqual(self.version(PYCHECK=two), f"pycheck 4.5.6 at {two}\n")
 
     def checkout(self, script: str) -> "list[str]":
-        """A copy of the tools beside a script that finds the program; the words that run the command there."""
+        """Copies the tools beside a script that finds the program, and returns the words that run the command there."""
         tools = self.folder / "tools"
         shutil.copytree(
             ROOT / "tools" / "pycheck_all", tools / "pycheck_all", ignore=shutil.ignore_patterns("__pycache__")
@@ -145,7 +145,7 @@ class Choice(Test):
         return [sys.executable, str(tools / "check_all"), "--version"]
 
     def run_words(self, words: "list[str]", **changed: "str | None") -> "tuple[int, str, str]":
-        """Runs these words; the status and both outputs."""
+        """Runs these words, and returns the status and both outputs."""
         done = subprocess.run(words, capture_output=True, cwd=self.folder, env=variables({"PYCHECK": None, **changed}))
         return done.returncode, done.stdout.decode(), done.stderr.decode()
 

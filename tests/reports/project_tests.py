@@ -13,7 +13,7 @@ from support import CLEAN, DYNAMIC, ERROR, REFUSED, Test
 from pycheck_all import texts
 
 GIT = shutil.which("git")
-# What the rules say of ERROR, at the end of its path
+# The report of the rules on ERROR, which follows its path
 FOUND = ":4:11: E13 operator"
 COUNTS = "0 errors, 0 dynamic places"
 
@@ -26,12 +26,12 @@ class Project(Test):
         self.write(os.path.join(folder, "pyproject.toml"), f'[project]\nname = "shop"\n\n[tool.pycheck]\n{text}\n')
 
     def assert_lines(self, wanted: "list[str]", *words: str) -> None:
-        """The command prints these lines."""
+        """Asserts that the command prints these lines."""
         self.assertEqual(self.lines(*words), wanted)
 
 
 class Core(Project):
-    """What is checked of a project with a core."""
+    """The files that are checked in a project with a core."""
 
     def setUp(self) -> None:
         super().setUp()
@@ -150,7 +150,7 @@ class Marks(Project):
 
 
 class Excluded(Project):
-    """What the settings leave out."""
+    """The files that the settings leave out."""
 
     def test_folders_and_named_files(self) -> None:
         for name in ("a.py", "old/b.py", "src/made/c.py", "src/d_made.py"):
@@ -180,7 +180,7 @@ class Excluded(Project):
 
 
 class Found(Project):
-    """Where the settings are looked for."""
+    """The folders in which settings are searched."""
 
     def setUp(self) -> None:
         super().setUp()
@@ -189,7 +189,7 @@ class Found(Project):
         self.settings('output = "json"')
 
     def is_json_in(self, folder: str) -> bool:
-        """Whether the settings hold in a folder."""
+        """Whether the settings apply in a folder."""
         self.folder = self.top / folder
         return self.check("--no-project" if not folder else ".", ".").output.startswith("{")
 
@@ -235,7 +235,7 @@ class Faults(Project):
     """Settings that are wrong, or hostile."""
 
     def assert_told(self, said: str) -> None:
-        """The settings are refused, with these words, and nothing is checked."""
+        """Asserts that the settings are refused, with these words, and nothing is checked."""
         done = self.check(".")
         self.assertEqual((done.status, done.output), (3, ""))
         self.assertEqual(done.error.count("\n"), 1)
@@ -299,7 +299,7 @@ class Faults(Project):
         self.assert_told("Too many levels of symbolic links")
 
     def unlink_or_not(self, path: Any) -> None:
-        """Removes a file, if it is there."""
+        """Removes a file, if it exists."""
         path.unlink(missing_ok=True)
 
     def test_without_a_table_nothing_is_said(self) -> None:
@@ -315,7 +315,7 @@ class Faults(Project):
 
 
 class Folders(Project):
-    """Folders of what is made or installed."""
+    """Folders of generated or installed files."""
 
     def setUp(self) -> None:
         super().setUp()
@@ -325,7 +325,7 @@ class Folders(Project):
         self.write("any/pyvenv.cfg", "home = /usr/bin\n")
 
     def paths(self, *words: str) -> "list[str]":
-        """The paths with a finding."""
+        """Returns the paths with a finding."""
         return [it.partition(":")[0] for it in self.lines(*words)[:-1]]
 
     def test_they_are_left_out_of_folders(self) -> None:

@@ -54,9 +54,9 @@ if __name__ == "__main__":
     print(load("x"))
     go()
 '''
-# Line and column of each refused statement, with its code: of two in one statement, that of the earlier layer. N1 to N5
+# Line and column of each refused statement, with its code: if a statement has two, that of the earlier layer. N1 to N5
 # come before G1. Line 6, `class`, has a G1 twice, at one place: there is no header, and no @dataclass. Line 32 has a G1
-# at `return` too, of a later layer than its N2. `except`, `finally` and `case` stand beside their `try` and `match`
+# at `return` too, of a later layer than its N2. `except`, `finally` and `case` are beside their `try` and `match`
 WANTED = [
     (1, 1, "L2"),
     (2, 1, "N1"),
@@ -91,7 +91,7 @@ class Refusals(Test):
     """The option --all-refusals."""
 
     def places(self, text: "str | bytes", *words: str) -> "list[tuple[int, int, str]]":
-        """Line, column and code of each refusal that is listed, and that none is left."""
+        """Returns line, column and code of each refusal that is listed, and asserts that none is left."""
         self.write("a.py", text)
         document = json.loads(self.check("--all-refusals", "--output", "json", *words, "a.py").output)
         file = document["files"][0]
@@ -106,7 +106,7 @@ class Refusals(Test):
         return sorted(found)
 
     def body(self, *lines: str) -> str:
-        """A module with these lines in its function, from line 4."""
+        """Returns a module with these lines in its function, from line 4."""
         return HEADER + "def main():\n" + "".join(f"    {line}\n" for line in lines) + "\nmain()\n"
 
     def test_a_whole_module(self) -> None:

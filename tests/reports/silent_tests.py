@@ -1,4 +1,4 @@
-"""Which errors are silent, and how it is said that they suspend the promise."""
+"""The errors that are silent, and the sentence that they suspend the promise."""
 from __future__ import annotations
 
 import json
@@ -14,7 +14,7 @@ SILENT = HEADER + (
     'def main():\n    print(f() + "a")\nmain()\n'
 )
 SUSPENDED = "the promise is suspended by line {}: a run may fail before it passes through a line of the report"
-# Places of errors in a module, each with the code and the kind that it is to have, or none where it is heard
+# Places of errors in a module, each with the code and the expected kind, or none if the error is heard
 WORDS = {
     "decorator ": silent.DECORATOR,
     "tested ": silent.TESTED,
@@ -70,7 +70,7 @@ def main(): pass
 
 
 def marked() -> Tuple[bytes, List[Tuple[str, int, str]]]:
-    """The module of these marks as it is without them, and the code, the first byte and the kind of each."""
+    """Returns the module without these marks, and the code, the first byte and the kind of each."""
     text, found, end = "", [], 0
     for mark in MARK.finditer(MARKED):
         text += MARKED[end : mark.start()]
@@ -80,7 +80,7 @@ def marked() -> Tuple[bytes, List[Tuple[str, int, str]]]:
 
 
 class Kinds(Test):
-    """What is silent, by the text alone."""
+    """The errors that are silent, by the text alone."""
 
     def test_marked_places(self) -> None:
         data, places = marked()
@@ -118,7 +118,7 @@ class Kinds(Test):
 
 
 class Said(Test):
-    """How it is said."""
+    """The sentence about silent errors."""
 
     def test_full(self) -> None:
         self.write("silent.py", SILENT)

@@ -1,4 +1,4 @@
-"""How long a project of a thousand files takes."""
+"""The time for a project of a thousand files."""
 from __future__ import annotations
 
 import json
@@ -15,32 +15,32 @@ from support import COMMAND, Test, variables
 from pycheck_tools.attack import fuzz
 
 FILES = 1000
-# Seconds on four processors, and so of processor time
+# Seconds on four processors, and therefore of processor time
 SECONDS = 3.0
 PROCESSORS = 4
-# A machine that stands still for a moment makes one run long: the least of so many counts
+# A machine that pauses for a moment makes one run long: the least of this many counts
 RUNS = 5
 # Work for one processor that takes a part of a second
 FILLED = "sum(range(5_000_000))"
 
 
 def before_others() -> List[str]:
-    """The words that run a command before all other work of the machine, as on one that has no other; none where that is
-    not allowed."""
+    """Returns the words that run a command before all other work of the machine, as on an idle one; none if that is not
+    allowed."""
     words = ["chrt", "--fifo", "1"]
     tried = shutil.which("chrt") and subprocess.run([*words, "true"], capture_output=True).returncode == 0
     return words if tried else []
 
 
 def used() -> float:
-    """The seconds of processor time of the processes that have ended."""
+    """Returns the seconds of processor time of the processes that have ended."""
     now = os.times()
     return now.children_user + now.children_system
 
 
 def stretch(first: List[str]) -> float:
-    """How many times as long as its processors work the machine takes now for work that fills them: 1.0 where it has them to
-    itself, and more where another machine on the same hardware takes them away."""
+    """Returns how many times as long as its processors work the machine takes now for work that fills them: 1.0 if it
+    has them to itself, and more if another machine on the same hardware takes them away."""
     before, began = used(), time.monotonic()
     started = [subprocess.Popen([*first, sys.executable, "-c", FILLED]) for _ in range(PROCESSORS)]
     for it in started:
@@ -70,7 +70,7 @@ class Speed(Test):
             self.assertEqual(done.returncode, 2)
             self.assertTrue(done.stdout.decode().splitlines()[-1].startswith("1000 files: "))
             runs.append((worked, passed / stretch(first)))
-        # A machine with other work, or with fewer processors, takes longer; the time of the processors tells as much
+        # A machine with other work, or with fewer processors, takes longer; the time of the processors shows as much
         self.assertLess(min(worked for worked, _ in runs), SECONDS * PROCESSORS / 2, str(runs))
         if is_timed:
             self.assertLess(min(passed for _, passed in runs), SECONDS, str(runs))

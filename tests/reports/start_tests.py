@@ -8,10 +8,10 @@ from typing import Optional
 
 from support import ERROR, PACKAGE, Done, Test, variables
 
-# What a module that must not be run does
+# The code of a module that must not be run
 RUN = 'open("ran", "w").close()\n'
 FOUND = "a.py:4:11: E13 operator\n1 file: 1 error, 0 dynamic places\n"
-# What the command imports, and what Python itself does not by then
+# Modules that the command imports, and that Python itself has not imported by then
 LATER = ("argparse", "json", "concurrent", "textwrap", "unicodedata", "bisect", "sysconfig", "html")
 
 
@@ -33,7 +33,7 @@ class Started(Test):
         return Done(done.returncode, done.stdout.decode(), done.stderr.decode())
 
     def loaded(self) -> "set[str]":
-        """The modules that a Python has by itself when it starts `-m`."""
+        """Returns the modules that a Python has loaded when it starts `-m`."""
         self.write("shows.py", "import sys\nprint(*sys.modules)\n")
         names = set(self.start("-m", "shows").output.split())
         (self.folder / "shows.py").unlink()

@@ -1,4 +1,4 @@
-"""What the tests share: the command, run as a user runs it, and a folder for each test."""
+"""Shared parts of the tests: the command, run as a user runs it, and a folder for each test."""
 from __future__ import annotations
 
 import os
@@ -36,7 +36,8 @@ class Done(NamedTuple):
 
 
 def variables(changed: Dict[str, Optional[str]]) -> Dict[str, str]:
-    """The variables of a run: those of this process, of a terminal of 100 columns, with some changed or left out."""
+    """Returns the variables of a run: those of this process, of a terminal of 100 columns, with some changed or left
+    out."""
     plain: Dict[str, Optional[str]] = {
         **os.environ,
         "COLUMNS": "100",
@@ -64,8 +65,8 @@ class Test(unittest.TestCase):
         return path
 
     def program(self, lines: str) -> str:
-        """Writes a script of the shell that stands in for the program, and gives its path. `$3` is the file; `real`
-        runs the program itself."""
+        """Writes a script of the shell that replaces the program, and returns its path. `$3` is the file; `real` runs
+        the program itself."""
         path = self.write("stand-in", f'#!/bin/sh\nreal() {{ exec "{os.environ["PYCHECK"]}" "$@"; }}\n{lines}\n')
         path.chmod(0o755)
         return str(path)
@@ -89,11 +90,11 @@ class Test(unittest.TestCase):
         return Done(done.returncode, output, error)
 
     def lines(self, *words: str, **changed: Optional[str]) -> List[str]:
-        """The lines that the command prints."""
+        """Returns the lines that the command prints."""
         return self.checked(words, b"", changed).output.splitlines()
 
     def on_terminal(self, *words: str, **changed: Optional[str]) -> Tuple[int, str]:
-        """The exit status, and what both outputs show on a terminal."""
+        """Returns the exit status, and the text of both outputs on a terminal."""
         ours, theirs = pty.openpty()
         process = subprocess.Popen(
             [sys.executable, str(COMMAND), *words],

@@ -1,4 +1,4 @@
-"""The reader of TOML, compared with that of Python where it has one."""
+"""The reader of TOML, compared with that of Python if it has one."""
 from __future__ import annotations
 
 import importlib
@@ -35,7 +35,7 @@ PIECES = ["[", "]", "{", "}", ",", "=", ".", "\n", " ", '"', "'", '"""', "'''", 
 
 
 def plain(value: Any) -> Any:
-    """A value of either reader with its numbers, truth values and times alike."""
+    """Returns a value of either reader with its numbers, truth values and times in one form."""
     if isinstance(value, dict):
         return {key: plain(it) for key, it in value.items()}
     if isinstance(value, list):
@@ -44,7 +44,7 @@ def plain(value: Any) -> Any:
 
 
 class Toml(unittest.TestCase):
-    """What stands in the table, and what is no TOML."""
+    """The values of the table, and texts that are no TOML."""
 
     def test_wrong_texts(self) -> None:
         for text in WRONG:
@@ -60,7 +60,7 @@ class Toml(unittest.TestCase):
         self.assertEqual(table, {"a": toml.Other("1_000"), "b": toml.Other("1979-05-27 07:32:00Z")})
 
     def texts(self) -> Iterator[str]:
-        """Texts by hand, and others by chance."""
+        """Yields texts by hand, and random ones."""
         yield from RIGHT
         chance = random.Random(1)
         for _ in range(3000):

@@ -1,4 +1,4 @@
-"""The option --watch: what is printed when something changes."""
+"""The option --watch: the output after a change."""
 from __future__ import annotations
 
 import select
@@ -13,7 +13,7 @@ SECONDS = 60
 
 
 class Watching(Test):
-    """A run that goes on, in the folder of the test."""
+    """A run that continues, in the folder of the test."""
 
     def start(self, *words: str) -> "subprocess.Popen[bytes]":
         """Starts a run."""
@@ -30,7 +30,7 @@ class Watching(Test):
         return process
 
     def end(self, process: "subprocess.Popen[bytes]") -> int:
-        """Interrupts a run, and gives its status."""
+        """Interrupts a run, and returns its status."""
         if process.poll() is None:
             process.send_signal(signal.SIGINT)
         status = process.wait(SECONDS)
@@ -39,7 +39,7 @@ class Watching(Test):
         return status
 
     def said(self, process: "subprocess.Popen[bytes]") -> List[str]:
-        """What one round prints: the lines up to an empty one."""
+        """Returns the output of one round: the lines up to an empty one."""
         assert process.stdout
         lines: List[str] = []
         while not lines or lines[-1]:
@@ -47,7 +47,7 @@ class Watching(Test):
         return lines[:-1]
 
     def line_of(self, output: "IO[bytes]") -> str:
-        """A line, which comes in time."""
+        """Reads a line, which must come in time."""
         self.assertTrue(select.select([output], [], [], SECONDS)[0], "nothing was printed")
         line = output.readline()
         self.assertTrue(line.endswith(b"\n"), line)

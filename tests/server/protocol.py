@@ -1,4 +1,4 @@
-"""What the tests of the language server send to it, and how they compare what it replies."""
+"""The messages that the tests of the language server send to it, and the comparison of its replies."""
 import json
 import os
 import re
@@ -62,7 +62,7 @@ class Failure(Exception):
 
 
 def texts_of(path: str, function: str) -> Dict[str, str]:
-    """The text for each code in a function of the crate of texts, by the code."""
+    """Returns the text for each code in a function of the crate of texts, by the code."""
     with open(os.path.join(ROOT, "crates", "pc_code_texts", "src", path), encoding="utf-8") as source:
         text = source.read()
     body = text.split(f"pub fn {function}(", 1)[1].split("\n}\n", 1)[0]
@@ -73,26 +73,26 @@ MEANINGS = {**texts_of("findings.rt", "meaning"), **texts_of("refusals.rt", "ref
 
 
 def frame(message: Any) -> bytes:
-    """A message with its header; bytes are framed as they are."""
+    """Returns a message with its header; bytes are framed as they are."""
     body = message if isinstance(message, bytes) else json.dumps(message).encode()
     return b"Content-Length: %d\r\n\r\n" % len(body) + body
 
 
 def request(number: Any, method: str, params: Optional[Any] = None) -> Message:
-    """A request with an identifier."""
+    """Returns a request with an identifier."""
     message = {"jsonrpc": "2.0", "id": number, "method": method}
     return message if params is None else {**message, "params": params}
 
 
 def notification(method: str, params: Optional[Any] = None) -> Message:
-    """A notification."""
+    """Returns a notification."""
     message = {"jsonrpc": "2.0", "method": method}
     return message if params is None else {**message, "params": params}
 
 
 def initialize(encodings: Optional[List[str]] = None, options: Optional[Message] = None,
                pulls: bool = False) -> Message:
-    """The request that begins a session; the client may say that it pulls diagnostics."""
+    """Returns the request that begins a session; the client may say that it pulls diagnostics."""
     capabilities: Message = {} if encodings is None else {"general": {"positionEncodings": encodings}}
     if pulls:
         capabilities["textDocument"] = {"diagnostic": {"dynamicRegistration": False}}
@@ -103,24 +103,24 @@ def initialize(encodings: Optional[List[str]] = None, options: Optional[Message]
 
 
 def did_open(text: str, version: int = 1, uri: str = URI, language: str = "python") -> Message:
-    """The notification that a document is open."""
+    """Returns the notification that a document is open."""
     document = {"uri": uri, "languageId": language, "version": version, "text": text}
     return notification("textDocument/didOpen", {"textDocument": document})
 
 
 def did_change(text: str, version: int, uri: str = URI) -> Message:
-    """The notification that a document has a new text."""
+    """Returns the notification that a document has a new text."""
     params = {"textDocument": {"uri": uri, "version": version}, "contentChanges": [{"text": text}]}
     return notification("textDocument/didChange", params)
 
 
 def did_close(uri: str = URI) -> Message:
-    """The notification that a document is closed."""
+    """Returns the notification that a document is closed."""
     return notification("textDocument/didClose", {"textDocument": {"uri": uri}})
 
 
 def at(line: int, character: int, uri: str = URI) -> Message:
-    """The parameters of a request at a position, from 0."""
+    """Returns the parameters of a request at a position, from 0."""
     return {"textDocument": {"uri": uri}, "position": {"line": line, "character": character}}
 
 
@@ -129,7 +129,8 @@ EXIT = notification("exit")
 
 
 def read_frames(output: bytes) -> List[Any]:
-    """The messages in the bytes that the server wrote; fails where they are framed otherwise than the protocol says."""
+    """Returns the messages in the bytes that the server wrote; fails if they are framed otherwise than the protocol
+    says."""
     messages = []
     while output:
         header = re.match(rb"Content-Length: (\d+)\r\n\r\n", output)
@@ -151,24 +152,25 @@ class Server:
         self.most = most  # the most bytes of memory that it may take, if there is such a limit
 
     def run(self, given: bytes, words: Optional[List[str]] = None) -> Tuple[int, bytes]:
-        """The exit status and the output for an input."""
+        """Returns the exit status and the output for an input."""
         done = subprocess.run([self.program] + (words or []), input=given, stdout=subprocess.PIPE,
                               stderr=subprocess.DEVNULL, timeout=SECONDS, preexec_fn=self.bound)
         return done.returncode, done.stdout
 
     def bound(self) -> None:
-        """Bounds the memory that this process may take for data, where there is a limit."""
+        """Limits the memory that this process may take for data, if there is a limit."""
         if self.most is not None:
             resource.setrlimit(resource.RLIMIT_DATA, (self.most, self.most))
 
     def replies(self, messages: List[Any], status: int = 0) -> List[Any]:
-        """The replies to messages; the server has to end with this status."""
+        """Returns the replies to messages; the server has to end with this status."""
         found, output = self.run(b"".join(frame(message) for message in messages))
         same("exit status", status, found)
         return read_frames(output)
 
     def replies_within(self, messages: List[Any], begun: Optional[Message] = None) -> List[Any]:
-        """The replies to messages of a session that begins and ends as it should, without those of the two ends."""
+        """Returns the replies to messages of a session that begins and ends as it should, without those of the two
+        ends."""
         replies = self.replies([begun or initialize(), notification("initialized", {})] + messages + [SHUTDOWN, EXIT])
         same("first identifier", 1, replies[0].get("id"))
         same("last reply", {"jsonrpc": "2.0", "id": "end", "result": None}, replies[-1])
@@ -176,35 +178,35 @@ class Server:
 
 
 def same(what: str, wanted: Any, found: Any) -> None:
-    """Fails where what was found is not what was wanted."""
+    """Fails if the found value is not the expected one."""
     if wanted != found or type(wanted) is not type(found):
         raise Failure(f"{what}: wanted {wanted!r}, found {found!r}")
 
 
 def span(line: int, start: int, end: int) -> Message:
-    """A range within a line, from 0."""
+    """Returns a range within a line, from 0."""
     return {"start": {"line": line, "character": start}, "end": {"line": line, "character": end}}
 
 
 def diagnostic(code: str, place: Message, before: str = "", severity: Optional[int] = None) -> Message:
-    """A diagnostic, whose message is what the code means, after the types of a flow."""
+    """Returns a diagnostic, whose message is the meaning of the code, after the types of a flow."""
     usual = 2 if code.startswith("A") else 1
     return {"code": code, "message": before + MEANINGS[code], "range": place, "source": "pycheck",
             "severity": usual if severity is None else severity}
 
 
 def symbol(kind: int, name: str, place: Message, chosen: Message, parts: Sequence[Message] = ()) -> Message:
-    """A symbol of a document, with its parts."""
+    """Returns a symbol of a document, with its parts."""
     return {"kind": kind, "name": name, "range": place, "selectionRange": chosen, "children": list(parts)}
 
 
 def note(message: str) -> Message:
-    """A diagnostic that tells of a whole text, at its first character."""
+    """Returns a diagnostic about a whole text, at its first character."""
     return {"message": message, "range": span(0, 0, 1), "source": "pycheck", "severity": 2}
 
 
 def published(diagnostics: List[Message], version: Optional[int] = None, uri: str = URI) -> Message:
-    """The notification of the diagnostics of a document."""
+    """Returns the notification of the diagnostics of a document."""
     params: Message = {"uri": uri, "diagnostics": diagnostics}
     if version is not None:
         params["version"] = version
@@ -212,7 +214,7 @@ def published(diagnostics: List[Message], version: Optional[int] = None, uri: st
 
 
 def error(number: Any, code: int, reply: Any) -> None:
-    """Fails where a reply is not this error of the protocol with this identifier."""
+    """Fails if a reply is not this error of the protocol with this identifier."""
     same("identifier", number, reply.get("id"))
     same("error", code, reply.get("error", {}).get("code"))
     if "result" in reply or not reply["error"].get("message"):
@@ -220,7 +222,7 @@ def error(number: Any, code: int, reply: Any) -> None:
 
 
 def logged(word: str, reply: Any) -> None:
-    """Fails where a reply is not a line for the log with this word."""
+    """Fails if a reply is not a line for the log with this word."""
     same("method", "window/logMessage", reply.get("method"))
     if word not in reply["params"]["message"]:
         raise Failure(f"no {word!r} in {reply!r}")

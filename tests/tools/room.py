@@ -1,4 +1,5 @@
-"""What the tests of the tools share: a folder for each test, the programs in it, and the tools as commands and as libraries."""
+"""Shared parts of the tests of the tools: a folder for each test, the programs in it, and the tools as commands and as
+libraries."""
 from __future__ import annotations
 
 import importlib
@@ -16,13 +17,13 @@ ROOT = Path(__file__).resolve().parent.parent.parent
 TOOLS = ROOT / "tools"
 CLEAN = "errors 0, dynamic 0\n"
 FAMILIES = [("S", 5, 1), ("L", 8, 1), ("I", 3, 1), ("N", 5, 1), ("G", 2, 1), ("E", 31, 2), ("A", 8, 1)]
-# The interpreter that runs this, without what it would look for beside the standard library
+# The interpreter that runs this, started without anything beside the standard library
 PYTHON = sys.executable, "-I", "-S", "-B"
 CODES = [f"{letter}{number:0{digits}}" for letter, last, digits in FAMILIES for number in range(1, last + 1)]
 
 
 def tool(name: str, folder: Path = TOOLS) -> ModuleType:
-    """A module of the package pycheck_tools in a folder, which looks at the files beside that folder."""
+    """Imports a module of the package pycheck_tools in a folder, which then uses the files beside that folder."""
     for loaded in [it for it in sys.modules if it.split(".")[0] == "pycheck_tools"]:
         del sys.modules[loaded]
     importlib.invalidate_caches()
@@ -59,16 +60,17 @@ class Case(unittest.TestCase):
         return self.program(path, body, f"{sys.executable} -ISB")
 
     def answering(self, text: str, status: int = 0) -> str:
-        """A program that answers this to any file."""
+        """Writes a program that answers this to any file, and returns its path."""
         return self.program("answering", f"cat <<'END'\n{text}END\nexit {status}\n")
 
     def copied(self) -> None:
-        """Puts the tools into the folder tools/ of the test's own, so that they look at the files beside it."""
+        """Copies the tools into the folder tools/ of the test's own, so that they use the files beside it."""
         shutil.copytree(TOOLS, self.room / "tools", ignore=shutil.ignore_patterns("__pycache__"), dirs_exist_ok=True)
 
     def ran(self, name: str, *words: str, own: bool = False, env: Optional[Dict[str, str]] = None,
             given: str = "") -> Tuple[int, str]:
-        """Runs a tool, which is a command and its first word, or the test's own copy of it: the exit status, and what it printed."""
+        """Runs a tool, which is a command and its first word, or the test's own copy of it. Returns the exit status and
+        the output."""
         command, *first = name.split()
         file = (self.room if own else ROOT) / "tools" / command
         done = subprocess.run([*PYTHON, str(file), *first, *words], cwd=self.room, env={**os.environ, **(env or {})},
@@ -76,13 +78,13 @@ class Case(unittest.TestCase):
         return done.returncode, done.stdout
 
     def passes(self, *words: Any, **named: Any) -> str:
-        """Runs a tool that is to pass, and gives what it printed."""
+        """Runs a tool that must pass, and returns its output."""
         status, said = self.ran(*words, **named)
         self.assertEqual(status, 0, said)
         return said
 
     def fails(self, why: str, *words: Any, **named: Any) -> None:
-        """Runs a tool that is to fail with status 1, and to print this."""
+        """Runs a tool that must fail with status 1, and print this."""
         status, said = self.ran(*words, **named)
         self.assertEqual(status, 1, said)
         self.assertIn(why, said)

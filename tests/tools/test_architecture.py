@@ -12,7 +12,7 @@ class Architecture(Case):
     SECOND = "### High: two\n\n" + TABLE + "| [pc_b](../crates/pc_b) | b | |\n| [pc_c](../crates/pc_c) | c | x |\n"
 
     def pages(self, stages: str = FIRST + "\n" + SECOND, crates: str = CRATES) -> None:
-        """Writes a page of these stages, and what crates.txt says."""
+        """Writes a page of these stages, and the lines of crates.txt."""
         self.copied()
         self.write("crates.txt", crates)
         self.write("docs/ARCHITECTURE.md", f"# Page\n\n## The stages\n\n{stages}\n## More\n")

@@ -43,7 +43,7 @@ int main(int count, char **words) {
         subprocess.run(["cc", "-O0", "-o", str(cls.built), f"{folder.name}/program.c"], check=True)
 
     def words(self, kind: str) -> Tuple[str, ...]:
-        """The words that sweep a program of this kind over a module."""
+        """Returns the words that try a program of this kind over a module."""
         shutil.copy(self.built, self.room / kind)
         self.write("modules/a.py", "")
         self.write("modules/a.txt", CLEAN)

@@ -22,7 +22,8 @@ else:
 """
 
     def reading(self, end: str) -> str:
-        """A program that reads modules as tools/attack truncate does, finds nothing in them, and lets each run end so."""
+        """Returns a program that reads modules as tools/attack truncate does, finds nothing in them, and lets each run
+        end this way."""
         return self.python(f"reading_{end}", self.CHECKER.format(tools=str(TOOLS), end=end))
 
     def test_no_module(self) -> None:

@@ -42,7 +42,7 @@ class Hostile(Case):
         self.assertEqual([tally.most_of(name) for name in ("only (", "or of two large unions")], [3.0, 1.5])
 
     def large(self, want: Any) -> str:
-        """A program that answers as is wanted, and takes more than 80 MiB."""
+        """Returns a program that gives the expected answer, and takes more than 80 MiB."""
         stream = "stderr" if want.status == 2 else "stdout"
         lines = dict.fromkeys((want.first, want.last))
         prints = "".join(f"print({line!r}, file=sys.{stream})\n" for line in lines)
@@ -53,7 +53,7 @@ class Hostile(Case):
         self.assertIn("1 texts, 0 failures", self.passes("attack hostile", self.refusing(want), "only ("))
 
     def refusing(self, want: Any) -> str:
-        """A program that refuses as is wanted."""
+        """Returns a program that refuses as expected."""
         return self.program("refusing", f"echo '{want.first}' >&2\nexit 2\n")
 
     def test_over_a_bound(self) -> None:

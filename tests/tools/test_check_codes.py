@@ -12,7 +12,7 @@ class CheckCodes(Case):
     REPORT = f"```text\n{CLEAN}```\n"
 
     def asked(self, program: str, *pages: str) -> Tuple[str, ...]:
-        """The words that ask a program of pages."""
+        """Returns the words that ask a program about pages."""
         return "check codes", "--program", program, *(word for page in pages for word in ("--page", page))
 
     def test_passes(self) -> None:

@@ -21,7 +21,7 @@ class CheckCommands(Case):
         self.write("b.py", "x = 1\ny = 3\nz = 5\n")
 
     def page(self, text: str) -> List[str]:
-        """The words for a page of this text."""
+        """Returns the words for a page of this text."""
         return ["--program", self.answering(CLEAN), "--page", self.write("PAGE.md", f"# Page\n\n{text}")]
 
     def test_passes(self) -> None:

@@ -44,7 +44,7 @@ class CheckDefinitions(Case):
         self.faults("there is no crates/pc_a/src/gone.rt")
 
     def speaks(self, text: str, row: str = "`IsText`") -> None:
-        """Writes a page whose row of E03 says these names, and a file of definitions with this text in it."""
+        """Writes a page whose row of E03 has these names, and a file of definitions with this text in it."""
         self.pages(codes=[code for code in CODES if code != "E03"], more=f"| `E03` | says | {row} in {self.FILE} |\n")
         self.write("crates/pc_a/specs/Text.antt", f"use Rattle.pc_a.{{E01}}\npub IsText : Type\n{text}")
 

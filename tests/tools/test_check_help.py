@@ -20,7 +20,7 @@ class CheckHelp(Case):
                    + self.function("refusal_mending", 'L1 => "Remove it."'))
 
     def function(self, name: str, arm: str) -> str:
-        """A function that has a text for a code."""
+        """Returns a function that has a text for a code."""
         return f"pub fn {name}(code: Code) -> &'static str {{\n    match code {{\n        Code::{arm},\n    }}\n}}\n"
 
     def test_passes(self) -> None:

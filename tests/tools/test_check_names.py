@@ -11,7 +11,7 @@ class CheckNames(Case):
     TWO = "pub trait Teller { fn told(&self); }\nstruct Own;\nimpl Held { pub fn told(&self) {} }\nfn own() {}\n"
 
     def faults(self, one: str = ONE, two: str = TWO) -> "list[str]":
-        """What the check finds in two modules, where `shared` may stand in two for a reason."""
+        """Returns the findings of the check in two modules, in which `shared` may occur twice for a reason."""
         self.copied()
         self.write("crates/pc_a/src/lib.rt", one)
         self.write("crates/pc_b/src/inner.rt", two)

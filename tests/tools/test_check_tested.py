@@ -48,7 +48,7 @@ fn test() { let held = Held::new("a"); held.text(); counted(); }
         self.write("crates/test_tables/src/main.rt", self.TESTS)
 
     def lists(self, rows: str, untested: int = 0, calls: int = 3, tests: int = 2) -> None:
-        """Writes the list, and how many calls and tests there are."""
+        """Writes the list, and the numbers of calls and tests."""
         self.write("tests/some/run", "class Case:\n    def test_one(self): pass\n")
         self.write("tests/some/more_tests.py", "class Case:\n    def test_two(self): pass\n    def own(self): pass\n")
         self.write("docs/TESTED.md", self.HEAD.format(self.COUNTS.format(untested, calls, tests)) + rows)

@@ -25,7 +25,7 @@ class CheckTwice(Case):
         setattr(self.twice, "ROOT", self.room)
 
     def same(self) -> List[List[str]]:
-        """The names that stand for the same, in the folder of the test."""
+        """Returns the names of duplicates, in the folder of the test."""
         found: Dict[str, List[str]] = defaultdict(list)
         for place, lines in self.twice.pieces():
             if lines:
@@ -58,16 +58,17 @@ class CheckTwice(Case):
         self.assertEqual(self.same(), [])
 
     def test_explanations(self) -> None:
-        twice = self.twice
-        (explained, words), = twice.EXPLAINED.items()
-        self.assertEqual(list(twice.faults_of({"lines": sorted(explained)}, words)), [])
+        twice, explained = self.twice, frozenset({"c: is_same", "d: is_same"})
+        setattr(twice, "EXPLAINED", {explained: "`is_same` of c and of d"})
+        self.assertEqual(list(twice.faults_of({"lines": sorted(explained)}, "`is_same` of c and of d")), [])
         told = list(twice.faults_of({"lines": ["a: f", "b: g"], "others": ["c: h"]}, ""))
-        self.assertEqual(told, ["the same: a: f, b: g", f"not the same: {', '.join(sorted(explained))}",
-                                f"docs/DECISIONS.md does not say: {words}"])
+        self.assertEqual(told, ["the same: a: f, b: g", "not the same: c: is_same, d: is_same",
+                                "docs/DECISIONS.md does not say: `is_same` of c and of d"])
 
     def test_what_is_wrong_fails(self) -> None:
-        (_, words), = self.twice.EXPLAINED.items()
-        self.write("docs/DECISIONS.md", words.replace(" ", "\n"))
+        explained = (f"crates/{crate}/src/alike.rt: is_same" for crate in ("pc_flow", "pc_overrides"))
+        setattr(self.twice, "EXPLAINED", {frozenset(explained): "`is_same` of both"})
+        self.write("docs/DECISIONS.md", "`is_same`\nof\nboth")
         for crate in ("pc_flow", "pc_overrides"):
             self.write(f"crates/{crate}/src/alike.rt", RATTLE.replace("NAME", "is_same"))
         self.assertEqual(self.told(), (0, "2 functions and definitions, 2 of 6 lines, 0 faults\n"))
@@ -76,7 +77,7 @@ class CheckTwice(Case):
         self.assertEqual(self.told(), (1, wanted))
 
     def told(self) -> Tuple[int, str]:
-        """The exit status of the check, and what it prints."""
+        """Returns the exit status of the check, and its output."""
         said = io.StringIO()
         with contextlib.redirect_stdout(said):
             return self.twice.run(argparse.Namespace()), said.getvalue()

@@ -9,7 +9,7 @@ class Depth(Case):
     """tests/depth/run."""
 
     def run_with(self, program: str) -> "subprocess.CompletedProcess[str]":
-        """The runs by a program."""
+        """Runs the test over a program."""
         words = *PYTHON, str(ROOT / "tests/depth/run"), program
         return subprocess.run(words, capture_output=True, text=True, timeout=60)
 

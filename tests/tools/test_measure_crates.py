@@ -10,7 +10,7 @@ class Measure(Case):
     """tools/measure crates."""
 
     def env(self, failing: str) -> Dict[str, str]:
-        """A tree of one crate, and an rt that fails at one word."""
+        """Makes a tree of one crate, and an rt that fails at one word; returns the environment."""
         self.copied()
         self.write("crates.txt", "# crates\npc_a: pc_b\n")
         self.write("crates/pc_a/src/lib.rt", "#[test]\nfn a() {}\n")

@@ -1,4 +1,4 @@
-"""Tests which places of the memo of pc_intern the pairs of a table have."""
+"""Tests the places in the memo of pc_intern of the pairs in a table."""
 from __future__ import annotations
 
 import re
@@ -7,7 +7,7 @@ from typing import Any, Dict, List, Tuple
 from room import ROOT, Case
 
 class OnePlace(Case):
-    """The table crates/test_tables/data/layers/one_place.types: which places of the memo of pc_intern its pairs have."""
+    """The table crates/test_tables/data/layers/one_place.types: the places of its pairs in the memo of pc_intern."""
 
     TABLE = ROOT / "crates/test_tables/data/layers/one_place.types"
     MEMO = ROOT / "crates/pc_intern/src/memo.rt"
@@ -21,7 +21,7 @@ class OnePlace(Case):
         self.numbers: Dict[str, int] = {}
 
     def number(self, ty: str) -> int:
-        """The number of a type in a store that numbers types as it meets them, after their parts."""
+        """Returns the number of a type in a store that numbers types as they come, after their parts."""
         if ty not in self.numbers:
             members = ty.split(" | ")
             for part in members if len(members) > 1 else [ty[len("list["):-1]] if ty.startswith("list[") else []:
@@ -30,7 +30,8 @@ class OnePlace(Case):
         return self.numbers[ty]
 
     def said_and_asked(self) -> List[Tuple[List[Tuple[int, int]], int, List[Tuple[int, int]], List[str]]]:
-        """The pairs and the place that each comment says, with the pairs and the answers of the rows after it."""
+        """Returns the pairs and the place that each comment states, with the pairs and the answers of the rows after
+        it."""
         found: List[Tuple[List[Tuple[int, int]], int, List[Tuple[int, int]], List[str]]] = []
         for line in self.TABLE.read_text(encoding="utf-8").split("rows:\n")[1].splitlines():
             said = self.SAID.search(line)

@@ -1,4 +1,4 @@
-"""Tests what the commands do with their words."""
+"""Tests how the commands handle their words."""
 from __future__ import annotations
 
 import os

@@ -26,13 +26,13 @@ rt: ok; handles allowed: none; must-fail edits: 1 refused; every proof and must-
         self.write("wrong_bodies/pc_a/two.edit", self.EDIT)
 
     def told(self, why: str, log: str) -> None:
-        """Expects edits to tell this of a log."""
+        """Expects edits to report this about a log."""
         edits = tool("check.edits", self.room / "tools")
         faults = list(edits.faults_of_log(log, edits.edits_of_gate()))
         self.assertTrue(any(why in fault for fault in faults), faults)
 
     def misfits(self, why: str, edit: str) -> None:
-        """Expects an edit to be read as one that does not fit, for this."""
+        """Expects an edit to be read as one that does not fit, for this reason."""
         file = self.write("wrong_bodies/pc_a/two.edit", edit)
         self.assertIn(why, tool("wrong_bodies", self.room / "tools").misfit("pc_a", Path(file)) or "it fits")
 
@@ -144,12 +144,12 @@ rt: ok; handles allowed: none; must-fail edits: 1 refused; every proof and must-
         self.fails("an edit stands right in its folder, and not below it", "check edits", own=True)
 
     def came(self, files: int, passed: int, failed: int = 0, skipped: int = 0) -> str:
-        """What the last two lines say where just the edits that passed were tried."""
+        """Returns the last two lines when only the edits that passed were tried."""
         return f"{files} edits in files, {passed} tried\n{passed} passed, {failed} failed, {skipped} skipped\n"
 
     def put_toolchain(self) -> Dict[str, str]:
-        """A toolchain whose check proves `two`, and `upper` where it is asked of `one` no more, which it calls, and which
-        refuses every other function, and the environment that finds it."""
+        """Writes a toolchain whose check proves `two`, proves `upper` unless `one`, which it calls, is checked too, and
+        refuses every other function. Returns the environment that finds it."""
         self.program("bin/rt", f'[ "$*" = doc ] && echo {self.room}/kit/PAGE.md\n')
         self.write("kit/bin/rtlib.py", f"""RATTLE = "{self.room}/kit/bin/rattle"
 class Crate:
@@ -214,7 +214,7 @@ exit 1
         self.assertEqual((status, "pc_a/three.edit: ACCEPTED" in said), (1, True))
         self.write("wrong_bodies/pc_a/three.edit", "law: laws::three\n" + self.OF_CRATE)
         self.fails("three.edit: there is no law laws::three", "check edits", own=True)
-        # With a law, no function is to change, and `rt` reads no such line
+        # With a law, no function may change, and `rt` reads no such line
         self.write("wrong_bodies/pc_a/three.edit", "law: laws::two\n" + self.EDIT)
         self.fails("three.edit: an edit of more than functions that names no law stands in must-fail/", "check edits", own=True)
         self.write("wrong_bodies/pc_a/three.edit", self.EDIT.replace("old: 1", "old: one"))

@@ -9,7 +9,7 @@ from room import Case, tool
 
 # A crate of six functions, each of which returns one
 CRATE = "".join(f"/// One.\nfn f{number}() -> u8 {{\n    0 + {number}\n}}\n\n" for number in range(6))
-# A prover that refuses a body by what stands in it, in the words of the true one, and counts its checks
+# A prover that refuses a body by the text in it, in the words of the real one, and counts its checks
 PROVER = r"""import pathlib, re, sys
 asked = [sys.argv[at + 1] for at, word in enumerate(sys.argv) if word == "--only"]
 with open(pathlib.Path(__file__).parent / "checks", "a") as checks:
@@ -37,7 +37,7 @@ print(f"only={len(asked)} proved=0")
 
 
 class Controls(Case):
-    """Edits with controls, tried by a prover that stands for the true one."""
+    """Edits with controls, tried by a prover that replaces the real one."""
 
     def setUp(self) -> None:
         super().setUp()
@@ -59,14 +59,14 @@ def crates_below(root): return [Crate()]
         self.write(f"wrong_bodies/pc_a/{name or f'e{number}'}.edit", "\n".join(lines) + "\n")
 
     def said(self, *words: str, status: int) -> List[str]:
-        """What the tool says of the edits over the built libraries, where it ends with this status."""
+        """Returns the output of the tool on the edits over the built libraries, which must end with this status."""
         env: Dict[str, str] = {"PATH": f"{self.room / 'bin'}:{os.environ['PATH']}"}
         came, said = self.ran("wrong_bodies", "--built", *words, own=True, env=env)
         self.assertEqual(came, status, said)
         return [line for line in said.splitlines() if line.startswith(("pc_a/", "skipped ")) or line.endswith((" tried", " skipped"))]
 
     def checks(self) -> List[str]:
-        """The functions that each check since the last call was asked for."""
+        """Returns the functions that each check since the last call was asked for."""
         file = self.room / "kit/bin/checks"
         found = file.read_text(encoding="utf-8").splitlines() if file.exists() else []
         file.unlink(missing_ok=True)
@@ -128,7 +128,7 @@ def crates_below(root): return [Crate()]
         self.assertEqual(self.checks(), ["f0 f1"])
         self.said("--all", status=0)
         self.assertEqual(self.checks(), ["f0 f1", "f0"])
-        # What stands in another function changes nothing; the function, its proof and the edit do
+        # A change in another function has no effect; one in the function, its proof or the edit has
         file = Path(self.write("crates/pc_a/src/lib.rt", CRATE.replace("0 + 2", "2 + 0")))
         self.said(status=0)
         self.assertEqual(self.checks(), ["f0 f1"])
@@ -153,7 +153,7 @@ def crates_below(root): return [Crate()]
         self.assertEqual((status, said.splitlines()), (0, late))
 
     def misfits(self, why: str, *lines: str) -> None:
-        """Expects an edit with these lines behind its new text to be read as one that does not fit, for this."""
+        """Expects an edit with these lines after its new text to be read as one that does not fit, for this reason."""
         text = "\n".join(["file: src/lib.rt", "old: 0 + 1", "new: 2", *lines])
         file = Path(self.write("wrong_bodies/pc_a/e1.edit", text + "\n"))
         self.assertIn(why, tool("wrong_bodies", self.room / "tools").misfit("pc_a", file) or "it fits")
@@ -192,7 +192,7 @@ def crates_below(root): return [Crate()]
         self.write("crates/pc_a/specs/A.antt", "one = 1\ntwo = 2\n-- none\n")
         self.said(status=0)
         self.assertEqual(self.checks(), ["laws::l0", "laws::l1", "laws::l0 laws::l1"])
-        # A proof that only misses a name says nothing of a law either
+        # A proof that only lacks a name says nothing about a law either
         name = "error: `a`: `b` is not in scope"
         rejected = "error: 1 declaration that depends on `a`, which was rejected, was not checked: c"
         of = tool("wrong_bodies", self.room / "tools")

@@ -86,7 +86,7 @@ class Proved(Case):
         self.write(f"wrong_bodies/small/{name}.edit", f"file: src/lib.rt\nold: {old}\nnew: {new}\ncontrol: {control}\n")
 
     def verdicts(self) -> List[str]:
-        """What the tool says of each edit, and at the end."""
+        """Returns the output of the tool for each edit, and its last lines."""
         command = [*PYTHON, str(self.room / "tools/wrong_bodies"), "--built"]
         done = subprocess.run(command, cwd=self.room, text=True, stdout=subprocess.PIPE, stderr=subprocess.PIPE, timeout=1800)
         self.assertEqual(done.returncode, 1, done.stdout + done.stderr)

@@ -22,21 +22,21 @@ class Places:
         self.tree = ast.parse(text)
 
     def column(self, line: int, byte: int) -> int:
-        """The column of a byte of a line."""
+        """Returns the column of a byte of a line."""
         return len(self.lines[line - 1].encode()[:byte].decode()) + 1
 
     def place(self, first: ast.expr, last: ast.expr) -> Place:
-        """The place from the start of an expression to the end of another one."""
+        """Returns the place from the start of an expression to the end of another one."""
         end, byte = last.end_lineno or 0, last.end_col_offset or 0
         return first.lineno, self.column(first.lineno, first.col_offset), end, self.column(end, byte)
 
     def found(self) -> List[Found]:
-        """All of them, in the order of a listing."""
+        """Returns all of them, in the order of a listing."""
         rows = [row for item in self.tree.body for row in self.item(item)]
         return sorted(rows, key=lambda row: (row.place[:2], row.place[2:]))
 
     def item(self, item: ast.stmt) -> Iterator[Found]:
-        """Those of an item of the module: of the values of constants and of the bodies of functions."""
+        """Yields those of an item of the module: of the values of constants and of the bodies of functions."""
         if isinstance(item, ast.FunctionDef):
             yield from self.suite(item.body)
         elif isinstance(item, ast.ClassDef):
@@ -47,14 +47,14 @@ class Places:
             yield from self.whole(item.value)
 
     def suite(self, statements: Sequence[ast.stmt]) -> Iterator[Found]:
-        """Those of statements, up to the first one that no run gets past."""
+        """Yields those of statements, up to the first one that no run gets past."""
         for statement in statements:
             yield from self.statement(statement)
             if not completes(statement):
                 break
 
     def statement(self, statement: ast.stmt) -> Iterator[Found]:
-        """Those of a statement."""
+        """Yields those of a statement."""
         if isinstance(statement, (ast.Expr, ast.Return, ast.Assign, ast.AnnAssign)) and statement.value:
             yield from self.whole(statement.value)
         if isinstance(statement, ast.Assign):
@@ -76,7 +76,7 @@ class Places:
                 yield from self.whole(statement.msg)
 
     def whole(self, node: ast.expr) -> Iterator[Found]:
-        """An expression and its parts."""
+        """Yields an expression and its parts."""
         yield from self.parts(node)
         if isinstance(node, ast.BoolOp):
             # `a and b and c` is `(a and b) and c`
@@ -86,12 +86,12 @@ class Places:
             yield Found(self.place(node, node), node)
 
     def parts(self, node: ast.expr) -> Iterator[Found]:
-        """The parts of an expression that have a type."""
+        """Yields the parts of an expression that have a type."""
         for part in self.direct(node):
             yield from self.whole(part)
 
     def direct(self, node: ast.expr) -> Iterator[ast.expr]:
-        """Its operands, items, keys, objects, indices and arguments."""
+        """Yields the operands, items, keys, objects, indices and arguments of an expression."""
         if isinstance(node, ast.Call):
             if isinstance(node.func, ast.Attribute):
                 yield node.func.value
@@ -108,12 +108,12 @@ class Places:
 
 
 def called(call: ast.Call) -> str:
-    """The name that is called, or nothing."""
+    """Returns the name that is called, or nothing."""
     return call.func.id if isinstance(call.func, ast.Name) else ""
 
 
 def completes(statement: ast.stmt) -> bool:
-    """Whether a run may get past a statement, as the profile has it: a loop may always end."""
+    """Whether a run may get past a statement, by the rules of the profile: a loop may always end."""
     if isinstance(statement, ast.If):
         return any(all(map(completes, branch)) for branch in (statement.body, statement.orelse))
     return not isinstance(statement, (ast.Return, ast.Raise, ast.Break, ast.Continue))

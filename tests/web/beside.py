@@ -1,4 +1,5 @@
-"""What the tests share: the program that all is compared with, the modules that both check, and the tools."""
+"""Shared parts of the tests: the program that everything is compared with, the modules that both check, and the
+tools."""
 from __future__ import annotations
 
 import importlib.machinery
@@ -31,13 +32,13 @@ def run(*words: object, **how: Any) -> "Done[bytes]":
 
 
 def program(*words: object, **how: Any) -> Tuple[int, bytes, bytes]:
-    """The status of the program for these words, and what it prints on standard output and on standard error."""
+    """Returns the status of the program for these words, and its output and error output."""
     done = run(os.environ["PYCHECK"], *words, **how)
     return done.returncode, done.stdout, done.stderr
 
 
 def library_of(tool: str) -> Any:
-    """A tool of tools/, as a library."""
+    """Returns a tool of tools/, as a library."""
     loader = importlib.machinery.SourceFileLoader(tool, str(ROOT / "tools" / tool))
     made = types.ModuleType(tool)
     made.__file__ = loader.path
@@ -46,7 +47,7 @@ def library_of(tool: str) -> Any:
 
 
 def made_modules() -> List[bytes]:
-    """Modules that are made at random: as the grammar has them, changed in words, and broken."""
+    """Returns modules that are made at random: as the grammar has them, changed in words, and broken."""
     sys.path.insert(0, str(ROOT / "tools"))
     maker, found = importlib.import_module("pycheck_tools.attack.fuzz"), []
     for number in range(MADE):
@@ -57,7 +58,7 @@ def made_modules() -> List[bytes]:
 
 
 def nearly_utf8() -> List[bytes]:
-    """Comments in which characters of each length stand, and mostly a byte that makes them no UTF-8, at random places."""
+    """Returns comments with characters of each length, and mostly a byte that makes them no UTF-8, at random places."""
     found = []
     for number in range(100):
         rng = random.Random(f"utf8/{number}")
@@ -70,7 +71,7 @@ def nearly_utf8() -> List[bytes]:
 
 
 def large_module(size: int) -> bytes:
-    """A module of nearly so many bytes, with many findings."""
+    """Returns a module of nearly `size` bytes, with many findings."""
     rows = ["from __future__ import annotations"]
     body = "def f{0}(a: list[int], b):\n    c = a[0] + b\n    if c is None:\n        return 1\n    return len(a) + \"x\"\n"
     length, number = 0, 0
@@ -89,7 +90,7 @@ class RoomCase(unittest.TestCase):
         self.addCleanup(shutil.rmtree, self.room)
 
     def need(self, *tools: str) -> str:
-        """The first of these tools that is there, or the test is skipped."""
+        """Returns the first of these tools that exists, or skips the test."""
         for tool in tools:
             found = shutil.which(tool)
             if found:
@@ -97,7 +98,7 @@ class RoomCase(unittest.TestCase):
         return self.skipTest(f"{tools[0]} is not there")
 
     def need_node(self) -> List[str]:
-        """The words that start Node with the module's addresses, or the test is skipped."""
+        """Returns the words that start Node with the module's addresses, or skips the test."""
         node = self.need("node")
         probe = "process.exit(WebAssembly.validate(new Uint8Array([0,97,115,109,1,0,0,0,5,3,1,4,1])) ? 0 : 1)"
         for words in ([node], [node, MEMORY64, "--no-warnings"]):
@@ -106,7 +107,7 @@ class RoomCase(unittest.TestCase):
         return self.skipTest("this version of node has no addresses of 64 bits")
 
     def files(self, texts: Sequence[bytes]) -> List[Path]:
-        """These texts as files of the room."""
+        """Writes these texts into files of the room."""
         found = []
         for number, text in enumerate(texts):
             found.append(self.room / f"m{number}.py")

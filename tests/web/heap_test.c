@@ -1,5 +1,5 @@
-// Takes, grows and gives back blocks at random, the same each time, and looks after each step whether they lie apart,
-// begin at multiples of 16, lie in the memory, and still hold what was written into them; also where memory ends.
+// Allocates, grows and frees blocks at random, the same each time, and checks after each step that they do not overlap,
+// begin at multiples of 16, are inside the memory, and still hold what was written into them; also where memory ends.
 #include <stdint.h>
 #include <stdio.h>
 #include <stdlib.h>
@@ -91,7 +91,7 @@ static int by_address(const void *a, const void *b) {
   return (x->at > y->at) - (x->at < y->at);
 }
 
-// No two blocks that are taken share a byte, and no two have one address, even where they have no bytes.
+// No two allocated blocks share a byte, and no two have one address, even if they have no bytes.
 static void look_at_all(void) {
   static struct Block sorted[LIVE];
   memcpy(sorted, live, sizeof live);
@@ -145,7 +145,7 @@ int main(void) {
   use(PAGES);
   MUST(wanting == 0);
   ask_too_much();
-  // What was taken is given back: as much is to be had again
+  // All blocks were freed: as much can be allocated again
   for (int i = 0; i < 100; i++) {
     heap_forget();
     MUST(heap_take((size_t)PAGES / 2 * PAGE));

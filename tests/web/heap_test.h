@@ -1,4 +1,4 @@
-// The memory that the heap has in the test: pages of the host, of which it may ask for no more than so many.
+// The memory of the heap in the test: pages of the host, with a limit on how many it may ask for.
 #include <stddef.h>
 
 extern unsigned char *region;

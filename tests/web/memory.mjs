@@ -1,5 +1,6 @@
-// Lets memory end during a check, at many places: each answer must be that memory is wanting, with nothing written into the
-// room, or the module's own; and once all is given back the answer must be its own again. Prints how often it was wanting.
+// Lets memory end during a check, at many places. Each answer must be that memory ran out, with nothing written into
+// the room, or the module's own; once everything is freed, the answer must be its own again. Prints how often memory
+// ran out.
 import { readFileSync } from "node:fs";
 
 const ROOM = 1 << 16, MARK = 0xee;

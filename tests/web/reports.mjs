@@ -1,4 +1,4 @@
-// What the check of web/ answers of files: for each line of standard input, the name of a file, and each form and format, a
+// The answers of the check of web/ for files: for each line of standard input, the name of a file, and each form and format, a
 // line with the status, and the text in base64, or the refusal.
 import { readFileSync } from "node:fs";
 import { createInterface } from "node:readline";

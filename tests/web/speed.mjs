@@ -1,4 +1,4 @@
-// How many seconds of the processor each of some checks of a file takes.
+// Prints how many seconds of the processor each of some checks of a file takes.
 import { readFileSync } from "node:fs";
 import { checkerOf } from "../../web/checker.mjs";
 

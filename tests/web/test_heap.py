@@ -8,10 +8,10 @@ WORDS = ("-std=gnu11", "-O2", "-fno-strict-aliasing", "-Wall", "-Wextra", "-Werr
 
 
 class Heap(RoomCase):
-    """Tests in C of what stands in C."""
+    """Tests in C of code in C."""
 
     def said(self, name: str, *words: str) -> str:
-        """What the test of this name says, which must pass."""
+        """Returns the output of the test of this name, which must pass."""
         compiler, made = self.need("cc", "gcc", "clang"), self.room / name
         built = run(compiler, *WORDS, *words, HERE / f"{name}.c", "-o", made)
         self.assertEqual(built.returncode, 0, built.stderr.decode())

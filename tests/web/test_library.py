@@ -22,7 +22,7 @@ class Library(RoomCase):
         self.assertEqual(built.returncode, 0, built.stderr.decode())
 
     def compare(self, file: Path) -> None:
-        """The library answers a file in each form as the program does."""
+        """Asserts that the library answers a file in each form as the program does."""
         for form in FORMS:
             what = "types" if "--types" in form else 1 if "1" in "".join(form) else 2
             done = run(self.made, "json" if "--json" in form else "text", what, file)

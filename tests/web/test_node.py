@@ -21,9 +21,9 @@ VOCABULARY = ("--json", "--format", "1", "2", "3", "--format=1", "--format=2", "
               "b.py", "-", "", "-x", "-\u00e9", "-\n", "--nope", "--forma", "--jsn", "--hlep", "--=", "--=1", "---", "--nosj",
               "--\U0001f40d", "--json --format", "x\ny", "'", "--a'b", "--jsonformat", "--verhelp", "--types", "--types=1",
               "--typs", "--type")
-# What misspelt names of options are made of
+# The characters of misspelt names of options
 LETTERS = "jsonfrmathelpviy-"
-# Lines that the command itself is started with: each kind of mistake, and what is asked for beside one
+# Lines with which the command itself is started: each kind of mistake, and requests beside one
 MISTAKES = ((), ("--nope",), ("--nope", "a.py"), ("a.py", "--nope"), ("--json", "--nope"), ("--forma",), ("a.py", "--fromat"),
             ("--h",), ("--vers",), ("--js", "--format", "1"), ("-x",), ("-jh",), ("a.py", "b.py"), ("--", "a.py", "--b"),
             ("--",), ("--json",), ("--format",), ("--format", "--"), ("--format", "a.py"), ("--format", "-x"),
@@ -34,8 +34,8 @@ MISTAKES = ((), ("--nope",), ("--nope", "a.py"), ("a.py", "--nope"), ("--json", 
             ("--format=1", "a.py", "--types"), ("--types", "--format", "3", "a.py"), ("--types", "--format", "2"),
             ("--types", "--json", "--nope"), ("--type", "a.py"), ("--json", "--typs"))
 ORDERS = 400
-# How long the check of a large module may take beside the program's, once the engine has compiled it. Twice is what is
-# hoped for
+# How long the check of a large module may take beside the program's, once the engine has compiled it. The aim is twice
+# as long
 SLOWER = 4
 
 
@@ -43,7 +43,7 @@ class Node(RoomCase):
     """Reports, words and faults."""
 
     def compare(self, files: Sequence[Path]) -> None:
-        """The module answers each file in each form as the program does."""
+        """Asserts that the module answers each file in each form as the program does."""
         lines = "".join(f"{it}\n" for it in files).encode()
         done = run(*self.need_node(), HERE / "reports.mjs", input=lines)
         self.assertEqual(done.returncode, 0, done.stderr.decode())
@@ -64,7 +64,7 @@ class Node(RoomCase):
         self.compare(self.files(made_modules()))
 
     def test_bytes_that_are_nearly_utf8(self) -> None:
-        """They go through the one instruction of x86-64 that is replaced by one of WebAssembly."""
+        """They use the one instruction of x86-64 that is replaced by one of WebAssembly."""
         self.compare(self.files(nearly_utf8()))
 
     def test_reports_and_types_of_the_longest_texts(self) -> None:
@@ -81,7 +81,7 @@ class Node(RoomCase):
         self.assertEqual(done.stdout.decode().splitlines(), [found for _, _, found in rows], done.stderr.decode())
 
     def test_the_deepest_texts(self) -> None:
-        """As deep as the profile lets a text be, and one step deeper: the engine's own stack suffices."""
+        """As deep as the profile allows a text to be, and one step deeper: the engine's own stack suffices."""
         head, tail = "from __future__ import annotations\ndef main():\n", "main()\n"
         texts = [f"{head} x = {'-' * depth}1\n{tail}" for depth in (61, 62, 63, 64, 65)]
         texts += [f"{head} x = {'(' * depth}1{')' * depth}\n{tail}" for depth in (63, 64, 65)]
@@ -98,7 +98,7 @@ class Node(RoomCase):
         self.assertRegex(done.stdout.decode(), "^{0}{0}$".format(r"\w+: [1-9]\d+ wanting, [1-9]\d* own\n"))
 
     def test_the_largest_module_is_fast(self) -> None:
-        """In seconds of the processor, since other work may take it meanwhile."""
+        """Time is measured in seconds of the processor, since other work may take it meanwhile."""
         file = self.files([large_module(800_000)])[0]
         begun = resource.getrusage(resource.RUSAGE_CHILDREN)
         program("--json", file)
@@ -115,7 +115,7 @@ class Command(RoomCase):
     """web/pycheck.mjs."""
 
     def said(self, *words: object) -> Tuple[int, bytes, bytes]:
-        """The status of the command for these words, and what it prints on standard output and on standard error."""
+        """Returns the status of the command for these words, and its output and error output."""
         done = run(*self.need_node(), WEB / "pycheck.mjs", *words, cwd=self.room)
         return done.returncode, done.stdout, done.stderr
 
@@ -136,7 +136,8 @@ class Command(RoomCase):
             self.assertEqual(self.said(word), program(word))
 
     def compare_words(self, orders: Sequence[Sequence[str]]) -> Dict[str, int]:
-        """Each list of words asks for what it asks the program for, and a mistake has the same message; how many of each."""
+        """Asserts that each list of words asks for the same as with the program, and that a mistake has the same
+        message. Returns how many there are of each."""
         (self.room / "a.py").write_bytes((ROOT / "examples" / "dynamic.py").read_bytes())
         lines = "".join(json.dumps(it) + "\n" for it in orders).encode()
         done = run(*self.need_node(), HERE / "words.mjs", input=lines)

@@ -36,14 +36,14 @@ FIRST_ANSWER = 3000
 
 
 class Quiet(http.server.SimpleHTTPRequestHandler):
-    """A server of files that tells nothing."""
+    """A server of files that logs nothing."""
 
     def log_message(self, format: str, *args: Any) -> None:
         pass
 
 
 class Page(browser.Browser):
-    """A browser that keeps each address that it asks for."""
+    """A browser that records each address that it asks for."""
 
     def __init__(self, path: str) -> None:
         self.asked: List[str] = []
@@ -60,7 +60,7 @@ class Page(browser.Browser):
         """Opens an address anew, and waits for the first report."""
         self.ask("Emulation.setDeviceMetricsOverride", width=width, height=900, deviceScaleFactor=1, mobile=width < 800)
         self.ask("Emulation.setEmulatedMedia", features=[{"name": "prefers-color-scheme", "value": scheme}])
-        # From another page, since one that differs in its fragment alone would not be opened anew
+        # The browser comes from another page, since it would not load one anew that differs in its fragment alone
         self.ask("Page.navigate", url="about:blank")
         self.wait("location.href === 'about:blank'")
         self.ask("Page.navigate", url=address)
@@ -82,7 +82,7 @@ class Page(browser.Browser):
                      **({"text": "\r"} if key == "Enter" and kind == "keyDown" else {}))
 
     def types(self, text: str) -> None:
-        """Types a text where the caret is."""
+        """Types a text at the caret."""
         self.ask("Input.insertText", text=text)
 
 
@@ -120,17 +120,17 @@ class Pages(unittest.TestCase):
         self.assertEqual([it for it in self.page.asked if not it.startswith((self.base, "about:", "data:"))], [])
 
     def shown(self) -> str:
-        """The report, as the page shows it: the lines of the program."""
+        """Returns the report, as the page shows it: the lines of the program."""
         return str(self.page.value(SHOWN))
 
     def put(self, text: str) -> None:
-        """Types a whole text in place of the one that is there."""
+        """Types a whole text in place of the existing one."""
         self.page.value("document.getElementById('text').select(); document.getElementById('text').focus()")
         self.page.types(text)
         self.settle()
 
     def settle(self) -> None:
-        """Waits until what was typed is checked."""
+        """Waits until the typed text is checked."""
         self.page.wait("!document.getElementById('summary').hasAttribute('aria-busy')")
 
     def test_it_opens_with_a_report(self) -> None:
@@ -172,7 +172,8 @@ class Pages(unittest.TestCase):
         self.assertEqual(self.shown(), "errors 0, dynamic 0\n")
 
     def advice_after(self, name: str, function: str) -> str:
-        """What is said at the caret of the first finding of a module with a function; it is reached by F8."""
+        """Returns the advice at the caret for the first finding of a module with a function; the finding is reached by
+        F8."""
         self.put(f"from __future__ import annotations\n{function}def main():\n    print(1)\nmain()\n")
         self.page.value("document.getElementById('text').setSelectionRange(0, 0)")
         self.page.press("F8", 119)

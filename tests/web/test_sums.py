@@ -1,4 +1,4 @@
-"""What is shipped beside the programs: its sums, and the texts of the page."""
+"""The shipped files beside the programs: their sums, and the texts of the page."""
 from __future__ import annotations
 
 import gzip
@@ -7,7 +7,7 @@ import unittest
 
 from beside import ROOT, WEB, library_of, run
 
-# A part of a module of x86-64 with all that is changed, and what it becomes
+# A part of a module of x86-64 with everything that is changed, and its new text
 HOST = """target datalayout = "e-m:e-i64:64-n8:16:32:64-S128"
 target triple = "x86_64-unknown-linux-gnu"
 define i64 @f(<16 x i8> %a) #0 {
@@ -47,7 +47,7 @@ class Shipped(unittest.TestCase):
 
 
 class Retargeted(unittest.TestCase):
-    """What `tools/ship web` changes in the LLVM module."""
+    """The changes of `tools/ship web` to the LLVM module."""
 
     def setUp(self) -> None:
         self.tool = library_of("shipping/web")

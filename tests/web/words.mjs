@@ -1,4 +1,5 @@
-// What web/words.mjs takes words to ask for: for each line of standard input, a list of words as JSON, a line of JSON.
+// The requests that web/words.mjs reads from words. Prints a line of JSON for each line of standard input, a list of
+// words as JSON.
 import { createInterface } from "node:readline";
 import { asked } from "../../web/words.mjs";
 

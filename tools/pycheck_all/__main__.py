@@ -1,9 +1,9 @@
 """The command as `python -m pycheck_all`.
 
-Python looks for each module in the folder in which it runs first, unless it is told not to by `-I` or `-P`. That
-folder may be what is checked, and nothing of it is run. So it is taken out before anything is imported; and where it
-has a module of the name of one that Python had by then, that may have been run in its place, so there nothing is
-checked."""
+Python looks for each module first in the folder in which it runs, unless `-I` or `-P` forbids it. That folder may be
+the one to check, and none of its code may run, so it is taken off the path before anything is imported. If it has a
+module with the name of one that Python had loaded by then, the folder's module may have run in its place; nothing is
+checked in that case."""
 import sys
 
 is_apart = bool(sys.flags.isolated or getattr(sys.flags, "safe_path", False))
@@ -15,7 +15,7 @@ import os  # noqa: E402
 
 
 def stand_ins(folder: str) -> "list[str]":
-    """The names of modules that are there already and that the folder has too."""
+    """Returns the names of modules that are loaded already and that the folder has too."""
     loaded = {it.partition(".")[0].lower() for it in sys.modules} - {"__main__"}
     suffixes = importlib.machinery.all_suffixes()
     found = []
@@ -30,7 +30,7 @@ def stand_ins(folder: str) -> "list[str]":
 
 
 def why_not() -> str:
-    """Why nothing is checked; empty where nothing of the folder was run."""
+    """Returns why nothing is checked; empty if no code of the folder ran."""
     try:
         found = stand_ins(os.curdir)
     except OSError as fault:

@@ -1,7 +1,9 @@
-"""The baseline: findings that are known, so that only new ones fail.
+"""The baseline: the known findings, so that only new ones fail.
 
-A finding is known by its path, its code and the text of its line without blanks at the ends, not by the number of the
-line; and so many times as it is written down. Paths are relative to the folder of the baseline, with slashes."""
+A finding is known by its path, its code and the text of its line without blanks at the ends, not by the number of
+the
+line, and only as many times as the baseline lists it. Paths are relative to the folder of the baseline, with
+slashes."""
 from __future__ import annotations
 
 import dataclasses
@@ -23,7 +25,7 @@ Key = Tuple[str, str, str]
 
 
 class NoBaseline(Exception):
-    """A file is no baseline, or cannot be read or written; the text says why."""
+    """Raised if a file is no baseline, or cannot be read or written; the text says why."""
 
 
 class Baseline:
@@ -39,18 +41,18 @@ class Baseline:
         return os.path.dirname(os.path.abspath(self.path))
 
     def key_path(self, path: str) -> str:
-        """The path of a file as the baseline writes it."""
+        """Returns the path of a file as the baseline writes it."""
         return texts.plain(os.path.relpath(os.path.abspath(path), self.folder).replace(os.sep, "/"))
 
     def exists(self, path: str) -> bool:
-        """Whether a file of the baseline is still there. One whose name is written in escapes counts as there."""
+        """Whether a file of the baseline still exists. One whose name is written in escapes counts as existing."""
         return "\\" in path or os.path.lexists(os.path.join(self.folder, path))
 
     def mark(self, files: Sequence[Checked]) -> List[Known]:
-        """Marks the findings that are known, and gives the entries that are gone from the code.
+        """Marks the findings that are known, and returns the entries that are gone from the code.
 
-        An entry is gone if its file is no longer there, or if the file was checked and has no such finding. Of a
-        refused file nothing is checked, and one refusal alone is named; so its entries are gone only where all
+        An entry is gone if its file no longer exists, or if the file was checked and has no such finding. Nothing in a
+        refused file is checked, and only its first refusal is named. Its entries are therefore gone only if all
         refusals were listed, and then only those of refusals."""
         left = Counter(self.counts)
         for file in files:
@@ -61,7 +63,7 @@ class Baseline:
         return [it for it in gone if self.is_gone(it, told.get(it.path))]
 
     def marked(self, file: Checked, at: int, path: str, left: Counter[Key]) -> Finding:
-        """A finding, marked if it is known; one that is known is taken off the counts."""
+        """Returns the finding, marked if it is known; each known one reduces the count left of its entry."""
         finding = file.findings[at]
         key = (path, finding.code, file.line_of(finding))
         if left[key] <= 0:
@@ -79,7 +81,7 @@ class Baseline:
 
 
 def read(path: str) -> Baseline:
-    """The baseline of a file, or NoBaseline."""
+    """Reads the baseline of a file; raises NoBaseline."""
     try:
         whole = json.loads(reading.regular(path, LIMIT).decode("utf-8"))
         return Baseline(path, Counter(dict(map(entry_of, rows_of(whole)))))
@@ -92,7 +94,7 @@ def read(path: str) -> Baseline:
 
 
 def rows_of(whole: Any) -> List[Any]:
-    """The rows of a baseline, or ValueError."""
+    """Returns the rows of a baseline; raises ValueError if it has none."""
     if not isinstance(whole, dict) or not isinstance(whole.get("known"), list):
         raise ValueError("it is no object with a list of what is known")
     if type(whole.get("format")) is not int or whole["format"] != FORMAT:
@@ -102,7 +104,7 @@ def rows_of(whole: Any) -> List[Any]:
 
 
 def entry_of(row: Any) -> Tuple[Key, int]:
-    """An entry of the file, or ValueError where a value of it is of another kind or form."""
+    """Returns an entry of the file; raises ValueError if one of its values has another type or form."""
     if not isinstance(row, dict):
         raise ValueError("an entry is no object")
     path, code, line, count = (row.get(name) for name in NAMES)
@@ -118,15 +120,15 @@ def entry_of(row: Any) -> Tuple[Key, int]:
 
 
 def is_code(code: str) -> bool:
-    """Whether it is one of the codes; where their texts are not there, whether it has the form of one."""
+    """Whether a word is one of the codes or, if the texts of the codes are missing, has the form of one."""
     return code in codes.entries() if codes.entries() else CODE.fullmatch(code) is not None
 
 
 def text_of(path: str, files: Sequence[Checked]) -> str:
-    """The baseline that has everything that was found, as a text for that path.
+    """Returns the baseline of all findings, as a text for that path.
 
-    Of a baseline that is there already, the entries of files that were not checked now, and are still there, stay.
-    NoBaseline says why it cannot be read."""
+    If there is a baseline already, its entries stay for files that still exist and were not checked now. Raises
+    NoBaseline if it cannot be read."""
     old = read(path) if os.path.exists(path) else Baseline(path, Counter())
     counts: Counter[Key] = Counter()
     checked = {old.key_path(it.path): it for it in files}

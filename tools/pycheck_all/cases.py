@@ -1,9 +1,9 @@
-"""What is said of an error for its case: where the word at its place tells more than its code does.
+"""The sentence for one case of an error, for words at its place that tell more than its code does.
 
-The rows are data, made from a table of docs/CODES.md. Of an attribute the word is its name, with which its place ends;
-of all else it is the one with which the place begins. Where that attribute is one of an attribute that the text before
-tests for None, the words are `is None`, since the test says nothing of it; `unknown name` of an annotation stands for
-a name of no type and no class."""
+The rows are data, made from a table of docs/CODES.md. For an attribute the word is its name, with which its place ends;
+for all else it is the word with which the place begins. If the attribute is one of `a.b`, and the text before tests
+`a.b` for None, the word is `is None`, since the test says nothing about it. The word `unknown name` in an annotation
+means a name of no type and no class."""
 from __future__ import annotations
 
 import functools
@@ -18,18 +18,18 @@ TEXTS = Path(__file__).with_name("cases.json")
 ATTRIBUTE = "E15"
 ANNOTATION = "E09"
 OF_TESTED, OF_UNKNOWN = "is None", "unknown name"
-# The names of types of which the entry of the code says what to write
+# The names of types for which the entry of the code says what to write
 TYPES = frozenset("int bool str None object list dict tuple List Dict Tuple Optional Union".split())
-# How far before an attribute a test of its value is looked for
+# How many bytes before an attribute are searched for a test of its value
 NEAR = 1 << 12
-# How much of a place is read: a name with more bytes is no word of a row
+# How many bytes of a place are read: a longer name is no word of a row
 LONGEST = 64
 FIRST = re.compile(rb"[\w\x80-\xff]+")
 LAST = re.compile(rb"\.\s*([\w\x80-\xff]+)\Z")
 
 
 class Case(NamedTuple):
-    """A row of the page: a code, the words at whose places it says something else, and what that is."""
+    """A row of the page: a code, the words at whose places it means something else, and the sentence for that case."""
 
     code: str
     words: List[str]
@@ -38,7 +38,7 @@ class Case(NamedTuple):
 
 @functools.lru_cache(maxsize=None)
 def cases() -> Dict[Tuple[str, str], str]:
-    """What is said by code and word; nothing where the texts are not there."""
+    """Returns the sentences by code and word; empty if the texts are missing."""
     try:
         rows = [Case(**it) for it in json.loads(TEXTS.read_text(encoding="utf-8"))]
     except OSError:
@@ -47,7 +47,7 @@ def cases() -> Dict[Tuple[str, str], str]:
 
 
 def word_at(code: str, text: Text, place: Place) -> str:
-    """The word that tells the case of an error at a place; empty where there is none."""
+    """Returns the word that tells the case of an error at a place; empty if there is none."""
     start, end = place.start.byte, place.end.byte
     if code == ATTRIBUTE:
         found = LAST.search(text.data[max(start, end - LONGEST) : end])
@@ -69,7 +69,7 @@ def is_tested(before: bytes, value: bytes) -> bool:
 
 
 def sentence(code: str, text: Text, place: Place) -> str:
-    """What is said of the case of an error; empty where its code says all."""
+    """Returns the sentence for the case of an error; empty if its code says everything."""
     word = word_at(code, text, place)
     said = cases().get((code, word), "")
     if not said and code == ANNOTATION and word.isidentifier() and word not in TYPES and word not in text.classes:

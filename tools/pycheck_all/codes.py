@@ -1,4 +1,4 @@
-"""The texts of the codes, as the page of codes says them."""
+"""The texts of the codes, as the page of codes has them."""
 from __future__ import annotations
 
 import functools
@@ -15,7 +15,7 @@ LINK = re.compile(r"\[([^\]]+)\]\([^)]*\)")
 
 
 class Entry(NamedTuple):
-    """What the page says of a code; `run` says what an error is in a run."""
+    """The entry of the page for a code; `run` says what an error is in a run."""
 
     title: str
     kind: str
@@ -27,7 +27,7 @@ class Entry(NamedTuple):
 
 @functools.lru_cache(maxsize=None)
 def entries() -> Dict[str, Entry]:
-    """The entry of each code, in the order of the page; none where the texts are not there."""
+    """Returns the entry of each code, in the order of the page; empty if the texts are missing."""
     try:
         return {code: Entry(**it) for code, it in json.loads(TEXTS.read_text(encoding="utf-8")).items()}
     except OSError:
@@ -35,7 +35,7 @@ def entries() -> Dict[str, Entry]:
 
 
 def named(word: str) -> str:
-    """The code that a word names: itself, or its label or title, in small or capital letters; empty where it names
+    """Returns the code that a word names as the code itself, its label or its title, in any case; empty if it names
     none."""
     if word.upper() in entries():
         return word.upper()
@@ -43,7 +43,8 @@ def named(word: str) -> str:
 
 
 def title_of(code: str) -> str:
-    """The label of an error or a dynamic place; of a refusal its title. Empty for a code without an entry."""
+    """Returns the label of an error or a dynamic place, or the title of a refusal. Empty for a code without an
+    entry."""
     entry = entries().get(code)
     if entry is None:
         return ""
@@ -52,14 +53,14 @@ def title_of(code: str) -> str:
 
 
 def meaning_of(code: str) -> str:
-    """What the code says, in words."""
+    """Returns what the code means, in words."""
     entry = entries().get(code)
     return entry.meaning if entry else ""
 
 
 def mending_of(code: str, spot: Optional[Spot] = None) -> str:
-    """A sentence that says how to mend the code; where a form stands at the spot that the page of the profile says is
-    left out, what it says to write instead."""
+    """Returns a sentence that says how to mend the code. If the spot has a form that the page of the profile leaves
+    out, it says what to write instead."""
     entry = entries().get(code)
     if entry is None:
         return ""
@@ -70,7 +71,7 @@ def mending_of(code: str, spot: Optional[Spot] = None) -> str:
 
 
 def explained(code: str, width: int) -> str:
-    """The entry of a code as a text of lines that have, but for its modules and tables, at most so many characters."""
+    """Returns the entry of a code as lines of at most `width` characters, except in modules and tables."""
     entry = entries()[code]
     heading = f"{code} {entry.title}"
     blocks = [heading + "\n" + "=" * len(heading)]
@@ -84,7 +85,7 @@ def explained(code: str, width: int) -> str:
 
 
 def plain(paragraph: str, width: int) -> str:
-    """A paragraph, a list or a table of the page, without marks."""
+    """Returns a paragraph, a list or a table of the page, without marks."""
     import textwrap
 
     lines = LINK.sub(r"\1", paragraph).replace("**", "\0").split("\n")
@@ -95,13 +96,13 @@ def plain(paragraph: str, width: int) -> str:
 
 
 def unmarked(line: str) -> str:
-    """A line without its marks of bold text; two stars in backquotes stay."""
+    """Returns a line without its marks for bold text; two stars in backquotes stay."""
     parts = line.split("`")
     return "`".join(part.replace("\0", "**" if at % 2 else "") for at, part in enumerate(parts))
 
 
 def table(lines: List[str]) -> str:
-    """A table with its columns below one another."""
+    """Returns a table with its columns below one another."""
     rows = [[cell.strip().replace("\\|", "|") for cell in re.split(r"(?<!\\)\|", line)[1:-1]] for line in lines]
     rows = [row for row in rows if not all(set(cell) <= set("-:") for cell in row)]
     widths = [max(len(row[at]) for row in rows) for at in range(len(rows[0]))]

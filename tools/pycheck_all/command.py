@@ -1,4 +1,4 @@
-"""The command: reads its words, has the files checked, and shows what was found."""
+"""The command: reads its words, checks the files, and shows the findings."""
 from __future__ import annotations
 
 import os
@@ -18,20 +18,20 @@ DOCUMENTS = ("json", "gitlab", "sarif", "junit")
 
 
 class Failure(Exception):
-    """The run cannot go on; the text says why."""
+    """The run cannot continue; the text says why."""
 
 
-# What is told in a line, without more
+# Failures that are reported in one line, without a traceback
 FAULTS = (Failure, program.NoProgram, baseline.NoBaseline, guards.NoGuards, settings.NoSettings)
 
 
 def main() -> int:
-    """The command of the wheel: the exit status."""
+    """The command of the wheel. Returns the exit status."""
     return run()
 
 
 def run(given: Optional[Sequence[str]] = None, name: str = "pycheck-all") -> int:
-    """Runs the command with the given words, or those of the process, and gives the exit status."""
+    """Runs the command with the given words, or with those of the process, and returns the exit status."""
     try:
         own = sys.argv[1:] if given is None else list(given)
         if own[:1] == ["--server"]:
@@ -45,7 +45,7 @@ def run(given: Optional[Sequence[str]] = None, name: str = "pycheck-all") -> int
     except FAULTS as fault:
         tell(f"{name}: error: {fault}")
     except BrokenPipeError:
-        # Nobody reads on; what Python would still write at its end goes nowhere
+        # Nobody reads any more: discard what Python would still write when it ends
         leave_output()
     except OSError as fault:
         tell(f"{name}: error: {fault.strerror or fault}")
@@ -53,13 +53,13 @@ def run(given: Optional[Sequence[str]] = None, name: str = "pycheck-all") -> int
     except MemoryError:
         tell(f"{name}: error: out of memory")
     except Exception as fault:
-        # Python's own end has the status of a file with errors
+        # An uncaught exception would end Python with the status of a file with errors
         tell(f"{name}: error: {type(fault).__name__}: {fault}")
     return FAILED
 
 
 def answered(asked: words.Words) -> int:
-    """Does what the words ask for."""
+    """Does what the words ask for. Returns the exit status."""
     width = shutil.get_terminal_size((100, 24)).columns
     if asked.explain:
         write(explaining.lines(asked.explain, asked.output, min(width, 100)))
@@ -80,7 +80,7 @@ def answered(asked: words.Words) -> int:
 
 
 def once(given: words.Words, used: program.Program, width: int) -> int:
-    """Checks the files once, and shows what was found; the exit status."""
+    """Checks the files once, and shows the findings. Returns the exit status."""
     asked, ours = settings.applied(given)
     project = checked(asked, used, ours)
     if asked.output in ("json", "sarif"):
@@ -90,7 +90,7 @@ def once(given: words.Words, used: program.Program, width: int) -> int:
 
 
 def guarded(asked: words.Words, used: program.Program, width: int) -> int:
-    """Has guards of a core written, or shows what the promise excludes."""
+    """Writes guards of a core, or shows what the promise excludes. Returns the exit status."""
     made = guards.make(guards.Asked(asked.guards, asked.guards_to, asked.guards_anyway), used, asked.timeout)
     project = Project([made.checked], strict=True)
     if made.checked.findings or made.checked.failure:
@@ -103,7 +103,7 @@ def guarded(asked: words.Words, used: program.Program, width: int) -> int:
 
 
 def fixed(asked: words.Words, used: program.Program, width: int) -> int:
-    """Fixes the files, and shows what is left to do by hand."""
+    """Fixes the files, and shows what is left to do by hand. Returns the exit status."""
     from . import fix_command
 
     links = Links(asked.files)
@@ -126,7 +126,7 @@ def fixed(asked: words.Words, used: program.Program, width: int) -> int:
 
 
 def looked_for(asked: words.Words, ours: Optional[settings.Settings], named: Files) -> scope.Chosen:
-    """The files to check; a project of which nothing is to be checked is a failure."""
+    """Returns the files to check. Fails if no file of a project is to be checked."""
     limits = scope.of(asked, ours)
     paths = limits.words(asked.files)
     found = named.find(paths)
@@ -139,14 +139,14 @@ def looked_for(asked: words.Words, ours: Optional[settings.Settings], named: Fil
 
 
 def files_of(asked: words.Words, ours: Optional[settings.Settings]) -> Files:
-    """What finds the files."""
+    """Returns the object that finds the files."""
     if asked.exclude or ours is None:
         return Files(asked.exclude, asked.stdin_name)
     return Files(ours.exclude, asked.stdin_name, ours.folder)
 
 
 def checked(asked: words.Words, used: program.Program, ours: Optional[settings.Settings]) -> Project:
-    """Checks the files, and marks what is known and what is not shown."""
+    """Checks the files, and marks the findings that are known or hidden."""
     known = baseline.read(asked.baseline) if asked.baseline else None
     links = Links(asked.files or [os.curdir])
     for path in filter(None, (asked.page, asked.write_baseline)):
@@ -171,7 +171,7 @@ def checked(asked: words.Words, used: program.Program, ours: Optional[settings.S
 
 
 def refuse_links(path: str, links: Links) -> None:
-    """Stops where a file that is written lies behind a link that is not followed."""
+    """Raises Failure if a file to be written is behind a link that is not followed."""
     try:
         links.refuse(path)
     except OSError as fault:
@@ -179,7 +179,7 @@ def refuse_links(path: str, links: Links) -> None:
 
 
 def written(path: str, links: Links, text: str) -> None:
-    """Writes a file."""
+    """Writes a file; raises Failure."""
     try:
         links.write(path, text)
     except OSError as fault:
@@ -187,7 +187,7 @@ def written(path: str, links: Links, text: str) -> None:
 
 
 def show(asked: words.Words, project: Project, width: int) -> None:
-    """Shows what was found, in the form that is asked for."""
+    """Shows the findings, in the form that is asked for."""
     if asked.page:
         from . import page
 
@@ -203,14 +203,14 @@ def show(asked: words.Words, project: Project, width: int) -> None:
 
 
 def closing(asked: words.Words, project: Project) -> List[str]:
-    """The last lines: how often each code stands, if that is asked for, and the counts."""
+    """Returns the last lines: how often each code occurs, if that is asked for, and the counts."""
     from . import statistics
 
     return [*(statistics.lines(project) if asked.statistics else []), summary(project)]
 
 
 def lines(form: str, asked: words.Words, project: Project, width: int) -> Iterator[str]:
-    """The lines of a form for people."""
+    """Returns the lines of a form for people."""
     if form == "full":
         from . import colours, full
 
@@ -226,7 +226,7 @@ def lines(form: str, asked: words.Words, project: Project, width: int) -> Iterat
 
 
 def document(form: str, project: Project) -> str:
-    """The document of a form for systems."""
+    """Returns the document of a form for systems."""
     from . import gitlab, json_form, junit, sarif
 
     makers = {"json": json_form.document, "gitlab": gitlab.document, "sarif": sarif.document, "junit": junit.document}
@@ -265,7 +265,7 @@ def tell(text: str) -> None:
 
 
 def leave_output() -> None:
-    """Has standard output go nowhere from now on."""
+    """Discards everything that is written to standard output from now on."""
     try:
         os.dup2(os.open(os.devnull, os.O_WRONLY), sys.stdout.fileno())
     except (OSError, ValueError, AttributeError):

@@ -9,7 +9,7 @@ from .texts import plain
 
 
 def line_of(file: Checked, finding: Finding, mending: bool) -> str:
-    """The line of a finding; where asked for, a refusal has what to write instead after it."""
+    """Returns the line of a finding; with `mending`, a refusal is followed by what to write instead."""
     start, title = finding.place.start, codes.title_of(finding.code)
     if finding.kind in (REFUSED, GUIDE):
         title = finding.kind + (f": {title}" if title else "")
@@ -21,7 +21,7 @@ def line_of(file: Checked, finding: Finding, mending: bool) -> str:
 
 
 def lines(project: Project, mending: bool) -> Iterator[str]:
-    """The lines of the new findings of all files, and of the files that could not be checked."""
+    """Yields the lines of the new findings of all files, and of the files that could not be checked."""
     for file in project.files:
         if file.failure:
             yield f"{plain(file.path)}: {file.failure}"
@@ -33,7 +33,7 @@ def lines(project: Project, mending: bool) -> Iterator[str]:
 
 
 def gone(project: Project) -> Iterator[str]:
-    """A line for each entry of the baseline that is no longer found."""
+    """Yields a line for each entry of the baseline that is no longer found."""
     for entry in project.gone:
         times = f" ({entry.times} times)" if entry.times > 1 else ""
         yield f"{plain(entry.path)}: {entry.code} is known but gone{times}: {plain(entry.line)}"

@@ -1,7 +1,8 @@
-"""The language server for a project with a core. It starts `pycheck_server`, passes each message on to it, and says of
-a document that the settings of its project leave out that it is no Python, so that the server checks the core alone.
+"""The language server for a project with a core. It starts `pycheck_server` and passes each message on to it. Of a
+document
+that the settings of its project leave out it says that it is no Python, so that the server checks the core alone.
 
-The server writes to standard output itself. Messages that are not understood here are passed on as they came."""
+The server writes to standard output itself. Messages that are not understood here are passed on unchanged."""
 from __future__ import annotations
 
 import json
@@ -18,7 +19,7 @@ from .files import Source
 
 SERVER, VARIABLE = "pycheck_server", "PYCHECK_SERVER"
 ONLY_MARKED = "--only-marked"
-# What a document that is left out is said to be
+# The language that a document has for the server if it is left out
 OTHER = "not-of-the-core"
 LONGEST_HEAD = 4096
 LONGEST_BODY = 16 << 20
@@ -28,45 +29,46 @@ OF_SIGNALS = 128
 
 
 def serve(words: Sequence[str]) -> int:
-    """Runs the server with these words until it ends; its exit status."""
+    """Runs the server with these words until it ends, and returns its exit status."""
     marked = ONLY_MARKED in words
     path = program.chosen("", SERVER, VARIABLE)
     process = subprocess.Popen([path, *(it for it in words if it != ONLY_MARKED)], stdin=subprocess.PIPE)
     assert process.stdin is not None
     relay = Relay(Documents(marked), process.stdin.fileno())
-    # Where the server ends first nobody waits for the client
+    # If the server ends first, do not wait for the client
     threading.Thread(target=relay.run, args=(Input(0), process.stdin.close), daemon=True).start()
     status = process.wait()
     return status if status >= 0 else OF_SIGNALS - status
 
 
 class Input:
-    """What comes from an open file, whole parts at a time."""
+    """The bytes of an open file, read in whole parts."""
 
     def __init__(self, file: int) -> None:
         self.file = file
         self.held = b""
 
     def more(self) -> bool:
-        """Reads on; whether something came."""
+        """Reads more bytes. Returns whether there were any."""
         part = os.read(self.file, PART)
         self.held += part
         return bool(part)
 
     def take(self, length: int) -> bytes:
-        """The next bytes that are held, so many at most."""
+        """Returns the next bytes of those read so far, at most `length`."""
         taken, self.held = self.held[:length], self.held[length:]
         return taken
 
     def head(self) -> bytes:
-        """The header of a message, with the empty line after it; empty where none comes that is short enough."""
+        """Returns the header of a message, with the empty line after it; empty if the input ends first or the header is
+        too long."""
         at = self.held.find(b"\r\n\r\n")
         while at < 0 and len(self.held) <= LONGEST_HEAD and self.more():
             at = self.held.find(b"\r\n\r\n")
         return self.take(at + 4) if at >= 0 else b""
 
     def body(self, length: int) -> bytes:
-        """So many bytes, fewer only at the end."""
+        """Returns `length` bytes, or fewer at the end of the input."""
         parts = [self.take(length)]
         left = length - len(parts[0])
         while left and self.more():
@@ -84,7 +86,7 @@ class Relay:
         self.begun = False
 
     def run(self, source: Input, close: Callable[[], None]) -> None:
-        """Passes everything on, up to the end of what comes or of the server."""
+        """Passes all messages on, until the input or the server ends."""
         try:
             while self.pass_message(source):
                 pass
@@ -98,7 +100,7 @@ class Relay:
             pass
 
     def pass_message(self, source: Input) -> bool:
-        """Passes a message on; whether another one may follow that can be told from the next."""
+        """Passes a message on. Returns whether another one may follow, beginning where this one ends."""
         head = source.head()
         length = length_of(head)
         self.write(head if length is None or length > LONGEST_BODY else b"")
@@ -116,7 +118,7 @@ class Relay:
         return True
 
     def changed(self, head: bytes, body: bytes) -> bytes:
-        """The message that is passed on in place of one."""
+        """Returns the message to pass on in place of this one."""
         try:
             message = json.loads(body)
         except (ValueError, RecursionError):
@@ -139,19 +141,19 @@ class Relay:
 
 
 def length_of(head: bytes) -> Optional[int]:
-    """The length that a header tells; none where it tells none, or several."""
+    """Returns the length that a header states; none if it states none, or several."""
     found = [it for it in map(LENGTH.fullmatch, head.split(b"\r\n")) if it]
     return int(found[0][1]) if len(found) == 1 else None
 
 
 def framed(message: Any) -> bytes:
-    """A message with its header."""
+    """Returns a message with its header."""
     body = json.dumps(message).encode()
     return b"Content-Length: %d\r\n\r\n" % len(body) + body
 
 
 def tell(text: str) -> None:
-    """Has the editor show an error, before the server answers anything."""
+    """Makes the editor show an error, before the server answers anything."""
     params = {"type": 1, "message": f"pycheck: {text}"}
     data = framed({"jsonrpc": "2.0", "method": "window/showMessage", "params": params})
     while data:
@@ -167,14 +169,16 @@ def log(text: str) -> None:
 
 
 class Documents:
-    """Tells which documents are checked. `marked` is whether without a core only those are that begin with the mark."""
+    """Decides which documents are checked. With `marked`, a project without a core has only those checked that begin
+    with the mark."""
 
     def __init__(self, marked: bool) -> None:
         self.marked = marked
         self.roots: List[str] = []
 
     def begin(self, params: Any) -> str:
-        """Takes the folders that the editor has open; gives the fault of their settings, empty where there is none."""
+        """Remembers the folders that the editor has open. Returns what is wrong with their settings; empty if nothing
+        is."""
         given = params if isinstance(params, dict) else {}
         listed = given.get("workspaceFolders")
         folders = [it.get("uri") for it in listed if isinstance(it, dict)] if isinstance(listed, list) else []
@@ -187,14 +191,15 @@ class Documents:
         return ""
 
     def settings_of(self, folder: str) -> Tuple[Optional[settings.Settings], str]:
-        """The settings for a folder, and the fault because of which they could not be read."""
+        """Returns the settings for a folder, and why they could not be read."""
         try:
             return settings.of_folders(settings.folders(folder, self.roots)), ""
         except settings.NoSettings as fault:
             return None, str(fault)
 
     def hide(self, params: Any) -> bool:
-        """Says of a document that is opened, if it is left out, that it is no Python; whether it is left out."""
+        """Changes the message that opens a document that is left out: its language is then no Python. Returns whether
+        it is left out."""
         document = params.get("textDocument") if isinstance(params, dict) else None
         if not isinstance(document, dict) or document.get("languageId") != "python":
             return False
@@ -205,7 +210,7 @@ class Documents:
         return True
 
     def is_left(self, path: str, text: Any) -> bool:
-        """Whether a document is left out. Where the settings cannot be read it is not."""
+        """Whether a document is left out; no document is if the settings cannot be read."""
         used, told = self.settings_of(os.path.dirname(path))
         if told:
             log(told)
@@ -222,7 +227,7 @@ class Documents:
 
 
 def path_of(uri: Any) -> Optional[str]:
-    """The path of a file on this machine that a URI names; none where it names something else."""
+    """Returns the path of a file on this machine that a URI names; none if it names something else."""
     try:
         parts = urllib.parse.urlsplit(uri) if isinstance(uri, str) else None
     except ValueError:

@@ -1,4 +1,4 @@
-"""What is said of a code, or of all codes, as people and programs read it."""
+"""The texts about one code, or about all codes, as people and programs read them."""
 from __future__ import annotations
 
 from typing import Any, Dict, List
@@ -11,26 +11,26 @@ FORMAT = 1
 
 
 def lines(code: str, form: str, width: int) -> List[str]:
-    """The entry of a code, or a list of all codes; with the form `json` as a document."""
+    """Returns the entry of a code, or a list of all codes; with the form `json` as a document."""
     if form == "json":
         return document(code).split("\n")
     return listed() if code == ALL else codes.explained(code, width).splitlines()
 
 
 def listed() -> List[str]:
-    """A line for each code: the code, its label or title, and what it says."""
+    """Returns a line for each code: the code, its label or title, and its meaning."""
     width = max(len(codes.title_of(it)) for it in codes.entries())
     return [f"{code:<3}  {codes.title_of(code):<{width}}  {it.meaning}" for code, it in codes.entries().items()]
 
 
 def document(code: str) -> str:
-    """The document of a code, or of all codes, in the order of the page."""
+    """Returns the document of a code, or of all codes, in the order of the page."""
     chosen = list(codes.entries()) if code == ALL else [code]
     return json_of({"format": FORMAT, "codes": [of_code(it) for it in chosen]})
 
 
 def of_code(code: str) -> Dict[str, Any]:
-    """What is said of a code. `instead` is how it is mended, `rows` what to write in place of what."""
+    """Returns the texts about a code. `instead` says how to mend it, `rows` what to write in place of each form."""
     entry = codes.entries()[code]
     return {
         "code": code,

@@ -1,4 +1,4 @@
-"""Which files are checked: those that are named, and the modules in the folders that are named."""
+"""Finds the files to check: those that are named, and the modules in the folders that are named."""
 from __future__ import annotations
 
 import fnmatch
@@ -13,36 +13,36 @@ from . import ignored, reading
 
 LIMIT = 1024 * 1024 + 4096
 STANDARD_INPUT = "-"
-# Folders of what is made or installed, which have modules that nobody wrote there
+# Folders with generated or installed modules, which nobody wrote there
 MADE = ("build", "dist", "node_modules")
-# What lies in the folder of a virtual environment
+# The file by which a virtual environment is recognized
 ENVIRONMENT = "pyvenv.cfg"
-# Where a path may mean another file to another process
+# Paths under these may mean another file to another process
 OF_PROCESSES = ("/dev/", "/proc/")
 
 
 class Source(NamedTuple):
-    """A file to check: the name that reports show, the path that is read, or why it cannot be read."""
+    """A file to check: the name that reports show, the path to read, or why it cannot be read."""
 
     name: str
     path: str
     failure: str = ""
 
 
-# A module, or what stands in a folder, one after the other
+# A module, or the entries of a folder in order
 Entry = Union[Source, "Iterator[Entry]"]
 RulesFor = Callable[[bool], Optional[ignored.Rules]]
 
 
 class Found(NamedTuple):
-    """The files, in the order in which they are shown, and how many files and folders were left out by --exclude."""
+    """The files, in the order in which they are shown, and how many files and folders --exclude left out."""
 
     sources: List[Source]
     excluded: int
 
 
 def reason(fault: OSError) -> str:
-    """Why a file cannot be read, in the words of the system."""
+    """Returns why a file cannot be read, in the words of the system."""
     return f"cannot be read: {fault.strerror or fault}"
 
 
@@ -55,8 +55,8 @@ class Walk:
         self.excluded: Set[str] = set()
 
     def excludes(self, path: str, top: str) -> bool:
-        """Whether a pattern names it: one without a slash its name, one with a slash its path, as it is shown, from
-        the folder that is named, or from the base of the patterns."""
+        """Whether a pattern fits the path. A pattern without a slash is compared with the name. One with a slash is
+        compared with the path as it is shown, from the named folder, or from the base of the patterns."""
         for pattern in (it.rstrip("/") for it in self.excluding):
             tops = filter(None, (top, self.base))
             paths = [path, *(os.path.relpath(path, it) for it in tops)]
@@ -66,7 +66,8 @@ class Walk:
         return False
 
     def modules(self, top: str) -> Iterator[Source]:
-        """The modules of a folder that is named and of those in it, without hidden ones and those that git ignores."""
+        """Yields the modules of a named folder and of all folders in it, without hidden ones and those that git
+        ignores."""
         levels = [self.entries(top, top, lambda _: ignored.rules_of(top))]
         while levels:
             found = next(levels[-1], None)
@@ -78,8 +79,8 @@ class Walk:
                 levels.append(found)
 
     def entries(self, folder: str, top: str, rules_for: RulesFor) -> Iterator[Entry]:
-        """The modules of a folder, and the entries of the folders in it, in the order of their names. `rules_for` gives
-        the rules of the folder, told whether it has a `.git`."""
+        """Yields the modules of a folder, and the entries of the folders in it, in the order of their names.
+        `rules_for` returns the rules of the folder, given whether it has a `.git`."""
         try:
             with os.scandir(folder) as entries:
                 inside = sorted(entries, key=lambda it: os.fsencode(it.name))
@@ -106,17 +107,17 @@ class Walk:
 
 
 def is_made(folder: str, inside: Sequence[os.DirEntry[str]]) -> bool:
-    """Whether a folder is one of what is made or installed, by its name, or as one of a virtual environment."""
+    """Whether a folder has generated or installed files, by its name, or because it is a virtual environment."""
     return os.path.basename(folder) in MADE or any(it.name == ENVIRONMENT for it in inside)
 
 
 def has_tracked(rules: Optional[ignored.Rules]) -> bool:
-    """Whether git tracks something of the folder with these rules; then somebody wrote it."""
+    """Whether git tracks a file of the folder with these rules; if so, somebody wrote it."""
     return rules is not None and bool(rules.path) and rules.repository.tracks(rules.path[:-1], True)
 
 
 def is_folder_itself(entry: os.DirEntry[str]) -> bool:
-    """Whether it is a folder, and no link to one."""
+    """Whether an entry is a folder, and no link to one."""
     try:
         return entry.is_dir(follow_symlinks=False)
     except OSError:
@@ -124,7 +125,7 @@ def is_folder_itself(entry: os.DirEntry[str]) -> bool:
 
 
 def is_module(entry: os.DirEntry[str]) -> bool:
-    """Whether it is a file `*.py`, or a link to one or to nothing; a link to a folder is none."""
+    """Whether an entry is a file `*.py`, or a link to one or to nothing; a link to a folder is not."""
     if not entry.name.endswith(".py"):
         return False
     try:
@@ -134,12 +135,12 @@ def is_module(entry: os.DirEntry[str]) -> bool:
 
 
 def is_utf8(path: str) -> bool:
-    """Whether the program can be given a path: it takes words in UTF-8 alone."""
+    """Whether a path can be passed to the program, which accepts only words in UTF-8."""
     return not any("\udc80" <= it <= "\udcff" for it in path)
 
 
 class Files:
-    """The files of a run. Texts that have no path that can be read twice are kept in a folder until `close`."""
+    """The files of a run. Texts without a path that can be read twice are kept in a folder until `close`."""
 
     def __init__(self, excluding: Sequence[str], stdin_name: str, base: str = "") -> None:
         self.excluding = excluding
@@ -154,7 +155,7 @@ class Files:
             self._folder.cleanup()
 
     def find(self, words: Sequence[str]) -> Found:
-        """The files that the words of the command line name, each once, where it is named first."""
+        """Returns the files that the words of the command line name, each once, at its first mention."""
         walk = Walk(self.excluding, self.base)
         sources: List[Source] = []
         met: Set[Tuple[bool, str]] = set()
@@ -167,7 +168,7 @@ class Files:
         return Found(sources, len(walk.excluded))
 
     def named(self, word: str, walk: Walk) -> Iterator[Source]:
-        """The files that one word names."""
+        """Yields the files that one word names."""
         if word == STANDARD_INPUT:
             yield self.kept(self.stdin_name, 0)
             return
@@ -185,7 +186,7 @@ class Files:
             yield self.kept(word, None)
 
     def kept(self, name: str, descriptor: Optional[int]) -> Source:
-        """A text that can be read only once, from an open file or by its name, kept in a file of its own."""
+        """Copies a text that can be read only once, from an open file or by its name, into a file of its own."""
         if descriptor == 0 and sys.stdin is None:
             return Source(name, name, "cannot be read: standard input is closed")
         try:
@@ -203,5 +204,5 @@ class Files:
 
 
 def content_of(path: str) -> bytes:
-    """The bytes of a file, or somewhat more of them than the program reads."""
+    """Returns the bytes of a file, or slightly more of them than the program reads."""
     return reading.beginning(path, LIMIT)

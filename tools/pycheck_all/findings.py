@@ -1,4 +1,4 @@
-"""What the program found in the files, and how it is counted."""
+"""The findings of the program in the files, and their counts."""
 from __future__ import annotations
 
 import collections
@@ -15,12 +15,12 @@ ERROR, DYNAMIC, REFUSED, GUIDE = "error", "dynamic", "refused", "guide"
 
 @dataclasses.dataclass(frozen=True)
 class Finding:
-    """An error, a dynamic place or a refusal at a place of a file.
+    """An error, a dynamic place or a refusal at a place in a file.
 
-    A guide is a refusal that the program gave after what it refused before was replaced; `headless` says that it is for
-    want of the first header. `flow` has the two types of a dynamic flow: of the value, and of the place where it goes.
-    `opened` is the bracket that is open where one is not closed, or is closed by another. `known` says that it stands
-    in the baseline."""
+    A guide is a refusal that the program reports after earlier refused text was replaced; `headless` says that it is
+    due to the missing first header. `flow` has the two types of a dynamic flow: that of the value, and that of its
+    destination. `opened` is the open bracket, if one is not closed or is closed by a bracket of another kind. `known`
+    says that the baseline lists the finding."""
 
     kind: str
     code: str
@@ -31,7 +31,7 @@ class Finding:
     opened: Optional[Place] = None
 
     def fails(self, strict: bool) -> int:
-        """The exit status that it asks for."""
+        """Returns the exit status that the finding asks for."""
         if self.known or self.kind == GUIDE:
             return 0
         return {ERROR: 1, REFUSED: 2}.get(self.kind, int(strict))
@@ -39,10 +39,10 @@ class Finding:
 
 @dataclasses.dataclass
 class Checked:
-    """What came of a file: its findings in the order of its text, or why it could not be checked.
+    """The result for a file: its findings in the order of its text, or why it could not be checked.
 
-    Where all refusals were asked for, `complete` says that they are listed, and else `unlisted` says why not. What is
-    found and not shown stands apart, in `hidden`."""
+    If all refusals were asked for, `complete` says that they are listed; otherwise `unlisted` says why they are not.
+    Findings that are not shown are kept apart, in `hidden`."""
 
     path: str
     findings: List[Finding] = dataclasses.field(default_factory=list)
@@ -54,11 +54,11 @@ class Checked:
 
     @property
     def everything(self) -> List[Finding]:
-        """The findings that are shown, and then those that are not."""
+        """The findings that are shown, followed by those that are not."""
         return [*self.findings, *self.hidden]
 
     def status(self, strict: bool) -> int:
-        """The exit status of the file."""
+        """Returns the exit status of the file."""
         return 3 if self.failure else max((it.fails(strict) for it in self.everything), default=0)
 
     @property
@@ -68,23 +68,23 @@ class Checked:
 
     @property
     def new(self) -> List[Finding]:
-        """The findings that do not stand in the baseline."""
+        """The findings that are not in the baseline."""
         return [it for it in self.findings if not it.known]
 
     @functools.cached_property
     def suspended(self) -> str:
-        """The sentence that says which lines suspend the promise, known findings included; empty where none does."""
+        """A sentence that says which lines suspend the promise, known findings included; empty if none does."""
         tells = silent.Silent(self.text.data)
         starts = [(it.code, it.place.start) for it in self.everything if it.kind == ERROR]
         lines = [start.line for code, start in starts if tells.kind(code, start.byte)]
         return silent.sentence(lines) if lines else ""
 
     def line_of(self, finding: Finding) -> str:
-        """The text of the line in which a finding starts, without blanks at its ends."""
+        """Returns the text of the line in which a finding starts, without blanks at its ends."""
         return self.text.line(finding.place.start.line).strip()
 
     def spot_of(self, finding: Finding) -> Optional[Spot]:
-        """The word or sign at which a refusal stands; none for other findings."""
+        """Returns the word or sign at which a refusal is; none for other findings."""
         if finding.kind not in (REFUSED, GUIDE):
             return None
         spot = self.text.spot(finding.place.start.byte)
@@ -92,7 +92,7 @@ class Checked:
 
 
 class Known(NamedTuple):
-    """An entry of a baseline: a code, at a line of that text, in a file, so many times."""
+    """An entry of a baseline: a code, at a line with this text, in a file, this many times."""
 
     path: str
     code: str
@@ -103,7 +103,7 @@ class Known(NamedTuple):
 @dataclasses.dataclass
 class Project:
     """Everything that a run has to show. `left` counts what was left out: `excluded` the files and folders that
-    --exclude names, or the settings of the project, and `outside` and `unmarked` the modules outside its core."""
+    --exclude or the settings of the project name, `outside` and `unmarked` the modules outside its core."""
 
     files: List[Checked]
     strict: bool = False
@@ -114,14 +114,14 @@ class Project:
 
     @property
     def status(self) -> int:
-        """The exit status: the worst of all files."""
+        """Returns the exit status: the worst of all files."""
         return max((it.status(self.strict) for it in self.files), default=0)
 
     def counted(self) -> Counter[str]:
-        """The counts: of files, of each kind of findings, of those that are known, of what was not looked at, and of
+        """Returns the counts: of files, of each kind of finding, of those that are known, of what was left out, and of
         files whose silent errors suspend the promise.
 
-        What is known counts as known alone; `refused` counts files, `guide` the refusals after the first."""
+        A known finding counts as known alone; `refused` counts files, `guide` the refusals after the first."""
         counts: Counter[str] = collections.Counter(self.left)
         counts["files"] = len(self.files)
         for file in self.files:
@@ -135,7 +135,7 @@ class Project:
         return counts
 
     def codes(self) -> Counter[str]:
-        """How often each code stands, known findings included."""
+        """Returns how often each code occurs, known findings included."""
         return collections.Counter(finding.code for file in self.files for finding in file.everything)
 
 
@@ -145,12 +145,12 @@ def has_guides(project: Project) -> bool:
 
 
 def amount(number: int, one: str, many: str = "") -> str:
-    """A number with its noun."""
+    """Returns a number with its noun."""
     return f"{number} {one if number == 1 else many or one + 's'}"
 
 
 def summary(project: Project) -> str:
-    """The last line: the counts in words. Those that are usually 0 are left out where they are."""
+    """Returns the last line: the counts in words. Counts that are usually 0 are left out if they are 0."""
     counts = project.counted()
     parts = [amount(counts[ERROR], "error"), amount(counts[DYNAMIC], "dynamic place")]
     rest = [
@@ -172,6 +172,6 @@ def summary(project: Project) -> str:
 
 
 def not_shown(project: Project) -> str:
-    """How often each code is not shown; what is known is not told."""
+    """Returns how often each code is hidden, without known findings."""
     hidden = collections.Counter(it.code for file in project.files for it in file.hidden if not it.known)
     return "not shown: " + " ".join(f"{count} {code}" for code, count in sorted(hidden.items()))

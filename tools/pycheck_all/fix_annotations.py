@@ -1,4 +1,4 @@
-"""Rewrites of annotations: those of `typing` to what the profile has, and those in quotes."""
+"""Rewrites of annotations: those of `typing` to the forms of the profile, and those in quotes."""
 from __future__ import annotations
 
 import ast
@@ -14,7 +14,7 @@ TEXTS = ("Literal", "Annotated")
 
 
 def typing(module: Module) -> Iterator[Fix]:
-    """An import of names of `typing` that only annotations use, with what these spell."""
+    """Replaces an import of names of `typing` that only annotations use, and the annotations with them."""
     whole = [] if module.mentions(ANNOTATIONS) else list(annotations_of(module))
     within = {it for node in whole for it in ast.walk(node)}
     for node in module.tree.body:
@@ -32,13 +32,13 @@ def typing(module: Module) -> Iterator[Fix]:
 
 
 def imported_once(module: Module, names: Set[str]) -> bool:
-    """Whether an import alone binds some names."""
+    """Whether some names are bound by an import alone."""
     imports = [it for node in module.nodes if isinstance(node, (ast.Import, ast.ImportFrom)) for it in node.names]
     bound = [(it.asname or it.name).split(".")[0] for it in imports]
     others = {it.id for it in module.nodes if isinstance(it, ast.Name) and not isinstance(it.ctx, ast.Load)}
     others |= {it.arg for it in module.nodes if isinstance(it, ast.arg)}
     others |= {it.name for it in module.nodes if isinstance(it, (ast.FunctionDef, ast.AsyncFunctionDef, ast.ClassDef))}
-    # Under another name it is not bound
+    # An import under another name does not bind it
     return all(bound.count(it) == 1 for it in names) and not names & others and "*" not in bound
 
 
@@ -55,7 +55,7 @@ def is_used_elsewhere(module: Module, names: Set[str], within: Set[ast.AST]) -> 
 
 
 def header_edit(module: Module, node: ast.ImportFrom, has_any: bool) -> Edit:
-    """The import with `Any` alone, or without its line."""
+    """Returns the edit that leaves `Any` alone in the import, or removes its line."""
     start, end = module.at(node)
     if has_any:
         return Edit(start, end, b"from typing import Any")
@@ -66,7 +66,7 @@ def header_edit(module: Module, node: ast.ImportFrom, has_any: bool) -> Edit:
 
 
 def edit_of(module: Module, node: ast.expr, names: Set[str]) -> Optional[Edit]:
-    """The edit of an annotation that names what goes; none of another one."""
+    """Returns the edit of an annotation that has a removed name; none for another annotation."""
     text = spelled(node, names)
     start, end = module.at(node)
     if text is None or module.has_comment(start, end):
@@ -75,21 +75,21 @@ def edit_of(module: Module, node: ast.expr, names: Set[str]) -> Optional[Edit]:
 
 
 def spelled(node: ast.expr, names: Set[str]) -> Optional[str]:
-    """How an annotation is spelled without some names and without quotes; none where nothing changes."""
+    """Returns an annotation without some names and without quotes; none if nothing changes."""
     tree = Spelling(names)
     found = tree.visit(ast.parse(ast.unparse(node), mode="eval").body)
     return ast.unparse(found) if tree.changed else None
 
 
 class Spelling(ast.NodeTransformer):
-    """Spells an annotation. `changed` says whether it changed something."""
+    """Rewrites an annotation. `changed` says whether anything changed."""
 
     def __init__(self, names: Set[str]) -> None:
         self.names = names
         self.changed = False
 
     def visit_Constant(self, node: ast.Constant) -> ast.AST:
-        """A quoted annotation."""
+        """Rewrites an annotation in quotes."""
         if not isinstance(node.value, str):
             return node
         found = quoted(node.value)
@@ -100,14 +100,14 @@ class Spelling(ast.NodeTransformer):
         return inner
 
     def visit_Name(self, node: ast.Name) -> ast.AST:
-        """A generic type without its types stays a name."""
+        """Leaves a generic type without its types as a name."""
         if node.id in self.names and node.id in GENERICS:
             self.changed = True
             return ast.Name(GENERICS[node.id], ast.Load())
         return node
 
     def visit_Subscript(self, node: ast.Subscript) -> ast.AST:
-        """`Optional[..]`, `Union[..]`, and generic types."""
+        """Rewrites `Optional[..]`, `Union[..]` and generic types."""
         name = node.value.id if isinstance(node.value, ast.Name) else getattr(node.value, "attr", "")
         if name in TEXTS:
             return node
@@ -125,7 +125,7 @@ class Spelling(ast.NodeTransformer):
 
 
 def quoted(text: str) -> Optional[ast.expr]:
-    """The annotation that a string spells; none where it spells none."""
+    """Returns the annotation that a string contains; none if it contains none."""
     try:
         body = tree_of(text.strip().encode()).body
     except (SyntaxError, ValueError, RecursionError):
@@ -134,7 +134,7 @@ def quoted(text: str) -> Optional[ast.expr]:
 
 
 def quotes(module: Module) -> Iterator[Fix]:
-    """An annotation with a part in quotes, without them."""
+    """Removes the quotes of an annotation with a part in quotes."""
     if not module.has_header or module.mentions(ANNOTATIONS):
         return
     for node in annotations_of(module):

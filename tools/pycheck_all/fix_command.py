@@ -1,4 +1,4 @@
-"""The command `--fix`: shows what would be rewritten as a diff, or writes it."""
+"""The command `--fix`: shows the rewrites as a diff, or writes them."""
 from __future__ import annotations
 
 import collections
@@ -16,19 +16,19 @@ from .program import Program, TooLong
 
 
 class Outcome(NamedTuple):
-    """What came of one file: the lines to show, and its check afterwards."""
+    """The result for one file: the lines to show, and its check afterwards."""
 
     lines: List[str]
     checked: Checked
 
 
 def fixer(program: Program, seconds: float, source: files.Source) -> Fixer:
-    """What fixes a file: of a module that another one imports, not as if it were a script."""
+    """Returns the object that fixes a file; a module that another one imports is not fixed as if it were a script."""
     return Fixer(program, seconds, REWRITES if is_imported(source.name) else (*REWRITES, *OF_SCRIPTS))
 
 
 def fix_file(fixer: Fixer, source: files.Source, links: Links, write: bool) -> Outcome:
-    """Fixes a file."""
+    """Fixes a file. Returns the lines to show, and its check afterwards."""
     try:
         if source.failure:
             raise NotFixed(source.failure)
@@ -48,7 +48,7 @@ def fix_file(fixer: Fixer, source: files.Source, links: Links, write: bool) -> O
 
 
 def rewrite(source: files.Source, links: Links, fixed: Fixed) -> None:
-    """Writes a file that is no link and still has the text that was read; OSError or NotFixed else."""
+    """Writes a file; raises OSError or NotFixed if it is a link, or no longer has the text that was read."""
     if source.name != source.path or os.path.islink(source.path):
         raise NotFixed("it is not written: it is a link, or no file of its own")
     links.refuse(source.path)
@@ -62,19 +62,19 @@ def rewrite(source: files.Source, links: Links, fixed: Fixed) -> None:
 
 
 def diff(name: str, fixed: Fixed) -> List[str]:
-    """The changes of a file, as a diff with three lines around each."""
+    """Returns the changes of a file, as a diff with three lines around each."""
     before, after = (lines_of(it) for it in (fixed.before, fixed.after))
     return list(difflib.unified_diff(before, after, texts.plain(name), texts.plain(name), lineterm=""))
 
 
 def lines_of(data: bytes) -> List[str]:
-    """The lines of a text, without their ends."""
+    """Returns the lines of a text, without their ends."""
     lines = data.decode("utf-8", "replace").split("\n")
     return lines if lines[-1] else lines[:-1]
 
 
 def is_imported(path: str) -> bool:
-    """Whether a module beside a file imports it by its name; also where that cannot be read."""
+    """Whether a module beside a file imports it by its name; true as well if such a module cannot be read."""
     folder, name = os.path.split(os.path.abspath(path))
     imports = re.compile(rb"^[ \t]*(?:from|import)\b.*\b" + re.escape(os.fsencode(name[:-3])) + rb"\b", re.MULTILINE)
     try:
@@ -85,7 +85,7 @@ def is_imported(path: str) -> bool:
 
 
 def told(name: str, fixed: Fixed, write: bool) -> List[str]:
-    """A line that says which rewrites were made."""
+    """Returns a line that says which rewrites were made."""
     if fixed.before == fixed.after:
         return []
     counted = collections.Counter(fixed.made)

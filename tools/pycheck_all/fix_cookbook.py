@@ -1,5 +1,6 @@
 """Rewrites of methods, built-in functions and slices to calls of the cookbook's functions, which are put into the
-module once. They are made where an annotation tells the type of the value."""
+module
+once each. A rewrite is made only if an annotation tells the type of the value."""
 from __future__ import annotations
 
 import ast
@@ -12,10 +13,10 @@ from .fix_module import Edit, Fix, Module
 from .fix_types import INTEGERS, TEXT, TEXTS, is_number, is_whole_number, told
 
 HERE = Path(__file__).resolve().parent
-# In the wheel, and in a checkout
+# The cookbook in the wheel, and in a checkout
 FOLDERS = (HERE / "cookbook", HERE.parent.parent / "cookbook")
 FILES = ("texts.py", "lists_of_int.py", "lists_of_str.py")
-# Of a method of a text: how many arguments it may have, and the function with those that come after them
+# By method of a text: how many arguments it may have, and the function, with the arguments that are added
 METHODS = {
     "strip": {0: ("strip", ""), 1: ("strip", "")},
     "split": {0: ("words_of", ""), 1: ("split", "")},
@@ -24,7 +25,7 @@ METHODS = {
     "startswith": {1: ("starts_at", ", 0")},
     "replace": {2: ("replace", "")},
 }
-# Of a built-in function or a slice, by the type of its argument
+# By built-in function or slice: the function for each type of the argument
 FUNCTIONS_OF = {
     "sorted": {INTEGERS: "sorted_of", TEXTS: "sorted_of_str"},
     "max": {INTEGERS: "max_of", TEXTS: "max_of_str"},
@@ -45,7 +46,7 @@ class Recipe(NamedTuple):
 
 @functools.lru_cache(maxsize=None)
 def recipes() -> Dict[str, Recipe]:
-    """The functions of the cookbook by their names; none where the cookbook is not there."""
+    """Returns the functions of the cookbook by their names; none if the cookbook is missing."""
     folder = next((it for it in FOLDERS if it.is_dir()), None)
     found: Dict[str, Recipe] = {}
     for name in FILES if folder else ():
@@ -58,7 +59,7 @@ def recipes() -> Dict[str, Recipe]:
 
 
 def text_with_comment(module: Module, node: ast.FunctionDef) -> bytes:
-    """A function with the lines of comment directly above it."""
+    """Returns the text of a function with the lines of comment directly above it."""
     first = node.lineno - 1
     while first and module.data[module.starts[first - 1] :].startswith(b"#"):
         first -= 1
@@ -66,7 +67,7 @@ def text_with_comment(module: Module, node: ast.FunctionDef) -> bytes:
 
 
 def closure(name: str) -> List[str]:
-    """A function of the cookbook and all that it calls, in the order of the cookbook."""
+    """Returns the names of a function of the cookbook and of all that it calls, in the order of the cookbook."""
     needed: Set[str] = set()
     left = [name]
     while left:
@@ -78,7 +79,7 @@ def closure(name: str) -> List[str]:
 
 
 def pasted(module: Module, name: str) -> Optional[List[Edit]]:
-    """The edits that put a function and what it calls into the module, as far as it does not have them; none where one
+    """Returns the edits that put a function, and what it calls, into the module unless it has them already; none if one
     of the names means something else there."""
     if name not in recipes():
         return None
@@ -100,12 +101,12 @@ def pasted(module: Module, name: str) -> Optional[List[Edit]]:
 
 
 def is_call(node: ast.stmt) -> bool:
-    """Whether a statement is a call, as that of `main`."""
+    """Whether a statement is a call, such as that of `main`."""
     return isinstance(node, ast.Expr) and isinstance(node.value, ast.Call)
 
 
 def call(module: Module, node: ast.expr, name: str, arguments: Sequence[bytes], rest: str = "") -> Iterator[Fix]:
-    """The rewrite of an expression to a call of a function of the cookbook."""
+    """Rewrites an expression to a call of a function of the cookbook."""
     edits = pasted(module, name)
     start, end = module.at(node)
     if edits is None or module.has_comment(start, end) or in_format(module, node):
@@ -115,7 +116,7 @@ def call(module: Module, node: ast.expr, name: str, arguments: Sequence[bytes], 
 
 
 def methods(module: Module) -> Iterator[Fix]:
-    """Methods of texts."""
+    """Rewrites methods of texts."""
     for node in module.nodes:
         if not isinstance(node, ast.Call) or not isinstance(node.func, ast.Attribute) or not is_simple(node):
             continue
@@ -126,19 +127,19 @@ def methods(module: Module) -> Iterator[Fix]:
 
 
 def arguments_fit(module: Module, node: ast.Call) -> bool:
-    """Whether annotations tell that the arguments of a method of a text are what it takes."""
+    """Whether annotations show that the arguments of a method of a text have the types that it takes."""
     name = getattr(node.func, "attr", "")
     wanted = {"join": [TEXTS], "find": [TEXT, "int"]}.get(name, [TEXT, TEXT])
     return all(told(module, it) == type_ or is_number(it, type_) for it, type_ in zip(node.args, wanted))
 
 
 def is_simple(node: ast.Call) -> bool:
-    """Whether a call has arguments by position alone."""
+    """Whether all arguments of a call are positional."""
     return not node.keywords and not any(isinstance(it, ast.Starred) for it in node.args)
 
 
 def built_ins(module: Module) -> Iterator[Fix]:
-    """Built-in functions of one argument."""
+    """Rewrites built-in functions of one argument."""
     for node in module.nodes:
         if not isinstance(node, ast.Call) or not isinstance(node.func, ast.Name) or not is_simple(node):
             continue
@@ -150,7 +151,7 @@ def built_ins(module: Module) -> Iterator[Fix]:
 
 
 def slices(module: Module) -> Iterator[Fix]:
-    """Slices that are read, without a step."""
+    """Rewrites slices that are read, without a step."""
     for node in module.nodes:
         part = node.slice if isinstance(node, ast.Subscript) else None
         if not isinstance(node, ast.Subscript) or not isinstance(part, ast.Slice) or part.step is not None:

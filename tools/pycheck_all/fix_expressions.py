@@ -1,5 +1,6 @@
-"""Rewrites of expressions: chains of comparisons, `isinstance` with several classes, and what becomes statements
-before its own: conditional expressions, named ones, and comprehensions of lists and dicts."""
+"""Rewrites of expressions: chains of comparisons, `isinstance` with several classes, and expressions that become
+statements
+before their own: conditional expressions, named ones, and comprehensions of lists and dicts."""
 from __future__ import annotations
 
 import ast
@@ -17,12 +18,13 @@ OPERATORS = {
     ast.In: "in", ast.NotIn: "not in", ast.Is: "is", ast.IsNot: "is not",
 }
 COMPREHENSIONS = (ast.ListComp, ast.SetComp, ast.DictComp, ast.GeneratorExp)
-# Those that become loops
+# The comprehensions that become loops
 Comprehension = Union[ast.ListComp, ast.DictComp]
 
 
 def comparisons(module: Module) -> Iterator[Fix]:
-    """`a < b < c`, to two comparisons: as it stands with a name or a literal in the middle, else through a local."""
+    """Rewrites `a < b < c` to two comparisons: in place if the middle is a name or a literal, otherwise through a
+    local."""
     if module.mentions(COMPARING):
         return
     for node in module.nodes:
@@ -36,7 +38,7 @@ def comparisons(module: Module) -> Iterator[Fix]:
 
 
 def two_of(module: Module, node: ast.Compare, names: Dict[ast.expr, bytes]) -> "Iterator[Tuple[int, int, bytes]]":
-    """The edits that make two comparisons of a chain, where names stand for some of its parts."""
+    """Yields the edits that make two comparisons of a chain, in which names replace some of its parts."""
     start, end = module.at(node)
     is_loose = isinstance(module.parents[node], LOOSE)
     yield from [] if is_loose else [(start, start, b"(")]
@@ -49,8 +51,8 @@ def two_of(module: Module, node: ast.Compare, names: Dict[ast.expr, bytes]) -> "
 
 
 def by_locals(module: Module, node: ast.Compare) -> Iterator[Fix]:
-    """The rewrite of a chain whose first part in the middle is evaluated before the statement, as the part before it
-    is; none where it may not be, or where a later part in the middle does something."""
+    """Rewrites a chain whose first middle part is evaluated before the statement, like the part before it. Yields
+    nothing if that part may not be moved, or if a later middle part has effects."""
     place = place_of(module, node)
     if place is None or module.has_comment(*module.at(node)) or not all(map(is_quiet, node.comparators[1:-1])):
         return
@@ -65,7 +67,7 @@ def by_locals(module: Module, node: ast.Compare) -> Iterator[Fix]:
 
 
 def in_format(module: Module, node: ast.AST) -> bool:
-    """Whether an expression stands in an f-string."""
+    """Whether an expression is in an f-string."""
     return any(isinstance(it, ast.JoinedStr) for it in module.ancestors(node))
 
 
@@ -81,7 +83,7 @@ def with_brackets(module: Module, node: ast.expr) -> Tuple[int, int]:
 
 
 def isinstances(module: Module) -> Iterator[Fix]:
-    """`isinstance(x, (A, B))` with a name first, to tests with `or`."""
+    """Rewrites `isinstance(x, (A, B))`, if `x` is a name, to tests with `or`."""
     if "isinstance" in module.bound:
         return
     classes = {it.name for it in module.tree.body if isinstance(it, ast.ClassDef) and module.binds(it.name) == 1}
@@ -102,22 +104,23 @@ def isinstances(module: Module) -> Iterator[Fix]:
 
 
 def in_place(module: Module, node: ast.expr, tests: str) -> str:
-    """Tests with `or` where one expression stood."""
+    """Returns tests with `or`, fit for the place of an expression."""
     parent = module.parents[node]
     is_loose = isinstance(parent, (ast.stmt, ast.Call, ast.keyword, ast.List, ast.Tuple))
     return tests if is_loose or " or " not in tests else f"({tests})"
 
 
 class Place(NamedTuple):
-    """An expression that may be evaluated before its statement: the statement, and whether the expression is all that
-    the statement evaluates first and then gives to one place."""
+    """An expression that may be evaluated before its statement: the statement, and whether the statement evaluates
+    nothing but the expression first and then assigns it to one target."""
 
     statement: ast.stmt
     is_value: bool
 
 
 def place_of(module: Module, node: ast.expr) -> Optional[Place]:
-    """Where an expression stands, if it is evaluated once and unconditionally, with nothing with effects before it."""
+    """Returns the place of an expression that is evaluated once and unconditionally, with nothing with effects before
+    it; none for another expression."""
     statement = module.statement(node)
     if statement is None or module.function(node) is None or module.reflects or module.rebinds:
         return None
@@ -139,7 +142,7 @@ def place_of(module: Module, node: ast.expr) -> Optional[Place]:
 
 
 def root_of(statement: ast.stmt) -> Optional[ast.expr]:
-    """The expression that a statement evaluates first, and once."""
+    """Returns the expression that a statement evaluates first, and once."""
     if isinstance(statement, (ast.Assign, ast.AnnAssign, ast.Return, ast.Expr)):
         return statement.value
     if isinstance(statement, ast.If):
@@ -174,25 +177,25 @@ def is_before_all(outer: ast.AST, inner: ast.AST) -> bool:
 
 
 def is_method(outer: ast.AST, node: ast.AST) -> bool:
-    """Whether it is the method of a name that a call calls."""
+    """Whether a node is the method that a call of a name's method calls."""
     is_called = isinstance(outer, ast.Call) and outer.func is node
     return is_called and isinstance(node, ast.Attribute) and isinstance(node.value, ast.Name)
 
 
 def calls(node: ast.AST) -> bool:
-    """Whether an expression calls something, or lets others run."""
+    """Whether an expression calls something, or lets other code run."""
     return any(isinstance(it, (ast.Call, ast.Await, ast.Yield, ast.YieldFrom)) for it in ast.walk(node))
 
 
 def is_quiet(node: ast.AST) -> bool:
-    """Whether evaluating it does nothing, and gives the same later."""
+    """Whether evaluating an expression has no effect, and results in the same value later."""
     if isinstance(node, ast.UnaryOp) and isinstance(node.op, ast.USub):
         return isinstance(node.operand, ast.Constant) and isinstance(node.operand.value, int)
     return isinstance(node, (ast.operator, ast.unaryop, ast.expr_context, ast.Name, ast.Constant))
 
 
 def conditionals(module: Module) -> Iterator[Fix]:
-    """`a if c else b`, to an `if` statement."""
+    """Rewrites `a if c else b` to an `if` statement."""
     for node in module.nodes:
         place = place_of(module, node) if isinstance(node, ast.IfExp) else None
         if place is None or not isinstance(node, ast.IfExp) or module.has_comment(*module.at(node)):
@@ -210,20 +213,20 @@ def conditionals(module: Module) -> Iterator[Fix]:
 
 
 def branches(module: Module, node: ast.IfExp, lead: bytes, apart: bytes) -> bytes:
-    """The lines of an `if` statement with the same words before both values."""
+    """Returns the lines of an `if` statement with the same words before both values."""
     inner = apart + module.step() + lead
     test, one, other = (module.value(it) for it in (node.test, node.body, node.orelse))
     return b"".join([b"if ", test, b":", inner, one, apart, b"else:", inner, other])
 
 
 def hoisted(what: str, module: Module, node: ast.expr, start: int, lines: bytes, name: bytes) -> Fix:
-    """The rewrite that puts lines before a statement, and a name in place of an expression."""
+    """Returns the rewrite that puts lines before a statement, and a name in place of an expression."""
     first, last = module.at(node)
     return Fix(what, first, last, (Edit(start, start, lines), Edit(first, last, name)), True)
 
 
 def named(module: Module) -> Iterator[Fix]:
-    """`(n := e)`, to `n = e` on a line before."""
+    """Rewrites `(n := e)` to `n = e` on a line before."""
     for node in module.nodes:
         place = place_of(module, node) if isinstance(node, ast.NamedExpr) else None
         if place is None or not isinstance(node, ast.NamedExpr) or module.has_comment(*module.at(node)):
@@ -233,7 +236,7 @@ def named(module: Module) -> Iterator[Fix]:
         if any(module.at(it)[0] < first for it in before):
             continue
         parent = module.parents[node]
-        # The brackets of a call are not those of its argument
+        # The brackets of a call do not belong to its argument
         if not isinstance(parent, ast.Call) or node is parent.func:
             first, last = with_brackets(module, node)
         start = module.at(place.statement)[0]
@@ -243,13 +246,13 @@ def named(module: Module) -> Iterator[Fix]:
 
 
 def apart(module: Module, start: int, end: int, name: bytes) -> bytes:
-    """A name in the place of something, with blanks where it would touch a word."""
+    """Returns a name to replace a part of the text, with blanks where it would touch a word."""
     before, after = (module.data[it : it + 1].isalnum() for it in (start - 1, end))
     return (b" " if before else b"") + name + (b" " if after else b"")
 
 
 def comprehensions(module: Module) -> Iterator[Fix]:
-    """A comprehension of a list or of a dict, to a loop."""
+    """Rewrites a comprehension of a list or of a dict to a loop."""
     for node in module.nodes:
         if not isinstance(node, (ast.ListComp, ast.DictComp)) or module.has_comment(*module.at(node)):
             continue
@@ -270,7 +273,7 @@ def comprehensions(module: Module) -> Iterator[Fix]:
 
 
 def direct_name(module: Module, place: Place, node: Comprehension) -> str:
-    """The local that a comprehension makes, where it may grow in sight; empty where it may not."""
+    """Returns the local that a comprehension makes, if it may be visible while it grows; empty if it may not."""
     statement = place.statement
     if not place.is_value or not is_whole(module, statement) or module.catches:
         return ""
@@ -290,7 +293,8 @@ def direct_name(module: Module, place: Place, node: Comprehension) -> str:
 
 
 def renamed(module: Module, node: Comprehension) -> Optional[Dict[str, str]]:
-    """The names of the loops, each under a name that its function does not have; none where that cannot be."""
+    """Returns the names of the loops, each with a name that its function does not have; none if there are no such
+    names."""
     if not all(isinstance(it.target, ast.Name) and not it.is_async for it in node.generators):
         return None
     inner = [it for part in ast.walk(node) for it in ast.iter_child_nodes(part)]
@@ -312,7 +316,7 @@ def renamed(module: Module, node: Comprehension) -> Optional[Dict[str, str]]:
 
 
 def module_names(module: Module) -> "set[str]":
-    """The names that the module binds at its top, which a local would hide."""
+    """Returns the names that the module binds at its top level, which a local would hide."""
     found = {it.name for it in module.tree.body if isinstance(it, (*FUNCTIONS, ast.ClassDef))}
     for node in module.tree.body:
         if isinstance(node, (ast.Assign, ast.AnnAssign)):
@@ -321,7 +325,7 @@ def module_names(module: Module) -> "set[str]":
 
 
 def text_under(module: Module, node: ast.expr, names: Dict[str, str]) -> bytes:
-    """The text of an expression where names are others."""
+    """Returns the text of an expression with some names replaced."""
     start = module.at(node)[0]
     edits = []
     for it in ast.walk(node):
@@ -335,7 +339,7 @@ def text_under(module: Module, node: ast.expr, names: Dict[str, str]) -> bytes:
 def loops(
     module: Module, node: Comprehension, names: Dict[str, str], name: bytes, lead: bytes, apart: bytes
 ) -> bytes:
-    """The lines that make a list or a dict in loops."""
+    """Returns the lines that make a list or a dict in loops."""
     lines, deeper = [lead + (b"[]" if isinstance(node, ast.ListComp) else b"{}")], b""
     for number, part in enumerate(node.generators):
         target = names[getattr(part.target, "id")].encode()
@@ -350,8 +354,8 @@ def loops(
 
 
 def growing(module: Module, node: Comprehension, names: Dict[str, str], name: bytes) -> List[bytes]:
-    """The lines that put an item into a list, or a value under its key into a dict. The key is evaluated before the
-    value, as in a comprehension."""
+    """Returns the lines that put an item into a list, or a value under its key into a dict. The key is evaluated before
+    the value, as in a comprehension."""
     if isinstance(node, ast.ListComp):
         return [name + b".append(" + text_under(module, node.elt, names) + b")"]
     key, value = text_under(module, node.key, names), text_under(module, node.value, names)

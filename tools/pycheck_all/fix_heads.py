@@ -10,14 +10,14 @@ from .fix_module import FUNCTIONS, Edit, Fix, Module
 HEADER = b"from __future__ import annotations"
 OUT_OF_ORDER = (b"from typing import Any", b"from dataclasses import dataclass")
 CODING = re.compile(r"coding[:=]")
-# What sees the texts that are taken away
+# A module with one of these may read the texts that are removed
 DOCUMENTS = ("__doc__", "help", "getdoc", "inspect", "doctest", "pydoc")
 ANNOTATIONS = ("__annotations__", "get_type_hints", "get_annotations", "inspect", "singledispatch", "pydantic", "attr")
 MAIN = "main"
 
 
 def docstrings(module: Module) -> Iterator[Fix]:
-    """A docstring, or another string that is a statement, to a comment."""
+    """Rewrites a docstring, or another string that is a statement, to a comment."""
     if module.mentions(DOCUMENTS):
         return
     for node in module.nodes:
@@ -31,7 +31,7 @@ def docstrings(module: Module) -> Iterator[Fix]:
 
 
 def comment_of(value: str) -> Optional[List[str]]:
-    """The lines of a comment with this text; none where a comment cannot have it."""
+    """Returns the lines of a comment with this text; none if a comment cannot have it."""
     lines = [it.rstrip() for it in value.expandtabs().strip().split("\n")]
     margins = [len(it) - len(it.lstrip()) for it in lines[1:] if it.strip()]
     margin = min(margins, default=0)
@@ -42,7 +42,7 @@ def comment_of(value: str) -> Optional[List[str]]:
 
 
 def commented(module: Module, node: ast.Expr, lines: List[str]) -> Fix:
-    """The rewrite of one string to a comment; a suite of it alone has `pass` besides."""
+    """Returns the rewrite of one string to a comment; a suite of that string alone gets `pass` as well."""
     start, end = module.at(node)
     apart = module.newline + module.indent(node)
     text = apart.join(f"# {it}".rstrip().encode() for it in lines)
@@ -52,7 +52,7 @@ def commented(module: Module, node: ast.Expr, lines: List[str]) -> Fix:
 
 
 def header(module: Module) -> Iterator[Fix]:
-    """The first header, before the first statement."""
+    """Adds the first header, before the first statement."""
     body = module.tree.body
     if module.has_header or module.mentions(ANNOTATIONS) or not all(map(is_plain, annotations_of(module))):
         return
@@ -71,7 +71,7 @@ def header(module: Module) -> Iterator[Fix]:
 
 
 def annotations_of(module: Module) -> Iterator[ast.expr]:
-    """The annotations of the module."""
+    """Yields the annotations of the module."""
     for node in module.nodes:
         if isinstance(node, (ast.arg, ast.AnnAssign)) and node.annotation is not None:
             yield node.annotation
@@ -80,13 +80,13 @@ def annotations_of(module: Module) -> Iterator[ast.expr]:
 
 
 def is_plain(node: ast.expr) -> bool:
-    """Whether evaluating an annotation does nothing else."""
+    """Whether evaluating an annotation has no effect."""
     kinds = (ast.Call, ast.NamedExpr, ast.Await, ast.Yield, ast.YieldFrom)
     return not any(isinstance(it, kinds) for it in ast.walk(node))
 
 
 def old_header(module: Module) -> Iterator[Fix]:
-    """A header with features that every Python 3 has to the one of the profile."""
+    """Replaces a header with features that every Python 3 has by that of the profile."""
     for node in module.tree.body:
         if isinstance(node, ast.ImportFrom) and node.module == "__future__" and module.is_alone(node):
             named = {it.name for it in node.names}
@@ -98,7 +98,7 @@ def old_header(module: Module) -> Iterator[Fix]:
 
 
 def order(module: Module) -> Iterator[Fix]:
-    """The headers of `typing` and of `dataclasses` that stand one after the other, in the order of the profile."""
+    """Puts adjacent headers of `typing` and of `dataclasses` into the order of the profile."""
     for one, other in zip(module.tree.body, module.tree.body[1:]):
         (start, end), (first, last) = module.at(one), module.at(other)
         texts = (module.data[start:end], module.data[first:last])
@@ -107,7 +107,7 @@ def order(module: Module) -> Iterator[Fix]:
 
 
 def library(module: Module) -> Iterator[Fix]:
-    """`main` for a module that has none, and its call."""
+    """Adds `main` to a module that has none, and its call."""
     if MAIN in module.names or module.reflects or module.mentions(["__name__"]):
         return
     end = len(module.data)
@@ -118,7 +118,7 @@ def library(module: Module) -> Iterator[Fix]:
 
 
 def guarded_main(module: Module) -> Iterator[Fix]:
-    """The call of `main` in an `if` over `__name__`, at the end of the module, to the call alone."""
+    """Rewrites the call of `main` in an `if` over `__name__`, at the end of the module, to the call alone."""
     last = module.tree.body[-1] if module.tree.body else None
     if not isinstance(last, ast.If) or last.orelse or not is_name_test(last.test) or not module.is_alone(last):
         return
@@ -129,7 +129,7 @@ def guarded_main(module: Module) -> Iterator[Fix]:
 
 
 def is_name_test(node: ast.expr) -> bool:
-    """Whether it is `__name__ == "__main__"`."""
+    """Whether an expression is `__name__ == "__main__"`."""
     if not isinstance(node, ast.Compare) or len(node.ops) != 1 or not isinstance(node.ops[0], ast.Eq):
         return False
     sides = [node.left, node.comparators[0]]

@@ -1,4 +1,4 @@
-"""Rewrites of how statements stand on lines: one on each, a suite below its head, no backslash at the end."""
+"""Rewrites of the lines of statements: one statement on each, a suite below its head, no backslash at the end."""
 from __future__ import annotations
 
 import ast
@@ -11,14 +11,14 @@ SUITES = ("body", "orelse", "finalbody")
 
 
 def semicolons(module: Module) -> Iterator[Fix]:
-    """Statements on one line, to a line for each."""
+    """Rewrites statements on one line to a line for each."""
     for at, token in enumerate(module.tokens):
         if token.kind == tokenize.OP and token.text == ";":
             yield from parted(module, at)
 
 
 def parted(module: Module, at: int) -> Iterator[Fix]:
-    """The rewrite of one semicolon."""
+    """Rewrites one semicolon."""
     token, following = module.tokens[at], module.tokens[at + 1]
     start = token.start
     while module.data[start - 1 : start] in (b" ", b"\t"):
@@ -31,7 +31,7 @@ def parted(module: Module, at: int) -> Iterator[Fix]:
 
 
 def line_of_statement(module: Module, byte: int) -> int:
-    """The first byte of the logical line that a byte stands in."""
+    """Returns the first byte of the logical line with a byte."""
     tokens = module.between(0, byte)
     first = next((it for it in range(len(tokens) - 1, -1, -1) if tokens[it].kind == tokenize.NEWLINE), -1)
     layout = (tokenize.NL, tokenize.COMMENT, tokenize.INDENT, tokenize.DEDENT)
@@ -39,13 +39,13 @@ def line_of_statement(module: Module, byte: int) -> int:
 
 
 def opens_suite(module: Module, token: Token) -> bool:
-    """Whether a semicolon stands in a suite on the line of its head, which is parted first."""
+    """Whether a semicolon is in a suite on the line of its head, which is moved to lines of its own first."""
     start = module.starts[module.data.count(b"\n", 0, line_of_statement(module, token.start))]
     return any(start <= it.start <= token.start for it in inline_suites(module))
 
 
 def inline_suites(module: Module) -> List[Token]:
-    """The first statement of each suite that stands on the line of its head: the bytes from the colon on."""
+    """Returns, for the first statement of each suite that is on the line of its head, the bytes from the colon on."""
     found = []
     for node in module.nodes:
         for suite in (getattr(node, name, None) for name in SUITES):
@@ -57,14 +57,14 @@ def inline_suites(module: Module) -> List[Token]:
 
 
 def colon_before(module: Module, node: ast.stmt) -> Optional[Token]:
-    """The colon before a statement, where that is the token before it."""
+    """Returns the colon before a statement; none if the token before it is another one."""
     start = min([module.at(node)[0], *(module.at(it)[0] - 1 for it in getattr(node, "decorator_list", []))])
     before = module.between(0, start)
     return before[-1] if before and before[-1].text == ":" and before[-1].kind == tokenize.OP else None
 
 
 def inline(module: Module) -> Iterator[Fix]:
-    """A suite on the line of its head, to lines of its own."""
+    """Rewrites a suite on the line of its head to lines of its own."""
     for node in module.nodes:
         for suite in (getattr(node, name, None) for name in SUITES):
             if isinstance(suite, list) and suite and isinstance(suite[0], ast.stmt):
@@ -74,7 +74,7 @@ def inline(module: Module) -> Iterator[Fix]:
 
 
 def below(module: Module, colon: Token, suite: List[ast.stmt]) -> Fix:
-    """The rewrite of one suite."""
+    """Returns the rewrite of one suite."""
     head = line_of_statement(module, colon.start)
     apart = module.newline + module.indent_of_line(head) + module.step()
     start, end = module.at(suite[0])[0], module.at(suite[-1])[1]
@@ -87,7 +87,7 @@ def below(module: Module, colon: Token, suite: List[ast.stmt]) -> Fix:
 
 
 def backslashes(module: Module) -> Iterator[Fix]:
-    """A backslash at the end of a line, to brackets around the expression, or to one line."""
+    """Replaces a backslash at the end of a line by brackets around the expression, or joins the lines."""
     for at, before in enumerate(module.tokens[:-1]):
         after = module.tokens[at + 1]
         gap = module.data[before.end : after.start]
@@ -105,7 +105,7 @@ def backslashes(module: Module) -> Iterator[Fix]:
 
 
 def others(module: Module, start: int, end: int, but: int) -> Iterator[Edit]:
-    """The other backslashes of an expression that gets brackets."""
+    """Yields the edits of the other backslashes of an expression that gets brackets."""
     tokens = module.between(start, end)
     for before, after in zip(tokens, tokens[1:]):
         gap = module.data[before.end : after.start]
@@ -114,7 +114,8 @@ def others(module: Module, start: int, end: int, but: int) -> Iterator[Edit]:
 
 
 def outermost(module: Module, start: int, end: int) -> Optional["tuple[ast.expr, bool]"]:
-    """The outermost expression that a gap stands in, and whether brackets are open there; none where there is none."""
+    """Returns the outermost expression around a gap, and whether brackets are open there; none if there is no such
+    expression."""
     found = [it for it in module.nodes if isinstance(it, ast.expr) and around(module, it, start, end)]
     if not found:
         return None
@@ -127,6 +128,6 @@ def outermost(module: Module, start: int, end: int) -> Optional["tuple[ast.expr,
 
 
 def around(module: Module, node: ast.expr, start: int, end: int) -> bool:
-    """Whether an expression has both ends of a gap in it."""
+    """Whether both ends of a gap are in an expression."""
     first, last = module.at(node)
     return first < start and end < last

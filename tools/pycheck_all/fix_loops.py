@@ -9,7 +9,8 @@ from .fix_types import is_whole_number
 
 
 def ranges(module: Module) -> Iterator[Fix]:
-    """`for n in range(a, b)` of whole numbers: to `range(b - a)`, and `n` from it in the first line of the loop."""
+    """Rewrites `for n in range(a, b)` of whole numbers to `range(b - a)`, with `n` computed from it in the first line
+    of the loop."""
     if module.binds("range"):
         return
     for node in module.nodes:
@@ -28,14 +29,14 @@ def ranges(module: Module) -> Iterator[Fix]:
 
 
 def is_range_of_two(node: ast.Call) -> bool:
-    """Whether it is a call of `range` with two bounds."""
+    """Whether a call is one of `range` with two bounds."""
     is_range = isinstance(node.func, ast.Name) and node.func.id == "range"
     plain = not node.keywords and not any(isinstance(it, ast.Starred) for it in node.args)
     return is_range and plain and len(node.args) == 2
 
 
 def literal(node: ast.expr) -> Optional[int]:
-    """The number that a literal is, perhaps with a sign; none of another expression."""
+    """Returns the number that a literal is, with a sign if it has one; none for another expression."""
     if isinstance(node, ast.UnaryOp) and isinstance(node.op, ast.USub):
         found = literal(node.operand)
         return None if found is None else -found
@@ -43,15 +44,15 @@ def literal(node: ast.expr) -> Optional[int]:
 
 
 def from_nothing(module: Module, call: ast.Call) -> List[Edit]:
-    """The edit where the lower bound is 0."""
+    """Returns the edit for a lower bound of 0."""
     if literal(call.args[0]) != 0:
         return []
     return [Edit(module.at(call)[0], module.at(call)[1], b"range(" + module.value(call.args[1]) + b")")]
 
 
 def counted(module: Module, node: ast.For, call: ast.Call, number: bytes, first_number: bytes) -> List[Edit]:
-    """The edits with another lower bound, with two new names; none where there can be none, or no first line in the
-    loop."""
+    """Returns the edits for another lower bound, with two new names; none if there are no such names, or if the loop
+    has no first line."""
     body = node.body[0]
     is_below = body.lineno > node.lineno and not getattr(body, "decorator_list", [])
     blanks = module.indent(node) + module.indent(body)
@@ -78,7 +79,7 @@ def is_kept(node: ast.For, lower: ast.expr) -> bool:
 
 
 def difference(module: Module, upper: ast.expr, lower: ast.expr, low: bytes) -> bytes:
-    """The text of the upper bound less the lower one."""
+    """Returns the text of the upper bound minus the lower one."""
     high, number, least = module.value(upper), literal(upper), literal(lower)
     if least is None:
         return high + b" - " + low

@@ -1,4 +1,4 @@
-"""A module as it is fixed: its text in bytes, its tree, and the edits of a rewrite. Nothing of it is run."""
+"""A module that is being fixed: its text in bytes, its tree, and the edits of a rewrite. None of its code is run."""
 from __future__ import annotations
 
 import ast
@@ -12,13 +12,13 @@ from typing import Any, Dict, Iterator, List, NamedTuple, Optional, Sequence, Se
 
 FUNCTIONS = (ast.FunctionDef, ast.AsyncFunctionDef)
 SCOPES = (*FUNCTIONS, ast.Lambda, ast.ClassDef, ast.ListComp, ast.SetComp, ast.DictComp, ast.GeneratorExp)
-# With these a module sees its own names
+# A module that uses one of these can read its own names
 REFLECTION = frozenset("locals vars globals dir exec eval compile".split())
 LAYOUT = (tokenize.NL, tokenize.NEWLINE, tokenize.COMMENT, tokenize.INDENT, tokenize.DEDENT, tokenize.ENDMARKER)
 
 
 class Edit(NamedTuple):
-    """Bytes from `start` to `end` and what stands in their place."""
+    """Bytes from `start` to `end` and the text that replaces them."""
 
     start: int
     end: int
@@ -27,8 +27,8 @@ class Edit(NamedTuple):
 
 class Fix(NamedTuple):
     """A rewrite at a place: its name, the bytes in which the fault lies that it mends, and its edits. One that moves
-    parts of an expression into statements of their own takes away a fault of the grammar, but not always the first.
-    Two rewrites that put in the same new name, which is read later on, are never made at once."""
+    parts of an expression into statements of their own removes a fault of the grammar, but not always the first. Two
+    rewrites that add the same new name and read it later are never made together."""
 
     name: str
     start: int
@@ -48,14 +48,14 @@ class Token(NamedTuple):
 
 
 def tree_of(data: bytes) -> ast.Module:
-    """The tree of a text; SyntaxError and the like where it is no Python."""
+    """Returns the tree of a text; raises SyntaxError and the like if it is no Python."""
     with warnings.catch_warnings():
         warnings.simplefilter("ignore")
         return ast.parse(data)
 
 
 class Module:
-    """A text with its tree. SyntaxError, ValueError or RecursionError where Python does not take it."""
+    """A text with its tree. Raises SyntaxError, ValueError or RecursionError if Python rejects the text."""
 
     def __init__(self, data: bytes) -> None:
         if data.startswith(b"\xef\xbb\xbf") or b"\x0c" in data or re.search(rb"\r(?!\n)", data):
@@ -84,7 +84,7 @@ class Module:
         widths = [it.isascii() for it in lines]
 
         def byte(place: Tuple[int, int]) -> int:
-            """The byte of a line and a column in characters."""
+            """Returns the byte at a line and a column in characters."""
             line, column = place
             if line > len(lines):
                 return len(self.data)
@@ -103,11 +103,11 @@ class Module:
 
     @functools.cached_property
     def newline(self) -> bytes:
-        """How the lines of the text end."""
+        """The characters that end the lines of the text."""
         return b"\r\n" if b"\r\n" in self.data else b"\n"
 
     def between(self, start: int, end: int) -> List[Token]:
-        """The tokens that begin in a part of the text."""
+        """Returns the tokens that begin in a part of the text."""
         first = bisect.bisect_left(self.token_starts, start)
         return self.tokens[first : bisect.bisect_left(self.token_starts, end)]
 
@@ -116,49 +116,49 @@ class Module:
         return any(it.kind == tokenize.COMMENT for it in self.between(start, end))
 
     def at(self, node: Any) -> Tuple[int, int]:
-        """The bytes of a node, the brackets around it left out."""
+        """Returns the bytes of a node, without the brackets around it."""
         start = self.starts[node.lineno - 1] + node.col_offset
         return start, self.starts[node.end_lineno - 1] + node.end_col_offset
 
     def segment(self, node: ast.AST) -> bytes:
-        """The text of a node."""
+        """Returns the text of a node."""
         start, end = self.at(node)
         return self.data[start:end]
 
     def value(self, node: ast.AST) -> bytes:
-        """The text of an expression where it stands by itself: in brackets if it needs some."""
+        """Returns the text of an expression used by itself: in brackets if it needs some."""
         text = self.segment(node)
         return b"(" + text + b")" if needs_brackets(node, text) else text
 
     def ancestors(self, node: ast.AST) -> Iterator[ast.AST]:
-        """What a node stands in, from the nearest on."""
+        """Yields the nodes around a node, from the nearest on."""
         found = self.parents.get(node)
         while found is not None:
             yield found
             found = self.parents.get(found)
 
     def statement(self, node: ast.AST) -> Optional[ast.stmt]:
-        """The statement that a node is or stands in."""
+        """Returns the statement that a node is or is part of."""
         return next((it for it in [node, *self.ancestors(node)] if isinstance(it, ast.stmt)), None)
 
     def function(self, node: ast.AST) -> Optional[ast.AST]:
-        """The function in whose body a node stands; none where the nearest scope is no function."""
+        """Returns the function whose body has a node; none if the nearest scope is no function."""
         found = next((it for it in self.ancestors(node) if isinstance(it, SCOPES)), None)
         return found if isinstance(found, FUNCTIONS) else None
 
     def indent(self, node: Any) -> bytes:
-        """The blanks before a statement that begins its line."""
+        """Returns the blanks before a statement that begins its line."""
         start = self.starts[node.lineno - 1]
         return self.data[start : self.at(node)[0]]
 
     def indent_of_line(self, byte: int) -> bytes:
-        """The blanks before the first word of the line that a byte stands in."""
+        """Returns the blanks before the first word of the line with a byte."""
         start = self.data.rfind(b"\n", 0, byte) + 1
         found = re.match(rb"[ \t]*", self.data[start:byte])
         return found[0] if found else b""
 
     def step(self) -> bytes:
-        """The blanks by which a suite is indented more."""
+        """The blanks by which a suite is indented further."""
         for node in self.tree.body:
             inner = getattr(node, "body", None)
             if inner and isinstance(inner[0], ast.stmt) and inner[0].lineno > node.lineno:
@@ -168,7 +168,7 @@ class Module:
         return b"    "
 
     def is_alone(self, node: Any) -> bool:
-        """Whether nothing but blanks and a comment shares the lines of a statement."""
+        """Whether a statement shares its lines with blanks and a comment at most."""
         start, end = self.at(node)
         before = self.data[self.starts[node.lineno - 1] : start]
         rest = [it for it in self.between(end, len(self.data))[:2] if it.kind not in (tokenize.COMMENT,)]
@@ -178,24 +178,24 @@ class Module:
 
     @functools.cached_property
     def names(self) -> Set[str]:
-        """Each name that stands in the module, in whatever role."""
+        """All names in the module, in any role."""
         found = {it.text for it in self.tokens if it.kind == tokenize.NAME}
         found |= {it.id for it in self.nodes if isinstance(it, ast.Name)}
         return found
 
     def mentions(self, names: Sequence[str]) -> bool:
-        """Whether one of some names stands in the module, in whatever role, or as a string."""
+        """Whether one of some names is in the module, in any role, or as a string."""
         texts = {it.value for it in self.nodes if isinstance(it, ast.Constant) and isinstance(it.value, str)}
         return any(it in self.names or it in texts for it in names)
 
     @functools.cached_property
     def reflects(self) -> bool:
-        """Whether the module may see which names it has."""
+        """Whether the module may read which names it has."""
         return self.mentions(sorted(REFLECTION))
 
     @functools.cached_property
     def catches(self) -> bool:
-        """Whether the module may go on after an exception."""
+        """Whether the module may continue after an exception."""
         kinds = (ast.Try, ast.With, ast.AsyncWith, *filter(None, [getattr(ast, "TryStar", None)]))
         return any(isinstance(it, kinds) for it in self.nodes)
 
@@ -206,7 +206,7 @@ class Module:
 
     @functools.cached_property
     def bound(self) -> Set[str]:
-        """Each name that is bound somewhere in the module."""
+        """All names that are bound somewhere in the module."""
         found: Set[str] = set()
         for node in self.nodes:
             if isinstance(node, ast.Name) and not isinstance(node.ctx, ast.Load):
@@ -222,7 +222,7 @@ class Module:
         return found
 
     def binds(self, name: str) -> int:
-        """How often the module binds a name."""
+        """Returns how often the module binds a name."""
         found = 0
         for it in self.nodes:
             found += isinstance(it, ast.Name) and not isinstance(it.ctx, ast.Load) and it.id == name
@@ -233,7 +233,7 @@ class Module:
 
     @property
     def has_header(self) -> bool:
-        """Whether annotations are not evaluated."""
+        """Whether the module has the header by which annotations are not evaluated."""
         return any(
             isinstance(it, ast.ImportFrom) and it.module == "__future__" and alias.name == "annotations"
             for it in self.tree.body
@@ -241,7 +241,7 @@ class Module:
         )
 
     def fresh(self, base: str, taken: Sequence[str] = ()) -> str:
-        """A name that the module does not have."""
+        """Returns a name that the module does not have."""
         number = 1
         name = base
         while name in self.names or name in taken:
@@ -250,7 +250,7 @@ class Module:
         return name
 
     def body_of(self, node: ast.AST) -> List[ast.stmt]:
-        """The suite in which a statement stands."""
+        """Returns the suite of a statement."""
         parent = self.parents[node]
         for _, suite in ast.iter_fields(parent):
             if isinstance(suite, list) and node in suite:
@@ -259,7 +259,7 @@ class Module:
 
 
 def needs_brackets(node: ast.AST, text: bytes) -> bool:
-    """Whether an expression has brackets of its own only around it, or runs over lines without any."""
+    """Whether an expression has brackets of its own only at its ends, or runs over lines without any."""
     if isinstance(node, (ast.NamedExpr, ast.Yield, ast.YieldFrom, ast.Starred)):
         return True
     if isinstance(node, ast.Tuple):
@@ -268,18 +268,18 @@ def needs_brackets(node: ast.AST, text: bytes) -> bool:
 
 
 def is_bracketed(text: bytes) -> bool:
-    """Whether a tuple has brackets around it: those of its parts are none."""
+    """Whether a tuple has brackets around it, and not only around its parts."""
     if text[:1] != b"(" or text[-1:] != b")":
         return False
     try:
-        # The ends of `(a), (b)` do not belong together
+        # The first and the last bracket of `(a), (b)` do not belong together
         return text == b"()" or bool(tree_of(b"[" + text[1:-1] + b"\n]").body)
     except (SyntaxError, ValueError, RecursionError):
         return False
 
 
 def applied(data: bytes, edits: Sequence[Edit]) -> bytes:
-    """The text after edits that do not overlap."""
+    """Returns the text after edits that do not overlap."""
     parts, at = [], 0
     for edit in sorted(edits, key=lambda it: (it.start, it.end)):
         parts += [data[at : edit.start], edit.text]

@@ -1,5 +1,5 @@
-"""Rewrites of augmented assignments, where an annotation or the report of the result tells that the place has a number
-or a text: a list would be changed in place."""
+"""Rewrites of augmented assignments. A rewrite is made only if an annotation or the report of the result tells that the
+place has a number or a text, since a list would be changed in place."""
 from __future__ import annotations
 
 import ast
@@ -18,7 +18,7 @@ GUESSED = "augmented assignment by its type"
 
 
 class Guess(NamedTuple):
-    """An augmented assignment, as its function, the text of its place and its operator tell it."""
+    """An augmented assignment, identified by its function, the text of its place and its operator."""
 
     function: str
     place: str
@@ -26,18 +26,18 @@ class Guess(NamedTuple):
 
 
 def augmented(module: Module) -> Iterator[Fix]:
-    """`x += e`, `o.a += e` and `o[i] += e` of a place whose annotation is `int` or `str`."""
+    """Rewrites `x += e`, `o.a += e` and `o[i] += e` of a place whose annotation is `int` or `str`."""
     for node in assignments(module):
         if told(module, node.target) in ("int", TEXT):
             yield from rewritten(module, node, "augmented assignment")
 
 
 def guessed(without: FrozenSet[Guess]) -> "Callable[[Module], Iterator[Fix]]":
-    """Makes a rewrite of all other augmented assignments but these. Only the report of the result tells whether it
-    keeps the meaning: see `guesses`."""
+    """Returns a rewrite of all other augmented assignments, except those in `without`. Only the report of the result
+    tells whether it keeps the meaning: see `guesses`."""
 
     def rewrite(module: Module) -> Iterator[Fix]:
-        """The rewrites of a module."""
+        """Yields the rewrites of a module."""
         for node in assignments(module):
             guess = Guess(function_of(module, node), ast.unparse(node.target), OPERATORS[type(node.op)])
             if told(module, node.target) not in ("int", TEXT) and guess not in without:
@@ -47,8 +47,8 @@ def guessed(without: FrozenSet[Guess]) -> "Callable[[Module], Iterator[Fix]]":
 
 
 def guesses(module: Module) -> Dict[Tuple[int, int], Guess]:
-    """Returns the assignments `x = x + e` of a module, by the places of their values. Where a report without other
-    errors has no finding at such a value, its operands are numbers or texts, which no operator changes in place."""
+    """Returns the assignments `x = x + e` of a module, by the places of their values. If a report without other errors
+    has no finding at such a value, its operands are numbers or texts, which no operator changes in place."""
     found: Dict[Tuple[int, int], Guess] = {}
     for node in module.nodes:
         if isinstance(node, ast.Assign) and isinstance(node.value, ast.BinOp) and type(node.value.op) in OPERATORS:
@@ -60,13 +60,13 @@ def guesses(module: Module) -> Dict[Tuple[int, int], Guess]:
 
 
 def function_of(module: Module, node: ast.AST) -> str:
-    """The name of the function around a node; empty outside of all."""
+    """Returns the name of the function around a node; empty outside all functions."""
     function = module.function(node)
     return function.name if isinstance(function, (ast.FunctionDef, ast.AsyncFunctionDef)) else ""
 
 
 def assignments(module: Module) -> Iterator[ast.AugAssign]:
-    """The augmented assignments with an operator of the profile, to places that are the same after the value was
+    """Yields the augmented assignments with an operator of the profile, to places that are the same after the value was
     evaluated."""
     if not module.mentions(IN_PLACE):
         for node in module.nodes:
@@ -75,7 +75,7 @@ def assignments(module: Module) -> Iterator[ast.AugAssign]:
 
 
 def rewritten(module: Module, node: ast.AugAssign, name: str) -> Iterator[Fix]:
-    """The rewrite of an augmented assignment; none where a comment is in the way."""
+    """Rewrites an augmented assignment; yields nothing if a comment is in the way."""
     start, end = module.at(node.target)[1], module.at(node.value)[0]
     signs = [it for it in module.between(start, end) if it.text.endswith("=")]
     if len(signs) != 1 or module.has_comment(*module.at(node.target)):
@@ -91,8 +91,8 @@ def rewritten(module: Module, node: ast.AugAssign, name: str) -> Iterator[Fix]:
 
 
 def is_steady(module: Module, node: ast.AugAssign) -> bool:
-    """Whether the place is the same after the value was evaluated: it is told by names and literals alone, which the
-    value cannot bind."""
+    """Whether the place is the same after the value was evaluated: only names and literals determine it, and the value
+    cannot bind those names."""
     if isinstance(node.target, ast.Name):
         return True
     parts: List[ast.expr] = [node.target.value]

@@ -1,4 +1,4 @@
-"""Rewrites of statements: targets that are several, and `else` after a loop."""
+"""Rewrites of statements: several targets, and `else` after a loop."""
 from __future__ import annotations
 
 import ast
@@ -7,29 +7,29 @@ from typing import Iterator, List, Optional, Sequence
 
 from .fix_module import FUNCTIONS, Edit, Fix, Module, is_bracketed
 
-# What has effects of its own among several values, or stands for more than one
+# Values with effects of their own among several, or that may be more than one value
 ODD = (ast.Starred, ast.NamedExpr, ast.Await, ast.Yield, ast.YieldFrom)
 INNER = (*FUNCTIONS, ast.Lambda, ast.ClassDef)
 
 
 def names_in(nodes: Sequence[ast.AST]) -> "set[str]":
-    """The names that stand in some expressions."""
+    """Returns the names in some expressions."""
     return {it.id for node in nodes for it in ast.walk(node) if isinstance(it, ast.Name)}
 
 
 def lines_in_place(module: Module, node: ast.stmt, lines: Sequence[bytes]) -> Edit:
-    """The edit that puts lines in place of a statement."""
+    """Returns the edit that replaces a statement by lines."""
     start, end = module.at(node)
     return Edit(start, end, (module.newline + module.indent(node)).join(lines))
 
 
 def is_whole(module: Module, node: ast.stmt) -> bool:
-    """Whether a statement may become lines: it has its line, and no comment would be lost."""
+    """Whether a statement may be replaced by lines: it has its line for itself, and no comment would be lost."""
     return module.is_alone(node) and not module.has_comment(*module.at(node))
 
 
 def unpacking(module: Module) -> Iterator[Fix]:
-    """`a, b = c, d`: an assignment for each."""
+    """Rewrites `a, b = c, d` to an assignment for each target."""
     for node in module.nodes:
         if not isinstance(node, ast.Assign) or len(node.targets) != 1 or not is_whole(module, node):
             continue
@@ -48,8 +48,8 @@ def unpacking(module: Module) -> Iterator[Fix]:
 
 
 def direct(module: Module, targets: List[ast.expr], values: List[ast.expr]) -> Optional[List[bytes]]:
-    """An assignment for each, where no value can see the ones before; none else. Values but the first do nothing, and
-    cannot fail."""
+    """Returns an assignment for each target, if no value can see the assignments before; otherwise none. Values other
+    than the first have no effects, and cannot fail."""
     if not all(isinstance(it, ast.Name) for it in targets):
         return None
     if not all(isinstance(it, (ast.Constant, ast.Name)) for it in values[1:]):
@@ -65,7 +65,8 @@ def direct(module: Module, targets: List[ast.expr], values: List[ast.expr]) -> O
 def by_names(
     module: Module, node: ast.stmt, targets: List[ast.expr], values: List[ast.expr]
 ) -> Optional[List[bytes]]:
-    """All values first, under new names, then the assignments; none where there can be no new names."""
+    """Returns assignments of all values to new names, followed by those to the targets; none if there are no new
+    names."""
     if module.function(node) is None or module.reflects:
         return None
     taken: List[str] = []
@@ -76,7 +77,7 @@ def by_names(
 
 
 def tuples(module: Module) -> Iterator[Fix]:
-    """A tuple without brackets, where it is a value by itself, with them."""
+    """Adds brackets to a tuple that is a value by itself."""
     for node in module.nodes:
         parent = module.parents.get(node)
         if not isinstance(node, ast.Tuple) or not isinstance(node.ctx, ast.Load):
@@ -89,7 +90,7 @@ def tuples(module: Module) -> Iterator[Fix]:
 
 
 def chains(module: Module) -> Iterator[Fix]:
-    """`a = b = c`: an assignment for each."""
+    """Rewrites `a = b = c` to an assignment for each target."""
     for node in module.nodes:
         if not isinstance(node, ast.Assign) or len(node.targets) < 2 or not is_whole(module, node):
             continue
@@ -102,13 +103,13 @@ def chains(module: Module) -> Iterator[Fix]:
 
 
 def chained(module: Module, node: ast.Assign) -> List[bytes]:
-    """The lines of a chain of assignments; none where there can be no new name."""
+    """Returns the lines of a chain of assignments; none if there is no new name."""
     first, value = node.targets[0], module.value(node.value)
     if isinstance(node.value, ast.Constant):
         return [module.segment(it) + b" = " + value for it in node.targets]
     if isinstance(first, ast.Name) and not module.rebinds:
         name = module.segment(first)
-        # What is bound again below is not what was bound above
+        # A local that is bound again below may differ from the one bound above
         if not any(isinstance(it, ast.Name) and it.id == first.id for it in node.targets[1:]):
             return [name + b" = " + value, *(module.segment(it) + b" = " + name for it in node.targets[1:])]
     if module.function(node) is None or module.reflects:
@@ -118,7 +119,7 @@ def chained(module: Module, node: ast.Assign) -> List[bytes]:
 
 
 def loop_else(module: Module) -> Iterator[Fix]:
-    """`else` after a loop: a local that says whether it ended by itself."""
+    """Rewrites `else` after a loop, with a local that says whether the loop ended without `break`."""
     for node in module.nodes:
         if not isinstance(node, (ast.For, ast.While)) or not node.orelse or module.function(node) is None:
             continue
@@ -139,7 +140,7 @@ def loop_else(module: Module) -> Iterator[Fix]:
 
 
 def breaks_of(suite: Sequence[ast.stmt]) -> Iterator[ast.Break]:
-    """The `break` statements of the loop with this body."""
+    """Yields the `break` statements of the loop with this body."""
     for node in suite:
         if isinstance(node, ast.Break):
             yield node

@@ -1,4 +1,4 @@
-"""Rewrites of strings and numbers to how the profile spells them. The value is that of `ast.literal_eval`."""
+"""Rewrites of strings and numbers to the spelling of the profile. The value is that of `ast.literal_eval`."""
 from __future__ import annotations
 
 import ast
@@ -12,14 +12,14 @@ ESCAPES = {"\\": "\\\\", '"': '\\"', "\n": "\\n", "\t": "\\t", "\r": "\\r"}
 MOST_DIGITS = 1000
 # A sum of more parts than this would be nested too deep
 MOST_PARTS = 30
-# With these a value may look otherwise in an f-string than `str` shows it
+# A value with one of these may look different in an f-string than in the result of `str`
 FORMATTING = ("__format__", "enum", "Enum", "IntEnum", "StrEnum", "IntFlag")
-# What can stand beside a sum without brackets around it
+# Expressions that can be parts of a sum without brackets around them
 ROOMY = (ast.Assign, ast.AnnAssign, ast.Return, ast.Call, ast.keyword, ast.List, ast.Tuple, ast.Expr)
 
 
 def spelled(value: str) -> Optional[bytes]:
-    """A string in the profile with this value; none where it has none that can be read."""
+    """Returns a string of the profile with this value; none if it has no readable one."""
     if not all(it.isprintable() or it in ESCAPES for it in value):
         return None
     return b'"' + "".join(ESCAPES.get(it, it) for it in value).encode() + b'"'
@@ -34,7 +34,7 @@ def is_plain(text: str) -> bool:
 
 
 def backslashes(text: str) -> List[int]:
-    """Where the escapes of a string begin."""
+    """Returns where the escapes of a string begin."""
     found, at = [], 0
     while at < len(text) - 1:
         if text[at] == "\\":
@@ -45,7 +45,7 @@ def backslashes(text: str) -> List[int]:
 
 
 def literal(text: str) -> object:
-    """The value of a literal; none where Python has none."""
+    """Returns the value of a literal; none if Python has none."""
     try:
         with warnings.catch_warnings():
             warnings.simplefilter("ignore")
@@ -55,12 +55,12 @@ def literal(text: str) -> object:
 
 
 def in_formats(module: Module) -> Set[ast.AST]:
-    """What stands in f-strings, of which older Pythons do not say where."""
+    """Returns the nodes inside f-strings, whose places older Pythons do not record."""
     return {it for node in module.nodes if isinstance(node, ast.JoinedStr) for it in ast.walk(node) if it is not node}
 
 
 def strings(module: Module) -> Iterator[Fix]:
-    """Strings with prefixes, three quotes or other escapes, and adjacent ones."""
+    """Rewrites strings with prefixes, triple quotes or other escapes, and adjacent strings."""
     inner = in_formats(module)
     for node in module.nodes:
         if not isinstance(node, ast.Constant) or not isinstance(node.value, str) or node in inner:
@@ -78,7 +78,8 @@ def strings(module: Module) -> Iterator[Fix]:
 
 
 def joined(module: Module, node: ast.Constant, parts: List[Token], values: List[str]) -> List[Edit]:
-    """The edits for one string, perhaps of several parts: those on one line become one, others a sum over lines."""
+    """Returns the edits for one string, which may have several parts: parts on one line become one, others a sum over
+    lines."""
     start, end = module.at(node)
     lines = node.value.count("\n") + len(parts)
     if node.lineno == node.end_lineno or wants_literal(module, node) or lines > MOST_PARTS:
@@ -111,7 +112,7 @@ def wants_literal(module: Module, node: ast.Constant) -> bool:
 
 
 def numbers(module: Module) -> Iterator[Fix]:
-    """Whole numbers of other bases, in digits."""
+    """Rewrites whole numbers of other bases to decimal digits."""
     inner = in_formats(module)
     for node in module.nodes:
         if not isinstance(node, ast.Constant) or type(node.value) is not int or node in inner:
@@ -128,7 +129,7 @@ def numbers(module: Module) -> Iterator[Fix]:
 
 
 def formats(module: Module) -> Iterator[Fix]:
-    """f-strings without format specifications, to sums."""
+    """Rewrites f-strings without format specifications to sums."""
     if module.mentions(FORMATTING) or "str" in module.bound:
         return
     inner = in_formats(module)
@@ -147,7 +148,7 @@ def formats(module: Module) -> Iterator[Fix]:
 
 
 def part_of(node: ast.expr) -> Optional[bytes]:
-    """A part of an f-string as an expression; none where it has none."""
+    """Returns a part of an f-string as an expression; none if it has none."""
     if isinstance(node, ast.Constant):
         return spelled(node.value) if isinstance(node.value, str) else None
     if not isinstance(node, ast.FormattedValue) or node.format_spec is not None or node.conversion not in (-1, 115):

@@ -1,6 +1,7 @@
-"""Rewrites of several targets that take the items of a tuple, `a, b = e` and `for a, b in e`, where an annotation or
-the report of the result tells how many items there are: other values may be unpacked too, and have as many as they
-have."""
+"""Rewrites of several targets that take the items of a tuple, `a, b = e` and `for a, b in e`. A rewrite is made only if
+an
+annotation or the report of the result tells how many items there are, since values of other types can be unpacked too,
+with any number of items."""
 from __future__ import annotations
 
 import ast
@@ -12,13 +13,13 @@ from .fix_statements import is_whole, lines_in_place
 from .fix_types import told
 
 GUESSED = "unpacking by its type"
-# The local by which the program is asked for the type of what is unpacked
+# The local by which the program is asked for the type of the unpacked value
 ASKING = "asked"
 
 
 class Site(NamedTuple):
-    """A statement that takes the items of one value, which is a tuple if the meaning is to be kept: its targets, and
-    the value, or what the loop is over."""
+    """A statement that takes the items of one value, which must be a tuple for the meaning to stay the same: its
+    targets, and the value, or the iterable of the loop."""
 
     node: Union[ast.Assign, ast.For]
     targets: List[ast.expr]
@@ -26,7 +27,8 @@ class Site(NamedTuple):
 
 
 def unpacked(module: Module) -> Iterator[Fix]:
-    """`a, b = e` and `for a, b in e`, where an annotation or a display tells that tuples of that length are taken."""
+    """Rewrites `a, b = e` and `for a, b in e`, if an annotation or a display tells that tuples of that length are
+    unpacked."""
     taken: List[str] = []
     for site in sites(module):
         if is_told(module, site):
@@ -34,11 +36,11 @@ def unpacked(module: Module) -> Iterator[Fix]:
 
 
 def guessed(without: FrozenSet[Guess], asks: bool) -> "Callable[[Module], Iterator[Fix]]":
-    """Makes a rewrite of all other such statements but these. Where it asks, each has a line by which the report tells
-    whether the meaning is kept: see `guesses`."""
+    """Returns a rewrite of all other such statements, except those in `without`. With `asks`, each gets a line by which
+    the report tells whether the meaning is kept: see `guesses`."""
 
     def rewrite(module: Module) -> Iterator[Fix]:
-        """The rewrites of a module."""
+        """Yields the rewrites of a module."""
         taken: List[str] = []
         for site in sites(module):
             if not is_told(module, site) and guess_of(module, site.node, site.targets) not in without:
@@ -48,8 +50,8 @@ def guessed(without: FrozenSet[Guess], asks: bool) -> "Callable[[Module], Iterat
 
 
 def guesses(module: Module, before: Set[str]) -> Dict[Tuple[int, int], Guess]:
-    """Returns the rewritten statements that ask, by the places of all that asks. `before` are the names that the module
-    had before. Where the report has no finding at such a place, a tuple of that length is unpacked."""
+    """Returns the rewritten statements with a line that asks, by the places of these questions. `before` are the names
+    that the module had before. If the report has no finding at such a place, a tuple of that length is unpacked."""
     found: Dict[Tuple[int, int], Guess] = {}
     for node in module.nodes:
         if not isinstance(node, ast.AnnAssign) or not isinstance(node.target, ast.Name) or node.value is None:
@@ -69,12 +71,12 @@ def guesses(module: Module, before: Set[str]) -> Dict[Tuple[int, int], Guess]:
 
 
 def guess_of(module: Module, node: ast.AST, targets: List[ast.expr]) -> Guess:
-    """A statement as its function and the texts of its targets tell it."""
+    """Returns what identifies a statement: its function and the texts of its targets."""
     return Guess(function_of(module, node), ", ".join(map(ast.unparse, targets)), b"")
 
 
 def sites(module: Module) -> Iterator[Site]:
-    """The statements of functions that take the items of one value, each to a target of its own."""
+    """Yields the statements of functions that assign the items of one value, each to a target of its own."""
     for node in module.nodes:
         if isinstance(node, ast.Assign) and len(node.targets) == 1 and is_whole(module, node):
             site = Site(node, items_of(node.targets[0]), node.value)
@@ -88,13 +90,13 @@ def sites(module: Module) -> Iterator[Site]:
 
 
 def items_of(target: ast.expr) -> List[ast.expr]:
-    """The targets in a target, if they take an item each; none else."""
+    """Returns the targets inside a target, if each takes one item; otherwise none."""
     parts = target.elts if isinstance(target, (ast.Tuple, ast.List)) else []
     return [] if any(isinstance(it, (ast.Starred, ast.Tuple, ast.List)) for it in parts) else list(parts)
 
 
 def has_own_lines(module: Module, node: ast.For) -> bool:
-    """Whether lines can be put before the body of a loop, and no comment stands between its targets."""
+    """Whether lines can be put before the body of a loop, and no comment is between its targets."""
     body = node.body[0]
     blanks = module.indent(node) + (module.indent(body) if body.lineno > node.lineno else b"")
     is_plain = not blanks.strip(b" ") and not getattr(body, "decorator_list", [])
@@ -102,7 +104,8 @@ def has_own_lines(module: Module, node: ast.For) -> bool:
 
 
 def is_told(module: Module, site: Site) -> bool:
-    """Whether annotations or displays tell that the value is a tuple of that length, or that the loop is over such."""
+    """Whether annotations or displays tell that the value is a tuple of that length, or that the loop iterates over
+    such tuples."""
     if module.binds("tuple") or module.binds("list"):
         return False
     count, text = len(site.targets), told(module, site.value)
@@ -117,14 +120,14 @@ def is_told(module: Module, site: Site) -> bool:
 
 
 def inside(text: str, name: str) -> Optional[ast.expr]:
-    """What stands in the brackets of a type of this name; none of another type."""
+    """Returns the text in the brackets of a type with this name; none for another type."""
     found = ast.parse(text or "None", mode="eval").body
     is_it = isinstance(found, ast.Subscript) and isinstance(found.value, ast.Name) and found.value.id == name
     return found.slice if is_it and isinstance(found, ast.Subscript) else None
 
 
 def length_of(text: str) -> int:
-    """How many items a tuple of a type has; 0 of another type."""
+    """Returns how many items a tuple of a type has; 0 for another type."""
     part = inside(text, "tuple")
     parts = part.elts if isinstance(part, ast.Tuple) else [part] if part else []
     is_any = any(isinstance(it, ast.Constant) and it.value is Ellipsis for it in parts)
@@ -132,8 +135,8 @@ def length_of(text: str) -> int:
 
 
 def rewritten(module: Module, site: Site, name: str, taken: List[str], asks: bool) -> Fix:
-    """The rewrite of a statement: an assignment for each target, after a line that asks where that is wanted. New names
-    are put to those that are taken."""
+    """Returns the rewrite of a statement: an assignment for each target, after a line that asks, if wanted. New names
+    are added to `taken`."""
     bound = {it.id for it in site.targets if isinstance(it, ast.Name)}
     is_named = isinstance(site.value, ast.Name) and site.value.id not in bound
     if isinstance(site.node, ast.Assign) and is_named and not asks and not module.rebinds:
@@ -154,7 +157,8 @@ def rewritten(module: Module, site: Site, name: str, taken: List[str], asks: boo
 
 
 def lines_before(module: Module, node: ast.For, lines: List[bytes]) -> Edit:
-    """The edit that puts lines before the body of a loop, and a body on the line of its head below them."""
+    """Returns the edit that puts lines before the body of a loop; a body on the line of its head is moved below
+    them."""
     start = at = module.at(node.body[0])[0]
     if node.body[0].lineno > node.lineno:
         return Edit(at, at, b"".join(it + module.newline + module.indent(node.body[0]) for it in lines))
@@ -165,6 +169,6 @@ def lines_before(module: Module, node: ast.For, lines: List[bytes]) -> Edit:
 
 
 def head_of(module: Module, node: ast.For) -> Tuple[int, int]:
-    """The place between the words `for` and `in` of a loop."""
+    """Returns the place between the words `for` and `in` of a loop."""
     words = module.between(module.at(node)[0], module.at(node.iter)[0])
     return words[0].end, [it.start for it in words if it.text == "in"][-1]

@@ -1,5 +1,5 @@
 """The types that annotations tell: of locals, of fields of the module's classes, of items, and of functions' results.
-An annotation is taken at its word, as the checker takes it."""
+As for the checker, an annotation is trusted."""
 from __future__ import annotations
 
 import ast
@@ -8,18 +8,18 @@ from typing import Dict, Iterator, List, Set
 from .fix_module import FUNCTIONS, Module
 
 TEXT, INTEGERS, TEXTS = "str", "list[int]", "list[str]"
-# Of the methods of a text
+# The types of the methods of a text
 RESULTS = {"strip": TEXT, "split": TEXTS, "join": TEXT, "find": "int", "replace": TEXT}
 OPERATORS = {ast.Add: b"+", ast.Sub: b"-", ast.Mult: b"*", ast.FloorDiv: b"//", ast.Mod: b"%"}
-# With these an attribute may be something else than what its class says
+# In a module with one of these an attribute may differ from what its class declares
 HOOKS = (
     "setattr", "delattr", "__dict__", "__class__", "__getattr__", "__getattribute__", "__setattr__", "__set_name__",
 )
 
 
 def told(module: Module, node: ast.expr) -> str:
-    """The type of an expression that an annotation tells: of a local of its function, of a field or an item, or of a
-    function of the module; empty where none does."""
+    """Returns the type of an expression that an annotation tells: of a local of its function, of a field or an item, or
+    of a function of the module; empty if none does."""
     if isinstance(node, ast.Constant) and isinstance(node.value, str):
         return TEXT
     if isinstance(node, ast.Subscript) and isinstance(node.slice, ast.Slice):
@@ -43,7 +43,7 @@ def told(module: Module, node: ast.expr) -> str:
 
 
 def declared(function: ast.AST, name: str) -> Iterator[ast.expr]:
-    """The annotations of a name in a function, those of functions inside it left out."""
+    """Yields the annotations of a name in a function, without those of functions inside it."""
     for it in own_nodes(function):
         if isinstance(it, ast.arg) and it.arg == name:
             yield it.annotation or ast.Constant("")
@@ -52,7 +52,7 @@ def declared(function: ast.AST, name: str) -> Iterator[ast.expr]:
 
 
 def own_nodes(function: ast.AST) -> Iterator[ast.AST]:
-    """The nodes of a function, those of functions and classes inside it left out."""
+    """Yields the nodes of a function, without those of functions and classes inside it."""
     left: List[ast.AST] = list(ast.iter_child_nodes(function))
     while left:
         node = left.pop()
@@ -62,7 +62,7 @@ def own_nodes(function: ast.AST) -> Iterator[ast.AST]:
 
 
 def item_type(module: Module, node: ast.Subscript) -> str:
-    """The type of an item of a list or of a dict; empty where the annotation of a local does not tell it."""
+    """Returns the type of an item of a list or of a dict; empty if the annotation of a local does not tell it."""
     owner = told(module, node.value) if isinstance(node.value, ast.Name) else ""
     if not owner or module.binds("list") or module.binds("dict"):
         return ""
@@ -76,8 +76,8 @@ def item_type(module: Module, node: ast.Subscript) -> str:
 
 
 def field_type(module: Module, node: ast.Attribute) -> str:
-    """The type of a field of an instance of a class of the module; empty where no class tells it, or a class does
-    something of its own with fields."""
+    """Returns the type of a field of an instance of a class of the module; empty if no class tells it, or if a class
+    customizes the access to fields."""
     owner = class_of(module, node.value) if isinstance(node.value, ast.Name) else ""
     classes = {it.name: it for it in module.tree.body if isinstance(it, ast.ClassDef) and module.binds(it.name) == 1}
     if owner not in classes or module.mentions(HOOKS) or is_set_otherwise(module, node.attr, set(classes)):
@@ -90,8 +90,8 @@ def field_type(module: Module, node: ast.Attribute) -> str:
 
 
 def class_of(module: Module, node: ast.Name) -> str:
-    """The name of the class that a local is of, as its annotation or its place as the first parameter of a method tells
-    it."""
+    """Returns the name of a local's class, given by its annotation or by its place as the first parameter of a
+    method."""
     function = module.function(node)
     parent = module.parents.get(function) if function is not None else None
     if not isinstance(function, ast.FunctionDef) or not isinstance(parent, ast.ClassDef) or function.decorator_list:
@@ -105,7 +105,7 @@ def class_of(module: Module, node: ast.Name) -> str:
 
 
 def relatives(classes: Dict[str, ast.ClassDef], name: str) -> List[ast.ClassDef]:
-    """A class of the module, and all that are linked to it by inheritance."""
+    """Returns a class of the module and all that are linked to it by inheritance."""
     found: Set[str] = set()
     left = [name]
     while left:
@@ -118,7 +118,7 @@ def relatives(classes: Dict[str, ast.ClassDef], name: str) -> List[ast.ClassDef]
 
 
 def bases_of(node: ast.ClassDef) -> List[str]:
-    """The names of the bases of a class."""
+    """Returns the names of the bases of a class."""
     return [it.id for it in node.bases if isinstance(it, ast.Name)]
 
 
@@ -129,7 +129,7 @@ def is_plain(node: ast.ClassDef, classes: Dict[str, ast.ClassDef]) -> bool:
 
 
 def types_in(node: ast.ClassDef, name: str) -> Iterator[str]:
-    """The annotations of a field in a class; an empty one where the class binds its name otherwise."""
+    """Yields the annotations of a field in a class; an empty one if the class binds its name otherwise."""
     for it in node.body:
         if isinstance(it, ast.AnnAssign) and isinstance(it.target, ast.Name) and it.target.id == name:
             yield ast.unparse(it.annotation) if it.value is None or isinstance(it.value, ast.Constant) else ""
@@ -141,7 +141,7 @@ def types_in(node: ast.ClassDef, name: str) -> Iterator[str]:
 
 
 def is_set_otherwise(module: Module, name: str, classes: Set[str]) -> bool:
-    """Whether an attribute may be one of a class, and not of its instances."""
+    """Whether an attribute may be set on a class rather than on its instances."""
     for it in module.nodes:
         if isinstance(it, ast.Attribute) and it.attr == name and not isinstance(it.ctx, ast.Load):
             if isinstance(it.value, ast.Call) or (isinstance(it.value, ast.Name) and it.value.id in classes):
@@ -150,12 +150,12 @@ def is_set_otherwise(module: Module, name: str, classes: Set[str]) -> bool:
 
 
 def is_number(node: ast.expr, type_: str) -> bool:
-    """Whether a whole number is wanted, and is there."""
+    """Whether the type is a whole number, and the expression is one."""
     return type_ == "int" and isinstance(node, ast.Constant) and type(node.value) is int
 
 
 def is_whole_number(module: Module, node: ast.expr) -> bool:
-    """Whether a bound of a slice is a whole number: a literal, or told by an annotation, or computed of those."""
+    """Whether a bound of a slice is a whole number: a literal, or told by an annotation, or computed from those."""
     if isinstance(node, ast.UnaryOp) and isinstance(node.op, ast.USub):
         return is_whole_number(module, node.operand)
     if isinstance(node, ast.BinOp) and type(node.op) in OPERATORS:

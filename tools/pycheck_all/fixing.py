@@ -1,4 +1,5 @@
-"""Brings a module nearer to the profile: rewrites it where the program finds a fault, and asks whether that helped."""
+"""Brings a module nearer to the profile: rewrites it at the faults that the program finds, and asks whether that
+helped."""
 from __future__ import annotations
 
 import os
@@ -13,7 +14,7 @@ from .fix_module import Edit, Fix, Module, applied, overlap
 from .program import Program, TooLong
 
 Rewrite = Callable[[Module], Iterator[Fix]]
-# In the order in which they are tried at a fault
+# The rewrites, in the order in which they are tried at a fault
 REWRITES: Tuple[Rewrite, ...] = (
     fix_heads.docstrings,
     fix_heads.header,
@@ -44,7 +45,7 @@ REWRITES: Tuple[Rewrite, ...] = (
     fix_cookbook.methods,
     fix_cookbook.built_ins,
 )
-# Not of a module that another one imports
+# Rewrites that are not made in a module that another one imports
 OF_SCRIPTS: Tuple[Rewrite, ...] = (fix_heads.guarded_main,)
 # The layers of refusals in their order; errors come after all of them
 GRAMMAR, OF_REPORTS = 3, 4
@@ -52,17 +53,18 @@ LAYERS = {"S": 0, "L": 1, "I": 2, "N": 2, "G": GRAMMAR}
 MOST_PASSES = 60
 
 
-# Those that only the report of the result allows
+# The guesses that only the report of the result can allow
 GUESSED = {fix_places.GUESSED, fix_tuples.GUESSED}
 
 
 def guessed(without: FrozenSet[fix_places.Guess], asks: bool) -> Tuple[Rewrite, ...]:
-    """The rewrites that the report of the result has to allow, but for these; with lines that ask it, or without."""
+    """Returns the rewrites that the report of the result has to allow, except those in `without`; with `asks`, with the
+    lines that ask it."""
     return (fix_places.guessed(without), fix_tuples.guessed(without, asks))
 
 
 class NotFixed(Exception):
-    """A file cannot be looked at; the text says why."""
+    """A file cannot be fixed; the text says why."""
 
 
 class Fault(NamedTuple):
@@ -73,7 +75,7 @@ class Fault(NamedTuple):
 
 
 class Asked(NamedTuple):
-    """A text with what the program says of it: whether it has a report, and its faults in order."""
+    """A text with the answer of the program to it: whether it has a report, and its faults in order."""
 
     data: bytes
     reported: bool
@@ -82,7 +84,7 @@ class Asked(NamedTuple):
 
 
 def faults_of(data: bytes, checked: Checked) -> Asked:
-    """What the program says of a text."""
+    """Returns a text with the faults that the program finds in it."""
     if checked.failure:
         raise NotFixed(checked.failure)
     found = [it for it in checked.findings if it.kind != DYNAMIC]
@@ -92,7 +94,7 @@ def faults_of(data: bytes, checked: Checked) -> Asked:
 
 
 class Fixed(NamedTuple):
-    """What came of a file: its text before and after, and how often each rewrite was made."""
+    """The result for a file: its text before and after, and how often each rewrite was made."""
 
     before: bytes
     after: bytes
@@ -100,7 +102,7 @@ class Fixed(NamedTuple):
 
 
 class Fixer:
-    """Rewrites a text, in so many seconds. `rewrites` are tried in their order."""
+    """Rewrites a text, within a number of seconds. `rewrites` are tried in their order."""
 
     def __init__(
         self, program: Program, seconds: float, rewrites: Sequence[Rewrite] = (*REWRITES, *OF_SCRIPTS)
@@ -112,7 +114,8 @@ class Fixer:
         self.useless: Set[Tuple[str, bytes]] = set()
 
     def fix(self, data: bytes) -> Fixed:
-        """The text, rewritten until no rewrite helps; then with rewrites that the report of the result allows."""
+        """Returns the text, rewritten until no rewrite helps; then with the rewrites that the report of the result
+        allows."""
         fixed = self.rewritten(data, self.rewrites)
         try:
             return self.with_guesses(fixed)
@@ -120,8 +123,8 @@ class Fixer:
             return fixed
 
     def with_guesses(self, fixed: Fixed) -> Fixed:
-        """A text with those augmented assignments and unpackings rewritten of which the report of the result tells the
-        types; as it is where the result has no report, or has other errors."""
+        """Rewrites those augmented assignments and unpackings whose types the report of the result tells. The text
+        stays unchanged if the result has no report, or has other errors."""
         asking = self.rewritten(fixed.after, (*self.rewrites, *guessed(frozenset(), True)))
         if not GUESSED.intersection(asking.made):
             return fixed
@@ -136,7 +139,7 @@ class Fixer:
         return Fixed(fixed.before, right.after, [*fixed.made, *right.made])
 
     def rewritten(self, data: bytes, rewrites: Sequence[Rewrite]) -> Fixed:
-        """The text, rewritten until none of these rewrites helps."""
+        """Returns the text, rewritten until none of these rewrites helps."""
         self.tried = rewrites
         asked = self.ask(data)
         made: List[str] = []
@@ -149,7 +152,7 @@ class Fixer:
         return Fixed(data, asked.data, made)
 
     def fixed_once(self, asked: Asked, made: List[str]) -> Asked:
-        """The text after passes that help, until no rewrite is left that was not tried."""
+        """Makes passes that help, until every rewrite was tried. Returns the text after them."""
         for _ in range(MOST_PASSES):
             chosen = self.chosen(asked)
             if not chosen:
@@ -158,7 +161,7 @@ class Fixer:
         return asked
 
     def chosen(self, asked: Asked) -> List[Fix]:
-        """Rewrites that do not touch one another, at most one for each fault."""
+        """Returns rewrites that do not touch one another, at most one for each fault."""
         try:
             module = Module(asked.data)
             offered = [fix for rewrite in self.tried for fix in rewrite(module)]
@@ -174,11 +177,11 @@ class Fixer:
         return chosen
 
     def is_useless(self, asked: Asked, fix: Fix) -> bool:
-        """Whether a rewrite was taken back before."""
+        """Whether a rewrite was undone before."""
         return (fix.name, asked.data[fix.start : fix.end]) in self.useless
 
     def kept(self, asked: Asked, chosen: List[Fix], made: List[str]) -> Asked:
-        """The text with those of some rewrites that help. The others are not tried again."""
+        """Returns the text with those of some rewrites that help. The others are not tried again."""
         while chosen:
             after = self.after(asked, chosen)
             helping = [it for it in chosen if after and helps(asked, after, chosen, it)]
@@ -196,13 +199,14 @@ class Fixer:
         return asked
 
     def kept_alone(self, asked: Asked, fix: Fix) -> None:
-        """Notes a rewrite that does not help by itself."""
+        """Records a rewrite that does not help by itself."""
         after = self.after(asked, [fix])
         if after is None or not helps(asked, after, [fix], fix):
             self.useless.add((fix.name, asked.data[fix.start : fix.end]))
 
     def after(self, asked: Asked, chosen: Sequence[Fix]) -> Optional[Asked]:
-        """What the program says after some rewrites; none where it is no Python any more or is not answered."""
+        """Returns the program's answer after some rewrites; none if the text is no Python any more or gets no
+        answer."""
         data = applied(asked.data, [edit for fix in chosen for edit in fix.edits])
         try:
             Module(data)
@@ -211,13 +215,13 @@ class Fixer:
             return None
 
     def ask(self, data: bytes) -> Asked:
-        """What the program says of a text; TooLong after the time that the file has."""
+        """Returns the program's answer to a text; raises TooLong if the time for the file is over."""
         if time.monotonic() > self.until:
             raise TooLong
         return faults_of(data, self.check("fixed.py", data))
 
     def check(self, name: str, data: bytes) -> Checked:
-        """What comes of a text under a name."""
+        """Checks a text under a name."""
         with tempfile.TemporaryDirectory(prefix="pycheck-") as folder:
             path = os.path.join(folder, "fixed.py")
             with open(path, "wb") as file:
@@ -226,19 +230,19 @@ class Fixer:
 
 
 def clash(one: Fix, other: Fix) -> bool:
-    """Whether two rewrites touch one another, or put in the same new name."""
+    """Whether two rewrites touch one another, or add the same new name."""
     touch = overlap([*one.edits, hull(one)], [*other.edits, hull(other)])
     return touch or not set(one.names).isdisjoint(other.names)
 
 
 def hull(fix: Fix) -> Edit:
-    """The bytes from the first to the last that a rewrite is about."""
+    """Returns the bytes of a rewrite, from the first to the last."""
     return Edit(fix.start, fix.end, b"")
 
 
 def helps(before: Asked, after: Asked, chosen: Sequence[Fix], fix: Fix) -> bool:
-    """Whether the program gets further where a rewrite was made: its first fault there is gone, or lies further on, or
-    in a later layer. Of errors of a report there must be fewer in all."""
+    """Whether a rewrite gets the program further: its first fault at that place is gone, is further on, or is in a
+    later layer. Errors of a report must be fewer in all."""
     if before.reported:
         return after.reported and len(after.faults) < len(before.faults)
     if after.first < before.first:
@@ -254,7 +258,7 @@ def helps(before: Asked, after: Asked, chosen: Sequence[Fix], fix: Fix) -> bool:
 
 
 def shift(edits: Sequence[Edit], byte: int, after: bool) -> int:
-    """How far a byte moves by edits; those at the byte itself count where that is asked for."""
+    """Returns how far edits move a byte; with `after`, those at the byte itself count."""
     return sum(
         len(it.text) - (it.end - it.start) for it in edits if it.end < byte or (after and it.end == byte) or
         (not after and it.end == byte and it.start < it.end)

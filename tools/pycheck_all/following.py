@@ -1,7 +1,7 @@
-"""Dynamic places that follow from an error: their operand is in error, so that its type is unknown.
+"""Dynamic places that follow from an error: their operand has an error, so its type is unknown.
 
-An expression with an error counts as `Any`, so that one mistake may be listed at several places. The expression at a
-dynamic place is found in the tree that Python's `ast` reads; where it reads none, no place follows from another."""
+An expression with an error counts as `Any`, so one mistake may be listed at several places. The expression at a dynamic
+place is found in the tree of Python's `ast`; if that cannot read the text, no place follows from another."""
 from __future__ import annotations
 
 import ast
@@ -10,7 +10,7 @@ from typing import Dict, Iterator, List, Optional, Set, Tuple
 from .findings import DYNAMIC, ERROR, Checked, Finding
 from .source import Text
 
-# An error at an expression that keeps its type: the expression alone does not fit where it goes
+# An error at an expression that keeps its type: only its destination does not accept it
 KEEPING = "E12"
 # Dynamic places that are the place of the value itself, not of an expression that uses it
 OF_VALUE = ("A1", "A5", "A7")
@@ -21,8 +21,8 @@ Range = Tuple[int, int]
 
 
 def followed(file: Checked) -> Dict[int, List[int]]:
-    """Returns the dynamic places that follow from each error, both as numbers of findings of the file. Neither is known
-    from a baseline: what is not shown has nothing shown under it."""
+    """Returns the dynamic places that follow from each error, both as numbers of findings of the file. Neither is in a
+    baseline: nothing is shown below a finding that is hidden."""
     errors = {range_of(it): at for at, it in enumerate(file.findings) if is_cause(it)}
     dynamic = [at for at, it in enumerate(file.findings) if it.kind == DYNAMIC and not it.known]
     if not errors or not dynamic:
@@ -44,12 +44,12 @@ def is_cause(finding: Finding) -> bool:
 
 
 def range_of(finding: Finding) -> Range:
-    """The first byte of the place of a finding, and the byte after the last."""
+    """Returns the first byte of the place of a finding, and the byte after its last."""
     return finding.place.start.byte, finding.place.end.byte
 
 
 def expressions_at(text: Text, places: Set[Range]) -> Dict[Range, ast.expr]:
-    """Returns the expression at each of the places that has one; the innermost where several have the same place."""
+    """Returns the expression at each of the places that has one, the innermost if several have the same place."""
     try:
         tree = ast.parse(text.data)
     except (SyntaxError, ValueError, RecursionError, MemoryError):
@@ -64,7 +64,7 @@ def expressions_at(text: Text, places: Set[Range]) -> Dict[Range, ast.expr]:
 
 
 def place_of(text: Text, node: ast.expr) -> Range:
-    """The first byte of an expression, and the byte after its last."""
+    """Returns the first byte of an expression, and the byte after its last."""
     starts, last = text.starts, node.end_lineno or node.lineno
     return starts[node.lineno - 1] + node.col_offset, starts[last - 1] + (node.end_col_offset or 0)
 
@@ -77,13 +77,13 @@ class Causes:
         self.errors = errors
 
     def of_finding(self, code: str, node: ast.expr) -> Optional[int]:
-        """The error from which a dynamic place at an expression follows; none where it follows from no error."""
+        """Returns the error from which a dynamic place at an expression follows; none if it follows from no error."""
         if code in OF_VALUE:
             return self.of_value(node)
         return self.first(operands(node))
 
     def of_value(self, node: ast.expr) -> Optional[int]:
-        """The error of an expression: its own, else that of an operand by which its type is unknown."""
+        """Returns the error of an expression: its own, or that of an operand that makes its type unknown."""
         while self.errors.get(place_of(self.text, node)) is None:
             below = list(operands(node))
             if len(below) != 1:
@@ -92,14 +92,14 @@ class Causes:
         return self.errors[place_of(self.text, node)]
 
     def first(self, nodes: "List[ast.expr] | Iterator[ast.expr]") -> Optional[int]:
-        """The error of the first of some expressions that has one."""
+        """Returns the error of the first of some expressions that has one."""
         causes = (self.of_value(it) for it in nodes)
         return next((it for it in causes if it is not None), None)
 
 
 def operands(node: ast.expr) -> Iterator[ast.expr]:
-    """The operands by which an expression has no known type if theirs is unknown. A comparison and a test have the type
-    `bool` whatever their operands are, but an operator on them is a dynamic place."""
+    """Yields the operands whose unknown type makes that of an expression unknown. A comparison and a test have the type
+    `bool` for all operands, but an operator on them is a dynamic place."""
     if isinstance(node, (ast.Attribute, ast.Subscript)):
         yield node.value
     elif isinstance(node, ast.Call):
@@ -113,7 +113,7 @@ def operands(node: ast.expr) -> Iterator[ast.expr]:
 
 
 def sentence(file: Checked, numbers: List[int]) -> str:
-    """Says that dynamic places follow from an error; empty without one."""
+    """Returns a sentence that dynamic places follow from an error; empty if there are none."""
     if not numbers:
         return ""
     places = [file.findings[it] for it in numbers]

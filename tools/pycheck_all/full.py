@@ -1,4 +1,4 @@
-"""The form `full`: each finding with its words, the lines that it stands in, and how to mend it."""
+"""The form `full`: each finding with its text, its lines, and how to mend it."""
 from __future__ import annotations
 
 import textwrap
@@ -16,15 +16,15 @@ NARROWEST = 40
 
 
 class Full:
-    """Shows findings in so many columns."""
+    """Shows findings in a given number of columns."""
 
     def __init__(self, colours: Colours, width: int) -> None:
         self.colours = colours
         self.width = max(NARROWEST, width)
 
     def lines(self, project: Project) -> Iterator[str]:
-        """The lines of all new findings, with an empty line after each, of the files whose promise is suspended, and of
-        those that could not be checked."""
+        """Yields the lines of all new findings, with an empty line after each, of the files whose promise is suspended,
+        and of those that could not be checked."""
         for file in project.files:
             name = self.colours("path", plain(file.path))
             if file.failure:
@@ -48,7 +48,7 @@ class Full:
         yield from concise.gone(project)
 
     def finding(self, file: Checked, finding: Finding, follows: str) -> Iterator[str]:
-        """The lines of one finding; a sentence says which others follow from it."""
+        """Yields the lines of one finding; `follows` is a sentence that says which others follow from it."""
         start = finding.place.start
         title, meaning = codes.title_of(finding.code), codes.meaning_of(finding.code)
         where = self.colours("path", f"{plain(file.path)}:{start.line}:{start.column}:")
@@ -63,7 +63,7 @@ class Full:
             yield from self.said(said, len(str(finding.place.end.line)))
 
     def said(self, sentence: str, gutter: int) -> Iterator[str]:
-        """The lines of a sentence below an excerpt, whose numbers take so many columns."""
+        """Yields the lines of a sentence below an excerpt whose numbers take `gutter` columns."""
         before = " " * (3 + gutter)
         room = self.width - len(before) - 2
         lines = textwrap.wrap(plain(sentence).strip(), room, break_long_words=False, break_on_hyphens=False)
@@ -72,7 +72,8 @@ class Full:
             yield f"{before}{sign} {self.colours('mend', line)}"
 
     def excerpt(self, file: Checked, place: Place, kind: str, beside: str) -> Iterator[str]:
-        """The lines of a place, each with its number, and with its part underlined; a text is beside the last one."""
+        """Yields the lines of a place, each with its number, and with its part underlined; the text `beside` follows
+        the last one."""
         numbers = self.numbers(place)
         gutter = len(str(place.end.line))
         for at, number in enumerate(numbers):
@@ -89,7 +90,7 @@ class Full:
             yield under
 
     def numbers(self, place: Place) -> List[int]:
-        """The lines to show: all of the place, or its first and its last ones."""
+        """Returns the lines to show: all of the place, or its first and its last ones."""
         all_of_them = list(range(place.start.line, place.end.line + 1))
         if len(all_of_them) <= FIRST_LINES + LAST_LINES + 1:
             return all_of_them
@@ -97,8 +98,8 @@ class Full:
 
 
 def part_of(line: str, number: int, place: Place) -> Tuple[int, int]:
-    """The characters of a line that belong to a place, without the blanks in front: the first, from 0, and the one
-    after the last."""
+    """Returns the characters of a line that belong to a place, without the blanks in front: the first, from 0, and the
+    one after the last."""
     start = place.start.column - 1 if number == place.start.line else len(line) - len(line.lstrip())
     end = place.end.column - 1 if number == place.end.line else len(line.rstrip())
     return start, max(start, end)

@@ -9,29 +9,29 @@ from .texts import Command, plain
 
 
 def data(text: str) -> str:
-    """A text as the message of a command."""
+    """Returns a text as the message of a command."""
     return plain(text).replace("%", "%25")
 
 
 def value(text: str) -> str:
-    """A text as a property of a command."""
+    """Returns a text as a property of a command."""
     return data(text).replace(":", "%3A").replace(",", "%2C")
 
 
 def level_of(finding: Finding, strict: bool) -> str:
-    """The level of a finding: what does not fail is no error."""
+    """Returns the level of a finding: one that does not fail is no error."""
     if finding.kind == GUIDE:
         return "notice"
     return "warning" if finding.kind == DYNAMIC and not strict else "error"
 
 
 def lines(project: Project) -> Iterator[Command]:
-    """The commands of a project."""
+    """Yields the commands of a project."""
     yield from map(Command, texts_of(project))
 
 
 def texts_of(project: Project) -> Iterator[str]:
-    """A command for each new finding and for each file that could not be checked."""
+    """Yields a command for each new finding and for each file that could not be checked."""
     for file in project.files:
         path = value(file.path)
         if file.failure:

@@ -12,7 +12,7 @@ SEVERITIES = {ERROR: "major", REFUSED: "critical", GUIDE: "info", DYNAMIC: "mino
 
 
 def entry(file: Checked, name: str, text: str, severity: str, mark: str, lines: Dict[str, int]) -> Dict[str, Any]:
-    """An entry of the report."""
+    """Returns an entry of the report."""
     return {
         "description": text,
         "check_name": name,
@@ -23,7 +23,7 @@ def entry(file: Checked, name: str, text: str, severity: str, mark: str, lines: 
 
 
 def entries(project: Project) -> Iterator[Dict[str, Any]]:
-    """An entry for each new finding and for each file that could not be checked."""
+    """Yields an entry for each new finding and for each file that could not be checked."""
     for file in project.files:
         if file.failure:
             yield entry(file, "not checked", file.failure, "blocker", fingerprint(file, "not checked"), {"begin": 1})
@@ -36,5 +36,5 @@ def entries(project: Project) -> Iterator[Dict[str, Any]]:
 
 
 def document(project: Project) -> str:
-    """The report."""
+    """Returns the report."""
     return json_of(list(entries(project)))

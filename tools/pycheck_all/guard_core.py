@@ -1,4 +1,4 @@
-"""The core that guards are made for, as its text says it: functions, classes and constants. Nothing of it is run."""
+"""The core that guards are made for, as its text has it: functions, classes and constants. None of its code is run."""
 from __future__ import annotations
 
 import ast
@@ -12,7 +12,7 @@ WORD = re.compile(r"\w+")
 
 
 class Parameter(NamedTuple):
-    """A parameter or a field: its name, its type, and its default; none where that is empty."""
+    """A parameter or a field: its name, its type, and its default, which is empty if there is none."""
 
     name: str
     type: str
@@ -20,7 +20,7 @@ class Parameter(NamedTuple):
 
 
 class Function(NamedTuple):
-    """A function or a method. It is untyped where it has no annotation at all."""
+    """A function or a method. It is untyped if it has no annotation at all."""
 
     name: str
     parameters: List[Parameter]
@@ -29,7 +29,7 @@ class Function(NamedTuple):
 
 
 class Class(NamedTuple):
-    """A class: its fields and its methods, with those of its ancestors that it does not have anew."""
+    """A class: its fields and its methods, with those that it inherits and does not define anew."""
 
     name: str
     fields: List[Parameter]
@@ -37,7 +37,7 @@ class Class(NamedTuple):
 
 
 class Constant(NamedTuple):
-    """A constant: its type, empty where the text does not show it; its line; and how many bytes into that line an
+    """A constant: its type, empty if the text does not show it; its line; and at how many bytes into that line an
     annotation would be written, if it has none."""
 
     name: str
@@ -47,7 +47,7 @@ class Constant(NamedTuple):
 
 
 class Core:
-    """What the text of a core has. Annotations that name no type count as `Any`, which a clean core has none of."""
+    """The contents of a core. Annotations that name no type count as `Any`, which a clean core does not have."""
 
     def __init__(self, data: bytes) -> None:
         tree = ast.parse(data)
@@ -69,7 +69,7 @@ class Core:
                 self.add_constant(node)
 
     def type_of(self, annotation: Optional[ast.expr]) -> str:
-        """The type that an annotation says."""
+        """Returns the type that an annotation states."""
         text = "Any" if annotation is None else ast.unparse(annotation)
         try:
             self.types.read(text)
@@ -78,11 +78,11 @@ class Core:
         return text
 
     def parameter(self, name: str, annotation: Optional[ast.expr], default: Optional[ast.expr]) -> Parameter:
-        """A parameter or a field."""
+        """Returns a parameter or a field."""
         return Parameter(name, self.type_of(annotation), ast.unparse(default) if default else "")
 
     def function(self, node: ast.FunctionDef) -> Function:
-        """A function or a method, with the parameters that it is called with."""
+        """Returns a function or a method, with the parameters that a call passes."""
         given = node.args.args
         defaults: List[Optional[ast.expr]] = [*[None] * (len(given) - len(node.args.defaults)), *node.args.defaults]
         parameters = [self.parameter(it.arg, it.annotation, default) for it, default in zip(given, defaults)]
@@ -90,7 +90,7 @@ class Core:
         return Function(node.name, parameters, self.type_of(node.returns), untyped)
 
     def add_class(self, node: ast.ClassDef, base: str) -> None:
-        """Adds a class; its base is there already, if it has one."""
+        """Adds a class, whose base, if it has one, was added before."""
         above = self.classes.get(base, Class("", [], {}))
         notes = [it for it in node.body if isinstance(it, ast.AnnAssign) and isinstance(it.target, ast.Name)]
         own = [self.parameter(it.target.id, it.annotation, it.value) for it in notes if isinstance(it.target, ast.Name)]
@@ -99,7 +99,7 @@ class Core:
         self.classes[node.name] = Class(node.name, fields, {**above.methods, **methods})
 
     def method(self, node: ast.FunctionDef) -> Function:
-        """A method, without `self` among its parameters."""
+        """Returns a method, without `self` among its parameters."""
         found = self.function(node)
         return found._replace(parameters=found.parameters[1:])
 
@@ -118,13 +118,13 @@ class Core:
         self.constants[target.id] = Constant(target.id, found, node.lineno, target.end_col_offset)
 
     def roots(self) -> Dict[str, str]:
-        """The constants into which something can be written, with their types; one that is not shown is any value."""
+        """Returns the constants that can be mutated, with their types; a type that is not shown counts as any value."""
         plain = {"int", "bool", "str", "None", "tuple"}
         found = {it.name: it.type or "object" for it in self.constants.values()}
         return {name: text for name, text in found.items() if not plain.issuperset(WORD.findall(text))}
 
     def annotated(self, data: bytes) -> bytes:
-        """The text with an annotation at each constant that has none, where its type is shown."""
+        """Returns the text with an annotation at each constant that has none, if its type is shown."""
         lines = data.split(b"\n")
         for it in self.constants.values():
             if it.column is not None and it.type:
@@ -134,7 +134,8 @@ class Core:
 
 
 def shape_of(name: str, nodes: Dict[str, ast.ClassDef], shapes: Dict[str, type]) -> Optional[type]:
-    """An empty class with the name and the ancestors of a class of the core; none where that has itself above it."""
+    """Returns an empty class with the name and the ancestors of a class of the core; none if the class is its own
+    ancestor."""
     above: List[str] = []
     at: Optional[str] = name
     while at in nodes and at not in shapes and at not in above:
@@ -149,5 +150,5 @@ def shape_of(name: str, nodes: Dict[str, ast.ClassDef], shapes: Dict[str, type])
 
 
 def identifiers(node: ast.AST) -> List[str]:
-    """The names that a node has itself."""
+    """Returns the names that a node itself has."""
     return [it for field in ("id", "arg", "attr", "name") for it in [getattr(node, field, None)] if isinstance(it, str)]

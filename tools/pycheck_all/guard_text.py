@@ -9,7 +9,7 @@ from .guard_core import Class, Core, Function, Parameter
 
 WIDTH = 88
 ANY_WORD = re.compile(r"\bAny\b")
-# What the guards say, and no more
+# The comment at the head of the guards
 PROMISE = """\
 Where the report of the core is clean, a call through this module either raises a
 TypeError here, or the core raises none of the four exceptions, as long as nobody
@@ -27,8 +27,8 @@ import {core} as {name}
 
 
 class Modules(NamedTuple):
-    """How the core and the file of the border are imported, the digest of the text of the core, and what its report has
-    where that is not clean."""
+    """How the core and the file of the border are imported, the digest of the text of the core, and the findings of its
+    report if it is not clean."""
 
     core: str
     runtime: str
@@ -37,20 +37,20 @@ class Modules(NamedTuple):
 
 
 class Writer:
-    """Writes the guards of a core. Names of its own are such as the core has nowhere."""
+    """Writes the guards of a core. The names that it adds occur nowhere in the core."""
 
     def __init__(self, core: Core, modules: Modules) -> None:
         self.core, self.modules = core, modules
         self.names = {it: self.fresh(it) for it in ("_core", "_guards", "_border", "_typing")}
 
     def fresh(self, name: str) -> str:
-        """A name that the core does not have, made of this one."""
+        """Returns a name that the core does not have, made from this one."""
         while name in self.core.words:
             name += "_"
         return name
 
     def text(self) -> str:
-        """The whole text."""
+        """Returns the whole text."""
         parts = [*self.classes(), *(self.function(it) for it in self.core.functions.values())]
         body = "".join([self.exported(), self.border(), *parts])
         own = self.names
@@ -67,12 +67,12 @@ class Writer:
         return head + body
 
     def exported(self) -> str:
-        """The names of the guards, as a list of the module."""
+        """Returns the names of the guards, as a list of the module."""
         names = [*self.core.classes, *self.core.functions]
         return "\n" + call("__all__ = ", "[", [json.dumps(it, ensure_ascii=False) for it in names], "]\n")
 
     def border(self) -> str:
-        """What the border is told of the core."""
+        """Returns the facts about the core that the border needs."""
         fields = {it.name: {field.name: field.type for field in it.fields} for it in self.core.classes.values()}
         parts = [
             self.names["_core"],
@@ -85,7 +85,7 @@ class Writer:
         ) + ")\n"
 
     def classes(self) -> Iterator[str]:
-        """The guards of the classes; a checker of types sees the classes themselves."""
+        """Yields the guards of the classes; a type checker sees the classes themselves."""
         if not self.core.classes:
             return
         names = [f"{it} as {it}" for it in self.core.classes]
@@ -95,7 +95,7 @@ class Writer:
             yield "".join(f"    {line}\n" if line else "\n" for line in self.class_lines(it))
 
     def class_lines(self, made: Class) -> Iterator[str]:
-        """The guard of a class, with those of its methods."""
+        """Yields the guard of a class, with those of its methods."""
         yield from ("", f"@{self.names['_border']}.class_", f"class {made.name}:")
         own = self.free("self", [it.name for it in made.fields])
         yield from indented_lines(signature("__init__", made.fields, "None", own) + " ...")
@@ -105,13 +105,13 @@ class Writer:
             yield from indented_lines(signature(it.name, it.parameters, it.returns, own) + " ...")
 
     def free(self, name: str, others: Sequence[str]) -> str:
-        """A name that is none of others, made of this one."""
+        """Returns a name that is none of the others, made from this one."""
         while name in others:
             name += "_"
         return name
 
     def function(self, made: Function) -> str:
-        """The guard of a function."""
+        """Returns the guard of a function."""
         name = f"{self.names['_core']}.{made.name}"
         if made.untyped:
             name = f"{self.names['_typing']}.cast(Any, {name})"
@@ -121,13 +121,13 @@ class Writer:
 
 
 def signature(name: str, parameters: Sequence[Parameter], returns: str, first: str = "") -> str:
-    """The head of a function."""
+    """Returns the head of a function."""
     given = [f"{it.name}: {it.type}" + (f" = {it.default}" if it.default else "") for it in parameters]
     return call(f"def {name}", "(", [first, *given] if first else given, f") -> {returns}:")
 
 
 def call(before: str, opening: str, parts: Sequence[str], closing: str, plain: bool = False) -> str:
-    """Parts between brackets: on one line where they fit, else one on each."""
+    """Returns parts between brackets, on one line if they fit, otherwise one on each line."""
     line = f"{before}{opening}{', '.join(parts)}{closing}"
     if plain and opening == "(" and before.startswith("from "):
         line = f"{before}{', '.join(parts)}"
@@ -138,27 +138,27 @@ def call(before: str, opening: str, parts: Sequence[str], closing: str, plain: b
 
 
 def indented(text: str) -> str:
-    """A text whose lines after the first begin four further to the right."""
+    """Returns a text with the lines after the first indented by four more blanks."""
     return text.replace("\n", "\n    ")
 
 
 def indented_lines(text: str) -> List[str]:
-    """The lines of a text, four further to the right."""
+    """Returns the lines of a text, indented by four more blanks."""
     return [f"    {line}" for line in text.split("\n")]
 
 
 def texts(rows: Dict[str, str]) -> str:
-    """A dict of texts as it is written."""
+    """Returns a dict of texts as source text."""
     return call("", "{", [f"{quoted(name)}: {quoted(text)}" for name, text in rows.items()], "}")
 
 
 def table(rows: Dict[str, Dict[str, str]]) -> str:
-    """A dict of dicts of texts as it is written, a line for each."""
+    """Returns a dict of dicts of texts as source text, a line for each."""
     if not rows:
         return "{}"
     return "{\n" + "".join(f"    {quoted(name)}: {indented(texts(row))},\n" for name, row in rows.items()) + "}"
 
 
 def quoted(text: str) -> str:
-    """A text between quotes."""
+    """Returns a text between quotes."""
     return json.dumps(text, ensure_ascii=False)

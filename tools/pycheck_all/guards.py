@@ -1,5 +1,6 @@
-"""Guards: for a core that is clean a module through which other code calls it, so that no value that breaks the promise
-of its report comes in."""
+"""Guards: for a clean core, a module through which other code calls it. No value that breaks the promise of the core's
+report
+gets past them."""
 from __future__ import annotations
 
 import hashlib
@@ -26,7 +27,7 @@ class NoGuards(Exception):
 
 class Asked(NamedTuple):
     """The guards that are asked for: the file of the core, the file to write, or none, and whether they are written
-    even where the report is not clean."""
+    even if the report is not clean."""
 
     core: str
     to: str
@@ -39,7 +40,7 @@ class Asked(NamedTuple):
 
 
 class Made(NamedTuple):
-    """What came of it: the core as it was checked, and a line that says what was written, or why nothing was."""
+    """The result: the core as it was checked, and a line that says what was written, or why nothing was."""
 
     checked: Checked
     written: str
@@ -47,7 +48,7 @@ class Made(NamedTuple):
 
 
 def name_of(path: str) -> str:
-    """The name by which a module is imported: that of its file, after those of the packages that it lies in."""
+    """Returns the name by which a module is imported: that of its file, after those of the packages around it."""
     name = os.path.basename(path)[:-3]
     if not path.endswith(".py") or not name.isidentifier() or keyword.iskeyword(name):
         raise NoGuards(f"{path}: no module of this name can be imported")
@@ -55,7 +56,7 @@ def name_of(path: str) -> str:
 
 
 def packages(folder: str) -> List[str]:
-    """The names of the package that a folder is, from the outermost on; none where it is no package."""
+    """Returns the names of the package that a folder is, from the outermost on; none if it is no package."""
     found: List[str] = []
     while os.path.exists(os.path.join(folder, "__init__.py")) and os.path.basename(folder).isidentifier():
         found.insert(0, os.path.basename(folder))
@@ -64,7 +65,8 @@ def packages(folder: str) -> List[str]:
 
 
 def make(asked: Asked, program: Program, seconds: float) -> Made:
-    """Checks the core, and writes its guards."""
+    """Checks the core, and writes its guards. Returns the check, with a line that says what was written or why nothing
+    was; raises NoGuards."""
     core, runtime = name_of(asked.core), os.path.join(os.path.dirname(asked.output), RUNTIME.name)
     own = name_of(asked.output)
     if own in (core, name_of(runtime)):
@@ -95,7 +97,8 @@ def make(asked: Asked, program: Program, seconds: float) -> Made:
 
 
 def apart(path: str) -> str:
-    """What is said of a core whose folder is no package, but lies in one, from which it cannot be imported so."""
+    """Returns a warning about a core whose folder is no package but is inside one, from which the core cannot be
+    imported by that name; empty for others."""
     folder = os.path.dirname(os.path.abspath(path))
     if packages(folder) or not packages(os.path.dirname(folder)):
         return ""
@@ -103,7 +106,7 @@ def apart(path: str) -> str:
 
 
 def check(run: running.Run, name: str, data: bytes) -> Checked:
-    """What comes of a text."""
+    """Checks a text under a name."""
     with tempfile.TemporaryDirectory(prefix="pycheck-") as folder:
         path = os.path.join(folder, "core.py")
         with open(path, "wb") as file:
@@ -112,13 +115,13 @@ def check(run: running.Run, name: str, data: bytes) -> Checked:
 
 
 def counts(checked: Checked) -> str:
-    """How many errors and dynamic places a report has."""
+    """Returns how many errors and dynamic places a report has."""
     errors = sum(it.kind == "error" for it in checked.findings)
     return f"{amount(errors, 'error')}, {amount(len(checked.findings) - errors, 'dynamic place')}"
 
 
 def reason(asked: Asked, checked: Checked) -> str:
-    """Why there are no guards of a core that was checked; empty where there may be some."""
+    """Returns why there are no guards of a core that was checked; empty if there may be guards."""
     if checked.failure:
         return f"{asked.core}: no guards, since it was not checked"
     if any(it.kind == REFUSED for it in checked.findings):
@@ -129,7 +132,7 @@ def reason(asked: Asked, checked: Checked) -> str:
 
 
 def refuse_hidden(read: Core, run: running.Run, name: str, data: bytes) -> None:
-    """Stops where a constant has no annotation, and its type is not what its text shows."""
+    """Raises NoGuards if a constant has no annotation, and its text does not show its type."""
     hidden = [it for it in read.constants.values() if it.column is not None and not it.type]
     guessed = [it for it in read.constants.values() if it.column is not None and it.type]
     if guessed and not hidden:
@@ -143,7 +146,8 @@ def refuse_hidden(read: Core, run: running.Run, name: str, data: bytes) -> None:
 
 
 def refuse_broken(asked: Asked, text: str) -> None:
-    """Stops where the guards of a core with errors would be no module, as where two fields have one name."""
+    """Raises NoGuards if the guards of a core with errors would be no module, for example if two fields have one
+    name."""
     try:
         compile(text, asked.output, "exec", dont_inherit=True)
     except (SyntaxError, ValueError, RecursionError) as fault:

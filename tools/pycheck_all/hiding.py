@@ -10,7 +10,7 @@ FAMILIES = "SLINGEA"
 
 
 def codes_of(word: str) -> FrozenSet[str]:
-    """The codes that a word names: a code, a label, or the letter of a family. None where it names nothing."""
+    """Returns the codes that a word names: a code, a label, or the letter of a family. Empty if it names nothing."""
     letter = word.upper()
     if letter in FAMILIES and len(letter) == 1:
         return frozenset(it for it in codes.entries() if it[0] == letter)
@@ -19,7 +19,7 @@ def codes_of(word: str) -> FrozenSet[str]:
 
 
 def hidden_codes(select: Sequence[str], ignore: Sequence[str]) -> FrozenSet[str]:
-    """The codes that are not shown: all but those that are selected, if some are, and those that are ignored."""
+    """Returns the codes that are not shown: those that are ignored, and if some are selected, all others."""
     hidden = frozenset(codes.entries()) if select else frozenset()
     for code in select:
         hidden -= codes_of(code)
@@ -29,7 +29,7 @@ def hidden_codes(select: Sequence[str], ignore: Sequence[str]) -> FrozenSet[str]
 
 
 def hide(files: Sequence[Checked], hidden: FrozenSet[str]) -> None:
-    """Takes the findings of these codes from what is shown of each file."""
+    """Moves the findings of these codes from the shown ones of each file to the hidden ones."""
     for file in files:
         file.hidden = [it for it in file.findings if it.code in hidden]
         file.findings = [it for it in file.findings if it.code not in hidden]

@@ -1,6 +1,6 @@
-"""What git ignores, without git: no process is started, and no configuration of what is checked is read.
+"""Finds what git ignores, without git: no process is started, and no configuration of the checked files is read.
 
-Its rules are those of gitignore: the patterns of each `.gitignore` up to the top of the repository, those of its
+The rules are those of gitignore: the patterns of each `.gitignore` up to the top of the repository, those of its
 `info/exclude`, and those of the user's own file."""
 from __future__ import annotations
 
@@ -14,7 +14,7 @@ from .tracked import Tracked, tracked_by
 
 LIMIT = 1 << 20
 LONGEST_LINK = 8192
-# What a file has of git's own configuration that names the user's file of patterns
+# The section of git's configuration that names the user's file of patterns
 SECTION = re.compile(r"\s*\[\s*([-.\w]+)\s*\]")
 VALUE = re.compile(r"\s*excludesfile\s*=\s*(.*)", re.IGNORECASE)
 PIECE = re.compile(r'"((?:[^"\\]|\\.)*)"|\\(.)|([^"\\#;]+)|(.)')
@@ -22,7 +22,7 @@ ESCAPED = {"n": "\n", "t": "\t", "b": "\b"}
 
 
 def content(path: str, follow: bool = True) -> bytes:
-    """The bytes of a small file; none where it cannot be read."""
+    """Returns the bytes of a small file; empty if it cannot be read."""
     try:
         return reading.regular(path, LIMIT, follow)
     except OSError:
@@ -30,7 +30,7 @@ def content(path: str, follow: bool = True) -> bytes:
 
 
 def value_of(text: str) -> str:
-    """A value of a configuration, without its quotes and its comment."""
+    """Returns a value of a configuration, without its quotes and its comment."""
     found, kept = "", 0
     for piece in PIECE.finditer(text.rstrip("\r\n")):
         quoted, escaped, plain, _ = piece.groups()
@@ -45,12 +45,12 @@ def value_of(text: str) -> str:
 
 
 def unescaped(found: "re.Match[str]") -> str:
-    """The character that is meant by a backslash with the one after it."""
+    """Returns the character that a backslash means together with the one after it."""
     return ESCAPED.get(found[1], found[1])
 
 
 def excludes_file_in(text: str) -> Optional[str]:
-    """The value of `core.excludesFile` in a configuration; none where it has none."""
+    """Returns the value of `core.excludesFile` in a configuration; none if it has none."""
     section, found = "", None
     for line in re.sub(r"\\\r?\n", "", text).splitlines():
         opened = SECTION.match(line)
@@ -65,7 +65,7 @@ def excludes_file_in(text: str) -> Optional[str]:
 
 
 def user_patterns(top: str) -> bytes:
-    """The patterns of the user's own file, which the system's or the user's configuration names."""
+    """Returns the patterns of the user's own file, which the system's or the user's configuration names."""
     home = os.environ.get("HOME", "")
     settings = os.environ.get("XDG_CONFIG_HOME", "")
     if not os.path.isabs(settings):
@@ -81,7 +81,7 @@ def user_patterns(top: str) -> bytes:
 
 
 class Repository:
-    """A checkout: its top, and the two folders of git that it has: its own, and the one that it shares."""
+    """A checkout: its top, and its two folders of git: its own, and the one that it shares."""
 
     def __init__(self, top: str, folder: str, common: str) -> None:
         self.top = top
@@ -91,23 +91,24 @@ class Repository:
         self.index: Optional[Tracked] = None
 
     def tracks(self, path: bytes, is_folder: bool) -> bool:
-        """Whether a module is tracked, or something in a folder. Where the index cannot be read, everything is."""
+        """Whether a module is tracked, or anything in a folder. If the index cannot be read, everything counts as
+        tracked."""
         if not self.read:
             self.read, self.index = True, tracked_by(self.folder)
         return self.index is None or self.index.has(path, is_folder)
 
     def rules(self) -> "Rules":
-        """What is ignored at its top."""
+        """Returns the rules for its top."""
         excluded = content(os.path.join(self.common, "info", "exclude"))
         lists = [Patterns(excluded, b""), Patterns(user_patterns(self.top), b"")]
         return Rules(self, b"", lists, False).with_file(self.top)
 
 
 class Rules(NamedTuple):
-    """What git ignores of a folder.
+    """The rules by which git ignores entries of a folder.
 
-    `path` is the folder from the top of its repository, with a slash at its end; of the lists of patterns the first
-    ones go before the others; in a folder that is `left_out` everything is ignored that is not tracked."""
+    `path` is the folder from the top of its repository, with a slash at its end. Earlier lists of patterns take
+    precedence over later ones. In a folder that is `left_out`, everything that is not tracked is ignored."""
 
     repository: Repository
     path: bytes
@@ -115,14 +116,15 @@ class Rules(NamedTuple):
     left_out: bool
 
     def with_file(self, folder: str) -> "Rules":
-        """The same with the patterns of the folder's own file. A link is not followed, as git does not."""
+        """Returns the same rules with the patterns of the folder's own file. A link is not followed, as git does not
+        follow it."""
         if self.left_out:
             return self
         data = content(os.path.join(folder, ".gitignore"), follow=False)
         return self._replace(lists=[Patterns(data, self.path), *self.lists]) if data else self
 
     def leave_out(self, name: bytes, is_folder: bool) -> bool:
-        """Whether the patterns leave out something in the folder."""
+        """Whether the patterns leave out an entry of the folder."""
         if self.left_out:
             return True
         path = self.path + name
@@ -134,17 +136,17 @@ class Rules(NamedTuple):
         return self.leave_out(name, is_folder) and not self.repository.tracks(self.path + name, is_folder)
 
     def inside(self, name: bytes, folder: str) -> "Rules":
-        """What is ignored of a folder in the folder."""
+        """Returns the rules for a folder in the folder."""
         left_out = self.leave_out(name, True)
         return Rules(self.repository, self.path + name + b"/", self.lists, left_out).with_file(folder)
 
 
 class Unknown(Exception):
-    """A file `.git` names no folder of git, so that it is not known what is ignored."""
+    """A file `.git` names no folder of git, so nobody knows what is ignored."""
 
 
 def folders_of(path: str) -> Optional[Tuple[str, str]]:
-    """The folder of git at a path, and the one that it shares with others; none where it is none."""
+    """Returns the folder of git at a path, and the one that it shares with others; none if there is none."""
     link = content(os.path.join(path, "commondir"))
     common = os.path.join(path, os.fsdecode(link).rstrip("\r\n")) if link and b"\0" not in link else path
     is_one = os.path.lexists(os.path.join(path, "HEAD"))
@@ -153,7 +155,8 @@ def folders_of(path: str) -> Optional[Tuple[str, str]]:
 
 
 def repository_at(top: str) -> Optional[Repository]:
-    """The repository whose top is a folder; none where that is no top. A file `.git` that names none is Unknown."""
+    """Returns the repository whose top is a folder; none if the folder is no top. Raises Unknown for a file `.git` that
+    names no folder of git."""
     path = os.path.join(top, ".git")
     if not os.path.isfile(path):
         found = folders_of(path)
@@ -169,7 +172,7 @@ def repository_at(top: str) -> Optional[Repository]:
 
 
 def repository_around(folder: str) -> Optional[Repository]:
-    """The repository that a folder stands in, if it is in one of the same file system."""
+    """Returns the repository around a folder, if it is on the same file system."""
     device = os.stat(folder).st_dev
     while True:
         found = repository_at(folder)
@@ -180,8 +183,8 @@ def repository_around(folder: str) -> Optional[Repository]:
 
 
 def rules_of(folder: str) -> Optional[Rules]:
-    """What git ignores of a folder that is named; none where it ignores nothing, as in no checkout. A folder that is
-    itself ignored is checked, since it is named."""
+    """Returns the rules for a folder that is named; none if git ignores nothing there, as outside a checkout. A folder
+    that is itself ignored is checked, since it is named."""
     try:
         folder = os.path.realpath(folder)
         repository = repository_around(folder)
@@ -199,13 +202,13 @@ def rules_of(folder: str) -> Optional[Rules]:
 
 
 def names_of(path: str) -> List[str]:
-    """The names of a relative path that goes down."""
+    """Returns the names in a relative path that leads downwards."""
     return [it for it in path.split(os.sep) if it != os.curdir]
 
 
 def rules_in(rules: Optional[Rules], name: str, folder: str, is_top: bool) -> Optional[Rules]:
-    """What git ignores of a folder in a folder with such rules. One that has a `.git` may be the top of a repository of
-    its own."""
+    """Returns the rules for a folder in a folder with such rules. One that has a `.git` may be the top of a repository
+    of its own."""
     if is_top:
         try:
             repository = repository_at(folder)

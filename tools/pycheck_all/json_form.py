@@ -1,4 +1,4 @@
-"""The form `json`: one document with everything that was found."""
+"""The form `json`: one document with all findings."""
 from __future__ import annotations
 
 from typing import Any, Dict
@@ -13,12 +13,12 @@ FORMAT = 1
 
 
 def point(it: Point) -> Dict[str, int]:
-    """A point of a text."""
+    """Returns a point of a text."""
     return {"byte": it.byte, "line": it.line, "column": it.column}
 
 
 def of_finding(file: Checked, it: Finding) -> Dict[str, Any]:
-    """A finding or a refusal."""
+    """Returns a finding or a refusal."""
     found: Dict[str, Any] = {"code": it.code, "kind": it.kind, "title": codes.title_of(it.code)}
     if it.kind in (ERROR, DYNAMIC):
         found["label"] = found["title"]
@@ -32,7 +32,7 @@ def of_finding(file: Checked, it: Finding) -> Dict[str, Any]:
 
 
 def of_file(file: Checked, strict: bool) -> Dict[str, Any]:
-    """A file: what was found in it, or why it was not checked."""
+    """Returns a file with its findings, or with why it was not checked."""
     found: Dict[str, Any] = {"path": plain(file.path), "status": file.status(strict)}
     if file.failure:
         found["failure"] = file.failure
@@ -46,12 +46,12 @@ def of_file(file: Checked, strict: bool) -> Dict[str, Any]:
 
 
 def of_known(it: Known) -> Dict[str, Any]:
-    """An entry of the baseline."""
+    """Returns an entry of the baseline."""
     return {"path": plain(it.path), "code": it.code, "line": it.line, "count": it.times}
 
 
 def document(project: Project) -> str:
-    """The document."""
+    """Returns the document."""
     counts = project.counted()
     names = {
         "files": "files",

@@ -1,4 +1,4 @@
-"""The form `junit`: an XML report as systems for tests read it: a suite for each file, a case for each finding."""
+"""The form `junit`: an XML report for test systems, with a suite for each file and a case for each finding."""
 from __future__ import annotations
 
 import re
@@ -9,24 +9,24 @@ from .findings import DYNAMIC, GUIDE, Checked, Finding, Project
 from .messages import message_of, name_of
 from .texts import CONTROL, MARK, plain
 
-# What XML 1.0 has no way to write
+# Characters that XML 1.0 cannot write
 NO_CHARACTER = re.compile("[^\t\n\r\x20-\ud7ff\ue000-\ufffd\U00010000-\U0010ffff]")
 
 
 def attribute(text: str) -> str:
-    """A text as the value of an attribute, in quotes; control characters by their numbers."""
+    """Returns a text as the value of an attribute, in quotes, with control characters as their numbers."""
     quoted = CONTROL.sub(lambda it: f"&#{ord(it[0])};", quoteattr(NO_CHARACTER.sub("\ufffd", text)))
     return MARK.sub(r"\1&#91;", quoted)
 
 
 def outcome_of(finding: Finding, strict: bool) -> str:
-    """The element that says what came of a case: what does not fail is skipped, and so counted."""
+    """Returns the element for the outcome of a case: a finding that does not fail counts as skipped."""
     passes = finding.known or finding.kind == GUIDE or (finding.kind == DYNAMIC and not strict)
     return "skipped" if passes else "failure"
 
 
 def case_of(path: str, name: str, outcome: str, message: str) -> List[str]:
-    """A case, with its outcome if it has one."""
+    """Returns the lines of a case, with its outcome if it has one."""
     opening = f"  <testcase classname={attribute(path)} name={attribute(name)} file={attribute(path)}"
     if not outcome:
         return [opening + "/>"]
@@ -34,7 +34,7 @@ def case_of(path: str, name: str, outcome: str, message: str) -> List[str]:
 
 
 def cases_of(file: Checked, strict: bool) -> Iterator[Tuple[str, List[str]]]:
-    """The cases of a file, each with its outcome. A file without findings is one case that passes."""
+    """Yields the cases of a file, each with its outcome. A file without findings is one case that passes."""
     path = plain(file.path)
     if file.failure:
         yield "error", case_of(path, "not checked", "error", file.failure)
@@ -52,13 +52,13 @@ def cases_of(file: Checked, strict: bool) -> Iterator[Tuple[str, List[str]]]:
 
 
 def counted(outcomes: List[str]) -> str:
-    """The counts of a suite, as attributes."""
+    """Returns the counts of a suite, as attributes."""
     names = [("failures", "failure"), ("errors", "error"), ("skipped", "skipped")]
     return f'tests="{len(outcomes)}" ' + " ".join(f'{name}="{outcomes.count(kind)}"' for name, kind in names)
 
 
 def document(project: Project) -> str:
-    """The report."""
+    """Returns the report."""
     lines: List[str] = []
     all_outcomes: List[str] = []
     for file in project.files:

@@ -1,6 +1,6 @@
-"""Which form that the profile leaves out stands at a refusal: the rows of the tables of docs/PROFILE.md.
+"""Finds the form at a refusal that the profile leaves out: the rows of the tables of docs/PROFILE.md.
 
-The texts of the rows are data, made from the page. Here stands how each is told, by the tokens of the logical line
+The texts of the rows are data, made from the page. This module recognizes each form by the tokens of the logical line
 alone. The first form that fits is taken."""
 from __future__ import annotations
 
@@ -37,7 +37,7 @@ class Row(NamedTuple):
 
 @functools.lru_cache(maxsize=None)
 def rows() -> Dict[str, Row]:
-    """The rows by their forms, in the order of the page; none where the texts are not there."""
+    """Returns the rows by their forms, in the order of the page; none if the texts are missing."""
     try:
         found = [Row(**it) for it in json.loads(TEXTS.read_text(encoding="utf-8"))]
     except OSError:
@@ -46,9 +46,9 @@ def rows() -> Dict[str, Row]:
 
 
 def row_of(code: str, spot: Spot) -> Optional[Row]:
-    """The row of what is refused at a spot; none where no form of the page stands there."""
+    """Returns the row of the refused form at a spot; none if no form of the page is there."""
     found = rows()
-    # For want of the header the first word is refused by one code alone
+    # If the header is missing, one code alone refuses the first word
     spot = dataclasses.replace(spot, first=spot.first and code == HEADLESS)
     for form, tells in FORMS:
         row = found.get(form)
@@ -58,7 +58,7 @@ def row_of(code: str, spot: Spot) -> Optional[Row]:
 
 
 def sentence(row: Row) -> str:
-    """What is said where a form stands that is left out."""
+    """Returns the sentence about a form that is left out."""
     if row.form.startswith("no "):
         return f"There is {row.form}: write {row.write}."
     return f"Instead of {row.form} write {row.write}."
@@ -71,7 +71,7 @@ def imports(spot: Spot, *names: str) -> bool:
 
 
 def in_chain(spot: Spot) -> bool:
-    """Whether a comparison stands before the spot, with nothing between them that ends it."""
+    """Whether a comparison is before the spot, with nothing between them that ends it."""
     level = spot.level
     ends = [at for at, token in enumerate(level) if token in CLAUSES and not is_not_in(level, at)]
     return bool(COMPARISONS & set(level[ends[-1] + 1 :] if ends else level))
@@ -83,7 +83,7 @@ def is_not_in(level: List[str], at: int) -> bool:
 
 
 def unpacks(spot: Spot) -> bool:
-    """Whether the spot stands in the targets of an assignment, of which there are several."""
+    """Whether the spot is in the targets of an assignment with several targets."""
     if spot.keyword in SUITES or spot.keyword in ("return", "assert"):
         return False
     level = spot.levels[0]
@@ -95,12 +95,12 @@ def unpacks(spot: Spot) -> bool:
 
 
 def loops_over_pairs(spot: Spot) -> bool:
-    """Whether the spot stands in the targets of a loop, or in those of a comprehension."""
+    """Whether the spot is in the targets of a loop or of a comprehension."""
     return spot.keyword == "for" and bool(spot.before) and "in" not in spot.levels[0]
 
 
 def is_tuple(spot: Spot) -> bool:
-    """Whether a tuple without brackets goes on at the spot."""
+    """Whether a tuple without brackets continues at the spot."""
     level = spot.levels[0]
     return spot.word == "," and not spot.bracket and ("=" in level or (spot.keyword == "for" and "in" in level))
 
@@ -111,12 +111,12 @@ def is_suite(spot: Spot) -> bool:
 
 
 def is_set(spot: Spot) -> bool:
-    """Whether a set goes on or ends at the spot."""
+    """Whether a set continues or ends at the spot."""
     return spot.bracket == "{" and spot.word in (",", "}") and ":" not in spot.part
 
 
 def before_set(spot: Spot) -> str:
-    """The token before the innermost open bracket."""
+    """Returns the token before the innermost open bracket."""
     levels = spot.levels
     return levels[-2][-2] if len(levels) > 1 and len(levels[-2]) > 1 else ""
 
@@ -127,22 +127,22 @@ def is_starred(spot: Spot) -> bool:
 
 
 def in_default(spot: Spot) -> bool:
-    """Whether the spot stands in a default of a parameter, in no further bracket."""
+    """Whether the spot is in the default of a parameter, in no further bracket."""
     return spot.is_parameter and "=" in spot.part
 
 
 def is_string(spot: Spot) -> bool:
-    """Whether a string stands there."""
+    """Whether a string is at the spot."""
     return spot.word[:1] in ('"', "'")
 
 
 def has_escape(spot: Spot, pattern: str) -> bool:
-    """Whether the string there has an escape; two backslashes are none."""
+    """Whether the string at the spot has an escape; two backslashes are none."""
     return bool(re.search(r"(?<!\\)(?:\\\\)*\\" + pattern, spot.word))
 
 
 def at_top(spot: Spot) -> bool:
-    """Whether a statement stands at the top level."""
+    """Whether the statement is at the top level."""
     return spot.place == MODULE and spot.keyword not in ("def", "class", "@", "from", "import") and bool(spot.word)
 
 
@@ -153,18 +153,18 @@ def is_method(spot: Spot, *names: str) -> bool:
 
 
 def is_method_given(spot: Spot) -> bool:
-    """Whether a member of a class is given what a name stands for, as `__str__ = __repr__`."""
+    """Whether a member of a class is assigned the value of a name, as in `__str__ = __repr__`."""
     value = spot.after[spot.after.index("=") + 1 :] if "=" in spot.after else []
     return spot.place == CLASS and not spot.before and bool(value) and value[0].isidentifier()
 
 
 def owned(spot: Spot, name: str) -> bool:
-    """Whether a bracket of a name is open, as `Literal[`."""
+    """Whether a bracket after a name is open, as in `Literal[`."""
     return any(level[-2:] == [name, "["] for level in spot.levels)
 
 
 def is_field(spot: Spot) -> bool:
-    """Whether the spot stands in the default of a field."""
+    """Whether the spot is in the default of a field."""
     level = spot.levels[0]
     return spot.place == CLASS and level[1:2] == [":"] and "=" in level
 

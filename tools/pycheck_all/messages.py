@@ -1,4 +1,4 @@
-"""The texts of findings, and what tells them from others, as systems show and compare them."""
+"""The texts of findings, and the fingerprints that tell them apart, as systems show and compare them."""
 from __future__ import annotations
 
 import collections
@@ -14,20 +14,20 @@ GUIDES = "A guide is not the program's answer on the file as it is: it was asked
 
 
 def name_of(finding: Finding) -> str:
-    """The name of a finding: its code and its title; of a refusal that word too."""
+    """Returns the name of a finding: its code and its title, for a refusal or a guide with that word between them."""
     kind = f" {finding.kind}:" if finding.kind in (REFUSED, GUIDE) else ""
     return f"{finding.code}{kind} {codes.title_of(finding.code)}".rstrip(" :")
 
 
 def message_of(file: Checked, finding: Finding) -> str:
-    """What is found and how to mend it, in a line."""
+    """Returns the text of a finding and how to mend it, in a line."""
     flow = f" ({finding.flow[0]} -> {finding.flow[1]})" if finding.flow else ""
     meaning = codes.meaning_of(finding.code) or finding.code
     return f"{meaning}{flow}. {advice_of(file, finding)}".strip()
 
 
 def advice_of(file: Checked, finding: Finding) -> str:
-    """What to write instead, and where the bracket is that does not match."""
+    """Returns what to write instead, and where the mismatched bracket is."""
     advice = cases.sentence(finding.code, file.text, finding.place)
     advice = advice or codes.mending_of(finding.code, file.spot_of(finding))
     if finding.opened:
@@ -38,8 +38,8 @@ def advice_of(file: Checked, finding: Finding) -> str:
 
 
 def fingerprints(file: Checked) -> List[str]:
-    """What tells each finding of a file from every other and stays when lines move: a hash of the path, the code, the
-    text of the line, and how many such findings are before it."""
+    """Returns for each finding of a file a text that no other finding has and that stays when lines move: a hash of the
+    path, the code, the text of the line, and how many such findings are before it."""
     counts: Counter[Tuple[str, str]] = collections.Counter()
     made: List[str] = []
     for finding in file.findings:
@@ -50,6 +50,6 @@ def fingerprints(file: Checked) -> List[str]:
 
 
 def fingerprint(file: Checked, *parts: str) -> str:
-    """A hash of the path of a file and of some texts."""
+    """Returns a hash of the path of a file and of some texts."""
     path = os.fsencode(os.path.normpath(file.path))
     return hashlib.sha256(b"\0".join([path, *(it.encode() for it in parts)])).hexdigest()

@@ -1,6 +1,6 @@
-"""Files that are written: the page and the baseline.
+"""Writing files: the page and the baseline.
 
-A link that lies in what is checked is not followed there, since it may lead to any file of the user's."""
+A link inside the checked files and folders is not followed for this, since it may lead to any file of the user's."""
 from __future__ import annotations
 
 import errno
@@ -9,15 +9,15 @@ from typing import List, Sequence
 
 
 class Links:
-    """Tells the links that are not followed: those in the folders that are checked, in those of the files that are, and
-    in the one in which the command runs, if the path begins there."""
+    """Knows the links that are not followed: those in the folders that are checked and in the folders of checked files,
+    and, if the path begins there, those in the folder in which the command runs."""
 
     def __init__(self, words: Sequence[str]) -> None:
         folders = [it if os.path.isdir(it) else os.path.dirname(os.path.abspath(it)) for it in words if it != "-"]
         self.folders = [os.path.realpath(it) for it in folders]
 
     def refuse(self, path: str) -> None:
-        """Raises OSError where a path goes over such a link."""
+        """Raises OSError if a path goes over such a link."""
         folders = self.folders if os.path.isabs(path) else [*self.folders, os.path.realpath(os.curdir)]
         at = os.sep if os.path.isabs(path) else ""
         for name in path.split(os.sep):
@@ -27,9 +27,9 @@ class Links:
                 raise OSError(errno.ELOOP, "it goes over a link of what is checked, which is not followed")
 
     def write(self, path: str, text: str) -> None:
-        """Writes a text into a file, or raises OSError."""
+        """Writes a text into a file; raises OSError."""
         self.refuse(path)
-        # What was refused as a link may be one since; and nobody waits for the reader of a pipe
+        # The path may have become a link since the check; and do not wait for the reader of a pipe
         follow = os.O_NOFOLLOW if not os.path.islink(path) else 0
         flags = os.O_WRONLY | os.O_CREAT | os.O_TRUNC | os.O_CLOEXEC | os.O_NOCTTY | os.O_NONBLOCK | follow
         descriptor = os.open(path, flags, 0o666)
@@ -39,5 +39,5 @@ class Links:
 
 
 def is_within(path: str, folders: List[str]) -> bool:
-    """Whether a path is one of some folders, or lies in one."""
+    """Whether a path is one of some folders, or is inside one."""
     return any(path == it or path.startswith(it.rstrip(os.sep) + os.sep) for it in folders)

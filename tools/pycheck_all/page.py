@@ -1,7 +1,7 @@
 """The page: one document of HTML with a table of the files and each module with its places marked.
 
-It loads nothing and has no scripts. A finding is one `mark` of class `place`; where its place goes over several lines,
-or holds another one, the other parts are marks of class `rest`."""
+It loads nothing and has no scripts. A finding is one `mark` of class `place`; if its place spans several lines, or has
+another one inside it, the other parts are marks of class `rest`."""
 from __future__ import annotations
 
 import html
@@ -49,7 +49,7 @@ mark.place.known, mark.rest.known { background: none }
 ul code { background: var(--code); border-radius: .2rem; padding: 0 .2rem }
 mark.empty::after { content: "\\25b2" }
 """
-# What is said of a dynamic place under the error from which it follows
+# The words before a dynamic place that is listed under the error from which it follows
 FOLLOWS = "The type is unknown because of the error above."
 HEAD = f"""<!doctype html>
 <html lang="en">
@@ -75,24 +75,24 @@ class Part(NamedTuple):
 
 
 def escaped(text: str) -> str:
-    """A text of a module as HTML; what cannot be shown has a replacement character."""
+    """Returns a text of a module as HTML; characters that cannot be shown are replaced."""
     return html.escape(UNFIT.sub(REPLACEMENT, text))
 
 
 def worded(text: str) -> str:
-    """A text of the page of codes as HTML."""
+    """Returns a text of the page of codes as HTML."""
     return re.sub("`([^`]*)`", r"<code>\1</code>", escaped(text))
 
 
 def tooltip(finding: Finding) -> str:
-    """What is said of a finding where a pointer rests on its place, as HTML."""
+    """Returns the HTML that is shown when a pointer rests on the place of a finding."""
     flow = f"\n{escaped(f'{finding.flow[0]} flows into {finding.flow[1]}')}" if finding.flow else ""
     said = escaped(f"{name_of(finding)}: {codes.meaning_of(finding.code)}")
     return f"{said}{flow}{' (known)' if finding.known else ''}"
 
 
 def parts_of(findings: Sequence[Finding], touching: Sequence[int], number: int, line: str) -> List[Part]:
-    """The parts of a line that belong to the findings that touch it; outer ones first."""
+    """Returns the parts of a line that belong to the findings that touch it, outer ones first."""
     parts = []
     for at in touching:
         place = findings[at].place
@@ -110,11 +110,11 @@ class Module:
         self.file = file
         self.begun: Set[int] = set()
         self.under = following.followed(file)
-        # The error from which each dynamic place follows that follows from one
+        # For each dynamic place that follows from an error, that error
         self.above = {it: at for at, numbers in self.under.items() for it in numbers}
 
     def opening(self, part: Part, outer: Sequence[Part]) -> str:
-        """The opening of a mark; it says what the findings around it say too."""
+        """Returns the opening of a mark, with the texts of the findings around it too."""
         finding = self.file.findings[part.number]
         kinds = [finding.kind] + ["known"] * finding.known + ["empty"] * (part.start == part.end)
         first = part.number not in self.begun
@@ -124,7 +124,7 @@ class Module:
         return f'<mark class="{"place" if first else "rest"} {" ".join(kinds)}"{place} title="{words}">'
 
     def code(self, line: str, parts: Sequence[Part]) -> str:
-        """A line with its parts marked."""
+        """Returns a line with its parts marked."""
         cuts = sorted({0, len(line), *(min(it, len(line)) for part in parts for it in part[:2])})
         shown_parts = [self.piece("", [it for it in parts if it.start == it.end == 0])] if parts else []
         for start, end in zip(cuts, cuts[1:]):
@@ -133,12 +133,12 @@ class Module:
         return "".join(shown_parts)
 
     def piece(self, text: str, around: Sequence[Part]) -> str:
-        """A piece of a line inside the marks of some parts."""
+        """Returns a piece of a line inside the marks of some parts."""
         opened = "".join(self.opening(part, around[:at]) for at, part in enumerate(around))
         return opened + escaped(text) + "</mark>" * len(around)
 
     def lines(self) -> Iterator[str]:
-        """The lines of the module; the number of a line with a finding links to its first one."""
+        """Yields the lines of the module; the number of a line with a finding links to its first one."""
         findings = self.file.findings
         last = max([self.file.text.lines, *(it.place.start.line for it in findings)])
         touching: List[List[int]] = [[] for _ in range(last + 1)]
@@ -153,13 +153,14 @@ class Module:
             yield f'<div class="line" id="{self.name}-l{number}">{link}{self.code(line, parts)}</div>'
 
     def list(self) -> Iterator[str]:
-        """The findings, each with a link to its line; dynamic places that follow from an error are under it."""
+        """Yields the findings, each with a link to its line, and below each error the dynamic places that follow from
+        it."""
         for at in range(len(self.file.findings)):
             if at not in self.above:
                 yield self.item(at)
 
     def item(self, at: int) -> str:
-        """A finding, and under it those that follow from it."""
+        """Returns a finding, with those that follow from it below."""
         it = self.file.findings[at]
         start = it.place.start
         link = f'<a href="#{self.name}-l{start.line}">{start.line}:{start.column}</a>'
@@ -172,7 +173,7 @@ class Module:
         return f'<li id="{self.name}-n{at}">{link} {name}{flow}{known}: {worded(words)}{inner}</li>'
 
     def section(self) -> Iterator[str]:
-        """The module with its findings; one without findings is folded."""
+        """Yields the module with its findings; one without findings is folded."""
         yield f'<section id="{self.name}"><h2>{escaped(plain(self.file.path))}</h2>'
         if self.file.failure:
             yield f'<p class="failed">not checked: {escaped(self.file.failure)}</p></section>'
@@ -188,7 +189,7 @@ class Module:
 
 
 def free_lines(file: Checked) -> Tuple[int, int]:
-    """How many lines no error and no dynamic place touches, and how many there are."""
+    """Returns how many lines no error and no dynamic place touches, and how many there are."""
     touched = {
         number
         for it in file.findings
@@ -199,12 +200,12 @@ def free_lines(file: Checked) -> Tuple[int, int]:
 
 
 def share(free: int, lines: int) -> str:
-    """A part of the lines in percent, rounded down, so that 100 means all."""
+    """Returns a share of the lines in percent, rounded down, so that 100 means all."""
     return f"{100 * free // lines} %" if lines else "none"
 
 
 def row(module: Module) -> str:
-    """The row of a file."""
+    """Returns the row of a file."""
     file = module.file
     name = f'<td><a href="#{module.name}">{escaped(plain(file.path))}</a></td>'
     if file.failure:
@@ -223,7 +224,7 @@ def row(module: Module) -> str:
 
 
 def total(files: Sequence[Checked]) -> str:
-    """The row of all files that were answered by a report."""
+    """Returns the row of all files that have a report."""
     reported = [it for it in files if not it.failure and not it.refused]
     errors, dynamic = (sum(it.kind == kind for file in reported for it in file.findings) for kind in (ERROR, DYNAMIC))
     free = [free_lines(it) for it in reported]
@@ -232,7 +233,7 @@ def total(files: Sequence[Checked]) -> str:
 
 
 def gone_list(project: Project) -> Iterator[str]:
-    """What is known but gone, if something is."""
+    """Yields the list of known findings that are gone, if there are any."""
     if project.gone:
         yield "<h2>Known but gone</h2>\n<ul>"
         for it in project.gone:
@@ -242,7 +243,7 @@ def gone_list(project: Project) -> Iterator[str]:
 
 
 def document(project: Project) -> str:
-    """The page of a project."""
+    """Returns the page of a project."""
     modules = [Module(at, file) for at, file in enumerate(project.files)]
     heads = "".join(f"<th>{it}</th>" for it in ("File", "Errors", "Dynamic places", "Lines without either"))
     lines = [

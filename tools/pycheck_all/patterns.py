@@ -1,4 +1,4 @@
-"""The patterns of a file such as `.gitignore`, read and compared with names as git does it.
+"""The patterns of a file such as `.gitignore`, read and compared with names as git does.
 
 A name is compared byte by byte with all places of a pattern at once, so no pattern takes long."""
 from __future__ import annotations
@@ -13,7 +13,7 @@ BYTE_ORDER_MARK = b"\xef\xbb\xbf"
 
 
 def bytes_of(*ranges: Tuple[int, int]) -> int:
-    """The set of the bytes of some ranges, both ends included; a set has a bit for each byte."""
+    """Returns the set of the bytes of some ranges, both ends included; a set has a bit for each byte."""
     return sum(1 << byte for first, last in ranges for byte in range(first, last + 1))
 
 
@@ -36,11 +36,11 @@ CLASSES: Dict[bytes, int] = {
 
 
 class Broken(Exception):
-    """A pattern that fits no name, as one with a bracket that is not closed."""
+    """A pattern that fits no name, such as one with a bracket that is not closed."""
 
 
 class Bracket:
-    """A reader of the class that opens at a byte of a pattern, as `[a-z]`.
+    """A reader of the class that opens at a byte of a pattern, such as `[a-z]`.
 
     Afterwards `found` is its bytes, and `at` the byte of its end."""
 
@@ -59,20 +59,20 @@ class Bracket:
         self.found = (ALL ^ self.found if negated else self.found) & NOT_SLASH
 
     def here(self) -> bytes:
-        """The byte that is read next, of which there has to be one."""
+        """Returns the next byte; raises Broken if there is none."""
         byte = self.pattern[self.at : self.at + 1]
         if not byte:
             raise Broken
         return byte
 
     def escaped(self) -> int:
-        """The byte that is read next; a backslash before it is left out."""
+        """Passes over a backslash, if there is one, and returns the byte after it."""
         self.at += self.here() == b"\\"
         return self.here()[0]
 
     def part(self, before: int) -> int:
-        """Reads a byte, a range from the byte before it, or a class by name; gives the byte that a range may begin at,
-        0 without one."""
+        """Reads a byte, a range from the byte before it, or a class by name. Returns the byte that may begin a range,
+        or 0."""
         byte, rest = self.here(), self.pattern[self.at + 1 :]
         if byte == b"-" and before and rest and rest[:1] != b"]":
             self.at += 1
@@ -85,7 +85,7 @@ class Bracket:
         return last
 
     def named(self) -> bool:
-        """Reads a class by name, as `[:alpha:]`, if one stands here."""
+        """Reads a class by name, such as `[:alpha:]`, if there is one here. Returns whether there was."""
         end = self.pattern.find(b"]", self.at + 2)
         if end < 0:
             raise Broken
@@ -100,10 +100,10 @@ class Bracket:
 
 
 class Glob:
-    """A pattern with wildcards, as places: at each, which bytes lead on to the next and which stay.
+    """A pattern with wildcards, as places: at each, which bytes lead to the next place and which stay.
 
     `skips` has the places from which the next one is reached without a byte, `leaps` those from which the third one is:
-    what follows `**/` may stand at once."""
+    the text after `**/` may follow at once."""
 
     def __init__(self, pattern: bytes) -> None:
         self.pattern = pattern
@@ -125,7 +125,7 @@ class Glob:
         self.stays.append(stays)
 
     def read(self, at: int) -> int:
-        """Reads what stands at a byte, and gives the byte after it."""
+        """Reads the part of the pattern at a byte, and returns the byte after it."""
         byte = self.pattern[at : at + 1]
         if byte == b"*":
             return self.read_stars(at)
@@ -140,7 +140,8 @@ class Glob:
         return at + 1
 
     def read_stars(self, at: int) -> int:
-        """Reads stars: two or more that are a whole part of a path stand for any parts, others for a piece of one."""
+        """Reads stars: two or more that are a whole part of a path match any parts, others match a piece of one
+        part."""
         end = at
         while self.pattern[end : end + 1] == b"*":
             end += 1
@@ -160,7 +161,7 @@ class Glob:
         return end + 1
 
     def step(self, byte: int) -> Tuple[int, int]:
-        """The places that a byte leads on from, and those at which it stays."""
+        """Returns the places from which a byte leads on, and those at which it stays."""
         if byte not in self.steps:
             leads = sum(1 << at for at, found in enumerate(self.leads) if found >> byte & 1)
             stays = sum(1 << at for at, found in enumerate(self.stays) if found >> byte & 1)
@@ -168,7 +169,7 @@ class Glob:
         return self.steps[byte]
 
     def reached(self, places: int) -> int:
-        """Some places, and those that are reached from them without a byte."""
+        """Returns some places, and those that are reached from them without a byte."""
         while True:
             more = places | (places & self.skips) << 1 | (places & self.leaps) << 3
             if more == places:
@@ -187,14 +188,14 @@ class Glob:
 
 
 def plain_length(pattern: bytes) -> int:
-    """How many bytes stand before the first wildcard or backslash."""
+    """Returns how many bytes are before the first wildcard or backslash."""
     return next((at for at, byte in enumerate(pattern) if byte in SPECIAL), len(pattern))
 
 
 class Pattern:
     """A pattern of a file: one with a slash is compared with paths from the folder of the file, another with names.
 
-    What stands before its first wildcard is compared by itself, as git does: so stars that follow it begin a part."""
+    The text before its first wildcard is compared by itself, as in git, so stars that follow it begin a part."""
 
     def __init__(self, text: bytes) -> None:
         self.negated = text[:1] == b"!"
@@ -209,11 +210,11 @@ class Pattern:
 
     @property
     def is_name(self) -> bool:
-        """Whether it is a name without wildcards."""
+        """Whether the pattern is a name without wildcards."""
         return not self.rest and not self.is_path
 
     def fits(self, path: bytes, name: bytes) -> bool:
-        """Whether a path from the folder of its file, or the name at the end of it, fits."""
+        """Whether the pattern fits a path from the folder of its file, or the name at the end of that path."""
         text = path if self.is_path else name
         if not text.startswith(self.before):
             return False
@@ -226,7 +227,7 @@ class Pattern:
 
 
 def made(pattern: bytes) -> Glob:
-    """A pattern with wildcards; one that is broken fits nothing."""
+    """Returns a pattern with wildcards; a broken one fits nothing."""
     try:
         return Glob(pattern)
     except Broken:
@@ -239,7 +240,7 @@ NOTHING.add(0)
 
 
 def unspaced(line: bytes) -> bytes:
-    """A line without the spaces at its end; one after a backslash stays."""
+    """Returns a line without the spaces at its end; one after a backslash stays."""
     kept = line.rstrip(b" ")
     if len(kept) == len(line):
         return line
@@ -248,7 +249,7 @@ def unspaced(line: bytes) -> bytes:
 
 
 def patterns_of(data: bytes) -> List[Pattern]:
-    """The patterns of a file, in their order."""
+    """Returns the patterns of a file, in their order."""
     found = []
     for line in data[len(BYTE_ORDER_MARK) * data.startswith(BYTE_ORDER_MARK) :].split(b"\n"):
         if line and not line.startswith(b"#"):
@@ -269,7 +270,7 @@ class Patterns:
 
     def __init__(self, data: bytes, base: bytes) -> None:
         self.base = base
-        # Of each name the last pattern that is just this name: for everything, and for folders alone
+        # For each name the last pattern that is just this name: for everything, and for folders alone
         self.names: Tuple[Dict[bytes, Verdict], Dict[bytes, Verdict]] = ({}, {})
         self.others: List[Tuple[int, Pattern]] = []
         for number, pattern in enumerate(patterns_of(data)):
@@ -280,7 +281,7 @@ class Patterns:
         self.others.reverse()
 
     def say(self, path: bytes, name: bytes, is_folder: bool) -> Optional[bool]:
-        """Whether a path from the top is ignored, as the last pattern that fits says; none where no pattern fits."""
+        """Whether a path from the top is ignored, according to the last pattern that fits; none if no pattern fits."""
         named = [it[name] for it in self.names[: 1 + is_folder] if name in it]
         best = max(named, default=Verdict(-1, False))
         inside = path[len(self.base) :]

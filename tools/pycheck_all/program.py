@@ -1,4 +1,4 @@
-"""Which program is asked, and what it answers."""
+"""Finds the program to ask, and returns its answers."""
 from __future__ import annotations
 
 import os
@@ -15,7 +15,7 @@ from typing import Dict, List, NamedTuple, Sequence, Set
 
 NAME = "pycheck"
 FINDER = Path(__file__).resolve().parent.parent / "ship"
-# The exit status of the finder where no program serves
+# The exit status of the finder if it finds no program
 NO_PROGRAM = 1
 VERSION_SECONDS = 60
 
@@ -25,7 +25,7 @@ class NoProgram(Exception):
 
 
 class Broken(NoProgram):
-    """The program of a checkout is broken, and no other one is to be asked in its place."""
+    """The program of a checkout is broken, and no other one may be asked instead."""
 
 
 class TooLong(Exception):
@@ -33,7 +33,7 @@ class TooLong(Exception):
 
 
 class Answer(NamedTuple):
-    """What the program answered: its exit status, or minus the signal that ended it; and its two outputs."""
+    """The answer of the program: its exit status, or minus the signal that ended it; and its two outputs."""
 
     status: int
     output: bytes
@@ -41,7 +41,7 @@ class Answer(NamedTuple):
 
     @property
     def reason(self) -> str:
-        """Why there is no report, as the program says it, or as its end says it."""
+        """Why there is no report, in the words of the program or, if it has none, by its end."""
         if self.status < 0:
             try:
                 name = signal.Signals(-self.status).name
@@ -55,14 +55,14 @@ class Answer(NamedTuple):
 
 
 def search_path() -> str:
-    """The folders of PATH. Those that depend on the folder in which the command runs are left out: what is checked may
-    stand there, and nothing of it is run."""
+    """Returns the folders of PATH, without those that depend on the folder in which the command runs: files to check
+    may be there, and none of their code is run."""
     folders = os.environ.get("PATH", os.defpath).split(os.pathsep)
     return os.pathsep.join(it for it in folders if os.path.isabs(it))
 
 
 def found(name: str) -> str:
-    """The path of a program that is named, or NoProgram."""
+    """Returns the path of a program that is named; raises NoProgram if there is none."""
     path = shutil.which(name, path=search_path())
     if path is None:
         raise NoProgram(f"{name}: no such program")
@@ -70,7 +70,7 @@ def found(name: str) -> str:
 
 
 def in_checkout(name: str = NAME) -> str:
-    """The program of the checkout that this package stands in, as its script says; empty where it is no checkout."""
+    """Returns the program of the checkout of this package, as its script finds it; empty outside a checkout."""
     if FINDER.parent.name != "tools" or not os.access(FINDER, os.X_OK):
         return ""
     try:
@@ -94,11 +94,11 @@ def is_in_user_site() -> bool:
 
 
 def beside(name: str = NAME) -> str:
-    """The program in the folder of the interpreter's scripts, beside this command, or in that of the scripts with which
-    this package was installed; empty where there is none."""
-    # A command of one line has no folder
+    """Returns the program in the folder of the interpreter's scripts, beside this command, or in that of the scripts
+    with which this package was installed; empty if there is none."""
+    # A one-line command has no folder
     own = os.path.dirname(os.path.abspath(sys.argv[0])) if os.path.basename(sys.argv[0]) not in ("", "-c", "-m") else ""
-    # Where `pip install --user` puts scripts, and where `pip install --target` does
+    # The folder of `pip install --user`; the list below ends with that of `pip install --target`
     user = sysconfig.get_path("scripts", f"{os.name}_user") if is_in_user_site() else ""
     for folder in (sysconfig.get_path("scripts"), own, user, str(FINDER.parent / "bin")):
         path = shutil.which(os.path.join(folder, name)) if folder else None
@@ -108,7 +108,7 @@ def beside(name: str = NAME) -> str:
 
 
 def chosen(named: str, name: str = NAME, variable: str = "PYCHECK") -> str:
-    """The program to ask: the one that is named, by a word or by a variable; else the one of the checkout, of the
+    """Returns the program to ask: the one that a word or a variable names; otherwise that of the checkout, of the
     wheel, or on PATH."""
     named = named or os.environ.get(variable, "")
     if named:
@@ -138,8 +138,8 @@ class Program:
         self._variables = dict(os.environ)
 
     def ask(self, until: float, *words: str) -> Answer:
-        """Runs the program with these words, until a time of the clock `time.monotonic`; then it is ended, and that is
-        TooLong. OSError says that it could not be run."""
+        """Runs the program with these words, until a time of the clock `time.monotonic`. Raises TooLong if it has to be
+        ended then, and OSError if it could not be run."""
         reads, writes = zip(os.pipe(), os.pipe())
         try:
             process = self._start(words, writes)
@@ -184,7 +184,7 @@ class Program:
         return -os.WTERMSIG(ended) if os.WIFSIGNALED(ended) else os.WEXITSTATUS(ended)
 
     def stop(self) -> None:
-        """Ends what still runs, and starts nothing more."""
+        """Ends the programs that still run, and starts no more."""
         with self._lock:
             self._stopped = True
             for process in self._running:
@@ -194,7 +194,7 @@ class Program:
                     pass
 
     def version(self) -> str:
-        """What the program says of its version, a line."""
+        """Returns the line in which the program tells its version."""
         try:
             answer = self.ask(time.monotonic() + VERSION_SECONDS, "--version")
         except TooLong:
@@ -204,8 +204,8 @@ class Program:
 
 
 def read_all(files: Sequence[int], until: float) -> List[bytes]:
-    """What comes from some open files until their ends, read side by side; they are closed. TooLong where the ends do
-    not come until a time."""
+    """Reads some open files side by side to their ends, and closes them. Returns their bytes; raises TooLong if the
+    ends do not come in time."""
     parts: Dict[int, List[bytes]] = {file: [] for file in files}
     poll = select.poll()
     for file in files:

@@ -1,8 +1,8 @@
-"""The border of a checked core: here guards ask whether what comes in keeps the promise of the core's report.
+"""The border of a checked core: here guards ask whether values from outside keep the promise of the core's report.
 
 Copied by pycheck-all --guards beside the guards that it makes, and not to be changed. Each value that a call can reach
-is looked at: its exact type, what is in it, and that no list and no dict is met at two types. A misfit is a TypeError
-that says where it is.
+is examined: its exact type, its contents, and that no list and no dict is reached at two types. A misfit raises a
+TypeError that says where it is.
 """
 from __future__ import annotations
 
@@ -18,33 +18,35 @@ LEAST, MOST = -(2**127), 2**127 - 1
 TOKEN = re.compile(r"\w+|[\[\](),|]")
 # How many steps of a path, and characters of a key, a message shows
 STEPS, LETTERS = 16, 40
-# How a message calls the instance of which a method is called
+# How a message calls the instance whose method is called
 RECEIVER = "self"
-# The name of a type, whatever its own type says of it
+# Reads the name of a type, even if the type defines a `__name__` of its own
 NAME: Any = vars(type)["__name__"]
 
 
 class Misfit(TypeError):
-    """A value from outside that the core's types do not have."""
+    """Raised for a value from outside that none of the core's types has."""
 
 
 class Type:
-    """A type: what is asked of a value, by the `id` of the value's exact type. Equal types are one object."""
+    """A type: for each exact type of its values, by its `id`, the kind that such a value must be. Equal types are one
+    object."""
 
     def __init__(self, text: str, members: Dict[int, Kind]) -> None:
         self.text, self.members = text, members
 
 
 class Kind:
-    """What is asked of the values of one exact type; here, of numbers, truth values, strings and None.
+    """The requirements on the values of one exact type; here, on numbers, truth values, strings and None.
 
-    `located`: the core may write into it, so it has one kind in a call. `loose`: only `Any` and `object` reach it."""
+    `located`: the core may write into the value, so it has one kind in a call. `loose`: only `Any` and `object` reach
+    it."""
 
     plain, located, loose = True, False, False
     text = ""
 
     def open(self, walk: Walk, entry: Entry) -> None:
-        """Meets what is in a value."""
+        """Visits the contents of a value."""
 
 
 class ListOf(Kind):
@@ -57,7 +59,7 @@ class ListOf(Kind):
         self.text, self.item, self.loose = text, item, loose
 
     def open(self, walk: Walk, entry: Entry) -> None:
-        """Meets the items."""
+        """Visits the items."""
         for at, item in enumerate(entry[0]):
             walk.meet(item, self.item, entry, at)
 
@@ -72,7 +74,7 @@ class DictOf(Kind):
         self.text, self.key, self.value, self.loose = text, key, value, loose
 
     def open(self, walk: Walk, entry: Entry) -> None:
-        """Meets the keys and the values."""
+        """Visits the keys and the values."""
         for key, value in entry[0].items():
             walk.meet(key, self.key, entry, (key,))
             walk.meet(value, self.value, entry, key)
@@ -87,7 +89,7 @@ class TupleOf(Kind):
         self.text, self.items = text, items
 
     def open(self, walk: Walk, entry: Entry) -> None:
-        """Meets the items, which are as many as the types."""
+        """Visits the items; there must be as many as types."""
         if len(entry[0]) != len(self.items):
             walk.refuse(entry[2], entry[3], f"expected {self.text}, found a tuple of length {len(entry[0])}")
         for at, (item, wanted) in enumerate(zip(entry[0], self.items)):
@@ -101,7 +103,7 @@ class AnyTuple(ListOf):
 
 
 class InstanceOf(Kind):
-    """An instance of this very class, with its fields and nothing else."""
+    """An instance of exactly this class, with its fields and nothing else."""
 
     plain = False
     located = True
@@ -111,7 +113,7 @@ class InstanceOf(Kind):
         self.fields: Dict[str, Type] = {}
 
     def open(self, walk: Walk, entry: Entry) -> None:
-        """Meets the values of the fields, which are those of the class."""
+        """Visits the values of the fields, which must be those of the class."""
         fields: Any = vars(entry[0])
         walk.own(fields, entry)
         if len(fields) < len(self.fields):
@@ -125,21 +127,22 @@ class InstanceOf(Kind):
             walk.meet(value, wanted, entry, name)
 
 
-# A value that was met, its kind, the entry that it lies in, and the step from there: an index, a key, the name of a
-# field, or a key of a dict itself in a tuple
+# A visited value, its kind, the entry that contains it, and the step from there: an index, a key, the name of a field,
+# or a key of a dict itself in a tuple
 Entry = Tuple[Any, Kind, Optional[Any], Any]
 NUMBER, ATOM = Kind(), Kind()
 
 
 class Walk:
-    """A walk over all values that a call can reach. What was met is alive by its entries, so an `id` stands for it."""
+    """A walk over all values that a call can reach. The entries keep visited values alive, so that an `id` identifies
+    one."""
 
     def __init__(self) -> None:
         self.met: Dict[int, Entry] = {}
         self.entries: List[Entry] = []
 
     def meet(self, value: Any, wanted: Type, inside: Optional[Entry], step: Any) -> None:
-        """Notes a value that is to be of a type, to be opened later; refuses what is none."""
+        """Records a value that must be of a type, to be opened later; raises Misfit if it is not."""
         kind = wanted.members.get(id(type(value)))
         if kind is None:
             self.refuse(inside, step, f"expected {wanted.text}, found {kind_text(value)}")
@@ -161,34 +164,34 @@ class Walk:
         self.entries.append(entry)
 
     def own(self, fields: Dict[str, Any], entry: Entry) -> None:
-        """Notes the dict in which an instance has its fields: nothing else may reach it."""
+        """Records the dict in which an instance has its fields; raises Misfit if something else reaches it."""
         if type(fields) is not dict or id(fields) in self.met:
             self.refuse(entry[2], entry[3], f"expected {entry[1].text}, found one whose fields are a dict of others")
         self.met[id(fields)] = entry
 
     def open_all(self) -> None:
-        """Looks into all that was met, and into what is met there."""
+        """Visits the contents of all values that were visited, and of those visited then."""
         for entry in self.entries:
             entry[1].open(self, entry)
 
     def refuse(self, inside: Optional[Entry], step: Any, text: str) -> NoReturn:
-        """Raises the misfit of what lies at a step."""
+        """Raises the misfit of the value at a step."""
         raise Misfit(f"{path_of(inside, step)}: {text}")
 
 
 def named(text: str) -> str:
-    """A name or a key as a message shows it: on one line, and not too long."""
+    """Returns a name or a key as a message shows it: on one line, and not too long."""
     shown = text if text.isidentifier() else text.encode("unicode_escape").decode().replace('"', '\\"')
     return shown if len(shown) <= LETTERS else shown[:LETTERS] + "..."
 
 
 def kind_text(value: Any) -> str:
-    """What a message calls a value: by its type alone."""
+    """Returns the words of a message for a value: its type alone."""
     return "None" if value is None else named(NAME.__get__(type(value)))
 
 
 def step_text(inside: Optional[Entry], step: Any) -> str:
-    """A step of a path as it is written."""
+    """Returns a step of a path as source text."""
     if inside is None:
         return str(step)
     if type(step) is tuple:
@@ -197,14 +200,14 @@ def step_text(inside: Optional[Entry], step: Any) -> str:
 
 
 def key_text(key: Any) -> str:
-    """A key or an index as it is written."""
+    """Returns a key or an index as source text."""
     if type(key) is str:
         return f'"{named(key)}"'
     return str(key) if type(key) in (int, bool) and LEAST <= key <= MOST else kind_text(key)
 
 
 def path_of(inside: Optional[Entry], step: Any) -> str:
-    """The path to a value, as `orders[3].price`; of a long one the beginning and the end."""
+    """Returns the path to a value, such as `orders[3].price`; of a long one the beginning and the end."""
     steps = [step_text(inside, step)]
     while inside is not None:
         value, _, inside, step = inside
@@ -216,7 +219,7 @@ def path_of(inside: Optional[Entry], step: Any) -> str:
 
 
 class Types:
-    """The types of a core, each read from its text. Types of one meaning are one object, whatever their texts."""
+    """The types of a core, each read from its text. Types of one meaning are one object, even if their texts differ."""
 
     def __init__(self, classes: Mapping[str, type]) -> None:
         self.classes = classes
@@ -233,8 +236,8 @@ class Types:
         every.members[id(tuple)] = AnyTuple("tuple", every, loose=True)
 
     def read(self, text: str) -> Type:
-        """The type that an annotation says; ValueError where it says none."""
-        # No word stands after the last one, nor after that
+        """Returns the type that an annotation names; raises ValueError if it names none."""
+        # The words are reversed, and two empty ones mark their end
         words = ["", "", *TOKEN.findall(text)[::-1]]
         found = self.union(words)
         if words != ["", ""]:
@@ -242,7 +245,8 @@ class Types:
         return found
 
     def union(self, words: List[str]) -> Type:
-        """The type that the last words spell, of which no two members share a value; it takes these words away."""
+        """Reads the type at the end of the words, and removes its words; raises ValueError if two of its members have a
+        value in common."""
         parts = [self.member(words)]
         while words[-1] == "|":
             words.pop()
@@ -253,7 +257,7 @@ class Types:
         return self.made(" | ".join(part.text for part in parts), members)
 
     def member(self, words: List[str]) -> Type:
-        """A type without `|` that the last words spell; it takes these words away."""
+        """Reads a type without `|` at the end of the words, and removes its words."""
         name = words.pop()
         if words[-1] == "[":
             return self.applied(name, self.arguments(words))
@@ -267,7 +271,7 @@ class Types:
         return self.made(name, {id(it): self.anything.members[id(it)] for it in atoms[name]})
 
     def arguments(self, words: List[str]) -> List[Type]:
-        """The types between brackets, which are the last words; it takes them away."""
+        """Reads the types between brackets at the end of the words, and removes their words."""
         words.pop()
         found: List[Type] = []
         while words[-1] not in ("]", ""):
@@ -279,7 +283,7 @@ class Types:
         return found
 
     def applied(self, name: str, parts: List[Type]) -> Type:
-        """A type of lists, dicts or tuples."""
+        """Returns a type of lists, dicts or tuples."""
         text = f"{name}[{', '.join(part.text for part in parts) or '()'}]"
         if (name, len(parts)) == ("list", 1):
             made: Tuple[type, Kind] = list, ListOf(text, parts[0])
@@ -292,16 +296,16 @@ class Types:
         return self.made(text, {id(made[0]): self.kinds.setdefault((name, *parts), made[1])})
 
     def made(self, text: str, members: Dict[int, Kind]) -> Type:
-        """The type with these members, the one that is there if there is one."""
+        """Returns the type with these members: the existing one, if there is one."""
         return self.types.setdefault(frozenset(members.items()), Type(text, members))
 
     def below(self, ancestor: type) -> Dict[int, Kind]:
-        """The members of the type of a class: the kinds of its instances and of those of its descendants."""
+        """Returns the members of the type of a class: the kinds of its instances and of those of its descendants."""
         return {id(it): self.instances[name] for name, it in self.classes.items() if issubclass(it, ancestor)}
 
 
 def digest_of(module: ModuleType) -> str:
-    """The digest of the text of a module, whatever its line ends are; empty where the text is not there."""
+    """Returns the digest of the text of a module, independent of its line ends; empty if the text is not available."""
     try:
         with open(module.__file__ or "", "rb") as file:
             text = file.read()
@@ -311,8 +315,8 @@ def digest_of(module: ModuleType) -> str:
 
 
 class Guard(type):
-    """The type of the guards of classes: such a class is called as the core's is, and stands for it in tests. It has no
-    instances of its own, and is no base."""
+    """The type of the guards of classes: such a class is called like the core's class, and replaces it in `isinstance`
+    and `issubclass`. It has no instances of its own, and is no base."""
 
     def __new__(mcs, name: str, bases: Tuple[type, ...], members: Dict[str, Any]) -> Guard:
         if bases:
@@ -330,8 +334,8 @@ class Guard(type):
 
 
 class Border:
-    """The border of a core: its classes with the types of their fields, and its constants that can be written into.
-    `digest` is that of the text that was checked."""
+    """The border of a core: its classes with the types of their fields, and its constants that can be mutated. `digest`
+    is that of the text that was checked."""
 
     def __init__(
         self, core: ModuleType, digest: str, classes: Mapping[str, Mapping[str, str]], constants: Mapping[str, str]
@@ -345,8 +349,8 @@ class Border:
         self.constants = {name: self.types.read(it) for name, it in constants.items()}
 
     def admit(self, wanted: Mapping[str, Type], given: Sequence[Tuple[str, Any]]) -> None:
-        """Looks at the arguments of a call, and at all that the constants reach; raises Misfit where one is wrong. An
-        argument of no parameter is left to the call."""
+        """Examines the arguments of a call, and all values that the constants reach; raises Misfit if one is wrong. An
+        argument without a parameter is left to the call."""
         walk = Walk()
         for name, constant in self.constants.items():
             walk.meet(getattr(self.core, name), constant, None, f"{self.core.__name__}.{name}")
@@ -358,37 +362,38 @@ class Border:
         walk.open_all()
 
     def parameters(self, wrapper: Any) -> Dict[str, Type]:
-        """The parameters of a guard with their types, but for `self`."""
+        """Returns the parameters of a guard with their types, without `self`."""
         names = wrapper.__code__.co_varnames[: wrapper.__code__.co_argcount]
         notes = wrapper.__annotations__
         return {name: self.types.read(notes[name]) for name in names if name in notes}
 
     def guard(self, wrapper: Callable[..., Any], wanted: Mapping[str, Type], enter: Callable[..., Any]) -> Any:
-        """A guard with the name and the parameters of a wrapper: looks at the arguments, and then enters the core."""
+        """Returns a guard with the name and the parameters of a wrapper: it examines the arguments, and then calls
+        `enter`."""
 
         @functools.wraps(wrapper)
         def guarded(*given: Any, **by_name: Any) -> Any:
-            """The call."""
+            """Examines the arguments, and enters the core."""
             self.admit(wanted, [*zip(wanted, given), *by_name.items()])
             return enter(*given, **by_name)
 
         return guarded
 
     def function(self, wrapper: F) -> F:
-        """The guard of a function, which the wrapper calls."""
+        """Returns the guard of a function, which the wrapper calls."""
         return cast(F, self.guard(wrapper, self.parameters(wrapper), wrapper))
 
     def method(self, wrapper: Callable[..., Any], receiver_type: Type) -> Any:
-        """The guard of a method: it takes the instance first, and calls the method that this has."""
+        """Returns the guard of a method: its first argument is the instance, whose own method it calls."""
 
         def enter(receiver: Any, /, *given: Any, **by_name: Any) -> Any:
-            """The call of the instance's own method."""
+            """Calls the instance's own method."""
             return getattr(receiver, wrapper.__name__)(*given, **by_name)
 
         return self.guard(wrapper, {RECEIVER: receiver_type, **self.parameters(wrapper)}, enter)
 
     def class_(self, wrapper: type) -> Guard:
-        """The guard of a class, with those of its methods."""
+        """Returns the guard of a class, with those of its methods."""
         name, members = wrapper.__name__, dict(vars(wrapper))
         core_class, receiver_type = getattr(self.core, name), self.types.read(name)
         initializer = members.pop("__init__")

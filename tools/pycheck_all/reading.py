@@ -1,4 +1,4 @@
-"""Files that are read whole, up to a limit. Nothing that has no end, or that waits for somebody, is read."""
+"""Files that are read whole, up to a limit. No file is read that has no end, or that waits for somebody."""
 from __future__ import annotations
 
 import errno
@@ -7,8 +7,8 @@ import stat
 
 
 def beginning(path: str, limit: int, follow: bool = True) -> bytes:
-    """The bytes of a regular file, at most so many, or OSError: also where it is no regular file. A link is followed
-    only if that is asked for."""
+    """Returns the bytes of a regular file, at most `limit`. Raises OSError, also if it is no regular file. A link is
+    followed only with `follow`."""
     flags = os.O_RDONLY | os.O_NONBLOCK | os.O_CLOEXEC | os.O_NOCTTY | (0 if follow else os.O_NOFOLLOW)
     descriptor = os.open(path, flags)
     try:
@@ -21,7 +21,8 @@ def beginning(path: str, limit: int, follow: bool = True) -> bytes:
 
 
 def regular(path: str, limit: int, follow: bool = True) -> bytes:
-    """The bytes of a regular file, as `beginning` reads it; OSError also where it is longer than the limit."""
+    """Returns the bytes of a regular file, as `beginning` reads them. Raises OSError, also if it is longer than the
+    limit."""
     data = beginning(path, limit + 1, follow)
     if len(data) > limit:
         raise OSError(errno.EFBIG, f"it is longer than {limit} bytes")

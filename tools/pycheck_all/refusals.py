@@ -1,9 +1,9 @@
 """All refusals of a file, as a guide.
 
 The program names the first fault of a file that is no module. Here the statement with that fault is replaced by one
-that is allowed there, the program is asked again, and so on. What is found so is a guide, not the program's answer on
-the file: a statement with two faults is listed once, and what stands in for a statement may raise a refusal of its
-own.
+that is allowed there, the program is asked again, and so on. These further refusals are a guide, not the program's
+answer on the file: a statement with two faults is listed once, and the replacement of a statement may raise a refusal
+of its own.
 """
 from __future__ import annotations
 
@@ -22,9 +22,9 @@ from .statements import CLASS, FUNCTION, MODULE, Statement, around, place_in, st
 
 LIMIT = 100
 HEADER = b"from __future__ import annotations"
-# How often a statement is replaced at most, one more than this
+# A statement is replaced once more than this at most
 MOST_TRIES = 2
-# What belongs to a statement, in its suite for `match`, and else beside it
+# The words that begin the clauses of a statement, which are in its suite for `match`, and otherwise beside it
 CLAUSES = {
     b"try": (b"except", b"finally", b"else"),
     b"match": (b"case",),
@@ -37,18 +37,19 @@ Refusal = Callable[[str], Optional[Tuple[str, int]]]
 
 
 class Unanswered(Exception):
-    """The program answered neither a report nor a refusal; the text says why."""
+    """The program answered with neither a report nor a refusal; the text says why."""
 
 
 class Rest(NamedTuple):
-    """The refusals after the first, and why there may be more; empty where there are no more."""
+    """The refusals after the first, and why there may be more; empty if there are no more."""
 
     findings: List[Finding]
     unlisted: str
 
 
 class Draft:
-    """A text in which refused statements are replaced. `unseen` is the byte where a suite begins that was left out."""
+    """A text in which refused statements are replaced. `unseen` is the byte at which a suite begins that was left
+    out."""
 
     def __init__(self, data: bytes) -> None:
         self.statements = list(statements(data))
@@ -63,13 +64,13 @@ class Draft:
         return b"".join(it.text for it in self.statements)
 
     def find(self, byte: int) -> Tuple[int, int]:
-        """The number of the statement that a byte of the draft stands in, and the byte within it."""
+        """Returns the number of the statement with a byte of the draft, and the byte within it."""
         ends = list(itertools.accumulate(len(it.text) for it in self.statements))
         at = min(bisect.bisect_right(ends, byte), len(ends) - 1)
         return at, byte - (ends[at] - len(self.statements[at].text))
 
     def origin(self, byte: int) -> Optional[int]:
-        """The byte of the file where a byte of the draft comes from; none where it was put in."""
+        """Returns the byte of the file for a byte of the draft; none if that was inserted."""
         if byte >= len(self.data) and self.end is None:
             return self.length
         at, within = self.find(byte)
@@ -79,12 +80,12 @@ class Draft:
         return min(self.length, max(0, found.start + found.cut + within))
 
     def around(self, at: int) -> Optional[Statement]:
-        """The statement in whose suite a statement stands."""
+        """Returns the statement in whose suite a statement is."""
         outer = around(self.statements, at)
         return None if outer is None else self.statements[outer]
 
     def context(self, at: int) -> str:
-        """Where a statement stands: in the module, or in the suite of a class or of something else."""
+        """Returns whether a statement is in the module, or in the suite of a class or of something else."""
         return place_in(self.statements, around(self.statements, at))
 
     def has_suite(self, at: int) -> bool:
@@ -94,7 +95,8 @@ class Draft:
         return found is not None and found.indent > self.statements[at].indent
 
     def mend(self, code: str, byte: int) -> bool:
-        """Changes the draft where it is refused, so that it is not refused there; whether something was changed."""
+        """Changes the draft at a refusal, so that the program does not refuse it there. Returns whether anything was
+        changed."""
         if not self.statements:
             return self.mend_header()
         at, within = self.find(byte)
@@ -123,18 +125,18 @@ class Draft:
         return True
 
     def lacks_suite(self, at: int) -> bool:
-        """Whether the statement before this one opens a suite that is not there."""
+        """Whether the statement before this one opens a suite that is missing."""
         before = next((it for it in reversed(self.statements[:at]) if it.code), None)
         return before is not None and before.awaits and before.indent >= self.statements[at].indent
 
     def mend_header(self) -> bool:
-        """Puts in the header, which stands first."""
+        """Inserts the header, which must be first."""
         self.insert(0, HEADER)
         self.headed = True
         return True
 
     def mend_bytes(self, code: str, at: int, within: int) -> bool:
-        """Mends bytes that no text has."""
+        """Mends bytes that no valid text has."""
         found = self.statements[at]
         if code == "S3":
             found.text, found.cut = found.text[3:], found.cut + 3
@@ -149,7 +151,7 @@ class Draft:
         return True
 
     def mend_end(self) -> bool:
-        """Mends a text after which something must follow."""
+        """Mends a text at whose end something is missing."""
         for found in self.statements:
             if found.unclosed and not found.tries:
                 self.replace(self.statements.index(found))
@@ -165,7 +167,7 @@ class Draft:
         return False
 
     def mend_before(self, at: int) -> bool:
-        """Gives a suite to what opens one before a statement, and takes away a decorator before it."""
+        """Adds a suite to a statement above that lacks one, and removes a decorator above."""
         coded = [number for number, it in enumerate(self.statements[:at]) if it.code]
         last = self.statements[coded[-1]] if coded else None
         if last is not None and last.awaits:
@@ -177,13 +179,13 @@ class Draft:
         return False
 
     def insert(self, at: int, text: bytes) -> Statement:
-        """Puts in a statement, which is no text of the file."""
+        """Inserts a statement, which is no text of the file."""
         made = Statement(text + b"\n", 0, tries=1)
         self.statements.insert(at, made)
         return made
 
     def indent_by_spaces(self, at: int) -> bool:
-        """Indents by spaces what is indented by tabs."""
+        """Replaces the tabs of an indentation by spaces."""
         found = self.statements[at]
         lead = found.lead
         start = found.text.rfind(b"\n", 0, lead) + 1
@@ -195,7 +197,7 @@ class Draft:
         return True
 
     def unindent(self, at: int) -> bool:
-        """Indents a statement, and those beside it, as the block that is open and nearest on the left."""
+        """Indents a statement, and those beside it, like the open block that is nearest on the left."""
         old = self.statements[at].indent
         outer = self.around(at)
         open_columns = [it.indent for it in self.statements[:at] if it.code and it.indent < old]
@@ -222,11 +224,11 @@ class Draft:
         return True
 
     def replace(self, at: int) -> None:
-        """Replaces a statement by one that is allowed where it stands; the second time also its suite."""
+        """Replaces a statement by one that is allowed at its place; the second time its suite is removed too."""
         found = self.statements[at]
         place, spaces, word = self.context(at), b" " * found.indent, found.word
         if found.tries and place == FUNCTION and found.code.startswith(b"def ") and self.has_suite(at):
-            # It stood in for a method, of a class that is itself no class any more
+            # It replaced a method, in a class that was itself replaced since
             lines = [spaces + b"if True:"]
         elif found.tries:
             rest = self.statements[at + 1 :]
@@ -247,8 +249,8 @@ class Draft:
             self.replace_clauses(found, word, place)
 
     def replace_clauses(self, head: Statement, word: bytes, place: str) -> None:
-        """Replaces what belongs to a statement that was replaced. An `else` may follow what stands in for `except`
-        where that is an `if`."""
+        """Replaces the clauses of a statement that was replaced. An `else` may follow the replacement of `except` if
+        that is an `if`."""
         at = self.statements.index(head) + 1
         while at < len(self.statements):
             found = self.statements[at]
@@ -263,14 +265,14 @@ class Draft:
             at += 1
 
     def simple(self, at: int, place: str) -> List[bytes]:
-        """The lines that stand in for a statement without a suite: none where others are in the same suite of a class,
+        """Returns the lines that replace a statement without a suite: none if others are in the same suite of a class,
         so that a `pass` among them is no second fault."""
         if place == MODULE or place == CLASS and self.has_neighbour(at):
             return []
         return [b" " * self.statements[at].indent + b"pass"]
 
     def has_neighbour(self, at: int) -> bool:
-        """Whether another statement stands in the same suite."""
+        """Whether another statement is in the same suite."""
         own = self.statements[at].indent
         for rest in (self.statements[at + 1 :], reversed(self.statements[:at])):
             nearest = next((it.indent for it in rest if it.code and it.indent <= own), -1)
@@ -283,7 +285,7 @@ class Draft:
         return any(it.word == b"class" for it in self.statements[at + 1 : at + 2])
 
     def opener(self, at: int, place: str) -> List[bytes]:
-        """The lines that stand in for a statement that opens a suite."""
+        """Returns the lines that replace a statement that opens a suite."""
         found = self.statements[at]
         spaces = b" " * found.indent
         suite = [] if self.has_suite(at) else [spaces + b"    pass"]
@@ -303,19 +305,19 @@ class Draft:
 
 
 def is_plain(name: bytes) -> bool:
-    """Whether the profile takes a name."""
+    """Whether the profile accepts a name."""
     text = name.decode("utf-8", "replace")
     return text.isascii() and text.isidentifier() and not text.startswith("__") and not keyword.iskeyword(text)
 
 
 def unseen(text: Text, byte: int) -> str:
-    """What is said of a suite that was left out."""
+    """Returns the sentence about a suite that was left out."""
     return f"the suite that begins in line {text.point(byte).line} was left out"
 
 
 def rest_of(text: Text, first: Finding, refusal: Refusal) -> Rest:
-    """The refusals of a file after its first one, up to a limit. `refusal` asks the program of a file, and gives the
-    code and the byte of its refusal, or none; or raises Unanswered."""
+    """Returns the refusals of a file after its first one, up to a limit. `refusal` asks the program about a file, and
+    returns the code and the byte of its refusal, or none; or raises Unanswered."""
     draft = Draft(text.data)
     found: List[Finding] = []
     listed = False

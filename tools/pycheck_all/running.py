@@ -21,11 +21,11 @@ CHANGED = "the file is not what was checked: was it changed meanwhile?"
 
 
 class NotUnderstood(Exception):
-    """The answer of the program is none that this package knows."""
+    """The answer of the program has a form that this package does not know."""
 
 
 def read_findings(output: bytes, text: Callable[[], Text]) -> List[Finding]:
-    """The findings of a report in JSON. The text is read only where there are some."""
+    """Returns the findings of a report in JSON. The text is read only if there are some."""
     try:
         report = json.loads(output)
         found = [finding_of(row, text()) for row in report["findings"]]
@@ -38,7 +38,7 @@ def read_findings(output: bytes, text: Callable[[], Text]) -> List[Finding]:
 
 
 def finding_of(row: Dict[str, Any], text: Text) -> Finding:
-    """A finding of a report, with its place in the text."""
+    """Returns a finding of a report, with its place in the text."""
     code, start, end = row["code"], int(row["start"]), int(row["end"])
     if not CODE.fullmatch(code) or not 0 <= start <= end:
         raise ValueError("a finding has no code or no place")
@@ -53,8 +53,8 @@ def finding_of(row: Dict[str, Any], text: Text) -> Finding:
 
 
 class Run:
-    """A run of the program over files, of which each has so many seconds. `all_refusals` asks for each refusal of a
-    file, `texts` for the text of each."""
+    """A run of the program over files, with the same number of seconds for each. `all_refusals` asks for each refusal
+    of a file, `texts` for the text of each."""
 
     def __init__(self, program: Program, seconds: float, all_refusals: bool, texts: bool) -> None:
         self.program = program
@@ -63,7 +63,7 @@ class Run:
         self.texts = texts
 
     def check(self, source: files.Source) -> Checked:
-        """What comes of one file."""
+        """Returns the result for one file."""
         checked = Checked(source.name, failure=source.failure)
         if source.failure:
             return checked
@@ -80,10 +80,10 @@ class Run:
         return checked
 
     def fill(self, checked: Checked, path: str) -> None:
-        """Asks of a file, and writes down what is answered."""
+        """Asks the program about a file, and records the answer."""
 
         def text() -> Text:
-            """The text of the file, read once."""
+            """Returns the text of the file, read once."""
             if not checked.text.data:
                 checked.text = Text(content(path))
             return checked.text
@@ -109,7 +109,7 @@ class Run:
             text()
 
     def why(self, reason: str, status: int, path: str) -> str:
-        """Why there is no report: where the file cannot be read, the reason of the system."""
+        """Returns why there is no report: if the file cannot be read, the reason of the system."""
         if status != 3:
             return reason
         try:
@@ -120,11 +120,12 @@ class Run:
 
     @property
     def late(self) -> str:
-        """What is said where the program did not end in time."""
+        """Returns the sentence for a program that did not end in time."""
         return f"pycheck did not end within {self.seconds:g} seconds"
 
     def refusal(self, until: float, path: str) -> Optional[Tuple[str, int]]:
-        """The code and the byte of the refusal of a file, or none; Unanswered where there is no report either."""
+        """Returns the code and the byte of the refusal of a file, or none; raises Unanswered if there is no report
+        either."""
         try:
             answer = self.program.ask(until, "--json", "--", path)
         except TooLong:
@@ -137,7 +138,7 @@ class Run:
         return None
 
     def all(self, sources: Sequence[files.Source]) -> List[Checked]:
-        """What comes of each file, in their order."""
+        """Returns the result for each file, in their order."""
         progress = Progress(len(sources))
         pool = concurrent.futures.ThreadPoolExecutor(processors())
         try:
@@ -155,14 +156,14 @@ class Run:
 
 
 def refusal_of(code: str, byte: int, text: Text) -> Finding:
-    """The refusal of a file, at the word or sign that it names."""
+    """Returns the refusal of a file, at the word or sign that it names."""
     if byte > len(text.data):
         raise NotUnderstood(CHANGED)
     return Finding(REFUSED, code, text.token(byte), opened=text.opening(code, byte))
 
 
 def content(path: str) -> bytes:
-    """The bytes of a file; the reason where it cannot be read."""
+    """Returns the bytes of a file; raises NotUnderstood with the reason if it cannot be read."""
     try:
         return files.content_of(path)
     except OSError as fault:
@@ -170,14 +171,14 @@ def content(path: str) -> bytes:
 
 
 def processors() -> int:
-    """The number of processors that this process may use."""
+    """Returns the number of processors that this process may use."""
     if hasattr(os, "sched_getaffinity"):
         return len(os.sched_getaffinity(0))
     return os.cpu_count() or 1
 
 
 class Progress:
-    """A line on standard error that says how far a run is, where that is a terminal."""
+    """A line on standard error that says how far a run is, if that is a terminal."""
 
     SECONDS = 0.1
 
@@ -189,13 +190,13 @@ class Progress:
         self.shown = False
 
     def show(self, done: int) -> None:
-        """Says how many files are done, some times a second."""
+        """Shows how many files are done, a few times a second."""
         if not self.shows or time.monotonic() - self.last < self.SECONDS:
             return
         self.last, self.shown = time.monotonic(), True
         print(f"\r{done} of {self.files} files", end="", file=sys.stderr, flush=True)
 
     def clear(self) -> None:
-        """Takes the line away."""
+        """Removes the line."""
         if self.shown:
             print("\r\x1b[K", end="", file=sys.stderr, flush=True)

@@ -15,20 +15,20 @@ SCHEMA = "https://json.schemastore.org/sarif-2.1.0.json"
 
 
 def uri_of(path: str) -> str:
-    """The address of a file; a relative one of a relative path."""
+    """Returns the address of a file; for a relative path a relative one."""
     quoted = urllib.parse.quote(os.fsencode(os.path.normpath(path)))
     return f"file://{quoted}" if os.path.isabs(path) else quoted
 
 
 def level_of(kind: str, strict: bool) -> str:
-    """The level of a kind of findings: what does not fail is no error."""
+    """Returns the level of a kind of findings: one that does not fail is no error."""
     if kind == GUIDE:
         return "note"
     return "warning" if kind == DYNAMIC and not strict else "error"
 
 
 def rule_of(code: str, strict: bool) -> Dict[str, Any]:
-    """A rule with its help."""
+    """Returns a rule with its help."""
     entry = codes.entries().get(code)
     rule: Dict[str, Any] = {"id": code}
     if entry:
@@ -44,7 +44,7 @@ def rule_of(code: str, strict: bool) -> Dict[str, Any]:
 
 
 def location_of(file: Checked, place: Place) -> Dict[str, Any]:
-    """A place of a file."""
+    """Returns a place of a file."""
     start, end = place
     region = {
         "startLine": start.line,
@@ -58,7 +58,7 @@ def location_of(file: Checked, place: Place) -> Dict[str, Any]:
 
 
 def results_of(file: Checked, rules: List[str], project: Project) -> List[Dict[str, Any]]:
-    """The results of a file. What is known is suppressed, and stays in the log."""
+    """Returns the results of a file. A known finding is suppressed, and stays in the log."""
     results = []
     for it, mark in zip(file.findings, fingerprints(file)):
         result: Dict[str, Any] = {
@@ -78,7 +78,8 @@ def results_of(file: Checked, rules: List[str], project: Project) -> List[Dict[s
 
 
 def notifications(project: Project) -> List[Dict[str, Any]]:
-    """What is to be told beside the results: files that could not be checked, and what is gone."""
+    """Returns the messages beside the results: files that could not be checked, and entries of the baseline that are
+    gone."""
     found = []
     for file in project.files:
         location = {"physicalLocation": {"artifactLocation": {"uri": uri_of(file.path)}}}
@@ -97,7 +98,7 @@ def notifications(project: Project) -> List[Dict[str, Any]]:
 
 
 def document(project: Project) -> str:
-    """The log."""
+    """Returns the log."""
     rules = sorted({it.code for file in project.files for it in file.findings})
     driver = {
         "name": "pycheck",

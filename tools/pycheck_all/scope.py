@@ -1,4 +1,4 @@
-"""Which files are checked of a project that has a core in the profile, and ordinary modules around it.
+"""Chooses the files to check in a project that has a core in the profile, and ordinary modules around it.
 
 The core is named by its paths, or each module of it is marked by its first line. The other modules are counted."""
 from __future__ import annotations
@@ -15,7 +15,7 @@ from .outputs import is_within
 from .settings import Settings
 from .words import UNNAMED, Words
 
-# A byte order mark before it does not hide a file: it is refused, and so told
+# A byte order mark in front does not hide a file: the file is refused, and so the mark is reported
 MARK = re.compile(rb"(?:\xef\xbb\xbf)?#[ \t]*pycheck:[ \t]*core[ \t]*(?:\r?\n|\Z)")
 LONGEST_MARK = 100
 OUTSIDE, UNMARKED, EXCLUDED = "outside", "unmarked", "excluded"
@@ -30,19 +30,19 @@ class Chosen(NamedTuple):
 
 @functools.lru_cache(maxsize=256)
 def real_folder(path: str) -> str:
-    """The path of a folder without links."""
+    """Returns the path of a folder without links."""
     return os.path.realpath(path)
 
 
 def placed(path: str) -> str:
-    """The path of a file, with no link among its folders."""
+    """Returns the path of a file, with no link among its folders."""
     folder, name = os.path.split(os.path.abspath(path))
     return os.path.join(real_folder(folder), name)
 
 
 def is_marked(path: str) -> bool:
     """Whether the first line of a file marks it as a part of the core. One that cannot be read counts as marked, so
-    that this is told."""
+    that the user hears of it."""
     try:
         return MARK.match(reading.beginning(path, LONGEST_MARK)) is not None
     except OSError:
@@ -50,8 +50,9 @@ def is_marked(path: str) -> bool:
 
 
 class Scope:
-    """What is checked: the paths of the core; without one, what is marked if that is asked for, else everything. What
-    the patterns of the project name is left out in each case, where they stand in for those of the words."""
+    """Decides what is checked: the paths of the core; without one, the marked modules, if that is asked for; otherwise
+    everything. Files that the patterns of the project name are left out in each case, if these patterns replace those
+    of the words."""
 
     def __init__(self, core: Sequence[str], marked: bool, patterns: Sequence[str], folder: str) -> None:
         self.paths = core
@@ -61,12 +62,12 @@ class Scope:
         self.folder = os.path.realpath(folder)
 
     def words(self, named: Sequence[str]) -> List[str]:
-        """The files and folders to look in: those that are named, else the folder in which the command runs. Before a
-        folder comes what it has of the core, which is found even where such a folder is left out."""
+        """Returns the files and folders to search: those that are named, or else the folder in which the command runs.
+        Before each folder come the paths of the core in it, which are found even if their folder is left out."""
         return [it for word in named or [os.curdir] for it in (*self.core_in(word), word)]
 
     def core_in(self, word: str) -> Iterator[str]:
-        """The paths of the core that lie in a folder that is named, and that no pattern leaves out."""
+        """Yields the paths of the core that are in a named folder, and that no pattern leaves out."""
         top = os.path.realpath(word)
         for path in self.paths if os.path.isdir(top) else ():
             real = os.path.realpath(path)
@@ -75,7 +76,7 @@ class Scope:
                 yield os.path.normpath(os.path.join(word, os.path.relpath(real, top)))
 
     def chosen(self, found: Found, named: Sequence[str]) -> Chosen:
-        """The files to check among those that were found."""
+        """Returns the files to check among those that were found."""
         left: Counter[str] = Counter()
         sources = []
         for source in found.sources:
@@ -87,7 +88,7 @@ class Scope:
         return Chosen(sources, left)
 
     def leaving(self, source: Source) -> str:
-        """Why a file is left out; empty where it is checked."""
+        """Returns why a file is left out; empty if it is checked."""
         path = placed(source.name)
         if self.patterns and self.excludes(os.path.relpath(path, self.folder)):
             return EXCLUDED
@@ -96,7 +97,7 @@ class Scope:
         return UNMARKED if self.marked and not source.failure and not is_marked(source.path) else ""
 
     def excludes(self, path: str) -> bool:
-        """Whether a pattern names a file of the project, or a folder that it is in."""
+        """Whether a pattern names a file of the project, or a folder around it."""
         names = path.split(os.sep)
         if names[0] == os.pardir:
             return False
@@ -107,7 +108,7 @@ class Scope:
 
 
 def of(asked: Words, used: Optional[Settings]) -> Scope:
-    """What is checked, as the words and the settings of the project say."""
+    """Returns the scope for the words and the settings of the project."""
     real_folder.cache_clear()
     if used is None:
         return Scope(asked.core, asked.only_marked, [], os.curdir)

@@ -1,7 +1,7 @@
-"""What a project says of itself: the table `[tool.pycheck]` of its `pyproject.toml`.
+"""The settings of a project: the table `[tool.pycheck]` of its `pyproject.toml`.
 
-The file is a stranger's. Each value is checked for its kind and its form, no path leads out of the project, and a key
-that is not known is a fault, since what it was meant to say would not be done."""
+The file is a stranger's. Each value is checked for its type and its form, no path leads out of the project, and an
+unknown key is a fault, since its meaning would be ignored."""
 from __future__ import annotations
 
 import os
@@ -15,7 +15,7 @@ TABLE = ("tool", "pycheck")
 LIMIT = 256 << 10
 MOST_ENTRIES = 200
 LONGEST = 1024
-# How many folders above the one in which the command runs are looked at
+# How many folders, from the one in which the command runs upwards, are searched at most
 MOST_ABOVE = 64
 
 
@@ -24,7 +24,8 @@ class NoSettings(Exception):
 
 
 class Settings(NamedTuple):
-    """The settings of the project in a folder. Paths are relative to it; an empty text is one that is not there."""
+    """The settings of the project in a folder. Paths are relative to it; an empty text means that the setting is
+    missing."""
 
     folder: str
     core: List[str]
@@ -34,12 +35,12 @@ class Settings(NamedTuple):
 
 
 def of_project() -> Optional[Settings]:
-    """The settings of the project in which the command runs, or NoSettings; none where there are none."""
+    """Returns the settings of the project in which the command runs; none if there are none. Raises NoSettings."""
     return of_folders(folders(os.path.abspath(os.curdir)))
 
 
 def of_folders(looked_in: Sequence[str]) -> Optional[Settings]:
-    """The settings of the first of some folders that has any, or NoSettings; none where none has."""
+    """Returns the settings of the first of some folders that has any; none if none has. Raises NoSettings."""
     for folder in looked_in:
         path = os.path.join(folder, NAME)
         if os.path.lexists(path):
@@ -55,8 +56,8 @@ def of_folders(looked_in: Sequence[str]) -> Optional[Settings]:
 
 
 def folders(start: str, tops: Sequence[str] = ()) -> List[str]:
-    """A folder; in a checkout of git also those above it, up to the top, and elsewhere up to one of some folders.
-    Others above may be anybody's."""
+    """Returns a folder; in a checkout of git also those above it, up to the top, and elsewhere up to one of some
+    folders. Others above may belong to anybody."""
     found = [start]
     known = 1
     while len(found) < MOST_ABOVE:
@@ -71,7 +72,7 @@ def folders(start: str, tops: Sequence[str] = ()) -> List[str]:
 
 
 def read(path: str, folder: str) -> Optional[Settings]:
-    """The settings of a file; none where it has no such table. ValueError says what is wrong with them."""
+    """Returns the settings of a file; none if it has no such table. Raises ValueError if they are wrong."""
     table = toml.table_of(reading.regular(path, LIMIT).decode("utf-8"), TABLE)
     if table is None:
         return None
@@ -85,22 +86,22 @@ def read(path: str, folder: str) -> Optional[Settings]:
 
 
 def text_in(key: str, value: Any) -> str:
-    """A value that is a text, or ValueError."""
+    """Returns a value that is a text; raises ValueError for others."""
     if not isinstance(value, str) or not 0 < len(value) <= LONGEST or texts.CONTROL.search(value):
         raise ValueError(f"{key} is no text of 1 to {LONGEST} characters without control characters")
     return value
 
 
 def texts_in(key: str, value: Any) -> List[str]:
-    """A value that is an array of texts, or ValueError."""
+    """Returns a value that is an array of texts; raises ValueError for others."""
     if not isinstance(value, list) or not len(value) <= MOST_ENTRIES:
         raise ValueError(f"{key} is no array of at most {MOST_ENTRIES} texts")
     return [text_in(f"an entry of {key}", it) for it in value]
 
 
 def inside(key: str, path: str, folder: str) -> str:
-    """A path that leads to something in the folder, also over its links, or ValueError. It is looked at as it is used:
-    over a link two dots lead elsewhere than in the text of the path."""
+    """Returns a path that leads to something in the folder, also over its links; raises ValueError for others. The path
+    is resolved as it is used: over a link two dots lead elsewhere than in the text of the path."""
     found = os.path.normpath(path)
     top, end = os.path.realpath(folder), os.path.realpath(os.path.join(folder, found))
     if os.path.isabs(found) or os.path.commonpath([top, end]) != top:
@@ -109,7 +110,7 @@ def inside(key: str, path: str, folder: str) -> str:
 
 
 def core_in(table: Dict[str, Any], folder: str) -> List[str]:
-    """The paths of the core, of which each is there."""
+    """Returns the paths of the core, each of which must exist."""
     paths = [inside("an entry of core", it, folder) for it in texts_in("core", table.get("core", []))]
     if "core" in table and not paths:
         raise ValueError("core is empty")
@@ -120,7 +121,7 @@ def core_in(table: Dict[str, Any], folder: str) -> List[str]:
 
 
 def output_in(table: Dict[str, Any]) -> str:
-    """The form of the output."""
+    """Returns the form of the output."""
     form = table.get("output", "")
     if "output" in table and form not in FORMS:
         raise ValueError(f"output is none of {', '.join(FORMS)}")
@@ -128,7 +129,7 @@ def output_in(table: Dict[str, Any]) -> str:
 
 
 def baseline_in(table: Dict[str, Any], folder: str) -> str:
-    """The path of the baseline."""
+    """Returns the path of the baseline."""
     return inside("baseline", text_in("baseline", table["baseline"]), folder) if "baseline" in table else ""
 
 
@@ -141,7 +142,7 @@ KEYS: Dict[str, Callable[[Dict[str, Any], str], Any]] = {
 
 
 def applied(asked: Words) -> Tuple[Words, Optional[Settings]]:
-    """What is asked for, with the settings of the project where no word says another thing; and these settings."""
+    """Returns the words, with the settings of the project for each that is not given; and these settings."""
     found = None if asked.no_project else of_project()
     if found is None:
         return asked, None

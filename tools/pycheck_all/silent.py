@@ -1,7 +1,7 @@
-"""Which errors are silent: a run may fail by them before it passes through a place that the report lists.
+"""Finds the silent errors: a run may fail by them before it passes through a place that the report lists.
 
-Most are so by their code. Of five codes the text at the place decides: what stands there, and in which logical line.
-Where the text does not tell, an error counts as silent."""
+Most errors are silent by their code. For five codes the text at the place decides: its words, and the logical line
+around it. If the text does not decide, an error counts as silent."""
 from __future__ import annotations
 
 import bisect
@@ -10,7 +10,7 @@ import re
 import unicodedata
 from typing import Dict, Iterator, List, NamedTuple, Sequence, Tuple
 
-# Errors that no run evaluates, wherever they stand
+# Errors in text that no run evaluates, at any place
 BY_CODE = ("E01", "E05", "E06", "E07", "E08", "E25", "E28", "E29", "E31")
 DECORATOR, TESTED, SHAPE = "E02 of a decorator", "E03 of a tested name", "E11 of another shape"
 BARE, PARAMETER, FIELD = "E12 of a bare return", "E12 of a parameter's default", "E12 of a field's default"
@@ -22,7 +22,7 @@ TOKEN = re.compile(
     rb"""#[^\n]*|"(?:[^"\\\n]|\\.)*"?|'(?:[^'\\\n]|\\.)*'?|[0-9A-Za-z_\x80-\xff]+|[ \t\r]+|\n|.""", re.DOTALL
 )
 OPENING, CLOSING = (b"(", b"[", b"{"), (b")", b"]", b"}")
-# How many methods of ancestors are looked at; where there are more, the errors left count as silent
+# How many methods of ancestors are compared; if there are more, the remaining errors count as silent
 MOST_LOOKS = 1_000_000
 # How many lines a sentence names
 MOST_NAMED = 5
@@ -36,8 +36,7 @@ class Token(NamedTuple):
 
 
 class Line(NamedTuple):
-    """A logical line: its words and signs, how far it is indented, and the first word of the line whose suite it is
-    in."""
+    """A logical line: its words and signs, its indentation, and the first word of the line whose suite it is in."""
 
     tokens: List[Token]
     column: int
@@ -64,7 +63,7 @@ class Class(NamedTuple):
 
 
 def lines_of(data: bytes) -> Iterator[Line]:
-    """The logical lines of a module."""
+    """Yields the logical lines of a module."""
     around: List[Tuple[int, bytes]] = []
     for column, tokens in cut(data):
         while around and around[-1][0] >= column:
@@ -74,7 +73,7 @@ def lines_of(data: bytes) -> Iterator[Line]:
 
 
 def cut(data: bytes) -> Iterator[Tuple[int, List[Token]]]:
-    """The column at which each logical line begins, and its words and signs."""
+    """Yields the column at which each logical line begins, and its words and signs."""
     tokens: List[Token] = []
     depth, column, start = 0, 0, 0
     for found in TOKEN.finditer(data):
@@ -93,17 +92,17 @@ def cut(data: bytes) -> Iterator[Tuple[int, List[Token]]]:
 
 
 def level(text: bytes) -> int:
-    """How much deeper in brackets a text stands behind a sign."""
+    """Returns how much deeper in brackets the text after a sign is."""
     return (text in OPENING) - (text in CLOSING)
 
 
 def name_of(token: Token) -> str:
-    """A name in the form in which names are compared."""
+    """Returns a name in the form in which names are compared."""
     return unicodedata.normalize("NFKC", token.text.decode("utf-8", "replace"))
 
 
 def classes_of(lines: Sequence[Line]) -> Dict[str, Class]:
-    """The classes of a module by their names."""
+    """Returns the classes of a module by their names."""
     classes: Dict[str, Class] = {}
     last = Class("", {})
     for line in lines:
@@ -116,7 +115,7 @@ def classes_of(lines: Sequence[Line]) -> Dict[str, Class]:
 
 
 def parameters_of(header: Line) -> List[Parameter]:
-    """The parameters of a method's header after `self`."""
+    """Returns the parameters of a method's header after `self`."""
     found: List[Parameter] = []
     depth = 0
     for token, following in zip(header.tokens[2:], header.tokens[3:]):
@@ -131,8 +130,8 @@ def parameters_of(header: Line) -> List[Parameter]:
 
 
 def has_shape_of(old: Sequence[Parameter], new: Sequence[Parameter]) -> bool:
-    """Whether a method takes what one above it takes: as many parameters, of the same names, and with a default
-    wherever that one has one."""
+    """Whether a method accepts what one above it accepts: as many parameters, with the same names, and with a default
+    for each that has one above."""
     pairs = list(zip(old, new))
     same = len(old) == len(new) and all(one.name == other.name for one, other in pairs)
     return same and all(other.has_default or not one.has_default for one, other in pairs)
@@ -156,7 +155,7 @@ def is_tested(tokens: Sequence[Token], at: int) -> bool:
 
 
 def sentence(numbers: Sequence[int]) -> str:
-    """That the lines of these numbers, in which silent errors stand, suspend the promise."""
+    """Returns the sentence that silent errors in the lines of these numbers suspend the promise."""
     found = [str(number) for number in sorted(set(numbers))]
     named = found if len(found) <= MOST_NAMED + 1 else [*found[:MOST_NAMED], f"{len(found) - MOST_NAMED} more"]
     lines = f"line {named[0]}" if len(named) == 1 else f"lines {', '.join(named[:-1])} and {named[-1]}"
@@ -164,7 +163,7 @@ def sentence(numbers: Sequence[int]) -> str:
 
 
 class Silent:
-    """Tells which errors of a module are silent. The text is looked at only where a code alone does not tell."""
+    """Decides which errors of a module are silent. The text is read only if a code alone does not decide."""
 
     def __init__(self, data: bytes) -> None:
         self.data = data
@@ -191,7 +190,7 @@ class Silent:
         return [number for number, line in enumerate(self.lines) if line.first == b"class" and len(line.tokens) > 2]
 
     def kind(self, code: str, byte: int) -> str:
-        """The kind of a silent error whose place begins at a byte; nothing of an error that is not silent."""
+        """Returns the kind of a silent error whose place begins at a byte; empty for an error that is not silent."""
         kinds = OF_CODE.get(code, ())
         if kinds == (code,) or not kinds:
             return kinds[0] if kinds else ""
@@ -203,7 +202,7 @@ class Silent:
         return next((kind for kind in kinds if self.stands(kind, number, at)), "")
 
     def stands(self, kind: str, number: int, at: int) -> bool:
-        """Whether what makes an error one of this kind stands at a word of a line."""
+        """Whether a word of a line makes an error one of this kind."""
         line = self.lines[number]
         if kind == DECORATOR:
             return at > 0 and line.tokens[at - 1].text == b"@"
@@ -220,7 +219,7 @@ class Silent:
         return line.opener != b"class"
 
     def has_other_shape(self, number: int) -> bool:
-        """Whether the method of a line has not the shape of one of its name above it."""
+        """Whether the method of a line has another shape than one of the same name above it."""
         line = self.lines[number]
         at = bisect.bisect_left(self.headers, number) - 1
         if at < 0 or len(line.tokens) < 2:

@@ -30,7 +30,7 @@ class Place(NamedTuple):
 
 
 def characters(data: bytes) -> int:
-    """The number of characters of the bytes: of those that begin one in UTF-8."""
+    """Returns the number of characters in the bytes, which is the number of bytes that begin one in UTF-8."""
     return len(data) if data.isascii() else sum(byte & 0xC0 != 0x80 for byte in data)
 
 
@@ -67,32 +67,32 @@ class Text:
         return self._starts
 
     def point(self, byte: int) -> Point:
-        """The point of a byte, which lies from 0 to the length."""
+        """Returns the point of a byte, from 0 to the length."""
         line = bisect.bisect_right(self.starts, byte)
         return Point(byte, line, 1 + characters(self.data[self.starts[line - 1] : byte]))
 
     def place(self, start: int, end: int) -> Place:
-        """The part from one byte to another."""
+        """Returns the part from one byte to another."""
         return Place(self.point(start), self.point(end))
 
     def token(self, byte: int) -> Place:
-        """The word or sign that begins at a byte; no character at the end of a line and of the text."""
+        """Returns the word or sign that begins at a byte; no character at the end of a line or of the text."""
         word = self.word(byte)
         return self.place(byte, min(len(self.data), byte + len(word.encode("utf-8", "surrogateescape"))))
 
     def word(self, byte: int) -> str:
-        """The text of the word or sign that begins at a byte."""
+        """Returns the text of the word or sign that begins at a byte."""
         line = self.data[byte : self.after(byte)].decode("utf-8", "surrogateescape")
         found = TOKEN.match(line)
         return found[0] if found else line[:1].strip("\r\n")
 
     def spot(self, byte: int) -> Spot:
-        """The word or sign that begins at a byte, with its logical line."""
+        """Returns the word or sign that begins at a byte, with its logical line."""
         rest = self.data[byte : self.after(byte)].decode("utf-8", "surrogateescape")
         return spot_at(self.data, self.outline, byte, self.word(byte), rest)
 
     def opening(self, code: str, byte: int) -> Optional[Place]:
-        """The bracket that is open where brackets do not match, of which only this code speaks; none where none is."""
+        """Returns the open bracket of a mismatch, which only this code reports; none if there is none."""
         if code != UNMATCHED:
             return None
         if byte < len(self.data):
@@ -103,18 +103,18 @@ class Text:
         return self.token(start + found[-1]) if found else None
 
     def after(self, byte: int) -> int:
-        """The byte after the last one of the line that a byte stands in; its line end counts to it."""
+        """Returns the byte after the line of a byte; the line end belongs to it."""
         end = self.data.find(b"\n", byte)
         return len(self.data) if end < 0 else end + 1
 
     def raw_line(self, number: int) -> bytes:
-        """The bytes of a line, without its end."""
+        """Returns the bytes of a line, without its end."""
         start = self.starts[number - 1]
         line = self.data[start : self.after(start)]
         return line[:-1].rstrip(b"\r") if line.endswith(b"\n") else line
 
     def line(self, number: int) -> str:
-        """A line, without its end. What is not UTF-8 has a replacement character."""
+        """Returns a line, without its end. Bytes that are not UTF-8 become replacement characters."""
         if self._kept[0] != number:
             self._kept = (number, self.raw_line(number).decode("utf-8", "replace"))
         return self._kept[1]

@@ -1,4 +1,4 @@
-"""What stands at a refusal: the word or sign there, with the tokens of its logical line before and after it."""
+"""The spot of a refusal: the word or sign there, with the tokens of its logical line before and after it."""
 from __future__ import annotations
 
 import dataclasses
@@ -8,10 +8,10 @@ from typing import List
 
 from .statements import MODULE, Outline, tokens
 
-# How many bytes of a logical line are read before and after a spot; what is longer is some table of data
+# How many bytes of a logical line are read before and after a spot; a longer line is some table of data
 BYTES_BEFORE, BYTES_AFTER = 1 << 15, 1 << 12
 GLUED = re.compile(r"\w*$")
-# A prefix of a string has two letters at most, and what is longer is none
+# A prefix of a string has two letters at most; a longer word is none
 LONGEST_PREFIX = 8
 NAME = re.compile(r"\w+$")
 # After these a bracket begins a value: it neither calls nor picks an item
@@ -25,8 +25,8 @@ PAIRS = {"(": "()", "[": "[]", "{": "{}"}
 class Spot:
     """A word or sign, `before` and `after` it the tokens of its logical line, `rest` the rest of its line from it on.
 
-    `glued` is what of a word stands directly before it. `place` says whether it stands in the module, in the suite of a
-    class or in another one, `first` that no code is before it."""
+    `glued` is the part of a word directly before it. `place` says whether it is in the module, in the suite of a class
+    or in another one, `first` that no code is before it."""
 
     word: str
     before: List[str]
@@ -38,7 +38,7 @@ class Spot:
 
     @functools.cached_property
     def levels(self) -> List[List[str]]:
-        """The tokens before it in each bracket that is open, outermost first; what is closed again is one token."""
+        """The tokens before it in each open bracket, outermost first; a bracket that is closed again is one token."""
         found: List[List[str]] = [[]]
         for token in self.before:
             if token in PAIRS:
@@ -54,12 +54,12 @@ class Spot:
 
     @property
     def level(self) -> List[str]:
-        """The tokens before it in the innermost bracket that is open."""
+        """The tokens before it in the innermost open bracket."""
         return self.levels[-1]
 
     @functools.cached_property
     def part(self) -> List[str]:
-        """The tokens before it since the last comma of the innermost bracket that is open."""
+        """The tokens before it since the last comma of the innermost open bracket."""
         return after_comma(self.level)
 
     @property
@@ -69,19 +69,19 @@ class Spot:
 
     @property
     def keyword(self) -> str:
-        """The first word of its logical line, `async` left out."""
+        """The first word of its logical line, without `async`."""
         words = [it for it in [*self.before, self.word] if it != "async"]
         return words[0] if words else ""
 
     @property
     def bracket(self) -> str:
-        """The innermost bracket that is open; empty without one."""
+        """The innermost open bracket; empty if there is none."""
         levels = self.levels
         return levels[-2][-1] if len(levels) > 1 else ""
 
     @property
     def owner(self) -> str:
-        """The value that the innermost open bracket calls or picks from: its last token; empty of a bracket that does
+        """The value that the innermost open bracket calls or picks from: its last token; empty for a bracket that does
         neither."""
         before = self.levels[-2][:-1] if self.bracket else []
         token = before[-1] if before else ""
@@ -90,12 +90,12 @@ class Spot:
 
     @property
     def is_parameter(self) -> bool:
-        """Whether it stands among the parameters of a function, in no further bracket."""
+        """Whether it is among the parameters of a function, in no further bracket."""
         return self.keyword == "def" and len(self.levels) == 2 and self.bracket == "(" and "->" not in self.levels[0]
 
     @functools.cached_property
     def is_annotation(self) -> bool:
-        """Whether it stands in an annotation."""
+        """Whether it is in an annotation."""
         levels = self.levels
         if self.keyword == "def":
             if "->" in levels[0]:
@@ -107,7 +107,7 @@ class Spot:
 
     @property
     def is_alone(self) -> bool:
-        """Whether it is a string, perhaps with a prefix, that begins its logical line."""
+        """Whether it is a string, with or without a prefix, that begins its logical line."""
         return self.word[:1] in ('"', "'") and self.before in ([], [self.glued])
 
 
@@ -115,18 +115,19 @@ OPENING_WORDS = frozenset("if elif else for while try except finally with def cl
 
 
 def after_comma(level: List[str]) -> List[str]:
-    """The tokens after the last comma; all of them without one."""
+    """Returns the tokens after the last comma; all of them if there is none."""
     commas = [at for at, token in enumerate(level) if token == ","]
     return level[commas[-1] + 1 :] if commas else level
 
 
 def text_of(token: bytes) -> str:
-    """A token as text."""
+    """Returns a token as text."""
     return token.decode("utf-8", "replace")
 
 
 def spot_at(data: bytes, outline: Outline, byte: int, word: str, rest: str) -> Spot:
-    """What stands at a byte of a text with this outline; `word` and `rest` are the word and the line from there."""
+    """Returns the spot at a byte of a text with this outline; `word` and `rest` are the word and the line from
+    there."""
     if byte >= len(data):
         return Spot("", [], [], "", "", MODULE, not any(it.code for it in outline.statements))
     at = outline.at(byte)

@@ -1,6 +1,7 @@
-"""The logical lines of a text and their tokens: what is told beside a refusal is read here, not by Python's own parser.
+"""The logical lines of a text and their tokens. They are read here, not by Python's own parser, for the texts beside a
+refusal.
 
-Any bytes are read, also those that are no Python, and none is looked at more than some twenty times."""
+Any bytes can be read, also those that are no Python, and none is read more than some twenty times."""
 from __future__ import annotations
 
 import bisect
@@ -14,7 +15,7 @@ UNCLOSED_TRIES = 20
 # How much is read, at most twice this, for brackets that are never closed
 UNCLOSED_BYTES = 1 << 20
 PIECE = re.compile(rb"""#[^\n]*|\"\"\"|'''|["']|\\\r?\n|[^#"'()\[\]{}\\\n:]+|.""", re.DOTALL)
-# What ends a string, and what hides that; a string of one quote ends with its line
+# The characters that end a string, and those that hide such an end; a string of one quote ends with its line
 ENDS = {
     b'"': re.compile(rb'\\.|["\n]', re.DOTALL),
     b"'": re.compile(rb"\\.|['\n]", re.DOTALL),
@@ -28,8 +29,8 @@ OPENING, CLOSING = (b"(", b"[", b"{"), (b")", b"]", b"}")
 
 
 class Shape(NamedTuple):
-    """How a text begins: `lead` is the byte of its first word, `indent` the columns before that, where a tab counts to
-    the next multiple of 8, and `code` the text from there without its end."""
+    """The beginning of a text: `lead` is the byte of its first word, `indent` the columns before that, where a tab
+    counts to the next multiple of 8, and `code` the text from there without its end."""
 
     text: bytes
     lead: int
@@ -38,7 +39,7 @@ class Shape(NamedTuple):
 
 
 def shape_of(text: bytes) -> Shape:
-    """How a text begins."""
+    """Returns the beginning of a text."""
     found = LEAD.match(text)
     lead = found.end() if found else 0
     before = text[text.rfind(b"\n", 0, lead) + 1 : lead]
@@ -49,9 +50,9 @@ def shape_of(text: bytes) -> Shape:
 class Statement:
     """A logical line with the blank and comment lines before it.
 
-    `start` is its first byte in the file, `cut` how many bytes of the file are left out in front (less than 0: put in).
-    `tries` counts how often it was replaced; one that was replaced or put in is no text of the file. `colon` is the
-    byte after the colon that opens a suite, from its own first byte, 0 without one."""
+    `start` is its first byte in the file, `cut` how many bytes of the file are left out in front (less than 0:
+    inserted). `tries` counts how often it was replaced; one that was replaced or inserted is no text of the file.
+    `colon` is the byte after the colon that opens a suite, from its own first byte, 0 without one."""
 
     text: bytes
     start: int
@@ -63,7 +64,7 @@ class Statement:
 
     @property
     def shape(self) -> Shape:
-        """How it begins, found once for each text that it has."""
+        """Its beginning, computed once for each text that it has."""
         if self.kept is None or self.kept.text is not self.text:
             self.kept = shape_of(self.text)
         return self.kept
@@ -85,13 +86,13 @@ class Statement:
 
     @property
     def word(self) -> bytes:
-        """Its first word, or b"@" of a decorator."""
+        """Its first word, or b"@" for a decorator."""
         found = re.match(rb"\w+|@", self.code)
         return found[0] if found else b""
 
     @property
     def opens(self) -> bool:
-        """Whether it begins as a statement that has a suite."""
+        """Whether it begins like a statement that has a suite."""
         return self.colon > 0 and self.word in OPENERS
 
     @property
@@ -105,15 +106,15 @@ class Statement:
 class Pieces:
     """Reads the comments, strings, brackets and other pieces of a text from any byte on.
 
-    Where a string has no end, neither has one of its kind that begins later, up to where the end was looked for: after
-    a backslash both read the same. So no byte is searched again and again for the ends of strings."""
+    If a string has no end, a string of its kind that begins later has none either, up to where the end was searched:
+    after a backslash both are read alike. This way no byte is searched again and again for the ends of strings."""
 
     def __init__(self, data: bytes) -> None:
         self.data = data
         self.endless: Dict[bytes, Tuple[int, int]] = {}
 
     def read(self, at: int) -> Iterator[Tuple[int, int]]:
-        """The pieces from a byte on, each by its first byte and the byte after its last."""
+        """Yields the pieces from a byte on, each by its first byte and the byte after its last."""
         while at < len(self.data):
             found = PIECE.match(self.data, at)
             assert found is not None
@@ -124,14 +125,14 @@ class Pieces:
             at = end
 
     def end_of_string(self, at: int, quote: bytes) -> int:
-        """The end of the string that begins at a byte; of one without an end that of its line."""
+        """Returns the end of the string that begins at a byte; if it has none, the end of its line."""
         end = self.search(at, quote) or self.search(at, quote[:1])
         if not end:
             end = self.data.find(b"\n", at)
         return end if end > 0 else len(self.data)
 
     def search(self, at: int, quote: bytes) -> int:
-        """The byte after the end of a string with these quotes; 0 without one."""
+        """Returns the byte after the end of a string with these quotes; 0 if it has none."""
         first, last = self.endless.get(quote, (0, 0))
         if first <= at < last:
             return 0
@@ -147,8 +148,8 @@ class Pieces:
 
 
 def statements(data: bytes) -> Iterator[Statement]:
-    """The statements of a text. Of a bracket that is never closed, the line in which its statement begins is one; after
-    some of those, each line is one."""
+    """Yields the statements of a text. If a bracket is never closed, the line in which its statement begins is a
+    statement; after several of those, each line is one."""
     at, tries, read = 0, 0, 0
     pieces = Pieces(data)
     while at < len(data):
@@ -161,7 +162,7 @@ def statements(data: bytes) -> Iterator[Statement]:
 
 
 def line_end(data: bytes, at: int) -> int:
-    """The end of the line with the next word after a byte."""
+    """Returns the end of the line with the next word after a byte."""
     while True:
         blank = BLANK.match(data, at)
         if not blank:
@@ -170,7 +171,7 @@ def line_end(data: bytes, at: int) -> int:
 
 
 def statement_at(pieces: Pieces, at: int) -> Optional[Statement]:
-    """The statement at a byte; none where its brackets are not closed."""
+    """Returns the statement at a byte; none if its brackets are not closed."""
     depth, colon, begun, end = 0, 0, False, at
     for start, end in pieces.read(at):
         sign = pieces.data[start:end]
@@ -187,7 +188,7 @@ def statement_at(pieces: Pieces, at: int) -> Optional[Statement]:
 
 
 def around(all_of_them: Sequence[Statement], at: int) -> Optional[int]:
-    """The number of the statement in whose suite a statement stands; none where it stands in none."""
+    """Returns the number of the statement in whose suite a statement is; none if it is in none."""
     indent = all_of_them[at].indent
     if not indent:
         return None
@@ -196,22 +197,23 @@ def around(all_of_them: Sequence[Statement], at: int) -> Optional[int]:
 
 
 def place_in(all_of_them: Sequence[Statement], outer: Optional[int]) -> str:
-    """What the suite of a statement is: that of a class or of something else; without one it is the module."""
+    """Returns the kind of a statement's suite: that of a class or of something else; without a statement it is the
+    module."""
     if outer is None:
         return MODULE
     return CLASS if all_of_them[outer].word == b"class" else FUNCTION
 
 
 class Outline:
-    """The logical lines of a text. `starts` has the first byte of each, `around` the number of that in whose suite it
-    stands, `before` of the last one with code before it; none where there is none. Each is found once."""
+    """The logical lines of a text. `starts` has the first byte of each, `around` the number of the one in whose suite
+    it is, `before` that of the last one with code before it; none if there is none. Each is computed once."""
 
     def __init__(self, data: bytes) -> None:
         self.statements = list(statements(data))
         self.starts = [it.start for it in self.statements]
         self.around: List[Optional[int]] = []
         self.before: List[Optional[int]] = []
-        # The lines in whose suites the next one may stand, and how far each is indented: ever further
+        # The lines whose suites the next one may belong to, and the indentation of each, which increases
         suites: List[int] = []
         indents: List[int] = []
         last: Optional[int] = None
@@ -224,11 +226,11 @@ class Outline:
                 last = at
 
     def at(self, byte: int) -> int:
-        """The number of the logical line that a byte stands in."""
+        """Returns the number of the logical line with a byte."""
         return max(0, bisect.bisect_right(self.starts, byte) - 1)
 
     def place(self, at: int) -> str:
-        """Where a logical line stands: in the module, or in the suite of a class or of something else."""
+        """Returns whether a logical line is in the module, or in the suite of a class or of something else."""
         return place_in(self.statements, self.around[at])
 
 
@@ -240,7 +242,7 @@ class Token(NamedTuple):
 
 
 def tokens(data: bytes) -> Iterator[Token]:
-    """The tokens of a text, without comments and line ends."""
+    """Returns the tokens of a text, without comments and line ends."""
     for start, end in Pieces(data).read(0):
         piece = data[start:end]
         if piece[:1] in (b'"', b"'"):
@@ -251,7 +253,7 @@ def tokens(data: bytes) -> Iterator[Token]:
 
 
 def opened(data: bytes, end: int) -> List[int]:
-    """The brackets before a byte that are not closed there, outermost first: the byte of each."""
+    """Returns the brackets before a byte that are not closed there, outermost first: the byte of each."""
     found: List[int] = []
     for token in tokens(data[:end]):
         if token.text in OPENING:

@@ -1,4 +1,4 @@
-"""How often each code stands."""
+"""The lines of `--statistics`: how often each code occurs."""
 from __future__ import annotations
 
 from typing import Iterator
@@ -8,7 +8,8 @@ from .findings import Project
 
 
 def lines(project: Project) -> Iterator[str]:
-    """A line for each code that stands somewhere, known findings included: number, code, title; the most first."""
+    """Yields a line for each code that occurs, known findings included: number, code, title; the most frequent
+    first."""
     counts = project.codes()
     width = len(str(max(counts.values(), default=0)))
     for code, count in sorted(counts.items(), key=lambda it: (-it[1], it[0])):

@@ -1,5 +1,6 @@
-"""Texts as they are printed. Whatever a name, a line of source or a baseline holds: it steers no terminal, begins no
-line of its own, turns no direction of writing, and is no command of a system that reads the output."""
+"""Texts as they are printed. The content of a name, a line of source or a baseline cannot control the terminal, begin a
+line
+of its own, turn the direction of writing, or give a command to a system that reads the output."""
 from __future__ import annotations
 
 import json
@@ -7,20 +8,20 @@ import re
 from typing import Any
 
 # C0, DEL and C1; the ends of lines and paragraphs of Unicode; its controls of direction; and halves of characters, of
-# which those from DC80 to DCFF stand for bytes of a name that are not UTF-8
+# which those from DC80 to DCFF mean bytes of a name that are not UTF-8
 CONTROLS = "\x00-\x1f\x7f-\x9f\u2028\u2029\u061c\u200e\u200f\u202a-\u202e\u2066-\u2069\ud800-\udfff"
 CONTROL = re.compile(f"[{CONTROLS}]")
 COLOUR = re.compile("(\x1b\\[[0-9;]*m)")
-# Systems for CI take commands from any place of a line that has this: `##[`, `##vso[`
+# CI systems take commands from any place of a line that has this: `##[`, `##vso[`
 MARK = re.compile(r"(##\w*)\[")
 
 
 class Command(str):
-    """A line that is meant as a command of GitHub Actions, and so begins with two colons."""
+    """A line that is meant as a command of GitHub Actions, and therefore begins with two colons."""
 
 
 def escape_of(found: "re.Match[str]") -> str:
-    """A control character in letters."""
+    """Returns a control character in letters."""
     character = found[0]
     if "\udc80" <= character <= "\udcff":
         return f"\\x{ord(character) - 0xDC00:02x}"
@@ -28,12 +29,12 @@ def escape_of(found: "re.Match[str]") -> str:
 
 
 def plain(text: str) -> str:
-    """A text with its control characters written as `\\xNN` and the like; so it is a part of one line."""
+    """Returns a text with its control characters written as `\\xNN` and the like, so that it is a part of one line."""
     return CONTROL.sub(escape_of, text)
 
 
 def line(text: str, coloured: bool = False) -> str:
-    """A line as it is printed; where it is coloured, its colours stay."""
+    """Returns a line as it is printed; if it is coloured, its colours stay."""
     parts = COLOUR.split(text) if coloured else [text]
     safe = "".join(part if at % 2 else plain(part) for at, part in enumerate(parts))
     if isinstance(text, Command):
@@ -44,5 +45,5 @@ def line(text: str, coloured: bool = False) -> str:
 
 
 def json_of(whole: Any) -> str:
-    """A document in JSON, in printable ASCII: what is no such character is escaped, as JSON has it."""
+    """Returns a document in JSON, in printable ASCII: other characters are escaped, as JSON has it."""
     return MARK.sub(r"\1\\u005b", json.dumps(whole, indent=1))

@@ -1,7 +1,7 @@
 """One table of a file in TOML.
 
-Python has a reader of its own from 3.11 on alone, so this one stands in for it in every version, and answers the same
-in each. The other tables are passed over by their words alone: of their numbers and dates nothing is checked."""
+Python has a reader of its own only from 3.11 on, so this one is used in every version, with the same answers in each.
+The other tables are skipped by their words alone: their numbers and dates are not checked."""
 from __future__ import annotations
 
 import re
@@ -9,7 +9,7 @@ from typing import Any, Dict, Iterator, List, NamedTuple, Sequence, Set, Tuple
 
 MOST_LEVELS = 32
 BLANK = re.compile(r"[ \t]*")
-# What may stand between the values of an array: also comments and ends of lines
+# The text allowed between the values of an array: also comments and ends of lines
 BETWEEN = re.compile(r"(?:[ \t\r\n]|#[^\n]*)*")
 END = re.compile(r"[ \t]*(?:#[^\n]*)?(?:\r?\n|\Z)")
 BARE = re.compile(r"[A-Za-z0-9_-]+")
@@ -27,7 +27,7 @@ Path = Tuple[str, ...]
 
 
 class NoToml(Exception):
-    """A text is no TOML; the text of this says where and why."""
+    """A text is no TOML; the text of the exception says where and why."""
 
 
 class Other(NamedTuple):
@@ -46,7 +46,7 @@ class Statement(NamedTuple):
 
 
 def unescaped(found: "re.Match[str]") -> str:
-    """The characters of an escape, or ValueError."""
+    """Returns the characters of an escape; raises ValueError."""
     short, long, end, letter = found.groups()
     if end is not None:
         return ""
@@ -56,7 +56,7 @@ def unescaped(found: "re.Match[str]") -> str:
 
 
 def character(number: int) -> str:
-    """The character of a number, or ValueError where it is the number of none."""
+    """Returns the character with a number; raises ValueError if there is none."""
     if not 0 <= number <= 0x10FFFF or 0xD800 <= number <= 0xDFFF:
         raise ValueError
     return chr(number)
@@ -70,23 +70,23 @@ class Reader:
         self.at = 0
 
     def fault(self, why: str) -> NoToml:
-        """The fault at the place that was reached."""
+        """Returns the fault at the place that was reached."""
         return NoToml(f"line {1 + self.text.count(chr(10), 0, self.at)}: {why}")
 
     def has(self, sign: str) -> bool:
-        """Whether a sign comes next; it is then read."""
+        """Reads a sign, if it comes next. Returns whether it did."""
         found = self.text.startswith(sign, self.at)
         self.at += len(sign) if found else 0
         return found
 
     def pass_over(self, pattern: "re.Pattern[str]") -> bool:
-        """Whether a pattern fits what comes next, which is then read."""
+        """Reads the text that a pattern fits, if it comes next. Returns whether it did."""
         found = pattern.match(self.text, self.at)
         self.at = found.end() if found else self.at
         return found is not None
 
     def statements(self) -> Iterator[Statement]:
-        """The statements, each with the path of its table before its own."""
+        """Yields the statements, each with the path of its table before its own."""
         table: Path = ()
         while True:
             self.pass_over(BETWEEN)
@@ -104,14 +104,14 @@ class Reader:
                 raise self.fault("something stands after a statement")
 
     def path(self) -> Path:
-        """A key, with the dots in it."""
+        """Reads a key, with the dots in it."""
         names = [self.name()]
         while self.has("."):
             names.append(self.name())
         return tuple(names)
 
     def name(self) -> str:
-        """A part of a key, with the blanks around it."""
+        """Reads a part of a key, with the blanks around it."""
         self.pass_over(BLANK)
         found = BARE.match(self.text, self.at)
         if found:
@@ -125,14 +125,14 @@ class Reader:
         return name
 
     def assigned(self, level: int) -> Any:
-        """The value after the sign of equality."""
+        """Reads the value after the equals sign."""
         if not self.has("="):
             raise self.fault("a key has no value")
         self.pass_over(BLANK)
         return self.value(level)
 
     def value(self, level: int) -> Any:
-        """A value."""
+        """Reads a value."""
         if level > MOST_LEVELS:
             raise self.fault("it is nested too deep")
         if self.text.startswith(('"', "'"), self.at):
@@ -148,7 +148,7 @@ class Reader:
         return Other(found[0])
 
     def string(self) -> str:
-        """A text in quotes."""
+        """Reads a text in quotes."""
         for quotes, pattern in STRINGS:
             if self.text.startswith(quotes, self.at):
                 break
@@ -166,7 +166,7 @@ class Reader:
         return text
 
     def array(self, level: int) -> List[Any]:
-        """The values of an array, whose bracket is read."""
+        """Reads the values of an array whose opening bracket was read."""
         values: List[Any] = []
         while True:
             self.pass_over(BETWEEN)
@@ -178,7 +178,7 @@ class Reader:
                 raise self.fault("an array is not closed")
 
     def inline(self, level: int) -> Dict[str, Any]:
-        """The values of a table in braces, whose opening one is read."""
+        """Reads the values of a table in braces whose opening brace was read."""
         table: Dict[str, Any] = {}
         self.pass_over(BLANK)
         if self.has("}"):
@@ -193,7 +193,7 @@ class Reader:
                 raise self.fault("a table in braces is not closed")
 
     def open(self, table: Dict[str, Any], path: Sequence[str]) -> Dict[str, Any]:
-        """The table at a path from another one, which is made where it is not there."""
+        """Returns the table at a path from another one, which is made if it is missing."""
         for name in path:
             table = table.setdefault(name, {})
             if not isinstance(table, dict):
@@ -201,7 +201,7 @@ class Reader:
         return table
 
     def put(self, table: Dict[str, Any], path: Sequence[str], value: Any) -> None:
-        """Puts a value into a table at a path, where nothing stands yet."""
+        """Puts a value into a table at a path, which must be free."""
         holder = self.open(table, path[:-1])
         if path[-1] in holder:
             raise self.fault("a key stands twice")
@@ -209,8 +209,8 @@ class Reader:
 
 
 def table_of(text: str, path: Path) -> Any:
-    """What stands at a path: a table as a dictionary, and None where nothing is there. NoToml where the text is no
-    TOML, or the table stands there twice."""
+    """Returns the value at a path: a table as a dictionary, and None if nothing is there. Raises NoToml if the text is
+    no TOML, or has the table twice."""
     reader = Reader(text)
     found: Any = {}
     heads: Set[Path] = set()

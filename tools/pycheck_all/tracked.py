@@ -1,7 +1,8 @@
-"""Which modules git tracks, as the index of a repository says: what is tracked is not ignored.
+"""The modules that git tracks according to the index of a repository: a tracked module is not ignored.
 
-The index is read as data, in its versions 2 to 4. One that is split has a second file, of which what was taken out
-since counts as tracked too."""
+The index is read as data, in its versions 2 to 4. A split index has a second file; entries of it that were removed
+since
+count as tracked too."""
 from __future__ import annotations
 
 import os
@@ -20,18 +21,18 @@ SPLIT, SPARSE = b"link", b"sdir"
 
 
 class Unreadable(Exception):
-    """The index is none that is known here."""
+    """The index has a form that is not known here."""
 
 
 class Entry(NamedTuple):
-    """An entry of an index: its mode and its path. One of a folder that is not checked out ends in a slash."""
+    """An entry of an index: its mode and its path. One for a folder that is not checked out ends in a slash."""
 
     mode: int
     path: bytes
 
 
 class Index:
-    """A file of an index, of which each sum has so many bytes."""
+    """A file of an index, whose sums have `sum_length` bytes each."""
 
     def __init__(self, data: bytes, sum_length: int) -> None:
         self.data = data
@@ -42,13 +43,13 @@ class Index:
             raise Unreadable
 
     def number(self, at: int, length: int) -> int:
-        """A number of so many bytes at a byte."""
+        """Returns a number of `length` bytes at a byte."""
         if at + length > len(self.data):
             raise Unreadable
         return int.from_bytes(self.data[at : at + length], "big")
 
     def entries(self) -> Iterator[Entry]:
-        """Its entries; afterwards its extensions can be read."""
+        """Yields its entries; afterwards its extensions can be read."""
         before = b""
         for _ in range(self.number(8, 4)):
             flags_at = self.at + 40 + self.sum_length
@@ -68,7 +69,8 @@ class Index:
             yield Entry(mode, before)
 
     def kept(self, before: bytes, at: int) -> int:
-        """How much of the path before stays, of an entry of version 4; the rest of its path is read next."""
+        """Returns how many bytes of the path before stay, for an entry of version 4; the rest of its path is read
+        next."""
         byte = self.number(at, 1)
         cut = byte & 127
         while byte & 128:
@@ -83,7 +85,7 @@ class Index:
         return len(before) - cut
 
     def text(self, at: int) -> bytes:
-        """The bytes up to the next zero."""
+        """Returns the bytes up to the next zero."""
         end = self.data.find(b"\0", at)
         if end < 0:
             raise Unreadable
@@ -91,7 +93,8 @@ class Index:
         return self.data[at:end]
 
     def shared(self) -> str:
-        """Reads its extensions, and gives the sum that names the file that it shares with others; empty without one."""
+        """Reads its extensions. Returns the sum that names the file that it shares with others; empty if there is
+        none."""
         end, found = len(self.data) - self.sum_length, ""
         while self.at < end:
             name, length = self.data[self.at : self.at + 4], self.number(self.at + 4, 4)
@@ -106,8 +109,8 @@ class Index:
 
 
 class Tracked:
-    """The modules that are tracked, the folders that have some in them, and those that are wholly tracked: of other
-    repositories, and of what is not checked out."""
+    """The modules that are tracked, the folders that have some in them, and those that are tracked as a whole: other
+    repositories, and folders that are not checked out."""
 
     def __init__(self) -> None:
         self.modules: Set[bytes] = set()
@@ -116,7 +119,7 @@ class Tracked:
         self.length = 0
 
     def add(self, entry: Entry) -> None:
-        """Takes an entry in."""
+        """Adds an entry."""
         kind = entry.mode & KIND
         if kind == LINK_TO_COMMIT or entry.path.endswith(b"/"):
             self.keep(self.whole, entry.path.rstrip(b"/"))
@@ -130,14 +133,14 @@ class Tracked:
             folder = folder.rpartition(b"/")[0]
 
     def keep(self, among: Set[bytes], path: bytes) -> None:
-        """Keeps a path."""
+        """Records a path."""
         self.length += len(path)
         if self.length > MOST_KEPT:
             raise Unreadable
         among.add(path)
 
     def has(self, path: bytes, is_folder: bool) -> bool:
-        """Whether a module is tracked, or something in a folder."""
+        """Whether a module is tracked, or anything in a folder."""
         if path in (self.folders if is_folder else self.modules):
             return True
         ends = [at for at, byte in enumerate(path) if byte == 0x2F] if self.whole else []
@@ -145,7 +148,7 @@ class Tracked:
 
 
 def read_file(path: str, sum_length: int, found: Tracked) -> str:
-    """Takes in the entries of a file, and gives the sum that names the file that it shares with others."""
+    """Adds the entries of a file. Returns the sum that names the file that it shares with others."""
     index = Index(reading.regular(path, LIMIT), sum_length)
     for entry in index.entries():
         found.add(entry)
@@ -153,7 +156,7 @@ def read_file(path: str, sum_length: int, found: Tracked) -> str:
 
 
 def read_index(folder: str, sum_length: int) -> Tracked:
-    """The modules that the index in a folder of git has, if its sums have so many bytes."""
+    """Returns the modules in the index of a folder of git whose sums have `sum_length` bytes."""
     found = Tracked()
     shared = read_file(os.path.join(folder, "index"), sum_length, found)
     if shared and read_file(os.path.join(folder, f"sharedindex.{shared}"), sum_length, found):
@@ -162,7 +165,7 @@ def read_index(folder: str, sum_length: int) -> Tracked:
 
 
 def tracked_by(folder: str) -> Optional[Tracked]:
-    """The modules that a folder of git says to be tracked; none where that cannot be read."""
+    """Returns the modules that a folder of git lists as tracked; none if that cannot be read."""
     if not os.path.lexists(os.path.join(folder, "index")):
         return Tracked()
     for sum_length in SUMS:

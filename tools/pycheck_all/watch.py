@@ -1,4 +1,4 @@
-"""Checking again whenever a file changes. Nobody tells of changes, so the files are looked at again and again."""
+"""Checking again whenever a file changes. Nothing reports changes, so the files are examined again and again."""
 from __future__ import annotations
 
 import os
@@ -7,14 +7,15 @@ from typing import Dict, Optional, Tuple
 
 from . import command, program, scope, settings, words
 
-# The pause between two looks; at least so many times as long as a look takes
+# The pause between two looks; it is at least this many times as long as a look takes
 SECONDS = 0.25
 TIMES = 8
 State = Dict[str, Optional[Tuple[int, int, int]]]
 
 
 def state_of(path: str) -> Optional[Tuple[int, int, int]]:
-    """What tells a file from what it was: its time, its length and its number; none where it is not there."""
+    """Returns what tells a file from its earlier state: its time, its length and its number; none if it does not
+    exist."""
     try:
         found = os.stat(path)
     except (OSError, ValueError):
@@ -23,7 +24,7 @@ def state_of(path: str) -> Optional[Tuple[int, int, int]]:
 
 
 class Watch:
-    """Checks files, and shows what is found anew after each change."""
+    """Checks files, and shows the findings again after each change."""
 
     def __init__(self, asked: words.Words, used: program.Program, width: int) -> None:
         self.asked = asked
@@ -31,7 +32,7 @@ class Watch:
         self.width = width
 
     def run(self) -> int:
-        """Goes on until it is interrupted, or nobody reads what it prints."""
+        """Runs until it is interrupted, or nobody reads its output."""
         before = self.state()
         while True:
             self.show()
@@ -43,7 +44,7 @@ class Watch:
             before = now
 
     def show(self) -> None:
-        """Checks once; what keeps it from that is told, and may be mended by the next change."""
+        """Checks once; a failure is reported, and the next change may mend it."""
         try:
             command.once(self.asked, self.used, self.width)
         except command.FAULTS as fault:
@@ -51,7 +52,8 @@ class Watch:
         command.write([""])
 
     def state(self) -> State:
-        """The state of each file that is checked or tells how: the modules, the settings and the baseline."""
+        """Returns the state of each file that is checked or determines how: the modules, the settings and the
+        baseline."""
         found: State = {}
         asked = self.asked
         for folder in settings.folders(os.path.abspath(os.curdir)):

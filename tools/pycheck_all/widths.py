@@ -1,4 +1,4 @@
-"""How wide characters stand on a terminal, and lines that are cut to a width."""
+"""The widths of characters on a terminal, and lines that are cut to a width."""
 from __future__ import annotations
 
 import re
@@ -10,24 +10,25 @@ from .texts import CONTROLS
 TAB = 4
 NEAR = 8
 REPLACEMENT = "\ufffd"
-# What steers a terminal, what is no character, and what turns the direction of a line; a tab is none of them
+# Characters that control a terminal, those that are no characters, and those that turn the direction of a line; a tab
+# is none of them
 UNFIT = re.compile(f"(?!\t)[{CONTROLS}]")
 
 
 def drawn(character: str) -> str:
-    """What is shown for a character: blanks for a tab, a replacement for what cannot be shown."""
+    """Returns the text that is shown for a character: blanks for a tab, a replacement for what cannot be shown."""
     return " " * TAB if character == "\t" else UNFIT.sub(REPLACEMENT, character)
 
 
 def width_of(text: str) -> int:
-    """The columns of a terminal that a text takes: two for each wide character, none for each that combines."""
+    """Returns the columns of a terminal that a text takes: two for each wide character, none for each combining one."""
     if text.isascii():
         return len(text)
     return sum(width_of_one(it) for it in text)
 
 
 def width_of_one(character: str) -> int:
-    """The columns of one character."""
+    """Returns the columns of one character."""
     if unicodedata.combining(character) or unicodedata.category(character) in ("Mn", "Me", "Cf"):
         return 0
     return 2 if unicodedata.east_asian_width(character) in "WF" else 1
@@ -42,8 +43,8 @@ class Cut(NamedTuple):
 
 
 def cut(line: str, start: int, end: int, width: int) -> Cut:
-    """A line cut to a width, so that the marked characters, from `start` to before `end`, can be seen; a mark has at
-    least one column."""
+    """Returns a line cut to a width, so that the marked characters, from `start` to before `end`, can be seen; a mark
+    has at least one column."""
     left_out, kept_end = kept(len(line), start, end, width)
     pieces = [drawn(it) for it in line[left_out:kept_end]]
     start, end = start - left_out, min(end, kept_end) - left_out
@@ -59,14 +60,15 @@ def cut(line: str, start: int, end: int, width: int) -> Cut:
 
 
 def kept(length: int, start: int, end: int, width: int) -> Tuple[int, int]:
-    """The part of a line of so many characters that is looked at: some widths on both sides of where the marked
-    characters start. A line may have a million characters, and as many marks."""
+    """Returns the part of a line of `length` characters that is considered: some widths on both sides of where the
+    marked characters start. A line may have a million characters, and as many marks."""
     near = NEAR * width
     return max(0, start - near), min(length, max(start, min(end, start + near)) + near)
 
 
 def first_shown(pieces: List[str], start: int, end: int, width: int) -> int:
-    """The first character to show: the line's where the mark fits so, else one that leaves room before it."""
+    """Returns the first character to show: that of the line if the mark then fits, otherwise one that leaves room
+    before it."""
     if width_of("".join(pieces[:end])) <= width - 1:
         return 0
     room = max(0, min(width // 3, width - 2 - width_of("".join(pieces[start:end]))))
@@ -77,7 +79,7 @@ def first_shown(pieces: List[str], start: int, end: int, width: int) -> int:
 
 
 def last_shown(pieces: List[str], first: int, width: int) -> int:
-    """The character after the last to show."""
+    """Returns the character after the last to show."""
     room = width - (2 if first else 1)
     last = first
     while last < len(pieces) and width_of(pieces[last]) <= room:

@@ -20,7 +20,7 @@ input/output error; the worst of all files"""
 
 
 class Words(NamedTuple):
-    """What the words ask for. An empty text stands for an option that is not there."""
+    """The values of the words. An empty text means that the option is not given."""
 
     files: List[str]
     program: str
@@ -52,7 +52,7 @@ class Words(NamedTuple):
 
 
 def seconds_of(word: str) -> float:
-    """A number of seconds, or the error of argparse."""
+    """Returns a number of seconds; raises the error of argparse."""
     if not NUMBER.fullmatch(word) or not 0 < float(word) <= MOST_SECONDS:
         raise argparse.ArgumentTypeError(f"no number of seconds up to {MOST_SECONDS}: {word!r}")
     return float(word)
@@ -67,7 +67,7 @@ class Parser(argparse.ArgumentParser):
 
 
 def parser_of(name: str) -> Parser:
-    """The parser of the command, under the name by which it is called."""
+    """Returns the parser of the command, under the name by which it is called."""
     parser = Parser(
         prog=name,
         description="Checks many files by the program pycheck, and shows what it finds.",
@@ -165,7 +165,7 @@ def add_choices(parser: Parser) -> None:
 
 
 def read(name: str, words: Optional[Sequence[str]]) -> Words:
-    """What the words ask for; errors of usage end the process."""
+    """Returns the values of the words; errors of usage end the process."""
     parser = parser_of(name)
     found = Words(**vars(parser.parse_args(words)))
     if found.server:
@@ -197,7 +197,7 @@ def read(name: str, words: Optional[Sequence[str]]) -> Words:
 
 
 def chosen(parser: Parser, name: str, words: Sequence[str]) -> List[str]:
-    """The codes, labels and letters of an option, each by itself."""
+    """Returns the codes, labels and letters of an option, each by itself."""
     found = [it for word in words for it in word.split(",")]
     for word in found:
         if not hiding.codes_of(word):
@@ -206,7 +206,7 @@ def chosen(parser: Parser, name: str, words: Sequence[str]) -> List[str]:
 
 
 def refuse_others(parser: Parser, found: Words) -> None:
-    """Ends the process where guards are asked for together with what they do not go with."""
+    """Ends the process if guards are asked for together with words that exclude them."""
     names = ("baseline", "write_baseline", "page", "exclude", "all_refusals", "strict", "statistics", "fix")
     others = [f"--{name.replace('_', '-')}" for name in names if getattr(found, name)]
     if found.files or others:
@@ -216,7 +216,7 @@ def refuse_others(parser: Parser, found: Words) -> None:
 
 
 def refuse_beside_fix(parser: Parser, found: Words) -> None:
-    """Ends the process where files are fixed together with what that does not go with."""
+    """Ends the process if files are to be fixed together with words that exclude it."""
     names = ("baseline", "write_baseline", "page", "all_refusals", "statistics")
     others = [f"--{name.replace('_', '-')}" for name in names if getattr(found, name)]
     if others:

@@ -19,7 +19,7 @@ exec '{clang}' "$@"
 
 
 class Fault(Exception):
-    """Why nothing could be made."""
+    """The program or module could not be made; the text says why."""
 
 
 def run(*words: object, **how: Any) -> None:
@@ -30,7 +30,7 @@ def run(*words: object, **how: Any) -> None:
 
 
 def kit() -> Path:
-    """The folder of the toolchain."""
+    """Returns the folder of the toolchain."""
     found = shutil.which("rt")
     if found is None:
         raise Fault("the Rattle toolchain is needed: its command rt is not on PATH")
@@ -38,7 +38,7 @@ def kit() -> Path:
 
 
 def keeping_toolchain(room: Path) -> Path:
-    """The folder of LLVM, with a clang that keeps the module that it compiles in `module.bc`."""
+    """Returns the folder of LLVM, with a clang that keeps the module that it compiles in `module.bc`."""
     own, made = kit() / "toolchain", room / "toolchain"
     (made / "bin").mkdir(parents=True)
     for it in own.iterdir():
@@ -54,15 +54,15 @@ def keeping_toolchain(room: Path) -> Path:
 
 
 def words_of_build(name: str, room: Path, made: Path) -> List[str]:
-    """The command that proves a crate and builds it into a file, over the libraries of the present files."""
+    """Returns the command that proves a crate and builds it into a file, over the libraries of the present files."""
     sys.dont_write_bytecode = True
     sys.path.insert(0, str(kit() / "bin"))
-    # The toolchain's own module, so that the words are those of `rt lib`
+    # The toolchain's own module is used, so that the words are those of `rt lib`
     rtlib = importlib.import_module("rtlib")
     crate = next(it for it in rtlib.crates_below(str(ROOT)) if it.name == name)
     for below in crate.below():
         stamp = Path(below.rlib).parent / "stamp"
-        # What `rt ci` leaves has no stamp
+        # A library of `rt ci` has no stamp
         if not Path(below.rlib).exists() or (stamp.exists() and not below.is_built()):
             raise Fault(f"no library of {below.name} was built of the present files: run rt ci first")
     words = [rtlib.RATTLE, "build", *crate.words(["--jobs", "1"], keeps=False)]
@@ -70,7 +70,7 @@ def words_of_build(name: str, room: Path, made: Path) -> List[str]:
 
 
 def build_module(name: str, room: Path, made: Path) -> Path:
-    """Proves a crate and builds it into a file. Gives the LLVM module that it was compiled from."""
+    """Proves a crate and builds it into a file. Returns the LLVM module that it was compiled from."""
     run(*words_of_build(name, room, made), cwd=ROOT / "crates" / name)
     if not (room / "module.bc").exists():
         raise Fault(f"the build of {name} gave clang no module")

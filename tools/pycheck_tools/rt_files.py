@@ -1,4 +1,4 @@
-"""Reads the sources of crates, which are files *.rt: the items of a module, and the functions that stand at its lines."""
+"""Reads the sources of crates, which are files *.rt: the items of a module, and the functions at its lines."""
 from __future__ import annotations
 
 import re
@@ -27,7 +27,8 @@ class Function(NamedTuple):
 
 
 class Module:
-    """What a module of a crate has: its functions, the functions of its types and traits, and what it passes on."""
+    """The contents of a module of a crate: its functions, the functions of its types and traits, and what it exports
+    again."""
 
     def __init__(self) -> None:
         self.functions: Dict[str, Function] = {}
@@ -42,12 +43,12 @@ class Module:
 
 
 def without_text(source: str) -> str:
-    """The source with spaces in place of comments, strings and characters."""
+    """Returns the source with spaces in place of comments, strings and characters."""
     return NO_CODE.sub(lambda found: re.sub(r"[^\n]", " ", found[0]), source)
 
 
 def named_at(code: str, at: int) -> str:
-    """The name that begins at a place."""
+    """Returns the name that begins at a place."""
     found = NAME.match(code, at)
     if found is None:
         raise ValueError("an item has no name")
@@ -55,7 +56,7 @@ def named_at(code: str, at: int) -> str:
 
 
 def closing(code: str, at: int) -> int:
-    """The place after the bracket that closes the one at a place."""
+    """Returns the place after the bracket that closes the one at a place."""
     opens, closes = code[at], {"{": "}", "(": ")", "[": "]"}[code[at]]
     depth = 0
     for place in range(at, len(code)):
@@ -66,7 +67,7 @@ def closing(code: str, at: int) -> int:
 
 
 def read_function(code: str, at: int, is_pub: bool) -> Tuple[Function, int]:
-    """The function whose name begins at a place, and the place after it. Its clauses come before its body."""
+    """Returns the function whose name begins at a place, and the place after it. Its clauses come before its body."""
     name = named_at(code, at)
     params = code.index("(", at)
     place = closing(code, params)
@@ -82,7 +83,7 @@ def read_function(code: str, at: int, is_pub: bool) -> Tuple[Function, int]:
 
 
 def functions_in(code: str, all_pub: bool) -> List[Function]:
-    """The functions of the body of a type or of a trait, whose functions are all public where it is."""
+    """Returns the functions in the body of a type or of a trait; all of a public trait's functions are public."""
     found, place = [], 0
     for item in ITEM.finditer(code):
         if item.start() >= place and item["kind"] == "fn":
@@ -92,7 +93,7 @@ def functions_in(code: str, all_pub: bool) -> List[Function]:
 
 
 def without_brackets(text: str) -> str:
-    """A text without the brackets < > that it may begin with; the > of an arrow is none."""
+    """Returns a text without the brackets < > that it may begin with; the > of an arrow is none."""
     depth = 0
     for at, letter in enumerate(text):
         depth += (letter == "<") - (letter == ">" and text[at - 1:at] != "-")
@@ -102,13 +103,13 @@ def without_brackets(text: str) -> str:
 
 
 def type_of_impl(header: str) -> str:
-    """The type to which an `impl` gives functions, or nothing where they are those of a trait."""
+    """Returns the type to which an `impl` adds functions, or nothing if they are those of a trait."""
     header = without_brackets(header.strip())
     return "" if re.search(r"\bfor\b", header) else (NAME.search(header) or [""])[0]
 
 
 def read_use(module: Module, tree: str, before: str = "") -> None:
-    """Takes what a `pub use` passes on: each name, with the path that stands before it."""
+    """Records the names that a `pub use` exports again: each name, with the path before it."""
     tree = tree.strip()
     brace = tree.find("{")
     if brace < 0:
@@ -121,7 +122,7 @@ def read_use(module: Module, tree: str, before: str = "") -> None:
 
 
 def read_items(code: str) -> Module:
-    """What stands in a module, whose source has no text in it."""
+    """Returns the contents of a module, whose source has no text in it."""
     module, place = Module(), 0
     starts = [(found.start(), found) for found in ITEM.finditer(code)]
     starts += [(found.start(), found) for found in IMPL.finditer(code)]
@@ -132,7 +133,7 @@ def read_items(code: str) -> Module:
 
 
 def read_item(module: Module, code: str, found: "re.Match[str]") -> int:
-    """Takes an item of a module, and gives the place after it."""
+    """Reads an item of a module, and returns the place after it."""
     if found[0] == "impl":
         brace = code.index("{", found.end())
         end, name = closing(code, brace), type_of_impl(code[found.end() : brace])
@@ -159,7 +160,7 @@ def read_item(module: Module, code: str, found: "re.Match[str]") -> int:
 
 
 def read_type(module: Module, code: str, at: int, kind: str, is_pub: bool) -> int:
-    """Takes a type or a trait whose name begins at a place, and gives the place after it."""
+    """Reads a type or a trait whose name begins at a place, and returns the place after it."""
     name, brace, semicolon = named_at(code, at), code.find("{", at), code.find(";", at)
     if is_pub:
         module.pub_types.add(name)
@@ -173,21 +174,22 @@ def read_type(module: Module, code: str, at: int, kind: str, is_pub: bool) -> in
 
 
 def path_of(source: Path, file: Path) -> str:
-    """The path of a module by its file: empty for the root."""
+    """Returns the path of a module, given its file: empty for the root."""
     parts = list(file.relative_to(source).with_suffix("").parts)
     return "" if parts in (["lib"], ["main"]) else "::".join(parts[:-1] if parts[-1] == "mod" else parts)
 
 
 def modules_of(crate: str) -> Dict[str, Module]:
-    """The modules of a crate, by their paths."""
+    """Returns the modules of a crate, by their paths."""
     source = ROOT / "crates" / crate / "src"
     return {path_of(source, file): read_items(without_text(file.read_text(encoding="utf-8"))) for file in sorted(source.rglob("*.rt"))}
 
 
-# The function that a place of a source stands in, as a check names it
+# The function around a place of a source, as a check names it
 
 def owner_of(lines: List[str]) -> str:
-    """The type, with the trait behind it, of the last impl block that begins in these lines, as a check names it."""
+    """Returns the type, with the trait behind it, of the last impl block that begins in these lines, as a check names
+    it."""
     head = next((line for line in reversed(lines) if re.match(r"impl\b", line)), "")
     block = IMPLEMENTED.match(without_brackets(head[len("impl"):]).strip())
     if block is None:
@@ -197,19 +199,19 @@ def owner_of(lines: List[str]) -> str:
 
 
 class Changed(NamedTuple):
-    """A function: the end of the name that a check prints for it, and the cycle of calls that it is of, if it is of one."""
+    """A function: the end of the name that a check prints for it, and its cycle of calls, if it is in one."""
 
     name: str
     cycle: str
 
     @property
     def proof(self) -> str:
-        """What is proved as one: the functions of a cycle of calls have one proof."""
+        """The unit of proof: the functions of a cycle of calls have one proof."""
         return f"+{self.cycle}" if self.cycle else self.name
 
 
 def cycle_of(lines: List[str]) -> str:
-    """The cycle of calls that is named by the attributes and comments at the end of these lines, if one is."""
+    """Returns the cycle of calls that the attributes and comments at the end of these lines name, if they name one."""
     for line in reversed(lines):
         named = CYCLE.fullmatch(line)
         if named or not line.lstrip().startswith(("#[", "//")):
@@ -218,7 +220,7 @@ def cycle_of(lines: List[str]) -> str:
 
 
 def function_at(path: str, before: str) -> Optional[Changed]:
-    """The function that goes on behind a text of a source file, if one does."""
+    """Returns the function around the end of a text of a source file, if there is one."""
     lines = before.split("\n")
     heads = [(at, found) for at, found in enumerate(map(FUNCTION.match, lines)) if found]
     if not heads or f"{heads[-1][1].group(1)}}}" in lines[heads[-1][0] + 1:]:
@@ -230,7 +232,7 @@ def function_at(path: str, before: str) -> Optional[Changed]:
 
 
 def function_of(text: str, path: str, names: Set[str]) -> str:
-    """The functions of a source file that have one of these names, each with what stands right above it."""
+    """Returns the functions of a source file that have one of these names, each with the lines directly above it."""
     lines, found = text.split("\n"), []
     for at, head in enumerate(map(FUNCTION.match, lines)):
         changed = function_at(path, "\n".join(lines[: at + 1])) if head else None

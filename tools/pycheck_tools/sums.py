@@ -1,7 +1,9 @@
-"""The verdicts on wrong bodies that pages keep, each beside the sum of the files that it was made of.
+"""The verdicts on wrong bodies that pages keep, each beside the sum of the files that it was made from.
 
-`wrong_bodies/CONTROLS.md` has the edits whose control was accepted, with the sum of what edit and control are tried by, and
-`wrong_bodies/APART.md` those that the gate leaves out, with the sum of the sources, definitions and proofs of their crate.
+`wrong_bodies/CONTROLS.md` has the edits whose control was accepted, with the sum of the texts by which edit and control
+are tried, and `wrong_bodies/APART.md` those that the gate leaves out, with the sum of the sources, definitions and
+proofs
+of their crate.
 """
 from __future__ import annotations
 
@@ -15,13 +17,13 @@ from . import ROOT
 
 CONTROLS = ROOT / "wrong_bodies" / "CONTROLS.md"
 APART = ROOT / "wrong_bodies" / "APART.md"
-# A row of either page: the edit, what stands between, and the sum, which a row of the second may lack
+# A row of either page: the edit, the cells between, and the sum, which a row of the second may lack
 CONTROL = re.compile(r"^\| `(\w+/[\w.-]+)` \| `([0-9a-f]{16})` \|$", re.M)
 ROW = re.compile(r"^\| `(\w+/[\w.-]+)` \| (.*) \| refused(?:, (\S+))? \|(?: (?:`([0-9a-f]{16})`|of other files) \|)?$", re.M)
 
 
 def sum_of(texts: Iterable[str]) -> str:
-    """A short sum of texts in their order."""
+    """Returns a short sum of texts in their order."""
     whole = hashlib.sha256()
     for text in texts:
         data = text.encode("utf-8")
@@ -30,28 +32,28 @@ def sum_of(texts: Iterable[str]) -> str:
 
 
 def sum_of_crate(folder: Path) -> str:
-    """The sum of the sources, definitions and proofs of a crate, with their names."""
+    """Returns the sum of the sources, definitions and proofs of a crate, with their names."""
     files = sorted(file for part in ("src", "specs", "proofs") for file in (folder / part).rglob("*") if file.is_file())
     return sum_of(text for file in files for text in (str(file.relative_to(folder)), file.read_text(encoding="utf-8")))
 
 
 def read(page: Path) -> str:
-    """The text of a page, or nothing where there is none."""
+    """Returns the text of a page, or nothing if it does not exist."""
     return page.read_text(encoding="utf-8") if page.exists() else ""
 
 
 def kept_controls() -> Dict[str, str]:
-    """The sums of the controls that were accepted, by the crates and names of their edits."""
+    """Returns the sums of the controls that were accepted, by the crates and names of their edits."""
     return dict(CONTROL.findall(read(CONTROLS)))
 
 
 def rows_of_apart() -> Dict[str, str]:
-    """The sums of the edits that the gate leaves out, or nothing for one that was tried over other files."""
+    """Returns the sums of the edits that the gate leaves out, or nothing for one that was tried over other files."""
     return {found[1]: found[4] or "" for found in ROW.finditer(read(APART))}
 
 
 def write_controls(new: Dict[str, str]) -> None:
-    """Puts new sums into the page of controls, and takes those out that are empty."""
+    """Puts new sums into the page of controls, and removes those that are empty."""
     head = read(CONTROLS).split("\n| `")[0].rstrip("\n")
     rows = {**kept_controls(), **new}
     lines: List[str] = [f"| `{name}` | `{rows[name]}` |" for name in sorted(rows) if rows[name]]

@@ -8,7 +8,8 @@ from typing import NoReturn, Optional, Sequence
 
 
 class Words(argparse.ArgumentParser):
-    """A parser whose help is the text of a module; it says that after a mistake too, and ends with status 3 or another one."""
+    """A parser whose help is the docstring of a module. After a mistake it prints that help too, and ends with status 3
+    or another one."""
 
     def __init__(self, prog: str, text: Optional[str], mistake: int = 3) -> None:
         super().__init__(prog, allow_abbrev=False)
@@ -22,8 +23,8 @@ class Words(argparse.ArgumentParser):
 
 
 def run_tool(command: str, text: Optional[str], tools: Sequence[str]) -> int:
-    """Runs the tool of a command that the first word names, with the words after it, and gives the exit status. It is the
-    module of that name in the folder of the command, and no other one is read."""
+    """Runs the tool of a command that the first word names, with the words after it, and returns the exit status. The
+    tool is the module of that name in the folder of the command; no other module is read."""
     parser = Words(f"tools/{command}", text)
     parser.add_argument("tool", choices=tools)
     parser.add_argument("words", nargs=argparse.REMAINDER)

@@ -68,12 +68,12 @@ APART = "apart"
 NAME = re.compile(r"[A-Za-z0-9_-][A-Za-z0-9_.-]*\.edit")
 PARTS = ("src/", "specs/", "proofs/")
 VERDICT = re.compile(r"^fn (\S+): (proved|(?:not proved|no proof).*)$", re.MULTILINE)
-# Why a function is not proved, where that may lie in the functions that it calls
+# The reasons why a function is not proved that may be due to the functions that it calls
 OF_CALLED = re.compile(r"(?:not proved; )?it calls (.*), which (?:is|are) not proved"
                        r"|the borrow checker's part in its proof is not made yet: a call of (\S+), which has no proof: .*")
-# How that begins where it lies in another function of its cycle of calls
+# The beginning of such a reason that is due to another function of its cycle of calls
 OF_CYCLE = re.compile(r"(?:the borrow checker's part in its proof is not made yet: )?in `[^`]*`, of this cycle of calls[:,] ")
-# What comes of an edit: it is refused as it must be, or other functions that it rests on are not proved
+# The verdicts on an edit: it is refused as it must be, or other functions that it depends on are not proved
 REFUSED = "refused"
 ACCEPTED = "ACCEPTED"
 UNTOLD = "not tried: its function calls one that is not proved"
@@ -83,15 +83,15 @@ BY_NAMES = "refused only since a proof file names what it took away: change a va
 BY_TYPES = "refused only since a step of its proof has another type: that leaves no goal open"
 BY_DUTIES = "refused only for a duty that has nothing to do with its meaning: an overflow, an index or a measure"
 BY_NOTHING = "refused, and the check names no goal that is open"
-# What a check says of a place in a file, and how that is said of a name which is there no longer
+# A message of a check about a place in a file, and the words of one about a name that no longer exists
 TOLD = re.compile(r"^(?:note: )?(?:\./)?((?:src|proofs)/\S+?):(\d+):\d+: (.*)$", re.MULTILINE)
 OF_A_NAME = re.compile(r"has no field|is not in scope|has no `|was not admitted|which was rejected, was not checked")
-# What a check says of a goal that it left open, and of one that has to do with the meaning of a function
+# The message of a check about a goal that it left open, and the words of one that concerns the meaning of a function
 OPEN = re.compile(r"it is not proved that (.*)")
 OF_MEANING = re.compile(r"what the function ensures |what `.*` requires holds at this call|control never comes here"
                         r"|the invariant (?:of|that rattle tried for) the loop holds|the .*`invariant`|the struct's ghost fields")
 FAILING = re.compile(r"error: `(?:returns[^`]*|invariant_of[^`]*|[^`]*-preserved)`: .*(?:the goal fails, at |`search`: no proof of )")
-# What a check of functions prints last where it was not stopped
+# The last line of a check of functions that was not stopped
 JUDGED = re.compile(r"^only=\d+ proved=\d+$", re.MULTILINE)
 # The lines of an edit that `rt` does not read
 OWN_LINES = "law:", "control:"
@@ -100,19 +100,19 @@ ROOM = 4_000_000_000
 
 
 def folder_of(crate: str) -> Path:
-    """The crate's folder."""
+    """Returns the crate's folder."""
     return ROOT / "crates" / crate
 
 
 class Misfit(Exception):
-    """Why an edit does not fit the files of its crate."""
+    """An edit does not fit the files of its crate; the text says why."""
 
 
 TOO_EARLY = "a 'new:' line stands before any 'file:' or 'old:' line"
 
 
 def text_of(word: str, line: str) -> str:
-    """The text behind the word of a line."""
+    """Returns the text after the word of a line."""
     text = line[len(word):]
     return text[1:] if text.startswith(" ") else text
 
@@ -133,19 +133,19 @@ class Edited:
         return {it.name for it in self.functions if it} | self.laws
 
     def proofs(self) -> Set[str]:
-        """What is proved as one and is to be refused."""
+        """The units of proof that are to be refused."""
         return {it.proof for it in self.functions if it} | self.laws
 
     def of_definitions(self) -> bool:
-        """Whether something changes that stands outside functions."""
+        """Whether anything outside functions changes."""
         return None in self.functions
 
     def words(self) -> List[str]:
-        """The words by which a check proves what is to be refused, and nothing else."""
+        """Returns the words by which a check proves the functions and laws that are to be refused, and nothing else."""
         return [word for name in sorted(self.names()) for word in ("--only", name)]
 
     def take(self, line: str) -> None:
-        """Takes a line of the edit."""
+        """Reads a line of the edit."""
         if line.startswith("file: "):
             self.path = line[len("file: "):].strip()
             if os.path.normpath(self.path) != self.path or not self.path.startswith(PARTS):
@@ -164,7 +164,7 @@ class Edited:
             raise Misfit(f"a line is not read: {line.strip()[:60]}")
 
     def take_new(self, new: str) -> None:
-        """Takes what an edit puts in the place of the old text, which waits for a control where that is what is read."""
+        """Reads the new text of an edit. If the control is to be applied, the old text stays until that is read."""
         self.new = self.old
         if not self.control:
             self.replace(new)
@@ -172,7 +172,7 @@ class Edited:
             raise Misfit(TOO_EARLY)
 
     def take_control(self, text: str) -> None:
-        """Takes what the control of an edit puts in the place of the old text before it."""
+        """Reads the text that the control of an edit puts in the place of the old text before it."""
         if not self.new or self.why_none:
             raise Misfit("a 'control:' line stands behind no 'new:' line of its own, or beside a reason why there is none")
         if text == self.new:
@@ -183,14 +183,14 @@ class Edited:
         self.new = ""
 
     def take_none(self, text: str) -> None:
-        """Takes the reason why an edit has no control."""
+        """Reads the reason why an edit has no control."""
         reason = re.fullmatch(r": (\S.*)", text)
         if not reason or self.controls or self.why_none:
             raise Misfit("'control: none' has no reason behind it, or stands beside a control")
         self.why_none = reason[1]
 
     def take_law(self, name: str) -> None:
-        """Takes the name of a law of the crate, as `laws::one_refusal`."""
+        """Reads the name of a law of the crate, such as `laws::one_refusal`."""
         module, _, law = name.rpartition("::")
         file = self.folder / "src" / f"{module.replace('::', '/')}.rt"
         if not file.is_file() or not re.search(rf"^pub fn {re.escape(law)}(<.*>)?\(\)$", file.read_text(encoding="utf-8"), re.M):
@@ -198,7 +198,7 @@ class Edited:
         self.laws.add(name)
 
     def replace(self, new: str) -> None:
-        """Puts a new text in the place of the old one, which is to stand once in the file."""
+        """Puts a new text in the place of the old one, which must occur once in the file."""
         if not self.path or not self.old:
             raise Misfit(TOO_EARLY)
         if self.path not in self.texts:
@@ -217,14 +217,15 @@ class Edited:
         self.old = ""
 
     def take_all(self, edit: Path) -> None:
-        """Takes each line of an edit. What is kept of its controls is kept of the last one."""
+        """Reads each line of an edit. Only its last control is kept."""
         self.new, self.controls, self.why_none = "", 0, ""
         for line in edit.read_text(encoding="utf-8").split("\n"):
             self.take(line)
 
 
 def misfit(crate: str, edit: Path) -> Optional[str]:
-    """Why the edit does not fit the crate's files, or None where it does: each `old:` text stands once in its file."""
+    """Returns why the edit does not fit the crate's files, or None if it does: each `old:` text must occur once in its
+    file."""
     if not NAME.fullmatch(edit.name):
         return "its name is not of letters, digits, _, - and . with .edit at the end"
     edited, control = Edited(crate), Edited(crate, True)
@@ -239,12 +240,13 @@ def misfit(crate: str, edit: Path) -> Optional[str]:
 
 
 def edits_in(folder: Path) -> List[Path]:
-    """All files below a folder of edits but pages that are only to be read, each of which is to be an edit."""
+    """Returns all files below a folder of edits except pages that are only to be read; each of them has to be an
+    edit."""
     return sorted(file for file in folder.rglob("*") if file.is_file() and file.suffix != ".md")
 
 
 def listed() -> bool:
-    """Prints the crates with their edits and those that do not fit, and says whether there are edits, and all fit."""
+    """Prints the crates with their edits and those that do not fit. Returns whether there are edits, and all fit."""
     folders = sorted(folder for folder in KEPT.iterdir() if folder.is_dir())
     fits = bool(folders)
     for folder in folders:
@@ -265,17 +267,17 @@ def is_of_functions(crate: str, edit: Path) -> bool:
 
 
 def edits_of(crate: str, with_apart: bool = True) -> List[Path]:
-    """The edits of a crate, or those of them that the gate tries."""
+    """Returns the edits of a crate, or those of them that the gate tries."""
     return [edit for edit in edits_in(KEPT / crate) if with_apart or edit.parent.name != APART]
 
 
 def others_of(crate: str) -> List[Path]:
-    """The edits of a crate that change something else than functions, and name no law."""
+    """Returns the edits of a crate that change other things than functions, and name no law."""
     return [edit for edit in edits_of(crate) if not is_of_functions(crate, edit)]
 
 
 def rounds_of(crate: str, with_apart: bool = True) -> Iterator[List[Path]]:
-    """The edits of functions of a crate, in rounds that change no function and no cycle of calls twice."""
+    """Yields the edits of functions of a crate, in rounds that change no function and no cycle of calls twice."""
     others = others_of(crate)
     left = [edit for edit in edits_of(crate, with_apart) if edit not in others]
     while left:
@@ -288,7 +290,7 @@ def rounds_of(crate: str, with_apart: bool = True) -> Iterator[List[Path]]:
 
 
 def alone(crate: str, edits: List[Path], control: bool = False) -> Edited:
-    """The files of a crate as these edits change them, and no others, or as their controls do."""
+    """Returns the files of a crate as only these edits change them, or as their controls do."""
     edited = Edited(crate, control)
     for edit in edits:
         edited.take_all(edit)
@@ -296,7 +298,7 @@ def alone(crate: str, edits: List[Path], control: bool = False) -> Edited:
 
 
 def are_apart(crate: str, edits: List[Path]) -> bool:
-    """Whether edits fit the files of a crate together, and no other one changes what is proved as one with the last one."""
+    """Whether edits fit the files of a crate together, and no other one changes the unit of proof of the last one."""
     try:
         *others, last = edits
         if others and any(alone(crate, it).of_definitions() for it in (others, [last])):
@@ -312,8 +314,8 @@ def has_control(crate: str, edit: Path) -> bool:
 
 
 def sum_of_control(crate: str, edit: Path) -> str:
-    """The sum of all that an edit and its control are tried by: the edit, its functions or laws, their proofs, and the definitions
-    that it changes."""
+    """Returns the sum of the texts by which an edit and its control are tried: the edit, its functions or laws, their
+    proofs, and the definitions that it changes."""
     edited, folder = alone(crate, [edit]), folder_of(crate)
     names = {name.split("::")[-1] for name in edited.names()}
     files = {path for path in edited.first if not path.startswith("src/")}
@@ -338,8 +340,8 @@ def fit_together(crate: str, edits: List[Path]) -> bool:
 
 
 def control_rounds(crate: str, edits: List[Path]) -> Iterator[List[Path]]:
-    """Edits, in rounds in which their controls are tried at once. Those of definitions keep the meaning of each, so that all laws
-    which they name are proved over all of them."""
+    """Yields edits in rounds in which their controls are tried at once. Those of definitions keep the meaning of each,
+    so all laws that they name are proved over all of them."""
     left = edits
     while left:
         chosen: List[Path] = []
@@ -351,8 +353,8 @@ def control_rounds(crate: str, edits: List[Path]) -> Iterator[List[Path]]:
 
 
 def says_of_itself(function: str, why: str) -> bool:
-    """Whether what a check says of a function that is not proved lies in its own body, or in a closure there, and not in
-    other functions that it calls or that are of its cycle."""
+    """Whether the reason of a check for a function that is not proved concerns its own body, or a closure there, and
+    not other functions that it calls or that are in its cycle."""
     text = why.removeprefix("no proof: ")
     reasons = [text] if text.startswith(("not proved; ", "the borrow checker's part in")) else text.split("; ")
     closures = "`" + function.replace("::", "::fn::", 1) + "::"
@@ -361,8 +363,9 @@ def says_of_itself(function: str, why: str) -> bool:
 
 
 def verdict_of(functions: Set[str], told: Dict[str, str], is_alone: bool) -> str:
-    """What a check that told these verdicts says of an edit of these functions. One whose own body is not proved refuses it;
-    any one does so where the edit was tried alone, since all others are then as they are proved."""
+    """Returns the verdict on an edit of these functions, given the verdicts of a check. A function whose own body is
+    not proved refuses the edit; any function does so if the edit was tried alone, since all others are then as they are
+    proved."""
     found = {name: told[name] for end in functions for name in told if f"::{name}".endswith(f"::{end}")}
     refused = {name: verdict for name, verdict in found.items() if verdict != "proved"}
     if refused:
@@ -376,7 +379,7 @@ def is_at(edited: Edited, function: Changed, path: str, line: int) -> bool:
     if path.startswith("proofs/"):
         return Path(path).parent.name in (last, f"+{last}", function.proof)
     lines = edited.texts.get(path, "").split("\n")
-    # A goal of a cycle of calls is told at what stands right above its function
+    # A goal of a cycle of calls is reported at the lines directly above its function
     while line < len(lines) and lines[line - 1].lstrip().startswith(("#[", "//")):
         line += 1
     here = function_at(path, "\n".join(lines[:line]))
@@ -384,27 +387,27 @@ def is_at(edited: Edited, function: Changed, path: str, line: int) -> bool:
 
 
 def is_open(path: str, text: str) -> bool:
-    """Whether a check says that a goal is open which has to do with the meaning of a function. In a proof by hand it has values at
-    which the goal fails."""
+    """Whether a message says that a goal is open that concerns the meaning of a function. In a proof by hand the
+    message has values at which the goal fails."""
     goal = OPEN.search(text)
     return bool(OF_MEANING.match(goal[1])) if goal else path.startswith("proofs/") and FAILING.match(text) is not None
 
 
 def told_of(edited: Edited, functions: Set[Optional[Changed]], said: str) -> List[Tuple[str, str]]:
-    """The files of a function or of its proof that a check says something of, each with what it says there."""
+    """Returns the files of a function or of its proof that a check reports, each with its message."""
     places = [(path, int(line), text) for path, line, text in TOLD.findall(said)]
     return [(path, text) for path, line, text in places if any(it and is_at(edited, it, path, line) for it in functions)]
 
 
 def is_of_names(told: List[Tuple[str, str]]) -> bool:
-    """Whether all that a check says of functions is that their proofs name what is there no longer. So would it say of an edit
-    that changes the form of a function, and not its meaning."""
+    """Whether all messages about functions say that their proofs name something that no longer exists. A check would
+    say the same of an edit that changes the form of a function, and not its meaning."""
     return bool(told) and all(path.startswith("proofs/") and OF_A_NAME.search(text) for path, text in told)
 
 
 def counted(told: List[Tuple[str, str]]) -> str:
-    """The verdict on an edit that is refused, and whose control is accepted. It is to leave a goal open that has to do with
-    what its function means."""
+    """Returns the verdict on an edit that is refused, and whose control is accepted. The edit must leave a goal open
+    that concerns the meaning of its function."""
     if any(is_open(*it) for it in told):
         return REFUSED
     if any(OPEN.search(text) for _, text in told):
@@ -413,7 +416,7 @@ def counted(told: List[Tuple[str, str]]) -> str:
 
 
 def verdicts_of(crate: str, edits: List[Path], said: str) -> Dict[Path, str]:
-    """What a check of edits says of each of them."""
+    """Returns the verdict of a check on each of some edits."""
     told, whole, found = dict(VERDICT.findall(said)), alone(crate, edits), {}
     for edit in edits:
         edited = alone(crate, [edit])
@@ -429,8 +432,9 @@ def verdicts_of(crate: str, edits: List[Path], said: str) -> Dict[Path, str]:
 
 
 def asked_again(verdicts: Dict[Path, str]) -> List[List[Path]]:
-    """The edits, round by round, that are to be tried again. One whose function calls one that another edit of the round
-    changes is tried without those that were refused; each alone, where the check tells nothing of any of them."""
+    """Returns the edits, round by round, that are to be tried again. One whose function calls one that another edit of
+    the round changes is tried without those that were refused; each is tried alone if the check has no verdict on any
+    of them."""
     if set(verdicts.values()) - {UNTOLD, NO_VERDICT}:
         again = [edit for edit, verdict in verdicts.items() if verdict == UNTOLD]
         return [again] if again else []
@@ -438,7 +442,8 @@ def asked_again(verdicts: Dict[Path, str]) -> List[List[Path]]:
 
 
 def checked_in(copy: Path, crate: str, edits: List[Path], control: bool) -> str:
-    """What `rt check` says of the functions that edits or their controls change, in a copy of the repository."""
+    """Returns the output of `rt check` for the functions that edits or their controls change, in a copy of the
+    repository."""
     edited, folder = alone(crate, edits, control), copy / "crates" / crate
     for path, text in edited.texts.items():
         (folder / path).write_text(text, encoding="utf-8")
@@ -452,7 +457,8 @@ def checked_in(copy: Path, crate: str, edits: List[Path], control: bool) -> str:
 
 
 def tried_quickly(copy: Path, crate: str) -> bool:
-    """Tries the edits of a crate in a copy of the repository, prints a verdict for each, and says whether all are refused."""
+    """Tries the edits of a crate in a copy of the repository, and prints a verdict for each. Returns whether all are
+    refused."""
     for edit in others_of(crate):
         print(f"{crate}/{edit.name}: not tried: it does not change functions alone, and names no law")
     task = Task(lambda edits, control: checked_in(copy, crate, edits, control), crate, list(rounds_of(crate)), True, tells=False)
@@ -463,7 +469,7 @@ def tried_quickly(copy: Path, crate: str) -> bool:
 
 
 def tried(crates: List[str], quickly: bool) -> bool:
-    """Tries the edits of the crates in a copy of the repository, and says whether all are refused."""
+    """Tries the edits of the crates in a copy of the repository. Returns whether all are refused."""
     with tempfile.TemporaryDirectory(prefix="wrong-bodies-") as room:
         copy = Path(room) / ROOT.name
         shutil.copytree(ROOT, copy, ignore=shutil.ignore_patterns(".git"))
@@ -479,11 +485,11 @@ def tried(crates: List[str], quickly: bool) -> bool:
 
 
 class Unknown(Exception):
-    """Why nothing can be tried over what `rt ci` built."""
+    """Nothing can be tried over what `rt ci` built; the text says why."""
 
 
 def of_toolchain() -> ModuleType:
-    """The library of `rt`, which says how a crate is checked."""
+    """Returns the library of `rt` that checks a crate."""
     try:
         page = subprocess.run(["rt", "doc"], check=True, stdout=subprocess.PIPE, text=True).stdout.strip()
         sys.path.insert(0, str(Path(page).parent / "bin"))
@@ -494,14 +500,14 @@ def of_toolchain() -> ModuleType:
 
 
 class Built:
-    """The crates of the repository, with the libraries that were built of them."""
+    """The crates of the repository, with the libraries that were built from them."""
 
     def __init__(self) -> None:
         self.library = of_toolchain()
         self.crates = {crate.name: crate for crate in self.library.crates_below(str(ROOT))}
 
     def words(self, name: str) -> List[str]:
-        """The command that checks a crate in the present folder, over the libraries below it."""
+        """Returns the command that checks a crate in the present folder, over the libraries below it."""
         crate = self.crates[name]
         for below in crate.below():
             stamp = Path(below.rlib).parent / "stamp"
@@ -511,8 +517,8 @@ class Built:
 
 
 def checked_apart(words: List[str], crate: str, edits: List[Path], control: bool) -> str:
-    """What a check says of the functions that edits or their controls change, in a folder of its own: nothing where it was
-    stopped."""
+    """Returns the output of a check of the functions that edits or their controls change, in a folder of its own; empty
+    if it was stopped."""
     edited = alone(crate, edits, control)
     with tempfile.TemporaryDirectory(prefix="wrong-bodies-") as room:
         for part in ("src", "specs", "proofs"):
@@ -530,8 +536,9 @@ def checked_apart(words: List[str], crate: str, edits: List[Path], control: bool
 
 
 class Task(NamedTuple):
-    """How the edits of a crate are to be tried: what checks edits, or their controls; the rounds; whether controls with a kept
-    verdict are tried too; the moment after which no check begins; and whether it says what a check said that did not go as it should."""
+    """How the edits of a crate are to be tried: the function that checks edits, or their controls; the rounds; whether
+    controls with a kept verdict are tried too; the moment after which no check begins; and whether the output of a
+    check with an unexpected result is printed."""
 
     check: Callable[[List[Path], bool], str]
     crate: str
@@ -542,7 +549,7 @@ class Task(NamedTuple):
 
 
 def verdicts_of_round(task: Task, edits: List[Path]) -> Dict[Path, str]:
-    """What comes of each edit of a round."""
+    """Returns the verdict on each edit of a round."""
     said = task.check(edits, False)
     verdicts = verdicts_of(task.crate, edits, said)
     again = asked_again(verdicts)
@@ -555,7 +562,8 @@ def verdicts_of_round(task: Task, edits: List[Path]) -> Dict[Path, str]:
 
 
 def verdicts_of_controls(task: Task, edits: List[Path]) -> Dict[Path, str]:
-    """What comes of the controls of edits that are tried at once. Each is tried once more alone, where the check does not accept all."""
+    """Returns the verdicts on the controls of edits that are tried at once. Each is tried once more alone if the check
+    does not accept all."""
     said = task.check(edits, True)
     told = dict(VERDICT.findall(said))
     found = {edit: verdict_of(alone(task.crate, [edit], True).names(), told, edits == [edit]) for edit in edits}
@@ -568,7 +576,7 @@ def verdicts_of_controls(task: Task, edits: List[Path]) -> Dict[Path, str]:
 
 
 def verdicts_of_crate(task: Task) -> Dict[Path, str]:
-    """What comes of each edit of a crate, with its control."""
+    """Returns the verdict on each edit of a crate, with its control."""
     found: Dict[Path, str] = {}
     for edits in task.rounds:
         late = time.monotonic() > task.until
@@ -585,18 +593,18 @@ def verdicts_of_crate(task: Task) -> Dict[Path, str]:
 
 
 def size_of(crate: str) -> int:
-    """How long the files of a crate are, by which the longest checks are begun first."""
+    """Returns the length of the files of a crate, by which the longest checks are begun first."""
     return sum(file.stat().st_size for part in PARTS for file in (folder_of(crate) / part).rglob("*") if file.is_file())
 
 
 def lanes() -> int:
-    """How many checks may run side by side."""
+    """Returns how many checks may run side by side."""
     free = re.search(r"^MemAvailable: *(\d+) kB", Path("/proc/meminfo").read_text(encoding="utf-8"), re.MULTILINE)
     return max(1, min(len(os.sched_getaffinity(0)), int(free.group(1)) * 1024 // ROOM if free else 1))
 
 
 class Asked(NamedTuple):
-    """What is asked for of edits that are tried over what `rt ci` built."""
+    """The parsed words about edits that are tried over what `rt ci` built."""
 
     crates: List[str]
     with_all: bool = False
@@ -606,8 +614,8 @@ class Asked(NamedTuple):
 
 
 def check_of(words: List[str], crate: str) -> Callable[[List[Path], bool], str]:
-    """What checks edits of a crate, or their controls. What it proves of functions that none of them changes is kept for the next check,
-    in a folder that is removed at the end."""
+    """Returns a function that checks edits of a crate, or their controls. Its proofs of functions that none of them
+    changes are kept for the next check, in a folder that is removed at the end."""
     kept = tempfile.TemporaryDirectory(prefix="wrong-bodies-")
 
     def check(edits: List[Path], control: bool) -> str:
@@ -617,7 +625,8 @@ def check_of(words: List[str], crate: str) -> Callable[[List[Path], bool], str]:
 
 
 def tasks_of(asked: Asked) -> Tuple[List[Task], Dict[str, str]]:
-    """How the edits of each crate are to be tried, the longest first, and why those of the other crates cannot be."""
+    """Returns how the edits of each crate are to be tried, the longest first, and why those of the other crates cannot
+    be."""
     missing: Dict[str, str] = {}
     tasks: List[Task] = []
     try:
@@ -634,8 +643,8 @@ def tasks_of(asked: Asked) -> Tuple[List[Task], Dict[str, str]]:
 
 
 def tried_as_built(asked: Asked) -> Tuple[bool, Dict[Path, str]]:
-    """Tries the edits of the crates over what `rt ci` built, prints what came of it, and gives whether each was refused, and the
-    verdicts. Where it skips, the former goes for the crates alone whose libraries are there."""
+    """Tries the edits of the crates over what `rt ci` built, and prints the results. Returns whether each was refused,
+    and the verdicts. If crates may be skipped, the former is about the crates alone whose libraries are there."""
     tasks, missing = tasks_of(asked)
     verdicts: Dict[Path, str] = {}
     with ThreadPoolExecutor(lanes()) as pool:
@@ -660,7 +669,7 @@ def tried_as_built(asked: Asked) -> Tuple[bool, Dict[Path, str]]:
 
 
 def asked_of(words: List[str]) -> argparse.Namespace:
-    """What is asked for."""
+    """Returns the parsed words."""
     parser = Words("tools/wrong_bodies", __doc__, mistake=2)
     ways = parser.add_mutually_exclusive_group()
     for way in ("--list", "--quick", "--built", "--stale"):
@@ -680,8 +689,8 @@ def asked_of(words: List[str]) -> argparse.Namespace:
 
 
 def tried_stale(crates: List[str]) -> bool:
-    """Tries those of the edits that the gate leaves out whose verdict is of other files, and says whether each is refused. The page
-    takes the new verdicts."""
+    """Tries those of the edits that the gate leaves out whose verdict is of other files. Returns whether each is
+    refused, and writes the new verdicts into the page."""
     rows = sums.rows_of_apart()
     stale = {edit for crate in crates for edit in edits_of(crate)
              if edit.parent.name == APART and rows.get(f"{crate}/{edit.stem}") != sums.sum_of_crate(folder_of(crate))}
@@ -697,14 +706,15 @@ def tried_stale(crates: List[str]) -> bool:
 
 
 def kept_of(verdicts: Dict[Path, str]) -> Dict[str, str]:
-    """The sums of the controls that were accepted, by the names of their edits; nothing for one that was tried in vain."""
+    """Returns the sums of the controls that were accepted, by the names of their edits; empty for one that was not
+    accepted."""
     told = {it: it.relative_to(KEPT).parts[0] for it, verdict in verdicts.items() if verdict != LATE}
     return {f"{crate}/{it.stem}": sum_of_control(crate, it) if verdicts[it] == REFUSED and has_control(crate, it) else ""
             for it, crate in told.items()}
 
 
 def main(words: List[str]) -> int:
-    """Tries the edits that the words name, and gives the exit status."""
+    """Tries the edits that the words name, and returns the exit status."""
     asked = asked_of(words)
     if asked.list:
         return 0 if listed() else 1

@@ -1,6 +1,6 @@
-"""What pip asks when it installs this repository, as the standard of build backends has it (PEP 517).
+"""The build backend by which pip installs this repository, as the standard has it (PEP 517).
 
-It has the wheel written by tools/wheel, and needs nothing else: no package is downloaded."""
+It calls tools/wheel to write the wheel, and needs nothing else: no package is downloaded."""
 from __future__ import annotations
 
 import importlib.machinery
@@ -15,11 +15,11 @@ WHEEL = Path(__file__).resolve().parent.parent / "wheel"
 
 
 class UnsupportedOperation(Exception):
-    """What is asked for is not offered; the standard gives the name."""
+    """A request is not supported; the standard gives the name."""
 
 
 def tool() -> ModuleType:
-    """The program tools/wheel as a module."""
+    """Returns the program tools/wheel as a module."""
     loader = importlib.machinery.SourceFileLoader("pycheck_wheel", str(WHEEL))
     found = importlib.util.spec_from_loader(loader.name, loader)
     assert found is not None
@@ -30,14 +30,15 @@ def tool() -> ModuleType:
 
 
 def get_requires_for_build_wheel(config_settings: Optional[Any] = None) -> List[str]:
-    """The packages that a build needs: none."""
+    """Returns the packages that a build needs: none."""
     return []
 
 
 def build_wheel(
     wheel_directory: str, config_settings: Optional[Any] = None, metadata_directory: Optional[str] = None
 ) -> str:
-    """Writes the wheel into a folder, and gives its name. A repository that gives none ends the build, and says why."""
+    """Writes the wheel into a folder, and returns its name. If the repository gives none, the build ends with the
+    reason."""
     wheel = tool()
     try:
         path: Path = wheel.write_wheel(Path(wheel_directory))
@@ -47,5 +48,5 @@ def build_wheel(
 
 
 def build_sdist(sdist_directory: str, config_settings: Optional[Any] = None) -> NoReturn:
-    """No archive of the sources is written."""
+    """Raises UnsupportedOperation: no archive of the sources is written."""
     raise UnsupportedOperation("there is no archive of the sources: take a clone of the repository")

@@ -1,4 +1,4 @@
-# The core of a shop: what is in stock, and what an order takes out of it.
+# The core of a shop: the stock, and orders that take items out of it.
 from __future__ import annotations
 from dataclasses import dataclass
 
@@ -16,7 +16,7 @@ class Refused:
     name: str
     reason: str
 
-# Takes an order out of the stock, and gives what it costs. Where one line cannot be served nothing is taken.
+# Takes an order out of the stock, and gives its cost. If one line cannot be served, nothing is taken.
 def sell(shop: Shop, order: dict[str, int]) -> int | Refused:
     cost = 0
     for name in order:
@@ -29,7 +29,7 @@ def sell(shop: Shop, order: dict[str, int]) -> int | Refused:
         item.count = item.count - order[name]
     return cost
 
-# What so many of an item cost, or why they cannot be had.
+# The cost of so many of an item, or why they cannot be sold.
 def price_of(shop: Shop, name: str, count: int) -> int | Refused:
     item = shop.items.get(name)
     if item is None:

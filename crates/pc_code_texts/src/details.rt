@@ -11,7 +11,7 @@ pub struct FunctionName {
     pub name: RcStr,
 }
 
-/// What a call calls.
+/// The thing that a call calls.
 #[derive(Drop)]
 pub enum Callable {
     Function(FunctionName),
@@ -76,7 +76,7 @@ pub enum Sink {
     /// The argument of what takes arguments by position only.
     Argument(Callable),
     Return(FunctionName),
-    /// What `in` looks for in an object of this type.
+    /// The operand that `in` looks for, in an object of this type.
     Sought(RcStr),
     Holder(Holder),
 }
@@ -97,7 +97,7 @@ pub enum OperatorUse {
     Minus(RcStr),
 }
 
-/// What else is known of an attribute that an object does not have.
+/// A fact about an attribute that an object does not have, beside its absence.
 #[derive(Drop)]
 pub enum AttributeHint {
     Nothing,
@@ -143,7 +143,7 @@ pub enum Elsewhere {
     NotImported,
 }
 
-/// What an initializer uses too early.
+/// The item that an initializer uses too early.
 #[derive(Drop)]
 pub enum Early {
     Function(RcStr),
@@ -199,7 +199,7 @@ pub enum OverrideFault {
     OtherParameter(RcStr, OverrideTypes),
 }
 
-/// What already has a name.
+/// The item that already has a name.
 #[derive(Clone, Copy)]
 pub enum Earlier {
     Item(Place),
@@ -263,7 +263,7 @@ pub enum TypeFault {
     Override(FunctionName, Place, OverrideFault),
 }
 
-/// What is against a rule that no type decides alone; of errors only.
+/// The fault against a rule that no type decides alone; of errors only.
 #[derive(Drop)]
 pub enum RuleFault {
     /// `E20`.
@@ -312,7 +312,7 @@ pub enum RuleFault {
     DefaultOrder(LateDefault),
 }
 
-/// What is wrong at a finding.
+/// The reason for a finding, with its types, names and places.
 #[derive(Drop)]
 pub enum Detail {
     Types(TypeFault),

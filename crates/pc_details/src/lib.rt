@@ -1,4 +1,4 @@
-//! What is wrong at each finding of a module.
+//! The reason for each finding of a module: its types, names and places.
 #![tactic(auto)]
 
 mod laws;

@@ -1,4 +1,4 @@
--- What the server writes, as the replies of a session. Own rule of the server, over Language Server Protocol 3.17.
+-- The output of the server, as the replies of a session. Own rule of the server, over Language Server Protocol 3.17.
 use Rattle.std.specs.Prelude.{◌≡◌, ℕ, List, map, Option}
 use Rattle.serde_json.specs.Data.{Data}
 use Rattle.pc_source.specs.declared.counted.Counted.{Counted}

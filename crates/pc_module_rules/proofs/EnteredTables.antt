@@ -133,7 +133,7 @@ module _ (setting : Surroundings) (declared : List Tree) where
   long_none zero = refl
   long_none (suc n) = ap suc (long_none n)
 
-  long_types : (table : Table) → length (type_table table) ≡ length table
+  pub long_types : (table : Table) → length (type_table table) ≡ length table
   long_types [] = refl
   long_types (o ∷ os) = ap suc (long_types os)
 

@@ -72,7 +72,7 @@ module _ (m : Module) (ctx : Context) (returned : Tree) where
       env = noted_env a.keeps valued r p v ∙ h.env ∙ sym (noted_env b.keeps valued r p w);
     }
 
-    same_value : (table : Table) (env : Env) (r : NameMeaning) (annotation : Option Tree) (e : Expr) (f g : List Note)
+    pub same_value : (table : Table) (env : Env) (r : NameMeaning) (annotation : Option Tree) (e : Expr) (f g : List Note)
         → SameBinding (bind_value a table env r annotation e f) (bind_value b table env r annotation e g)
     same_value table env (res.Local x) annotation e f g =
         let want = known_declared (bound_type table x) annotation in
@@ -91,7 +91,7 @@ module _ (m : Module) (ctx : Context) (returned : Tree) where
         same_value table env r (Some (read_ann m ctx.bases ann)) e (f ++ annotation_finds a o n ann)
         (g ++ annotation_finds b o n ann)
 
-    same_annotated : (table : Table) (env : Env) (n : Name) (ann : Ann) (e : Option Expr) (f g : List Note)
+    pub same_annotated : (table : Table) (env : Env) (n : Name) (ann : Ann) (e : Option Expr) (f g : List Note)
         → SameBinding (bind_annotated a table env n ann e f) (bind_annotated b table env n ann e g)
     same_annotated table env n ann e f g =
         let r = ctx.resolve n.text in

@@ -13,8 +13,13 @@ pub mod LabelledStatements
 pub mod LabelledSuites
 pub mod LabelledTargets
 pub mod LocalNames
+pub mod KeptStatements
 pub mod KeptWalks
 pub mod Labelled
+pub mod NamedModules
+pub mod NamedNotes
+pub mod NamedStatements
+pub mod NamelessNotes
 pub mod NotedNames
 pub mod NotedTypes
 pub mod OneModule

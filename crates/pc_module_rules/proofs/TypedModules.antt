@@ -164,11 +164,11 @@ module _ (m : Module) where
     unfolding label_in
     label_is = ap (whole_label c.value) is_computed
 
-    type_well_formed : IsWellFormed bases (constant_type m c.annotation (type_of c.value labels.value))
+    pub type_well_formed : IsWellFormed bases (constant_type m c.annotation (type_of c.value labels.value))
     type_well_formed = constant_well_formed m c.annotation (type_of c.value labels.value)
         (subst (λ (x : Labels c.value). IsWellFormed bases (type_of c.value x)) is_computed is_well_formed)
 
-    constant_is : type_of_constant m (reached_at b) c ≡ constant_type m c.annotation (type_of c.value labels.value)
+    pub constant_is : type_of_constant m (reached_at b) c ≡ constant_type m c.annotation (type_of c.value labels.value)
     constant_is = ap (λ (x : Label). constant_type m c.annotation x.type) label_is
 
     constant_shows : Shows (constant_findings m true (reached_at b) c) (types_in c.value labels.value)

@@ -4,7 +4,6 @@ use Rattle.std.proofs.Common.{◌≡◌, ℕ, List, [], ◌∷◌, ◌++◌, ref
 use Rattle.std.specs.Prelude.{Bool as Test, true, false, unwrap_or, Option, Some, None, is_some}
 use Rattle.pc_source.specs.declared.place.Place.{Place}
 use Rattle.pc_tree.specs.declared.code.Code.TheVariants.{E24}
-use Rattle.pc_tree.specs.declared.code.Finding.{Finding}
 use Rattle.pc_tree.specs.Code.{finding}
 use Rattle.pc_tree.specs.Depth.{place_of}
 use Rattle.pc_tree.specs.Tree.{Name, Expr, Ann, Target, to_name, to_attribute, to_index, Stmt, Stmts, Branches, pass}
@@ -40,23 +39,23 @@ use Rattle.pc_module_rules.specs.Statements.{LawfulBranches}
 use Rattle.pc_module_rules.specs.Laws.Labellings.{Surroundings}
 use Rattle.pc_module_rules.specs.Computed.Statements.{Table, bound_type, known_declared, BodyContext, Walk}
 use Rattle.pc_module_rules.specs.Computed.Statements.{BranchesResult, at, with_way, narrowed_at, head_at, item_label_of}
-use Rattle.pc_module_rules.specs.Computed.Statements.{iterable_finds, bind_label, bind_value, bind_annotated}
+use Rattle.pc_module_rules.specs.Computed.Statements.{iterable_finds, bind_label, bind_value}
 use Rattle.pc_module_rules.specs.Computed.Statements.{annotation_finds, bound_name, bind_item, store_finds}
 use Rattle.pc_module_rules.specs.Computed.Statements.{assign_target, option_finds, return_finds, behind_loop}
 use Rattle.pc_module_rules.specs.Computed.Statements.{inside_for, step, walk_suite, walk_branches}
 use Rattle.pc_module_rules.specs.Computed.Statements.{BindingResult, annotated_binding, name_note, noted_binding}
 use Rattle.pc_module_rules.specs.Computed.Statements.{with_note}
-use Rattle.pc_module_rules.specs.Laws.Walks.{TableFits, EnvFits, OutFits, WalkSays, body_context_in}
+use Rattle.pc_module_rules.specs.Laws.Walks.{TableFits, EnvFits, OutFits, body_context_in}
 use Rattle.pc_module_rules.proofs.DeclaredTypes.{known_well_formed, want_is}
 use Rattle.pc_module_rules.proofs.WalkedTables.{fits_both}
 use Rattle.pc_module_rules.proofs.WalkedEnvironments.{truth_same, truth_fits, head_same, head_fits}
 use Rattle.pc_module_rules.proofs.WalkedExpressions.{iterable_told}
 use Rattle.pc_module_rules.proofs.WalkedBindings.{target_says}
-use Rattle.pc_module_rules.proofs.WalkedStatements.{stmt_says, suite_says}
 use Rattle.pc_module_rules.specs.TypesOfExpressions.{TypeAt, types_in}
 use Rattle.pc_module_rules.specs.TypesOfStatements.{types_in_option, types_in_iterable, types_in_stmt, types_in_suite}
 use Rattle.pc_module_rules.specs.TypesOfStatements.{types_in_branches}
-use Rattle.pc_module_rules.proofs.KeptWalks.{SameWalk, standing, same_item, same_item_bound, same_step, same_suite}
+use Rattle.pc_module_rules.proofs.KeptStatements.{Stands, stmt_stands, suite_stands, none_noted}
+use Rattle.pc_module_rules.proofs.KeptWalks.{standing, same_item, same_item_bound}
 use Rattle.pc_module_rules.proofs.NotedTypes.{Shows, show_plain, show_codes, show_flows, ShowsMore, more_none, more}
 use Rattle.pc_module_rules.proofs.NotedTypes.{more_then, more_behind, show_nothing}
 use Rattle.pc_module_rules.proofs.NotedNames.{note_holds}
@@ -82,47 +81,6 @@ module _ (setting : Surroundings) (knows : KnowsRange setting) (returned : Tree)
 
   abbrev LawfulThere : NamesBound → Env → (b : Stmts) → SuiteLabels b → Option Env → Type 0
   LawfulThere seen env b labels out = LawfulSuite m ctx declared returned seen env b labels out
-
-  -- ---- where a walk has come to
-
-  -- the walk that keeps types has come to the environment of the labels, from this table to one that fits
-  record Stands (seen : NamesBound) (table : Table) (w : Walk) (out : Option Env) : Type 0 where
-    fits : TableHere seen w.table
-    grows : (env : Env) → EnvFits setting declared table env → EnvFits setting declared w.table env
-    env_is : w.env ≡ out
-    env_fits : OutFits setting declared w.table out
-    broken_fits : OutFits setting declared w.table w.broken
-
-  stands : (seen : NamesBound) (table : Table) (broken : Option Env) (found : List Note) (v w : Walk) (out : Option Env)
-      (ways : List Env) (Says : Finding → Type 0) → SameWalk v w
-      → WalkSays setting declared seen table broken found w out ways Says → Stands seen table v out
-  stands seen table broken found v w out ways Says h says = record {
-    fits = subst (λ (t : Table). TableHere seen t) (sym h.table) says.fits;
-    grows = λ env f. subst (λ (t : Table). EnvFits setting declared t env) (sym h.table) (says.grows env f);
-    env_is = h.env ∙ says.env_is;
-    env_fits = subst (λ (t : Table). OutFits setting declared t out) (sym h.table) says.env_fits;
-    broken_fits = subst (λ (t : Table). OutFits setting declared t v.broken) (sym h.table)
-        (subst (λ (o : Option Env). OutFits setting declared w.table o) (sym h.broken) says.broken_fits);
-  }
-
-  stmt_stands : (seen : NamesBound) (table : Table) (env : Env) (broken : Option Env) (found : List Note)
-      → TableHere seen table → EnvFits setting declared table env → OutFits setting declared table broken
-      → (s : Stmt) (labels : StmtLabels s) (out : Option Env) → LawfulHere seen env s labels out
-      → Stands (texts (bound_by_stmt s) ++ seen) table (step context table (Some env) broken found s) out
-  stmt_stands seen table env broken found t f kb s labels out l =
-      stands (texts (bound_by_stmt s) ++ seen) table broken found (step context table (Some env) broken found s)
-      (step plain table (Some env) broken found s) out _ _
-      (same_step m ctx returned true false table (Some env) broken found found s)
-      (stmt_says setting returned kr declared seen table env broken found t f kb s labels out l)
-
-  suite_stands : (seen : NamesBound) (w : Walk) (env : Env) → w.env ≡ Some env → TableHere seen w.table
-      → EnvFits setting declared w.table env → OutFits setting declared w.table w.broken
-      → (b : Stmts) (labels : SuiteLabels b) (out : Option Env) → LawfulThere seen env b labels out
-      → Stands (texts (bound_by b) ++ seen) w.table (walk_suite context w b) out
-  suite_stands seen w env e t f kb b labels out l =
-      stands (texts (bound_by b) ++ seen) w.table w.broken w.found (walk_suite context w b) (walk_suite plain w b) out
-      _ _ (same_suite m ctx returned true false w w (record { table = refl; env = refl; broken = refl }) b)
-      (suite_says setting returned kr declared seen w env e t f kb b labels out l)
 
   -- ---- a name bound
 
@@ -253,19 +211,11 @@ module _ (setting : Surroundings) (knows : KnowsRange setting) (returned : Tree)
       → OutFits setting declared w.table w.broken → (labels : SuiteLabels b) (out : Option Env)
       → LawfulThere seen env b labels out → ShowsMore w.found (walk_suite context w b).found (types_in_suite b labels)
 
-  -- where no run comes, nothing is noted
-  none_noted : (v : Walk) → v.env ≡ None → (rest : Stmts) → (walk_suite context v rest).found ≡ v.found
-  none_noted v e no_stmts = refl
-  none_noted v e (more_stmts s rest) =
-      none_noted (step context v.table v.env v.broken v.found s)
-      (ap (λ (o : Option Env). (step context v.table o v.broken v.found s).env) e) rest
-      ∙ ap (λ (o : Option Env). (step context v.table o v.broken v.found s).found) e
-
   -- the notes of a statement and of those after it show the types in them
   behind_shows : (b : Test) (seen : NamesBound) (env : Env) (table : Table) (found : List Note) (s : Stmt)
       (rest : Stmts) (s0 : StmtLabels s) (r : Behind b (Following (SuiteLabels rest))) (out : Option Env) (v : Walk)
       → ((o : Option Env) → LawfulHere seen env s s0 o
-      → Stands (texts (bound_by_stmt s) ++ seen) table v o × ShowsMore found v.found (types_in_stmt s s0))
+      → Stands setting returned kr declared (texts (bound_by_stmt s) ++ seen) table v o × ShowsMore found v.found (types_in_stmt s s0))
       → SuiteShows (texts (bound_by_stmt s) ++ seen) rest
       → BehindRule b r (λ x. LawfulHere seen env s s0 (Some x.env)
       × LawfulThere (texts (bound_by_stmt s) ++ seen) x.env rest x.rest out)
@@ -281,7 +231,8 @@ module _ (setting : Surroundings) (knows : KnowsRange setting) (returned : Tree)
       let f = first None l.0 in
       subst (λ (rows : List TypeAt). ShowsMore found (walk_suite context v rest).found rows)
       (sym (append-nil (types_in_stmt s s0)))
-      (subst (λ (xs : List Note). ShowsMore found xs (types_in_stmt s s0)) (sym (none_noted v f.0.env_is rest)) f.1)
+      (subst (λ (xs : List Note). ShowsMore found xs (types_in_stmt s s0))
+      (sym (none_noted setting returned kr declared v f.0.env_is rest)) f.1)
 
   -- a walk over branches fits the labels, and shows just the types under them
   record ForkShows (seen : NamesBound) (found : List Note) (w : BranchesResult) (last : Env) (rows : List TypeAt)
@@ -435,7 +386,7 @@ module _ (setting : Surroundings) (knows : KnowsRange setting) (returned : Tree)
         (behind_shows (completes s) seen env w.table w.found s rest labels.first labels.behind out
         (step context w.table (Some env) w.broken w.found s)
         (λ o y. (
-          stmt_stands seen w.table env w.broken w.found t f kb s labels.first o y,
+          stmt_stands setting returned kr declared seen w.table env w.broken w.found t f kb s labels.first o y,
           stmt_shows seen w.table env w.broken w.found t f kb s labels.first o y,
         ))
         (suite_shows (texts (bound_by_stmt s) ++ seen) rest) l)
@@ -464,7 +415,8 @@ module _ (setting : Surroundings) (knows : KnowsRange setting) (returned : Tree)
           broken = w.broken;
           found = w.found ++ xs;
         } in
-        let body = suite_stands seen start (narrow ctx.bases declared ctx.resolve true c env) (ap Some (sym yes)) t
+        let body = suite_stands setting returned kr declared seen start
+        (narrow ctx.bases declared ctx.resolve true c env) (ap Some (sym yes)) t
         (truth_fits setting declared w.table kt true c env f) kb b labels.body labels.out l.body in
         let shown = suite_shows seen b start (narrow ctx.bases declared ctx.resolve true c env) (ap Some (sym yes)) t
         (truth_fits setting declared w.table kt true c env f) kb labels.body labels.out l.body in

@@ -15,4 +15,4 @@ pub use laws::{
     modules_find_what_labels_say, one_labelling, returned_values_flow, suites_have_labels,
     walks_say_what_labels_say,
 };
-pub use type_laws::types_are_noted;
+pub use type_laws::{names_are_noted, types_are_noted};

@@ -4,6 +4,7 @@ pub mod Json
 pub mod Pieces
 pub mod ReadBack
 pub mod ReadWhole
+pub mod RefusalLine
 pub mod Report
 pub mod TypeListing
 pub mod TypeTexts

@@ -1,4 +1,4 @@
--- What a client was last sent of each document. Own rule of the server, over Language Server Protocol 3.17.
+-- The last publication that a client was sent of each document. Own rule of the server, over Language Server Protocol 3.17.
 use Rattle.std.specs.List.{AllByRecursion}
 use Rattle.std.specs.Prelude.{◌≡◌, ◌⊎◌, ◌&&◌, ℕ, Bool, true, false, List, [], ◌∷◌, ◌++◌, ⊤, codes, fold, Option, None}
 use Rattle.std.specs.Prelude.{Some, option_map, unwrap_or, if◌then◌else◌}
@@ -70,7 +70,7 @@ module _ (finds : List ℕ → CheckOutcome → Type 0) where
   abbrev pub IsShownWhereSent : Agreed → List Data → OpenDocument → Type 0
   IsShownWhereSent agreed sent document = is_sent agreed document ≡ true → IsShown agreed sent document
 
-  -- What was sent is in step with the session: no two open documents have the same URI; the last publication for each is
+  -- The publications are in step with the session: no two open documents have the same URI; the last publication for each is
   -- that of its text and version; that for a document that is not open has no diagnostics; and a client that pulls
   -- diagnostics was sent none.
   pub record IsInStep (sent : List Data) (session : State) : Type 0 where

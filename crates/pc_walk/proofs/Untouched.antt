@@ -28,7 +28,7 @@ use Rattle.pc_module_rules.specs.Computed.Statements.{BodyContext, Table, type_t
 use Rattle.pc_module_rules.specs.Computed.Statements.{known_declared, Walk, BindingResult, BranchesResult}
 use Rattle.pc_module_rules.specs.Computed.Statements.{join_onto_way, with_way, at, narrowed_at, unreached_name}
 use Rattle.pc_module_rules.specs.Computed.Statements.{unreached_names, bind_label, bind_value, declared_alone}
-use Rattle.pc_module_rules.specs.Computed.Statements.{annotation_finds, bound_name, bind_annotated, assign_target}
+use Rattle.pc_module_rules.specs.Computed.Statements.{annotation_finds, bound_name, assign_target}
 use Rattle.pc_module_rules.specs.Computed.Statements.{bind_item, head_at, item_label_of, step, walk_suite}
 use Rattle.pc_module_rules.specs.Computed.Statements.{walk_branches}
 use Rattle.pc_module_rules.specs.Computed.Statements.{annotated_binding, noted_binding, with_note, iterable_finds}

@@ -2,7 +2,7 @@
 
 #![tactic(auto, using(crate::proofs::Walks::goes_further))]
 
-ghost use Rattle.std.specs.Prelude.{◌≡◌, ◌∷◌, List, IfOk, OnOk};
+ghost use Rattle.std.specs.Prelude.{◌≡◌, ◌∷◌, List, IfOk, OnOk, true};
 ghost use Rattle.pc_tree.specs.Tree.{Name as NameOf, name_of, stmts_of_list};
 ghost use Rattle.pc_tree.specs.Stopping.{bound_by};
 ghost use Rattle.pc_flow.specs.Stored.{env_of};

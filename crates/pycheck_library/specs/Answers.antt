@@ -1,4 +1,4 @@
--- What the library answers of bytes. Own rule of the profile.
+-- The answers of the library for given bytes. Own rule of the profile.
 use Rattle.std.specs.Prelude.{◌≡◌, ℕ, ◌≤◌, Bool, List, [], ◌∷◌, length}
 use Rattle.pc_source.specs.Refusals.{code_text}
 use Rattle.pc_source.specs.declared.fault.Refusal.{Refusal}

@@ -1,4 +1,4 @@
--- What becomes of the room that a caller lends. Own rule of the profile.
+-- The room that a caller lends, before and after. Own rule of the profile.
 use Rattle.std.specs.Prelude.{◌≡◌, ℕ, ◌≤◌, ◌<◌, List, ◌++◌, drop, length}
 
 -- bytes that fit stand at the head of the room, and what lies behind them is as it was; bytes that do not fit leave

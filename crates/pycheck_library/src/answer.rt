@@ -1,4 +1,4 @@
-//! What a check came to, in a form that C reads.
+//! The result of a check, in a form that C reads.
 
 ghost use Rattle.std.specs.Prelude.{◌≡◌, ◌∷◌, [], length};
 ghost use Rattle.pc_source.specs.Refusals.{code_text};
@@ -7,7 +7,7 @@ ghost use Rattle.pc_report.specs.Report.{errors_of, dynamic_count};
 use pc_report::Report;
 use pc_source::{Refusal, RefusalCode};
 
-/// What a check came to. A number that a kind does not have is 0. Own rule of the profile.
+/// The result of a check. A number that a kind does not have is 0. Own rule of the profile.
 #[repr(C)]
 #[derive(Clone, Copy, Debug, PartialEq, Eq)]
 pub struct CheckAnswer {

@@ -1,6 +1,5 @@
-//! Tables of worked cases, by subject, each case with its expected answer.
+//! Tables of worked texts and of modules with their reports, each case with its expected answer.
 #![tactic(auto)]
 
 pub mod reports;
-pub mod runs;
 pub mod texts;

@@ -13,7 +13,7 @@ pub fn judge(alloc: Global, file: &str, table: &str, tally: &mut Tally) -> Resul
     let (_, kind) = name.rsplit_once('.').ok_or(TableFault::Kind)?;
     match folder {
         "texts" => test_cases::texts::judge(alloc, kind, table, tally),
-        "runs" => test_cases::runs::judge(alloc, kind, table, tally),
+        "runs" => test_runs::judge(alloc, kind, table, tally),
         "layers" => test_layers::judge(alloc, kind, table, tally),
         "typing" => test_typing::judge(alloc, kind, table, tally),
         "reports" => test_cases::reports::judge(alloc, kind, table, &Checking, tally),

@@ -1,1 +1,1 @@
-"""Tools that look for modules which the programs answer otherwise than they may."""
+"""Tools that search for modules that the programs answer otherwise than they may."""

@@ -20,5 +20,5 @@ TOOLS = ("fuzz", "hostile", "truncate", "fail_memory", "search_runs")
 
 
 def main() -> int:
-    """Runs the tool that the words name, and gives the exit status."""
+    """Runs the tool that the words name, and returns its exit status."""
     return run_tool("attack", __doc__, TOOLS)

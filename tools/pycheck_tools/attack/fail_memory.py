@@ -43,13 +43,13 @@ RUN = ["--fuel", "1000"]
 ALL_OF, SPREAD = 6000, 2000
 QUIET = 3
 
-# What each program says on standard error where memory is wanting, and nothing else
+# The complete message of each program on standard error when memory runs out
 MEMORY = "out of memory\n"
 
-# The library that stands before a program. In place of the program's one start there is one for each number that the
-# variable FAIL_MEMORY_NUMBERS lists, each in a process of its own, in which the request of that number fails (with 0
-# none does). Each reads the file FAIL_MEMORY_INPUT on standard input, where it is named. How each ended, how many
-# requests it made and what it printed is written to the file FAIL_MEMORY_ANSWERS.
+# The library that is loaded before a program. In place of the program's one start there is one for each number that the
+# variable FAIL_MEMORY_NUMBERS lists, each in a process of its own, in which the request of that number fails (0 means
+# none). Each reads the file FAIL_MEMORY_INPUT on standard input, if that is set. The end of each, the number of its
+# requests and its output are written to the file FAIL_MEMORY_ANSWERS.
 COUNTER = r"""
 #define _GNU_SOURCE
 #include <dlfcn.h>
@@ -153,24 +153,25 @@ Row = Tuple[str, bytes, Answer]
 
 
 def rows_of(file: str, names: Sequence[str]) -> List[Row]:
-    """The rows that have an answer, or the named ones of these, with the answer in format one."""
+    """Returns the rows that have an answer, or the named ones of these, with the answer in format one."""
     found = examples.examples_of_folder(file) if os.path.isdir(file) else examples.examples_of_rows(file)
     return [(name, data, want) for name, data, want in found if want and (not names or name in names)]
 
 
 def forms_of(file: str, names: Sequence[str]) -> List[Tuple[str, bytes, List[str], Answer]]:
-    """The rows that have an answer, or the named ones of these, in each form that they have, with the words of the form."""
+    """Returns the rows that have an answer, or the named ones of these, in each form that they have, with the words of
+    the form."""
     found = examples.forms_of_folder(file) if os.path.isdir(file) else examples.forms_of_rows(file)
     return [(name, data, words, want) for name, data, words, want in found if want and (not names or name in names)]
 
 
 def is_wanting(got: Answer) -> bool:
-    """Whether the answer is that memory is wanting."""
+    """Whether the answer is that memory ran out."""
     return got == (QUIET, "", MEMORY)
 
 
 class Tally:
-    """How many answers agree, how many of these say that memory is wanting, and how many are other ones."""
+    """Counts the answers that agree, those of them that report a lack of memory, and those that differ."""
 
     def __init__(self) -> None:
         self.agree = self.differ = self.refused = 0
@@ -178,7 +179,7 @@ class Tally:
     def take(
         self, name: str, number: int, got: Answer, want: Optional[Answer], wanting: Callable[[Answer], bool]
     ) -> None:
-        """Takes the answer where the request of that number fails: the row's, or that memory is wanting."""
+        """Compares the answer when the request of that number fails: it must be the row's, or that memory ran out."""
         wants = got != want and wanting(got)
         if got == want or wants:
             self.agree += 1
@@ -187,22 +188,22 @@ class Tally:
             self.tell(f"{name}, request {number} fails: wanted {want}, answered {got}")
 
     def take_plain(self, name: str, when: str, got: Answer, want: Optional[Answer]) -> None:
-        """Takes the answer where no request fails."""
+        """Compares the answer when no request fails."""
         if got == want:
             self.agree += 1
         else:
             self.tell(f"{name}, {when}: wanted {want}, answered {got}")
 
     def tell(self, fault: str) -> None:
-        """Counts and prints what is wrong."""
+        """Counts and prints a fault."""
         self.differ += 1
         print(fault[:600], flush=True)
 
 
-# By a library that counts and refuses
+# With a library that counts and refuses
 
 def built_program(program: str) -> str:
-    """The program that a script of this repository has built and runs, or the program itself."""
+    """Returns the program that a script of this repository has built and runs, or the program itself."""
     with open(program, "rb") as file:
         is_script = file.read(2) == b"#!"
     name = os.path.basename(program)
@@ -210,7 +211,7 @@ def built_program(program: str) -> str:
 
 
 def built_counter(folder: str) -> str:
-    """The library, as a file in the folder."""
+    """Compiles the library into a file in the folder, and returns the path."""
     source, made = Path(folder) / "counter.c", Path(folder) / "counter.so"
     source.write_text(COUNTER)
     subprocess.run(["cc", "-O1", "-shared", "-fPIC", "-o", str(made), str(source), "-ldl"], check=True)
@@ -218,7 +219,8 @@ def built_counter(folder: str) -> str:
 
 
 def read_answers(data: bytes) -> Iterable[Tuple[int, Answer, int]]:
-    """What the library wrote, for each start: the failing request, the answer, how many requests there were."""
+    """Reads the records of the library. Yields for each start the failing request, the answer, and the number of
+    requests."""
     at = 0
     while at < len(data):
         end = data.index(b"\n", at)
@@ -234,7 +236,8 @@ class Failing:
         self.folder, self.counter, self.told = Path(folder), built_counter(folder), Path(folder) / "answers"
 
     def answers(self, words: Sequence[str], numbers: Iterable[int], read: str = "") -> List[Tuple[int, Answer, int]]:
-        """The answers to a command, one for each number: that request fails, or none for 0. It reads the named file."""
+        """Returns the answers to a command, one for each number: that request fails, or none for 0. The command reads
+        the named file."""
         listed = " ".join(map(str, numbers))
         asks = {"FAIL_MEMORY_NUMBERS": listed, "FAIL_MEMORY_ANSWERS": str(self.told), "LD_PRELOAD": self.counter}
         if read:
@@ -249,7 +252,7 @@ class Failing:
 
 
 def numbers_up_to(asked: int, span: Optional[Tuple[int, int]]) -> Sequence[int]:
-    """The numbers to be tried of so many requests."""
+    """Returns the numbers of the requests to be tried, out of `asked` requests."""
     first, last = span or (1, asked)
     last = min(last, asked)
     if span or last <= ALL_OF:
@@ -260,8 +263,8 @@ def numbers_up_to(asked: int, span: Optional[Tuple[int, int]]) -> Sequence[int]:
 
 
 class Command(NamedTuple):
-    """What is asked: its name, its bytes, the words, what tells that memory is wanting, and the answer; a run has none.
-    The bytes are in a file that the words name last, or that is read on standard input."""
+    """A command to run: its name, its bytes, the words, a test for the answer that memory ran out, and the expected
+    answer; a run has none. The bytes are in a file that the words name last, or that is read on standard input."""
     name: str
     data: bytes
     words: Sequence[str]
@@ -272,7 +275,7 @@ class Command(NamedTuple):
 
 
 def commands_of(pycheck: str, pyrun: str, file: str, names: Sequence[str]) -> Iterator[Command]:
-    """What is asked of the programs for the rows of a file or of a folder."""
+    """Yields the commands for the rows of a file or of a folder."""
     for name, data, words, want in forms_of(file, names):
         yield Command(" ".join([name, *words]), data, [pycheck, *words], is_wanting, want)
     for name, data, _ in rows_of(file, names) if pyrun else []:
@@ -280,14 +283,15 @@ def commands_of(pycheck: str, pyrun: str, file: str, names: Sequence[str]) -> It
 
 
 class Sweep:
-    """One command after another, each with every request failing in turn, and asked again each time."""
+    """Runs one command after another, each with every request failing in turn, and again with ample memory each
+    time."""
 
     def __init__(self, folder: str, span: Optional[Tuple[int, int]] = None) -> None:
         self.failing, self.span = Failing(folder), span
         self.tally, self.most, self.commands, self.tried = Tally(), 0, 0, 0
 
     def take(self, asked: Command) -> str:
-        """Takes one command, and says how it went."""
+        """Tries one command, and returns a line about it."""
         file, words = self.failing.folder / asked.file, [*asked.words, *([] if asked.is_read else [asked.file])]
         read = asked.file if asked.is_read else ""
         file.parent.mkdir(exist_ok=True)
@@ -309,7 +313,7 @@ class Sweep:
 
 
 def sweep_natively(commands: Iterable[Command], span: Optional[Tuple[int, int]]) -> int:
-    """Sweeps all commands, and gives the exit status."""
+    """Tries all commands, and returns the exit status."""
     with tempfile.TemporaryDirectory() as folder:
         sweep = Sweep(folder, span)
         for command in commands:
@@ -320,13 +324,13 @@ def sweep_natively(commands: Iterable[Command], span: Optional[Tuple[int, int]])
     return 1 if tally.differ or not sweep.tried else 0
 
 
-# By rt try
+# With `rt try`
 
 CASE = re.compile(r"(?P<said>(?:.*\n)*?)case=(?P<name>\S+) run=(?P<run>\S+) status=(?P<status>\S+) .*\n")
 
 
 def tried_answers(folder: str, number: int) -> Dict[str, Answer]:
-    """What `rt try` tells of each file of the folder where that request fails: an answer."""
+    """Returns the answer of `rt try` for each file of the folder when that request fails."""
     fails = ["--fail-alloc", str(number)] if number else []
     words = ["rt", "try", "pycheck", *fails, "--cases", folder, "--", *FORM, "{}"]
     done = subprocess.run(words, cwd=ROOT / "crates/pycheck", stdin=subprocess.DEVNULL, capture_output=True, text=True,
@@ -344,7 +348,7 @@ def tried_answers(folder: str, number: int) -> Dict[str, Answer]:
 
 
 def sweep_by_try(rows: List[Row], span: Optional[Tuple[int, int]]) -> int:
-    """Sweeps all rows by rt try, and gives the exit status."""
+    """Tries all rows with `rt try`, and returns the exit status."""
     tally, number, quiet = Tally(), span[0] if span else 1, 0
     with tempfile.TemporaryDirectory() as folder:
         for name, data, _ in rows:
@@ -367,13 +371,13 @@ def sweep_by_try(rows: List[Row], span: Optional[Tuple[int, int]]) -> int:
 
 
 def span_of(word: str) -> Tuple[int, int]:
-    """The first and the last of the numbers `A-B`, or of A alone."""
+    """Returns the first and the last of the numbers `A-B`, or of A alone."""
     first, _, last = word.partition("-")
     return int(first), int(last or first)
 
 
 def main(words: List[str]) -> int:
-    """Sweeps the rows that the words name, and gives the exit status."""
+    """Tries the rows that the words name, and returns the exit status."""
     parser = Words("tools/attack fail_memory", __doc__)
     parser.add_argument("--native", default="")
     parser.add_argument("--run", default="")

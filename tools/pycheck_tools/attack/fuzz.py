@@ -42,7 +42,7 @@ from ..words import Words
 from . import truncate
 
 FUEL = "2000"
-# Seconds that pass before a program counts as one that gives no answer; long, since other programs may take the processor
+# Seconds after which a program counts as one that gives no answer; long, since other programs may take the processor
 WAIT = 300
 MEMORY = 1 << 30
 WANTING = (3, b"", b"out of memory\n")
@@ -58,7 +58,7 @@ Type = Tuple[Any, ...]
 Made = Tuple[str, int]
 Param = Tuple[str, Type, bool]
 Signature = Tuple[List[Param], Type]
-# The lines of a suite, and whether a run may come to its end
+# The lines of a suite, and whether a run may reach its end
 Suite = Tuple[List[str], bool]
 # An exit status and two outputs; a finding as JSON has it; pycheck, pyrun and the reader
 Given = Tuple[int, bytes, bytes]
@@ -71,7 +71,7 @@ ATOMS: List[Type] = [INT, INT, INT, BOOL, STR, STR, NONE]
 
 
 def type_text(ty: Type) -> str:
-    """A type as an annotation spells it."""
+    """Returns a type as an annotation spells it."""
     head, parts = ty[0], ty[1:]
     if head == "class":
         return str(parts[0])
@@ -87,7 +87,7 @@ def members(ty: Type) -> List[Type]:
 
 
 class Module:
-    """What a module that is being made has so far."""
+    """The parts of a module that is being made."""
 
     def __init__(self, rng: random.Random) -> None:
         self.rng = rng
@@ -106,7 +106,7 @@ class Module:
         return f"{start}{self.number}"
 
     def ancestors(self, name: Optional[str]) -> List[str]:
-        """A class and all above it, nearest first."""
+        """Returns a class and all above it, nearest first."""
         found = []
         while name:
             found.append(name)
@@ -114,11 +114,11 @@ class Module:
         return found
 
     def fields(self, name: str) -> List[Param]:
-        """The fields of a class, those of the base first."""
+        """Returns the fields of a class, those of the base first."""
         return [field for each in reversed(self.ancestors(name)) for field in self.classes[each]["fields"]]
 
     def methods(self, name: str) -> Dict[str, Signature]:
-        """The methods of a class, the nearest of each name."""
+        """Returns the methods of a class, the nearest of each name."""
         found = {}
         for each in reversed(self.ancestors(name)):
             found.update(self.classes[each]["methods"])
@@ -145,7 +145,7 @@ class Module:
         return one[0] in ("list", "dict") and all(self.below(a, b) and self.below(b, a) for a, b in pairs)
 
     def some_type(self, deep: int = 2) -> Type:
-        """A type that an annotation may spell."""
+        """Returns a type that an annotation may spell."""
         pick = self.rng.random()
         if self.chance(self.any_share):
             return ANY
@@ -162,7 +162,7 @@ class Module:
         return OBJECT if pick < 0.88 else self.some_union(deep)
 
     def some_union(self, deep: int) -> Type:
-        """A union of types with different heads, or the one type that is left of it."""
+        """Returns a union of types with different heads, or the one type that is left of it."""
         found: List[Type] = []
         for ty in [NONE] * self.chance(0.6) + [self.some_type(deep - 1) for _ in range(self.rng.randint(1, 3))]:
             for each in members(ty):
@@ -171,14 +171,15 @@ class Module:
         return found[0] if len(found) == 1 else ("union", *found) if found else INT
 
     def meet(self, one: Type, other: Type) -> bool:
-        """Whether two types may not stand in one union: equal heads, bool beside int, a class beside its ancestor."""
+        """Whether two types may not be in one union: equal heads, bool beside int, a class beside its ancestor."""
         if one[0] == other[0] == "class":
             return self.below(one, other) or self.below(other, one)
         return (one[0], len(one)) == (other[0], len(other)) or {one, other} == {INT, BOOL}
 
 
 def grouped(made: Made, least: int) -> str:
-    """The text of an expression where one of at least this level is wanted: 0 `or` .. 7 what a dot may follow."""
+    """Returns the text of an expression for a place that accepts at least this level: from 0, `or`, to 7, the operand
+    of a dot."""
     return made[0] if made[1] >= least else f"({made[0]})"
 
 
@@ -191,10 +192,10 @@ class Body:
         self.known = dict(params)
         self.room, self.loops = module.rng.choice([1, 2, 3, 5, 8, 14]), 0
 
-    # Expressions: each maker gives a text and its level.
+    # Expressions: each maker returns a text and its level.
 
     def expr(self, ty: Type, deep: int = 3) -> Made:
-        """An expression of a type, or now and then of another one."""
+        """Returns an expression of a type, or now and then of another one."""
         if self.of.chance(self.of.wrong_share):
             ty = self.of.some_type()
         if ty[0] == "union" and self.of.chance(0.7):
@@ -217,7 +218,7 @@ class Body:
         return self.plain(ty, deep)
 
     def held(self, ty: Type) -> List[str]:
-        """The names, fields and items that hold a type."""
+        """Returns the names, fields and items that hold a type."""
         found = []
         for name, has in [*self.known.items(), *self.of.constants.items()]:
             fits = self.of.below(has, ty) or (has == ANY and self.of.chance(self.of.any_share))
@@ -231,7 +232,7 @@ class Body:
         return found
 
     def arguments(self, params: List[Param], deep: int) -> str:
-        """The arguments of a call, some of them by name, some left to their defaults."""
+        """Returns the arguments of a call, some of them by name, some left to their defaults."""
         texts, by_name = [], False
         for name, ty, has_default in params:
             if has_default and self.of.chance(0.4):
@@ -247,7 +248,7 @@ class Body:
         return ", ".join(texts)
 
     def called(self, ty: Type, deep: int) -> Optional[Made]:
-        """A call that gives the type, if one does."""
+        """Returns a call that results in the type; none if there is none."""
         calls = [(name, params) for name, (params, returns) in self.of.functions.items() if self.of.below(returns, ty)]
         calls += [(name, self.of.fields(name)) for name in self.of.classes if self.of.below(("class", name), ty)]
         for name, has in self.known.items():
@@ -267,7 +268,8 @@ class Body:
         return f"{name}({given}{',' if given and self.of.chance(0.05) else ''})", 7
 
     def of_any(self, deep: int) -> Optional[Made]:
-        """A use of a local of type Any, if there is one: an attribute, a call, an item, an operator."""
+        """Returns a use of a local of type Any: an attribute, a call, an item, an operator; none if there is no such
+        local."""
         held = [name for name, ty in self.known.items() if ty == ANY]
         if not held:
             return None
@@ -288,7 +290,7 @@ class Body:
         return (f"{name} in ({value}, {name})", 3) if pick < 0.9 else (f"{name} + {grouped(self.expr(INT, deep), 5)}", 4)
 
     def plain(self, ty: Type, deep: int) -> Made:
-        """An expression that is made for the type, of literals and operators."""
+        """Returns an expression of the type, made of literals and operators."""
         head = ty[0]
         if head in ("list", "tuple", "dict"):
             return self.display(ty, deep)
@@ -362,10 +364,10 @@ class Body:
         word = self.rng.choice(["in", "not in"])
         return f"{grouped(self.expr(left, deep), 4)} {word} {grouped(self.expr(right, deep), 4)}", 3
 
-    # Statements: each maker gives lines.
+    # Statements: each maker returns lines.
 
     def suite(self, deep: int, first: Sequence[str] = ()) -> Suite:
-        """The lines of a suite, and whether a run may come to its end."""
+        """Returns the lines of a suite, and whether a run may reach its end."""
         lines = list(first)
         for _ in range(self.rng.randint(1, 4)):
             more, goes_on = self.statement(deep)
@@ -391,7 +393,7 @@ class Body:
         return [grouped(self.expr(self.of.some_type(1)), 0)] if self.of.chance(0.8) else ["pass"], True
 
     def leave(self) -> Suite:
-        """A statement that ends the suite."""
+        """Returns a statement that ends the suite."""
         if self.loops and self.of.chance(0.6):
             return [self.rng.choice(["break", "continue"])], False
         if self.returns == NONE:
@@ -399,7 +401,7 @@ class Body:
         return [f"return {grouped(self.expr(self.returns), 0)}"], False
 
     def bind(self) -> List[str]:
-        """A local bound, often a new one with an annotation."""
+        """Returns lines that bind a local, often a new one with an annotation."""
         old = {name: ty for name, ty in self.declared.items() if ty is not None and name != "self"}
         if old and self.of.chance(0.45):
             name = self.rng.choice(list(old))
@@ -421,7 +423,7 @@ class Body:
         return [f"{name}{note} = {value}"]
 
     def store(self) -> List[str]:
-        """A store to a field or an item, where there is one."""
+        """Returns a store to a field or an item, if there is one."""
         places = []
         for name, has in self.known.items():
             if has[0] == "class":
@@ -437,7 +439,7 @@ class Body:
         return [f"{place}({value})" if place.endswith(".append") else f"{place} = {value}"]
 
     def inside(self, deep: int, first: Sequence[str] = (), **narrowed: Type) -> Suite:
-        """The lines of a deeper suite, indented; what it binds is forgotten after it, but for its declared types."""
+        """Returns the lines of a deeper suite, indented; its bindings are forgotten after it, except declared types."""
         kept = dict(self.known)
         self.known.update(narrowed)
         lines, goes_on = self.suite(deep, first)
@@ -457,7 +459,7 @@ class Body:
         return lines, True
 
     def narrowed(self, deep: int) -> Suite:
-        """An `if` whose condition tells something of a local's type."""
+        """Returns an `if` whose condition narrows a local's type."""
         wide = [name for name, ty in self.known.items() if ty[0] in ("union", "object", "Any")]
         if not wide:
             return self.branch(deep)
@@ -483,7 +485,7 @@ class Body:
         return lines, True
 
     def loop(self, deep: int) -> Suite:
-        """A `while` loop, which mostly ends soon."""
+        """Returns a `while` loop, which mostly ends soon."""
         self.loops += 1
         name = self.of.new_name("n")
         self.declared[name] = None
@@ -499,7 +501,7 @@ class Body:
         return [f"{name} = 0", f"while {name} < {self.rng.randint(0, 3)}{more}:", *inner], True
 
     def over(self, deep: int) -> Suite:
-        """A `for` loop."""
+        """Returns a `for` loop."""
         self.loops += 1
         item, pick = self.of.some_type(1), self.rng.random()
         lines: List[str] = []
@@ -519,7 +521,7 @@ class Body:
         return [*lines, f"for {name} in {text}:", *inner], True
 
     def annotated(self, ty: Type) -> Tuple[str, List[str]]:
-        """A local of the type, new or old, and the lines that bind it."""
+        """Returns a local of the type, new or old, and the lines that bind it."""
         old = [name for name, has in self.known.items() if has == ty]
         if old and self.of.chance(0.5):
             return self.rng.choice(old), []
@@ -528,7 +530,7 @@ class Body:
         return name, [f"{name}: {type_text(ty)} = {value}"]
 
     def lines(self) -> List[str]:
-        """The whole body, each line indented by four spaces."""
+        """Returns the whole body, each line indented by four spaces."""
         made, goes_on = [], True
         while goes_on and self.room > 0:
             more, goes_on = self.suite(3)
@@ -539,13 +541,13 @@ class Body:
 
 
 def default_for(module: Module, ty: Type) -> Optional[str]:
-    """A literal that fits a type, or none."""
+    """Returns a literal that fits a type, or none."""
     fits = [text for text, of in (("0", INT), ("-1", INT), ("True", BOOL), ('"d"', STR), ("None", NONE)) if module.below(of, ty)]
     return module.rng.choice(fits) if fits and module.chance(0.4) else None
 
 
 def some_params(module: Module, count: int) -> Tuple[List[str], List[Param]]:
-    """Parameters as they are written and as they are known: a name, a type, whether it has a default."""
+    """Returns parameters as they are written and as they are known: a name, a type, whether it has a default."""
     texts, known, defaults = [], [], False
     for _ in range(count):
         name, ty = module.new_name("p"), module.some_type()
@@ -574,7 +576,7 @@ def add_function(module: Module) -> List[str]:
 
 
 def override(module: Module, above: Dict[str, Signature], name: str) -> Signature:
-    """The parameters and what is returned of a method that overrides another one, mostly so that it fits."""
+    """Returns the parameters and the result type of a method that overrides another one, mostly so that it fits."""
     params, returns = above[name]
     params = [(each, OBJECT if module.chance(0.15) else ANY if module.chance(module.any_share) else ty, has) for each, ty, has in params]
     if returns[0] == "union" and module.chance(0.4):
@@ -585,7 +587,7 @@ def override(module: Module, above: Dict[str, Signature], name: str) -> Signatur
 
 
 def add_class(module: Module) -> List[str]:
-    """A class, with a base now and then, and methods, some of which override."""
+    """Returns a class, with a base now and then, and methods, some of which override."""
     name = module.new_name("C")
     base = module.rng.choice([None, *module.classes]) if module.chance(0.7) else None
     made: Dict[str, Any] = {"base": base, "fields": [], "methods": {}}
@@ -624,7 +626,8 @@ def add_method(module: Module, name: str, base: Optional[str]) -> List[str]:
 
 
 def literal_of(module: Module, ty: Type) -> str:
-    """A literal for a parameter of an overriding method, whose type is at least as wide as the one that had a default."""
+    """Returns a literal for a parameter of an overriding method, whose type is at least as wide as the one that had a
+    default."""
     for text, of in (("0", INT), ("True", BOOL), ('"d"', STR), ("None", NONE)):
         if module.below(of, ty):
             return text
@@ -642,7 +645,7 @@ def add_constant(module: Module) -> List[str]:
 
 
 def spelled(module: Module, lines: List[str]) -> str:
-    """The text, now and then with other gaps, comments and line ends."""
+    """Returns the text, now and then with other gaps, comments and line ends."""
     rng = module.rng
     if rng.random() < 0.2:
         lines = [line + rng.choice(["", "", "  # note", "\t", "\n", "\n        # deep"]) for line in lines]
@@ -653,7 +656,8 @@ def spelled(module: Module, lines: List[str]) -> str:
 
 
 def called_all(module: Module, body: Body) -> List[str]:
-    """Lines that call most functions, and most methods of an instance of each class, so that a run comes into each body."""
+    """Returns lines that call most functions, and most methods of an instance of each class, so that a run enters each
+    body."""
     lines, rng = [], module.rng
     for name, (params, _) in module.functions.items():
         lines.append(f"{name}({body.arguments(params, 1)})")
@@ -667,7 +671,7 @@ def called_all(module: Module, body: Body) -> List[str]:
 
 
 def made_module(rng: random.Random) -> str:
-    """A whole module as a text."""
+    """Returns a whole module as a text."""
     module, lines = Module(rng), []
     for _ in range(rng.randint(1, 5)):
         add = rng.choice([add_class, add_class, add_function, add_function, add_function, add_constant])
@@ -682,7 +686,7 @@ def made_module(rng: random.Random) -> str:
 # Changes
 
 def alike(text: str, rng: random.Random) -> str:
-    """The text with a few names, literals, types, operators or lines changed for others of the same kind."""
+    """Returns the text with a few names, literals, types, operators or lines changed for others of the same kind."""
     for _ in range(rng.choice([1, 1, 2, 3])):
         if rng.random() < 0.25:
             text = moved_line(text, rng)
@@ -706,7 +710,7 @@ EXTRA = {"type": ["int", "str", "bool", "object", "Any", "None"], "sign": ["+", 
 
 
 def kind_of(token: str) -> Optional[str]:
-    """The kind of a token that may be changed for another one, or nothing."""
+    """Returns the kind of a token that may be changed for another one, or none."""
     if token in EXTRA["sign"]:
         return "sign"
     if token in ("==", "!=", "<", "<=", ">", ">="):
@@ -719,7 +723,7 @@ def kind_of(token: str) -> Optional[str]:
 
 
 def moved_line(text: str, rng: random.Random) -> str:
-    """The text with one line left out, doubled or swapped with the next of the same column."""
+    """Returns the text with one line left out, doubled or swapped with the next of the same column."""
     lines = text.split("\n")
     at = rng.randrange(3, len(lines)) if len(lines) > 4 else 0
     pick = rng.random()
@@ -737,7 +741,7 @@ WORDS = ("( ) [ ] { } , : . = == | -> + - * // % @ if else elif for in while def
 
 
 def broken(data: bytes, rng: random.Random) -> bytes:
-    """The bytes with tokens left out, put in or swapped, bytes changed, or the end cut off."""
+    """Returns the bytes with tokens left out, inserted or swapped, bytes changed, or the end cut off."""
     pick = rng.random()
     if pick < 0.25:
         return data[:rng.randrange(len(data) + 1)]
@@ -761,21 +765,21 @@ def broken(data: bytes, rng: random.Random) -> bytes:
     return "".join(tokens).encode()
 
 
-# What is found
+# Findings
 
 class Found(Exception):
-    """What may never be: a kind, and what it was."""
+    """Raised for a finding: its kind, and a description."""
 
 
 def read_apart(apart: ModuleType, data: bytes, told: str) -> None:
-    """Compares a refusal, or that there is none, with what the reader says."""
+    """Compares a refusal, or that there is none, with the answer of the reader; raises Found."""
     says = apart.reading(data, apart.Grammar())
     if says != told and not told.startswith("G2"):
         raise Found("read", f"{told or 'a module'}, and the reader says {says or 'a module'}")
 
 
 def answer(words: Sequence[str], file: str) -> Given:
-    """The status, the bytes of standard output and those of standard error."""
+    """Returns the exit status, the bytes of standard output and those of standard error."""
     try:
         done = subprocess.run([*words, file], capture_output=True, timeout=WAIT)
     except subprocess.TimeoutExpired:
@@ -787,7 +791,7 @@ def answer(words: Sequence[str], file: str) -> Given:
 
 
 def refusal(given: Given, length: int) -> Tuple[bytes, int]:
-    """The code and byte of a refusal."""
+    """Returns the code and byte of a refusal."""
     _, out, said = given
     match = re.fullmatch(rb"refused ([SLING]\d) at byte (\d+)\n", said)
     if out or not match:
@@ -798,7 +802,7 @@ def refusal(given: Given, length: int) -> Tuple[bytes, int]:
 
 
 def line_of(data: bytes, finding: Finding) -> str:
-    """The line of the text report that belongs to a finding of the JSON."""
+    """Returns the line of the text report for a finding of the JSON."""
     before = data[: finding["start"]]
     line = before.count(b"\n") + 1
     column = len(before[before.rfind(b"\n") + 1 :].decode()) + 1
@@ -809,7 +813,7 @@ def line_of(data: bytes, finding: Finding) -> str:
 
 
 def findings(data: bytes, text: bytes, status: int, from_json: bytes) -> List[Finding]:
-    """The findings of the JSON, where it agrees with the text."""
+    """Returns the findings of the JSON; raises Found if it does not agree with the text."""
     try:
         told = json.loads(from_json)
     except ValueError as fault:
@@ -830,7 +834,7 @@ def findings(data: bytes, text: bytes, status: int, from_json: bytes) -> List[Fi
 
 
 def trace_of(given: Given) -> Tuple[Set[Tuple[int, ...]], str]:
-    """The events and the end of a run; a run for which memory was wanting has none, and says nothing."""
+    """Returns the events and the end of a run; a run that ran out of memory has no events and an empty end."""
     if given == WANTING:
         return set(), "want of memory"
     *events, end = given[1].decode().splitlines() or [""]
@@ -840,7 +844,7 @@ def trace_of(given: Given) -> Tuple[Set[Tuple[int, ...]], str]:
 
 
 def refused_alike(answers: Sequence[Given], length: int) -> str:
-    """The refusal that all three answers tell, as a code and a byte."""
+    """Returns the refusal that all three answers tell, as a code and a byte."""
     if {each[0] for each in answers} != {2}:
         raise Found("differ", f"{[each[0] for each in answers]}: {[each[2] for each in answers]!r}")
     told = {refusal(each, length) for each in answers}
@@ -851,7 +855,7 @@ def refused_alike(answers: Sequence[Given], length: int) -> str:
 
 
 def tried(programs: Programs, data: bytes, again: bool = True, as_made: bool = False, is_broken: bool = True) -> Tuple[str, str, Set[str]]:
-    """Tries one input: how it was answered, how its run ended, and the codes of its findings. Raises what is found."""
+    """Tries one input. Returns how it was answered, how its run ended, and the codes of its findings; raises Found."""
     pycheck, pyrun, apart = programs
     with tempfile.NamedTemporaryFile(suffix=".py") as file:
         file.write(data)
@@ -876,7 +880,7 @@ def tried(programs: Programs, data: bytes, again: bool = True, as_made: bool = F
 
 
 def judged(listed: List[Finding], events: Set[Tuple[int, ...]], end: str) -> Tuple[str, str, Set[str]]:
-    """How a report and its run agree, as `tried` tells it."""
+    """Returns how a report and its run agree, in the form of `tried`."""
     codes = {each["code"] for each in listed}
     if any(code[0] == "E" for code in codes):
         return "errors", end, codes
@@ -887,7 +891,7 @@ def judged(listed: List[Finding], events: Set[Tuple[int, ...]], end: str) -> Tup
 
 
 def kind_found(programs: Programs, data: bytes) -> Optional[str]:
-    """The kind of what is found of an input, or nothing."""
+    """Returns the kind of finding for an input, or none."""
     try:
         tried(programs, data)
     except Found as found:
@@ -896,7 +900,7 @@ def kind_found(programs: Programs, data: bytes) -> Optional[str]:
 
 
 def without(parts: List[bytes], still: Callable[[List[bytes]], bool]) -> List[bytes]:
-    """The fewest parts that were found to show it: runs of parts are left out, long ones first."""
+    """Returns the fewest parts that were found to show it: runs of parts are left out, long ones first."""
     size = max(1, len(parts) // 2)
     while True:
         at, smaller = 0, False
@@ -912,7 +916,7 @@ def without(parts: List[bytes], still: Callable[[List[bytes]], bool]) -> List[by
 
 
 def smallest(programs: Programs, data: bytes, kind: str) -> bytes:
-    """A small input with the same kind of finding."""
+    """Returns a small input with the same kind of finding."""
     if kind == "refused":
         return data
     until = time.monotonic() + 60
@@ -940,7 +944,7 @@ def show(found: Found, seed: str, kind: str, data: bytes) -> None:
 
 
 def fuzz(programs: Programs, seconds: int, seed: str) -> int:
-    """Tries inputs for so many seconds, and prints what was found and how often each thing came."""
+    """Tries inputs for `seconds` seconds, and prints the findings and the counts. Returns the exit status."""
     counts: Counter[str] = collections.Counter()
     codes: Counter[str] = collections.Counter()
     seen: Counter[str] = collections.Counter()
@@ -968,7 +972,7 @@ def fuzz(programs: Programs, seconds: int, seed: str) -> int:
 
 
 def main(words: List[str]) -> int:
-    """Makes modules for as long as the words say, and gives the exit status."""
+    """Makes modules for as long as the words say, and returns the exit status."""
     parser = Words("tools/attack fuzz", __doc__)
     parser.add_argument("pycheck")
     parser.add_argument("pyrun")

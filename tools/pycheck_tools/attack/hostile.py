@@ -36,7 +36,7 @@ from . import truncate
 
 SECONDS, MEBIBYTES, LENGTH = 2.0, 80.0, 1 << 20
 STACK, MOST_SECONDS, MOST_BYTES = 1 << 20, 20, 2 << 30
-# The texts that are known to go over a bound, and which: docs/MEASURED.md says by how much, and why
+# The texts that are known to exceed a bound, and which bound: docs/MEASURED.md says by how much, and why
 KNOWN: Dict[str, Set[str]] = {
     "an unknown name as every item": {"MiB"},
     "one parameter again": {"MiB"},
@@ -45,7 +45,7 @@ KNOWN: Dict[str, Set[str]] = {
     "an attribute of an unknown name as every item": {"MiB"},
     "flows into a wide tuple": {"MiB"},
     "attributes of a large union": {"seconds"},
-    # Nearly as long as it may take
+    # Nearly the greatest length of a text
     "methods of a large union": {"seconds"},
 }
 HEADER = "from __future__ import annotations\n"
@@ -58,17 +58,17 @@ DIGITS = "0123456789abcdefghijklmnopqrstuvwxyz"
 
 
 class Want(NamedTuple):
-    """What a text is answered with: the exit status, and the first and the last line, both empty where any will do."""
+    """The expected answer to a text: the exit status, and the first and the last line, both empty if any will do."""
 
     status: int
     first: str
     last: str
 
 
-# A text, or bytes that are none, with what is wanted of it; where nothing is, only how the run ends is looked at
+# A text, or bytes that are none, with the expected answer; if there is none, only the end of the run is examined
 Case = Tuple[Union[str, bytes], Optional[Want]]
 Make = Callable[[], Case]
-# A text of so many parts, and what is wanted of it
+# Makes a text from the number of its parts, and the expected answer to it
 Texts = Callable[[int], str]
 Wants = Union[Want, Callable[[int], Want]]
 # The exit status, the ends of the answer, the seconds and the MiB of a run
@@ -87,7 +87,7 @@ def found(first: str, errors: int, dynamic: int) -> Want:
 
 
 def short(number: int) -> str:
-    """A number in as few letters and digits as may follow the first character of a name."""
+    """Returns a number in as few letters and digits as may follow the first character of a name."""
     text = ""
     while True:
         number, digit = divmod(number, 36)
@@ -97,7 +97,7 @@ def short(number: int) -> str:
 
 
 def each(count: int, line: str) -> str:
-    """The line so often, with {i} and {before} for the number of each, from 1."""
+    """Returns the line so often, with {i} and {before} for the number of each, from 1."""
     return "".join(line.replace("{i}", short(i)).replace("{before}", short(i - 1)) for i in range(1, count + 1))
 
 
@@ -106,7 +106,8 @@ def listed(count: int, item: str) -> str:
 
 
 def longest(make: Texts) -> Tuple[int, str]:
-    """The largest number for which the text still has the length of a long text at most, and that text, filled up by a comment."""
+    """Returns the largest number for which the text is no longer than a long text, and that text, filled up by a
+    comment."""
     least, past = 1, 2
     while len(make(past).encode()) <= LENGTH:
         least, past = past, 2 * past
@@ -129,7 +130,7 @@ def in_main(lines: str) -> str:
 
 
 def fitted(make: Texts, want: Wants = CLEAN) -> Case:
-    """A text of as many parts as fit. What it is answered with may depend on how many those are."""
+    """Returns a text of as many parts as fit. The expected answer may depend on how many those are."""
     count, text = longest(make)
     return text, want if isinstance(want, Want) else want(count)
 
@@ -148,7 +149,7 @@ def one_character(character: str, want: Want) -> Make:
 
 
 def long_front() -> Case:
-    """Names of 500 characters that differ in their last alone."""
+    """Returns names of 500 characters that differ in their last alone."""
     front = "a" * 500
     return fitted(lambda n: HEADER + each(n, front + "{i}=1\n") + EMPTY_MAIN)
 
@@ -160,45 +161,45 @@ def long_front_locals() -> Case:
 
 @functools.cache
 def spelling(number: int) -> str:
-    """One of the spellings of a name of 20 letters, each of which may be full-width."""
+    """Returns one of the spellings of a name of 20 letters, each of which may be full-width."""
     return "".join(chr(ord(letter) + (0xFEE0 if number >> at & 1 else 0)) for at, letter in enumerate("abcdefghijklmnopqrst"))
 
 
 def same_form() -> Case:
-    """One local, each time in another spelling of its name."""
+    """Returns one local, each time in another spelling of its name."""
     return fitted(lambda n: in_main("".join(f" {spelling(i)}=1\n" for i in range(n))))
 
 
 def same_form_constants() -> Case:
-    """One constant, bound again and again, each time in another spelling: each but the first is E01."""
+    """Returns one constant, bound again and again, each time in another spelling: each but the first is E01."""
     return fitted(lambda n: HEADER + "".join(f"{spelling(i)}=1\n" for i in range(n)) + EMPTY_MAIN,
                   lambda n: found("3:1 E01 twice", n - 1, 0))
 
 
 def marks() -> Case:
-    """One name of a letter and half a million marks, each two in the order that their form turns round."""
+    """Returns one name of a letter and half a million marks, each two in the order that their form reverses."""
     text = "a" + "\u0301\u0316" * ((LENGTH - 1) // 4)
     return text + " " * (LENGTH - len(text.encode())), refused("G1", 0)
 
 
-# What the hasher of the kit begins with and multiplies by where it has no key, and a number of 64 bits
+# The start value and the multiplier of the kit's hasher without a key, and a number of 64 bits
 SEED, MULTIPLIER, WORD = 0x243F_6A88_85A3_08D3, 0x9E37_79B9_7F4A_7C15, (1 << 64) - 1
 
 
 def folded(first: int, second: int) -> int:
-    """The two halves of a product of 128 bits, joined by xor."""
+    """Returns the two halves of a product of 128 bits, joined by xor."""
     product = first * second
     return product & WORD ^ product >> 64
 
 
 def mixed(state: int, name: bytes, at: int) -> int:
-    """The hasher's state after the 16 bytes of a name that begin here."""
+    """Returns the hasher's state after the 16 bytes of a name that begin here."""
     first, second = (int.from_bytes(name[k : k + 8], "little") for k in (at, at + 8))
     return folded(first ^ state, second ^ MULTIPLIER)
 
 
 def unkeyed_hash(name: bytes) -> int:
-    """The hash of a name of at least 9 bytes by the kit's FoldHasher without a key."""
+    """Returns the hash of a name of at least 9 bytes by the kit's FoldHasher without a key."""
     state = SEED + len(name) & WORD
     for at in range(0, len(name) - 16, 16):
         state = mixed(state, name, at)
@@ -207,21 +208,21 @@ def unkeyed_hash(name: bytes) -> int:
 
 
 def colliding_front(length: int = 32) -> str:
-    """The first 24 bytes of names of this length that all have the same hash without a key: the last 8 of them are the
-    state after those before, so that the last product is nought, whatever comes then."""
+    """Returns the first 24 bytes of names of this length that all have the same hash without a key. The last 8 of them
+    are the state after those before, so the last product is zero for all bytes that follow."""
     blocks = (b"a%015d" % number for number in itertools.count())
     fronts = (block + mixed(SEED + length, block, 0).to_bytes(8, "little") for block in blocks)
     return next(front.decode() for front in fronts if front[16:].replace(b"_", b"a").isalnum())
 
 
 def colliding_names() -> Case:
-    """Some 30,000 constants whose names all have the same hash by the kit's hasher without a key."""
+    """Returns some 30,000 constants whose names all have the same hash by the kit's hasher without a key."""
     front = colliding_front()
     return fitted(lambda n: HEADER + "".join(f"{front}{i:08d}=1\n" for i in range(n)) + EMPTY_MAIN)
 
 
 def colliding_arguments() -> Case:
-    """A call with some 14,000 arguments by name, whose names all have the same hash."""
+    """Returns a call with some 14,000 arguments by name, whose names all have the same hash."""
     front = colliding_front()
 
     def make(count: int) -> str:
@@ -231,7 +232,7 @@ def colliding_arguments() -> Case:
 
 
 def arguments_by_name() -> Case:
-    """A call with some 137,000 arguments by name, of a function that has no parameters."""
+    """Returns a call with some 137,000 arguments by name, of a function that has no parameters."""
     return fitted(lambda n: HEADER + "def f():\n pass\n" + MAIN + " f(" + listed(n, "x{i}=1") + ")\n" + END, found("5:2 E14 call", 1, 0))
 
 
@@ -240,7 +241,7 @@ def arguments_that_suit() -> Case:
 
 
 def arguments_backwards() -> Case:
-    """A call with as many arguments by name as fit, the last parameter first."""
+    """Returns a call with as many arguments by name as fit, the last parameter first."""
     def make(count: int) -> str:
         given = ",".join(reversed(listed(count, "x{i}=2").split(",")))
         return HEADER + "def f(" + listed(count, "x{i}:int") + "):\n pass\n" + MAIN + " f(" + given + ")\n" + END
@@ -248,7 +249,7 @@ def arguments_backwards() -> Case:
 
 
 def arguments_twice() -> Case:
-    """One name given again and again: each but the first is E01."""
+    """Returns one name given again and again: each but the first is E01."""
     return fitted(lambda n: HEADER + "def f(a=1):\n pass\n" + MAIN + " f(" + ",".join(["a=1"] * n) + ")\n" + END,
                   lambda n: found("5:8 E01 twice", n - 1, 0))
 
@@ -258,7 +259,7 @@ def overriding(header: str, returned: str) -> Make:
 
 
 def fields_of_chain() -> Case:
-    """Each class of a chain adds a field, and the last one is called with all of them."""
+    """Returns a chain of classes, each of which adds a field, and a call of the last one with all of them."""
     def make(count: int) -> str:
         text = DATACLASS + "@dataclass\nclass C0:\n x0:int\n" + each(count, "@dataclass\nclass C{i}(C{before}):\n x{i}:int\n")
         return text + MAIN + f" x=C{short(count)}(" + ",".join(["1"] * (count + 1)) + ")\n" + END
@@ -270,7 +271,7 @@ def locals_and_ifs() -> Case:
 
 
 def locals_then_ifs() -> Case:
-    """All locals first, then as many `if`, each of which narrows one."""
+    """Returns all locals first, then as many `if`, each of which narrows one."""
     return fitted(lambda n: HEADER + MAIN + each(n, " x{i}:int|None=1\n") + each(n, " if x{i} is None:\n  x{i}=2\n") + END)
 
 
@@ -279,17 +280,17 @@ def locals_and_loops() -> Case:
 
 
 def elif_over_locals(branch: str) -> Make:
-    """One `if` with many `elif` over as many locals that may be None."""
+    """Returns one `if` with many `elif` over as many locals that may be None."""
     return lambda: fitted(lambda n: in_main(each(n, " y{i}:int|None=None\n") + " if x==0:\n  pass\n" + each(n, branch)))
 
 
 def loops_with_breaks() -> Case:
-    """Loops with many breaks, over many locals."""
+    """Returns loops with many breaks, over many locals."""
     return fitted(lambda n: in_main(each(n, " y{i}=x\n") + " while x<3:\n" + each(n, "  if x==1:\n   y{i}=2\n   break\n") + "  x=2\n"))
 
 
 def conditions(condition: str) -> Make:
-    """Conditions 63 deep, as many as fit, on a local that may be None."""
+    """Returns conditions 63 deep, as many as fit, on a local that may be None."""
     line = f" if {condition}:\n  pass\n"
     return lambda: fitted(lambda n: HEADER + "def f(x:int|None):\n" + line * n + EMPTY_MAIN)
 
@@ -302,12 +303,13 @@ TURNS = "x is None or (x is not None and ("
 
 
 def turning() -> str:
-    """Conditions with `and` and `or` in turn, 63 deep, each in the right side of the one before."""
+    """Returns conditions with `and` and `or` in turn, 63 deep, each in the right side of the one before."""
     return nested(30, TURNS, "x is None or x is not None and x==1", "))")
 
 
 def from_the_left(outer: str, inner: str) -> str:
-    """Conditions with `and` and `or` in turn, each in the left side of the one after: what each tells is asked of all before it."""
+    """Returns conditions with `and` and `or` in turn, each in the left side of the one after: the narrowing of each
+    needs all before it."""
     condition = "x is None"
     for _ in range(30):
         condition = f"({condition} {inner} x is not None) {outer} x is None"
@@ -315,7 +317,8 @@ def from_the_left(outer: str, inner: str) -> str:
 
 
 def negated() -> str:
-    """Conditions in turn with a `not` before each: what is true inside is asked for as what is false outside."""
+    """Returns conditions in turn with a `not` before each: the narrowing of the true case needs that of the false case
+    inside."""
     return nested(15, "not (x is None or not (x is not None and ", "not not x is None", "))")
 
 
@@ -324,24 +327,24 @@ def listed_lines(line: str, first: str, dynamic: bool = False) -> Make:
 
 
 def listed_items(item: str, want: Wants = CLEAN) -> Make:
-    """A list display of this item, as often as it fits."""
+    """Returns a list display of this item, as often as it fits."""
     return lambda: fitted(lambda n: HEADER + MAIN + " [" + ",".join([item] * n) + "]\n" + END, want)
 
 
 def parameter_again() -> Case:
-    """A function of which each parameter but the first is named as the first."""
+    """Returns a function all of whose parameters have the name of the first."""
     return fitted(lambda n: HEADER + "def f(" + ",".join(["a"] * n) + "):\n pass\n" + EMPTY_MAIN,
                   lambda n: found("2:9 E01 twice", n - 1, 0))
 
 
 def any_lines() -> Case:
-    """A dynamic place on every line."""
+    """Returns a dynamic place on every line."""
     return fitted(lambda n: HEADER + "def f(a):\n" + " a.b\n" * n + EMPTY_MAIN, lambda n: found("3:2 A4 any-attribute", 0, n))
 
 
 def flows_into_long(letters: int, width: int, count: int) -> Case:
-    """So many dynamic flows, a line each, into a class of so long a name, or into a tuple of so many of that class. The text of
-    the type stands on each line of the report."""
+    """Returns `count` dynamic flows, a line each, into a class with a name of `letters` letters, or into a tuple of
+    `width` of that class. The text of the type is on each line of the report."""
     name = "C" + "a" * (letters - 1)
     into = f"tuple[{', '.join([name] * width)}]" if width else name
     line = f" t = ({', '.join(['c'] * width)})\n" + " t = a\n" * count if width else " c = a\n" * count
@@ -350,14 +353,15 @@ def flows_into_long(letters: int, width: int, count: int) -> Case:
 
 
 def flows_into_wide() -> Case:
-    """A dynamic flow on every line into a tuple of 254 parts, one less than a type may have."""
+    """Returns a dynamic flow on every line into a tuple of 254 parts, one less than a type may have."""
     into = f"tuple[{', '.join(['int'] * 254)}]"
     return fitted(lambda n: HEADER + f"def f(a,x:{into}):\n" + " x=a\n" * n + EMPTY_MAIN,
                   lambda n: found(f"3:4 A1 any-flow Any -> {into}"[:200], 0, n))
 
 
 def flows_between_nested() -> Case:
-    """A dynamic flow on every line between two tuples of 255 nodes, pairs of pairs, which differ in the last one alone."""
+    """Returns a dynamic flow on every line between two tuples of 255 nodes, pairs of pairs, which differ in the last
+    one alone."""
     lines, whole, part = HEADER + "def f(a):\n k=(1,1)\n m=(1,a)\n", "tuple[int, int]", "tuple[int, Any]"
     for last, number in zip(["", *map(str, range(5))], range(6)):
         lines += f" k{number}=(k{last},k{last})\n m{number}=(k{last},m{last})\n"
@@ -366,7 +370,7 @@ def flows_between_nested() -> Case:
 
 
 def calls_with_long() -> Case:
-    """As many calls, each of which passes a value of any type for a class of a long name."""
+    """Returns as many calls, each of which passes a value of any type for a class with a long name."""
     name = "C" + "a" * 19999
     text = DATACLASS + f"@dataclass\nclass {name}:\n x: int\ndef f(c: {name}):\n pass\ndef g(a):\n" + " f(a)\n" * 20000 + EMPTY_MAIN
     return text, found(f"9:4 A1 any-flow Any -> {name}"[:200], 0, 20000)
@@ -382,7 +386,7 @@ def random_bytes() -> Case:
 
 
 def read_apart(text: str) -> Optional[Want]:
-    """What the reader of tools/attack truncate says of a text."""
+    """Returns the answer of the reader of tools/attack truncate to a text."""
     refusal = truncate.reading(text.encode(), truncate.Grammar())
     return refused(*refusal.split()) if refusal else None
 
@@ -392,7 +396,7 @@ TOKENS = ("def class if else while for in return pass not and or is None True x 
 
 
 def random_tokens(with_brackets: bool, start: str = "") -> Make:
-    """Random tokens, in lines of eight at the same column, after a beginning."""
+    """Returns random tokens, in lines of eight at the same column, after a beginning."""
     def make() -> Case:
         rng = random.Random(2)
         words = TOKENS if with_brackets else [word for word in TOKENS if word not in "()[]{}"]
@@ -408,7 +412,7 @@ def random_tokens(with_brackets: bool, start: str = "") -> Make:
 
 
 def random_statements() -> Case:
-    """Random statements that are all right, and a condition or a loop here and there."""
+    """Returns random statements that are all valid, and a condition or a loop here and there."""
     rng, parts, length = random.Random(3), [HEADER, MAIN, " x=1\n"], 60
     lines = [" x=x+1\n", " print(x)\n", " if x<3:\n  x=2\n else:\n  print('a')\n", " while x<3:\n  x=x*2\n", " y=(x,'a')\n", " for z in [x]:\n  x=z\n"]
     while length < LENGTH - 60:
@@ -420,20 +424,20 @@ def random_statements() -> Case:
 # Long texts over large unions
 
 def of_roots(count: int, name: str, members: str = " pass\n") -> Tuple[str, str]:
-    """Classes without base, and the union of them."""
+    """Returns classes without base, and the union of them."""
     text = "".join(f"@dataclass\nclass {name}{i}:\n{members}" for i in range(count))
     return text, "|".join(f"{name}{i}" for i in range(count))
 
 
 def over_union(line: str, member: str = " pass\n", want: Wants = CLEAN) -> Make:
-    """A line again and again, in which `a` is of a union of 127 classes. A member may name that union."""
+    """Returns a line again and again, in which `a` is of a union of 127 classes. A member may name that union."""
     union = of_roots(127, "C")[1]
     front = DATACLASS + of_roots(127, "C", member.replace("UNION", union))[0] + f"def f(a:{union}):\n"
     return lambda: fitted(lambda n: front + line * n + EMPTY_MAIN, want)
 
 
 def over_two_unions(line: Texts, of_each: str = "{union}") -> Make:
-    """A line again and again, in which `a` and `b` are of two types over unions of 60 classes each."""
+    """Returns a line again and again, in which `a` and `b` are of two types over unions of 60 classes each."""
     (first, left), (second, right) = of_roots(60, "C"), of_roots(60, "D")
     types = of_each.replace("{union}", left), of_each.replace("{union}", right)
     front = DATACLASS + first + second + "def f(c:bool,a:{0},b:{1},x:{2}):\n".format(*types, f"{left}|{right}")
@@ -441,7 +445,7 @@ def over_two_unions(line: Texts, of_each: str = "{union}") -> Make:
 
 
 def tested_unions() -> Case:
-    """Tests of 63 locals of a union of 127 classes, joined where the conditions end."""
+    """Returns tests of 63 locals of a union of 127 classes, joined where the conditions end."""
     classes, union = of_roots(127, "C")
     front = DATACLASS + classes + "def f(" + ",".join(f"p{i}:{union}" for i in range(63)) + "):\n"
     line = " if " + " and ".join(f"not isinstance(p{i},C{i})" for i in range(63)) + ":\n  pass\n"
@@ -449,7 +453,7 @@ def tested_unions() -> Case:
 
 
 def ends_of_chains() -> Case:
-    """The union of the ends of 127 chains of 20 classes, given to that of their beginnings."""
+    """Returns the union of the ends of 127 chains of 20 classes, given to that of their beginnings."""
     text, roots = of_roots(127, "C")
     for root in range(127):
         names = [f"C{root}", *(f"K{root}x{i}" for i in range(20))]
@@ -459,7 +463,7 @@ def ends_of_chains() -> Case:
 
 
 def large_tuples(line: str, want: Wants = CLEAN) -> Make:
-    """A line again and again, in which `k6` and `m6` are tuples of 127 nodes, and `k7` is one of 255."""
+    """Returns a line again and again, in which `k6` and `m6` are tuples of 127 nodes, and `k7` is one of 255."""
     doubled = "".join(f" {name}{i}=({name}{i - 1},{name}{i - 1})\n" for i in range(2, 8) for name in "km")
     front = HEADER + "def f():\n k1=(1,1)\n m1=('','')\n" + doubled
     return lambda: fitted(lambda n: front + line * n + EMPTY_MAIN, want)
@@ -562,20 +566,21 @@ def too_deep(text: str, byte: int = 58) -> Make:
 
 
 def suites(count: int) -> Make:
-    """This many suites inside that of main. The 51st begins at the `pass` in the innermost one."""
+    """Returns this many suites inside that of main. The 51st begins at the `pass` in the innermost one."""
     lines = "".join(" " * k + "if True:\n" for k in range(1, count + 1))
     last = HEADER + MAIN + lines + " " * (count + 1)
     return lambda: (last + "pass\n" + END, CLEAN if count < 50 else refused("I3", len(last)))
 
 
 def taken(ann: str, is_over: bool = False) -> Make:
-    """A function whose parameter has the annotation."""
+    """Returns a function whose parameter has the annotation."""
     want = found("2:10 E26 size", 1, 0) if is_over else CLEAN
     return lambda: (HEADER + f"def f(x: {ann}):\n    pass\n" + EMPTY_MAIN, want)
 
 
 def of_classes(count: int, ann: str, is_over: bool = False) -> Make:
-    """A function whose parameter has the annotation, over this many classes: {union} is the union of them all."""
+    """Returns a function whose parameter has the annotation, over this many classes: {union} is the union of them
+    all."""
     classes = each(count, "@dataclass\nclass C{i}:\n    pass\n")
     text = ann.replace("{union}", " | ".join(f"C{short(i)}" for i in range(1, count + 1)))
     line = DATACLASS.count("\n") + classes.count("\n") + 1
@@ -584,7 +589,8 @@ def of_classes(count: int, ann: str, is_over: bool = False) -> Make:
 
 
 def with_class(line: str, depth_is_over: bool = False) -> Make:
-    """A function over a class A whose field `a` and whose method `m` give an A again; the line's first `x` begins its expression."""
+    """Returns a function over a class A whose field `a` and whose method `m` result in an A again; the line's first `x`
+    begins its expression."""
     text = DATACLASS + "@dataclass\nclass A:\n    a: A\n    def m(self) -> A:\n        return self\ndef f(x: A):\n    "
     byte = len(text) + line.index("x")
     return lambda: (text + line + "\n" + EMPTY_MAIN, refused("G2", byte) if depth_is_over else CLEAN)
@@ -595,19 +601,19 @@ def with_any(line: str, first: str, dynamic: int) -> Make:
 
 
 def with_function(text: str, want: "Want | str" = CLEAN) -> Make:
-    """A call in main of a function of one parameter `a`."""
+    """Returns a call in main of a function of one parameter `a`."""
     front = HEADER + "def f(a: int) -> int:\n    return a\n" + MAIN + "    return "
     return lambda: (front + text + "\n" + END, refused("G2", len(front)) if isinstance(want, str) else want)
 
 
 def displayed(text: str, over_at: Optional[int] = None) -> Make:
-    """An expression statement in main, E26 at a column where it is too large."""
+    """Returns an expression statement in main, E26 at a column if it is too large."""
     want = CLEAN if over_at is None else found(f"3:{over_at} E26 size", 1, 0)
     return lambda: (HEADER + MAIN + "    " + text + "\n" + END, want)
 
 
 def doubling() -> Case:
-    """Each tuple holds the one before it twice: 1, 3, 7 .. 255 nodes, then 511."""
+    """Returns tuples each of which holds the one before it twice: 1, 3, 7 .. 255 nodes, then 511."""
     lines = "    a0 = 1\n" + "".join(f"    a{k} = (a{k - 1}, a{k - 1})\n" for k in range(1, 10))
     return HEADER + MAIN + lines + END, found("11:10 E26 size", 1, 0)
 
@@ -636,7 +642,7 @@ def ones(count: int) -> str:
 
 
 def annotated(ann: str, want: Want = CLEAN) -> Make:
-    """A local without a value that has the annotation, which begins at byte 54."""
+    """Returns a local without a value that has the annotation, which begins at byte 54."""
     return lambda: (HEADER + MAIN + f"    x: {ann}\n" + END, want)
 
 
@@ -699,7 +705,7 @@ def limited() -> None:
 
 
 def ends_of(file: IO[bytes]) -> Tuple[str, str]:
-    """The first and the last line of a file."""
+    """Returns the first and the last line of a file."""
     size = os.fstat(file.fileno()).st_size
     file.seek(0)
     first = file.readline(200).decode(errors="replace").rstrip("\n")
@@ -709,7 +715,7 @@ def ends_of(file: IO[bytes]) -> Tuple[str, str]:
 
 
 def measured(program: str, words: Sequence[str], data: bytes) -> Got:
-    """How a run ended, the ends of its answer, the seconds and the MiB that it took."""
+    """Returns how a run ended, the ends of its answer, and the seconds and the MiB that it took."""
     with tempfile.NamedTemporaryFile(suffix=".py") as file, tempfile.TemporaryFile() as out, tempfile.TemporaryFile() as said:
         file.write(data)
         file.flush()
@@ -722,19 +728,20 @@ def measured(program: str, words: Sequence[str], data: bytes) -> Got:
 
 
 def is_stopped(got: Got) -> bool:
-    """Whether the run was ended since it took all the seconds that it may take."""
+    """Whether the run was ended because it had used all of its seconds."""
     return got[0] in (-signal.SIGXCPU, -signal.SIGKILL) and got[3] > 0.9 * MOST_SECONDS
 
 
 def over_bounds(got: Got, most: float) -> Dict[str, str]:
-    """The bounds that a run went over, of which one is of these seconds, each with what it took."""
+    """Returns the bounds that a run exceeded, each with the amount; the bound of time is `most` seconds."""
     seconds, peak = got[3:]
     over = {"seconds": f"{seconds:.2f} seconds"} if seconds > most else {}
     return {**over, "MiB": f"{peak:.0f} MiB"} if peak > MEBIBYTES else over
 
 
 def faults_of(got: Got, want: Optional[Want], known: AbstractSet[str] = frozenset(), most: float = SECONDS) -> Iterator[str]:
-    """What is wrong with how a run ended. The known bounds may be gone over; a want without lines is of the status alone."""
+    """Yields the faults of the end of a run. Known bounds may be exceeded; an expected answer without lines means the
+    status alone."""
     status, first, last = got[:3]
     if status < 0 and not is_stopped(got):
         yield f"ended by signal {-status}"
@@ -746,7 +753,7 @@ def faults_of(got: Got, want: Optional[Want], known: AbstractSet[str] = frozense
 
 
 class Tally:
-    """What was wrong with the texts that were tried, and which of the known texts went over a bound."""
+    """Collects the faults of the texts that were tried, and the known texts that exceeded a bound."""
 
     def __init__(self, most: float) -> None:
         self.most = most
@@ -755,11 +762,11 @@ class Tally:
         self.known_within: List[str] = []
 
     def most_of(self, name: str) -> float:
-        """The seconds that a text may take."""
+        """Returns the seconds that a text may take."""
         return self.most / 2 if name in UNIONS else self.most
 
     def take(self, name: str, shown: str, got: Got, want: Optional[Want]) -> bool:
-        """Takes one run, and says whether something is wrong with it."""
+        """Records one run, and returns whether something is wrong with it."""
         known, most = KNOWN.get(name, set()), self.most_of(name)
         wrong = list(faults_of(got, want, known, most))
         over = [taken for bound, taken in over_bounds(got, most).items() if bound in known]
@@ -769,7 +776,7 @@ class Tally:
         return bool(wrong)
 
     def tell(self, count: int) -> None:
-        """Prints how many texts and failures there were, and each of them."""
+        """Prints how many texts and failures there were, and each failure."""
         print(f"{count} texts, {len(self.failures)} failures", *self.failures, sep="\n")
         for text in self.known_over:
             print(f"over a bound, as is known: {text}")
@@ -777,12 +784,13 @@ class Tally:
             print(f"known, and within its bounds: {text}")
 
 
-# The words for each form of a report, and how it is called in the rows
+# The words for each form of a report, and the name of the form in the rows
 FORMS: Dict[Tuple[str, ...], str] = {(): "", ("--json",): " (JSON)", ("--format=1",): " (format 1)"}
 
 
 def forms_of(name: str) -> Iterator[Tuple[str, ...]]:
-    """The forms that a text is tried in: where there are many findings as JSON too, and where there are many flows in each."""
+    """Yields the forms in which a text is tried: JSON too if there are many findings, and each form if there are many
+    flows."""
     yield ()
     if name in LONG and ("every" in name or "again" in name):
         yield ("--json",)
@@ -791,14 +799,15 @@ def forms_of(name: str) -> Iterator[Tuple[str, ...]]:
 
 
 def want_in_form(want: Optional[Want], words: Tuple[str, ...]) -> Optional[Want]:
-    """What is wanted of another form of the report: JSON is one line, of which the status is compared, and format 1 has no types."""
+    """Returns the expected answer in another form of the report: JSON is one line, of which only the status is
+    compared, and format 1 has no types."""
     if not words or want is None:
         return want
     return Want(want.status, "", "") if words == ("--json",) else want._replace(first=want.first.split(" any-flow")[0] + " any-flow")
 
 
 def tried(program: str, name: str, make: Make, tally: Tally, quickest: Quickest, words: Tuple[str, ...] = ()) -> None:
-    """Tries one text, more than once where it takes too long, prints its row, and tells the tally."""
+    """Tries one text, more than once if it takes too long, prints its row, and adds it to the tally."""
     text, want = make()
     data = text if isinstance(text, bytes) else text.encode()
     del text
@@ -812,7 +821,7 @@ def tried(program: str, name: str, make: Make, tally: Tally, quickest: Quickest,
 
 
 def main(words: List[str]) -> int:
-    """Tries the texts that the words name, and gives the exit status."""
+    """Tries the texts that the words name, and returns the exit status."""
     parser = Words("tools/attack hostile", __doc__)
     parser.add_argument("program")
     parser.add_argument("names", nargs="*")

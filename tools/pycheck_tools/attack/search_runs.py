@@ -43,7 +43,7 @@ Programs = Tuple[str, str]
 Answered = Tuple[List[fuzz.Finding], Set[Tuple[int, ...]], str]
 INT, STR, NONE, ANY = fuzz.INT, fuzz.STR, fuzz.NONE, fuzz.ANY
 LIST: fuzz.Type = ("list", INT)
-# Of a type: values of it, literals that are none, and statements that fail where X has another type
+# For each type: values of it, literals of other types, and statements that fail if X has another type
 GOOD: Dict[fuzz.Type, List[str]] = {INT: ["0", "7", "len('ab')"], STR: ["'a'", "str(3)"], LIST: ["[1]", "[3, 4]"]}
 WRONG: Dict[fuzz.Type, List[str]] = {INT: ["'w'", "None"], STR: ["0", "None", "-1"], LIST: ["None", "5", "'w'"]}
 NEEDS: Dict[fuzz.Type, List[str]] = {INT: ["print(X - 1)", "print(-X)", "for q1 in range(X):\n    pass", "print(X < 3)", "q2: int = X * 2"],
@@ -52,7 +52,7 @@ NEEDS: Dict[fuzz.Type, List[str]] = {INT: ["print(X - 1)", "print(-X)", "for q1 
 
 
 class Plan:
-    """What a module is to have: blocks of lines for its items, and groups of lines that `main` may have."""
+    """The parts that a module will have: blocks of lines for its items, and groups of lines that `main` may have."""
 
     def __init__(self, rng: random.Random) -> None:
         self.rng = rng
@@ -82,21 +82,21 @@ class Plan:
         return self.rng.choice(WRONG[ty])
 
     def needs(self, ty: fuzz.Type, text: str) -> List[str]:
-        """Lines that fail where a text has not a value of a type."""
+        """Returns lines that fail if a text has no value of a type."""
         return self.rng.choice(NEEDS[ty]).replace("X", text).split("\n")
 
     def put(self, *blocks: List[str]) -> None:
-        """Puts blocks among those that there are, in this order."""
+        """Puts blocks among the existing ones, in this order."""
         places = sorted(self.rng.randint(0, len(self.blocks)) for _ in blocks)
         for at, block in reversed(list(zip(places, blocks))):
             self.blocks.insert(at, block)
 
     def cls(self, name: str, members: List[str], base: str = "") -> List[str]:
-        """The lines of a class."""
+        """Returns the lines of a class."""
         return ["@dataclass", f"class {name}({base}):" if base else f"class {name}:", *indented(members or ["pass"])]
 
     def in_class(self, method: List[str]) -> str:
-        """A method in a class of its own, which may inherit it, and a text that makes an instance."""
+        """Puts a method into a class of its own, which may inherit it, and returns a text that makes an instance."""
         name = self.name("C")
         blocks = [self.cls(name, method)]
         if self.rng.random() < 0.3:
@@ -113,10 +113,10 @@ def indented(lines: List[str]) -> List[str]:
     return ["    " + line for line in lines]
 
 
-# Plants: each adds items with an error, and uses by which a run comes to harm
+# Plants: each adds items with an error, and uses that make a run fail
 
 def lost_return(plan: Plan) -> None:
-    """A function or method that ends without the value that it promises."""
+    """Plants a function or method that ends without the value that it promises."""
     ty = plan.type()
     name, good, wide = plan.name("f"), plan.good(ty), plan.pick("", "", " | None")
     head, loop = f"{plan.pick('if', 'while')} {plan.condition()}:", "for q5 in [1, 2]:"
@@ -132,7 +132,7 @@ def lost_return(plan: Plan) -> None:
 
 
 def wrong_default(plan: Plan) -> None:
-    """A parameter of a function or method whose default is of another type."""
+    """Plants a parameter of a function or method whose default is of another type."""
     ty = plan.type()
     name, p, q = plan.name("f"), plan.name("p"), plan.name("p")
     default, used = plan.wrong(ty), plan.needs(ty, p)
@@ -150,7 +150,7 @@ def wrong_default(plan: Plan) -> None:
 
 
 def wrong_field(plan: Plan) -> None:
-    """A field whose default is of another type."""
+    """Plants a field whose default is of another type."""
     ty = plan.type()
     name, field, method = plan.name("C"), plan.name("a"), plan.name("m")
     members = [f"{field}: {fuzz.type_text(ty)} = {plan.wrong(ty)}"]
@@ -163,7 +163,7 @@ def wrong_field(plan: Plan) -> None:
 
 
 def early_test(plan: Plan) -> None:
-    """An initializer that tests for a class below it, or for what is no class."""
+    """Plants an initializer that tests for a class below it, or for something that is no class."""
     name, later = plan.name("k"), plan.name("C")
     value = plan.pick("1", "'a'", "None", "[]", "(1, 2)", f"isinstance(2, {plan.pick('int', later)})")
     test = f"isinstance({value}, {plan.pick(later, later, f'({later})', f'{later},')})"
@@ -176,7 +176,7 @@ SHAPES = ("fewer", "more", "renamed", "swapped", "without default", "same")
 
 
 def other_parameters(plan: Plan, params: List[Written]) -> List[Written]:
-    """Parameters of another shape: names, types and defaults."""
+    """Returns parameters of another shape: names, types and defaults."""
     how = plan.pick(*SHAPES)
     found = list(params)
     if how == "fewer" and found:
@@ -196,13 +196,13 @@ def other_parameters(plan: Plan, params: List[Written]) -> List[Written]:
 
 
 def spelled(params: List[Written]) -> str:
-    """Parameters behind `self` as a header has them."""
+    """Returns parameters after `self` as a header has them."""
     texts = [f"{name}: {fuzz.type_text(ty)}" + (f" = {default}" if default else "") for name, ty, default in params]
     return ", ".join(["self", *texts])
 
 
 def other_override(plan: Plan) -> None:
-    """A method that overrides one above it in another shape, called through the ancestor."""
+    """Plants a method that overrides one above it in another shape, called through the ancestor."""
     method, function, a = plan.name("m"), plan.name("f"), plan.name("p")
     params: List[Written] = [(plan.name("p"), INT, "") for _ in range(plan.rng.randint(0, 2))]
     params += [(plan.name("p"), INT, "4")] * plan.pick(0, 1)
@@ -225,13 +225,13 @@ def other_override(plan: Plan) -> None:
 
 
 def lost_header(plan: Plan) -> None:
-    """No header for the decorator."""
+    """Leaves out the header for the decorator."""
     plan.heads.remove("from dataclasses import dataclass")
     plan.put(plan.cls(plan.name("C"), []))
 
 
 def wrong_base(plan: Plan) -> None:
-    """A base that is no earlier class."""
+    """Plants a base that is no earlier class."""
     name, other = plan.name("C"), plan.name("C")
     made = plan.cls(name, [], other)
     below = plan.pick([], [plan.cls(other, [])])
@@ -240,7 +240,7 @@ def wrong_base(plan: Plan) -> None:
 
 
 def late_field(plan: Plan) -> None:
-    """A field without a default behind one with a default."""
+    """Plants a field without a default after one with a default."""
     name, below = plan.name("C"), plan.name("C")
     first, second = f"{plan.name('a')}: int = 1", f"{plan.name('a')}: str"
     if plan.rng.random() < 0.5:
@@ -250,7 +250,7 @@ def late_field(plan: Plan) -> None:
 
 
 def no_test(plan: Plan) -> None:
-    """A test for what is no type."""
+    """Plants a test for something that is no type."""
     name, p = plan.name("f"), plan.name("p")
     other = plan.pick("1", "'int'", "None", "(int, str)", "object", "dict", "len", "q7", p, name, "main", "[int]")
     test = f"isinstance({p}, {other})"
@@ -261,7 +261,7 @@ def no_test(plan: Plan) -> None:
 
 
 def name_twice(plan: Plan) -> None:
-    """A name that is bound or given twice."""
+    """Plants a name that is bound or given twice."""
     name, p = plan.name("f"), plan.name("p")
     block = [f"def {name}({p}: int = 0):", "    pass"]
     how = plan.pick("function", "parameter", "argument", "constant")
@@ -275,13 +275,13 @@ def name_twice(plan: Plan) -> None:
 
 
 def lost_loop(plan: Plan) -> None:
-    """A `break` or `continue` outside a loop."""
+    """Plants a `break` or `continue` outside a loop."""
     word = plan.pick("break", "continue")
     plan.put([f"def {plan.name('f')}():", *indented(plan.pick([word], ["if False:", "    " + word]))])
 
 
 def member_twice(plan: Plan) -> None:
-    """A member whose name the class or an ancestor has."""
+    """Plants a member whose name the class or an ancestor has."""
     name, a = plan.name("C"), plan.name("a")
     field, method = [f"{a}: int = 1"], [f"def {a}(self):", "    pass"]
     if plan.rng.random() < 0.5:
@@ -292,12 +292,12 @@ def member_twice(plan: Plan) -> None:
 
 
 def lost_main(plan: Plan) -> None:
-    """No `main` without parameters."""
+    """Leaves out a `main` without parameters."""
     plan.head_of_main = plan.pick("def main(p0):", "def main(p0: int = 1):", "def main1():")
 
 
 def reserved(plan: Plan) -> None:
-    """A reserved name bound, or a field `mro`."""
+    """Plants a binding of a reserved name, or a field `mro`."""
     word = plan.pick("len", "print", "range", "Any", "object", "tuple")
     name, field = plan.name("f"), plan.cls(plan.name("C"), ["mro: int = 1"])
     function, local = [f"def {word}():", "    pass"], [f"def {name}():", f"    {word} = 2"]
@@ -305,7 +305,7 @@ def reserved(plan: Plan) -> None:
 
 
 def late_parameter(plan: Plan) -> None:
-    """A parameter without a default behind one with a default."""
+    """Plants a parameter without a default after one with a default."""
     params = f"{plan.name('p')}: int = 1, {plan.name('p')}: int"
     if plan.rng.random() < 0.5:
         plan.put([f"def {plan.name('f')}({params}):", "    pass"])
@@ -343,13 +343,13 @@ q9 = [X]|q9.append('a')|q9.append(None)|q9[0] = None|print(q9[0] + 1)
 q9: list[int] = [X]|q8: list[int | str] = q9|q8.append('a')|print(q9[1] + 1)
 q9 = (X, X, X, X)|q8 = (q9, q9, q9, q9)|q7 = (q8, q8, q8, q8)|q6 = (q7, q7, q7, q7)|print(q6[0][0][0][0] + 1)
 """.strip().split("\n")
-# Initializers that use what stands below them, or call what is no name
+# Initializers that use items below them, or call something that is no name
 EARLY = ("f0()", "C0(1)", "k0 + 1", "1()", "[1].pop()", "[f0]", "main()", "len(k0)", "(1, f0)[0]", "C0(1).m()", "-k0",
          "(1)()", "[1].pop", "print(C0)")
 
 
 def heard_body(plan: Plan) -> None:
-    """A function with an error in its body, which is called with values that fit or do not fit its parameter."""
+    """Plants a function with an error in its body, which is called with values that fit or do not fit its parameter."""
     name, p, ty = plan.name("f"), plan.name("p"), plan.type()
     lines = plan.rng.choice(HEARD).replace("X", p).split("|")
     arrow = plan.pick("", " -> int", f" -> {fuzz.type_text(ty)}")
@@ -359,7 +359,7 @@ def heard_body(plan: Plan) -> None:
 
 
 def early_name(plan: Plan) -> None:
-    """An initializer that uses what is below it, or calls what is no name."""
+    """Plants an initializer that uses an item below it, or calls something that is no name."""
     cls = plan.cls("C0", ["a: int", "def m(self) -> int:", "    return self.a"])
     others = [cls, ["def f0():", "    return 1"], ["k0 = 1"]]
     plan.rng.shuffle(others)
@@ -373,7 +373,8 @@ OTHERS = (heard_body, heard_body, heard_body, early_name, other_override, lost_r
 
 
 def groups_of(lines: List[str]) -> List[List[str]]:
-    """The lines of `main` in groups: one that makes an instance with the calls of its methods, each other by itself."""
+    """Returns the lines of `main` in groups: one that makes an instance with the calls of its methods, each other by
+    itself."""
     groups: List[List[str]] = []
     for line in lines:
         begun = groups and groups[-1][0].partition(":")[0]
@@ -385,7 +386,7 @@ def groups_of(lines: List[str]) -> List[List[str]]:
 
 
 def made_module(rng: random.Random) -> bytes:
-    """A module with errors, as bytes."""
+    """Returns a module with errors, as bytes."""
     plan = Plan(rng)
     for _ in range(rng.choice([0, 1, 1, 2, 3])):
         plan.blocks.append(plan.pick(fuzz.add_class, *[fuzz.add_function] * 2, fuzz.add_constant)(plan.module))
@@ -400,10 +401,10 @@ def made_module(rng: random.Random) -> bytes:
     return (fuzz.alike(text, rng) if rng.random() < 0.35 else text).encode()
 
 
-# What is found
+# Findings
 
 def answers(programs: Programs, data: bytes) -> Optional[Answered]:
-    """The findings of a report and the events and the end of the run; nothing where the module is refused."""
+    """Returns the findings of a report and the events and the end of the run; none if the module is refused."""
     pycheck, pyrun = programs
     with tempfile.NamedTemporaryFile(suffix=".py") as file:
         file.write(data)
@@ -416,7 +417,7 @@ def answers(programs: Programs, data: bytes) -> Optional[Answered]:
 
 
 def judged(data: bytes, answered: Optional[Answered], heard: Sequence[str]) -> Tuple[str, Set[str]]:
-    """How a run ended, and the kinds of silent errors of the report."""
+    """Returns how a run ended, and the kinds of silent errors of the report."""
     if answered is None:
         return "refused", set()
     findings, events, end = answered
@@ -430,7 +431,8 @@ def judged(data: bytes, answered: Optional[Answered], heard: Sequence[str]) -> T
 
 
 def searched(given: Tuple[Programs, str, int, Sequence[str]]) -> Tuple[str, Set[str], Set[str], str]:
-    """What is found of one module: how its run ended, the kinds of silent errors, the codes, and what to show."""
+    """Returns the result for one module: how its run ended, the kinds of silent errors, the codes, and the text to
+    show."""
     programs, seed, number, heard = given
     data = made_module(random.Random(f"{seed}/{number}"))
     try:
@@ -443,7 +445,7 @@ def searched(given: Tuple[Programs, str, int, Sequence[str]]) -> Tuple[str, Set[
 
 
 def smallest(programs: Programs, data: bytes, heard: Sequence[str]) -> bytes:
-    """The fewest lines that show the same."""
+    """Returns the fewest lines that show the same."""
     def still(parts: List[bytes]) -> bool:
         text = b"".join(parts)
         return judged(text, answers(programs, text), heard)[0] == "unheard"
@@ -452,7 +454,7 @@ def smallest(programs: Programs, data: bytes, heard: Sequence[str]) -> bytes:
 
 
 def counterexample(programs: Programs, data: bytes, heard: Sequence[str]) -> str:
-    """A counterexample, made small, with its report and its run."""
+    """Returns a counterexample, made small, with its report and its run."""
     data = smallest(programs, data, heard)
     findings, events, end = answers(programs, data) or ([], set(), "refused")
     report = ", ".join(f"{each['code']} at {each['start']} to {each['end']}" for each in findings) or "no finding"
@@ -462,7 +464,7 @@ def counterexample(programs: Programs, data: bytes, heard: Sequence[str]) -> str
 
 
 def search(words: argparse.Namespace) -> int:
-    """Tries modules, prints what was found, and gives the exit status."""
+    """Tries modules, prints the findings, and returns the exit status."""
     programs = os.path.abspath(words.pycheck), os.path.abspath(words.pyrun)
     verdicts: Counter[str] = collections.Counter()
     met: Counter[str] = collections.Counter()
@@ -487,7 +489,7 @@ def search(words: argparse.Namespace) -> int:
 
 
 def main(words: List[str]) -> int:
-    """Searches as the words say, and gives the exit status."""
+    """Searches as the words say, and returns the exit status."""
     parser = Words("tools/attack search_runs", __doc__)
     parser.add_argument("pycheck")
     parser.add_argument("pyrun")

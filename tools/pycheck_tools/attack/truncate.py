@@ -27,7 +27,7 @@ Token = Tuple[str, str, int, int]
 LaidOut = Tuple[str, str, int]
 # A logical line: its column, its tokens, and the place of its end
 Line = Tuple[int, List[Token], int]
-# A rule of the grammar: its name, and what it reads; and how far it is read from which column
+# A rule of the grammar: its name, and the parts that it reads; and how much of it is read, from which column
 Rule = Tuple[str, Tuple[str, ...]]
 Item = Tuple[Rule, int, int]
 
@@ -42,7 +42,7 @@ SIGNS = sorted(OPERATORS + UNUSED, key=len, reverse=True)
 CLOSES = {")": "(", "]": "[", "}": "{"}
 HEADERS = [words.split() for words in ("from __future__ import annotations", "from dataclasses import dataclass", "from typing import Any")]
 
-# By hand: the lengths of the module of 73 bytes, and what each cut is answered with; 0 for its own report.
+# By hand: the lengths of the module of 73 bytes, and the answer to each cut; 0 for its own report.
 BY_HAND = {0: "G1 0", 3: "G1 0", 4: "N1 0", 7: "L4 5", 15: "N1 0", 20: "N1 0", 33: "N1 0", 34: "G1 34", 44: "L5 44", 45: "G1 45",
            46: "G1 46", 51: "G1 51", 61: "G1 61", 62: "G1 62", 63: "L2 62", 64: "L2 62", 65: "G1 65", 71: "L5 71", 72: "", 73: ""}
 
@@ -94,13 +94,13 @@ anns: ann | anns ',' ann
 
 
 class Refused(Exception):
-    """A code and the byte at which it stands."""
+    """Raised for a refusal: its code and its byte."""
 
 
 # The source text
 
 def coding_fault(line: str) -> Optional[int]:
-    """Where the first `#` of a line stands, if a coding other than utf-8 is named after it."""
+    """Returns the place of the first `#` of a line, if a coding other than utf-8 is named after it."""
     mark = line.find("#")
     for word in ("coding:", "coding=") if mark >= 0 else ():
         at = line.find(word, mark)
@@ -112,7 +112,7 @@ def coding_fault(line: str) -> Optional[int]:
 
 
 def text_of(data: bytes) -> str:
-    """The text of the bytes, where they have no fault of the source."""
+    """Returns the text of the bytes; raises Refused if they have a fault of the source."""
     if len(data) > 1 << 20:
         raise Refused("S1", 1 << 20)
     if data.startswith(b"\xef\xbb\xbf"):
@@ -176,7 +176,7 @@ class Lexer:
         self.line = []
 
     def read(self) -> List[Line]:
-        """All logical lines."""
+        """Returns all logical lines."""
         self.begin_line()
         while self.at < len(self.text):
             if self.at_line_end():
@@ -201,7 +201,7 @@ class Lexer:
             self.at += 1
 
     def begin_line(self) -> None:
-        """The column of a line outside brackets; a tab in front of its first token is refused."""
+        """Reads the column of a line outside brackets; raises Refused for a tab in front of its first token."""
         start = self.at
         while self.peek() in (" ", "\t") and self.peek():
             self.at += 1
@@ -292,7 +292,7 @@ def forms(line: List[Token]) -> List[str]:
 
 
 def faults_of_line(column: int, line: List[Token], suites: List[Tuple[int, str]]) -> Iterator[Tuple[int, bool, str]]:
-    """The faults of one line, without those of its column: a character, whether it is an N code, a code."""
+    """Yields the faults of one line, except those of its column: a character, whether it is an N code, a code."""
     first, words = line[0], forms(line)
     if first[0] == "def" and any(opener == "def" for _, opener in suites):
         yield first[2], True, "N3"
@@ -308,7 +308,8 @@ def faults_of_line(column: int, line: List[Token], suites: List[Tuple[int, str]]
 
 
 def layout_of(text: str, lines: List[Line]) -> List[LaidOut]:
-    """The tokens with NEWLINE, INDENT, DEDENT and END: each a kind, a form and the character at which it stands."""
+    """Returns the tokens with NEWLINE, INDENT, DEDENT and END: for each a kind, a form and the character at which it
+    begins."""
     tokens: List[LaidOut] = []
     suites: List[Tuple[int, str]] = [(0, "")]
     before: Optional[List[Token]] = None
@@ -339,10 +340,10 @@ def layout_of(text: str, lines: List[Line]) -> List[LaidOut]:
     return tokens + [("DEDENT", "", end)] * (len(suites) - 1) + [("END", "", end)]
 
 
-# The grammar, by Earley's method: an item is a rule, how far it is read, and the column at which it began.
+# The grammar, by Earley's method: an item is a rule, how much of it is read, and the column at which it began.
 
 def table_of(grammar: str) -> Tuple[List[Rule], Dict[str, List[Rule]], Set[str]]:
-    """The rules, those of each name, and the names that may be nothing."""
+    """Returns the rules, those of each name, and the names that may be empty."""
     rules: List[Rule] = []
     for line in grammar.strip().splitlines():
         made, _, choices = line.partition(":")
@@ -361,7 +362,7 @@ RULES, NAMED, EMPTY = table_of(GRAMMAR)
 
 
 def suits(wanted: str, token: LaidOut) -> bool:
-    """Whether a token is one that a rule wants."""
+    """Whether a token is one that a rule accepts."""
     kind, form, _ = token
     if wanted[0] == "'":
         return wanted[1:-1] == form and kind not in ("INT", "STR")
@@ -369,7 +370,7 @@ def suits(wanted: str, token: LaidOut) -> bool:
 
 
 def closed(column: Set[Item], number: int, columns: Sequence[Set[Item]]) -> Set[Item]:
-    """A column with all that follows from its items without a further token."""
+    """Returns a column with all items that follow from its items without a further token."""
     items, work = set(column), list(column)
 
     def add(item: Item) -> None:
@@ -399,7 +400,7 @@ class Grammar:
         self.read: List[Tuple[str, str]] = []
 
     def first_wrong(self, tokens: List[LaidOut]) -> Optional[int]:
-        """The number of the first token after which no module can follow, or None where the tokens spell one."""
+        """Returns the number of the first token after which no module can follow, or None if the tokens spell one."""
         plain = [token[:2] for token in tokens]
         same = 0
         while same < min(len(plain), len(self.read)) and plain[same] == self.read[same]:
@@ -417,7 +418,7 @@ class Grammar:
 
 
 def reading(data: bytes, grammar: Grammar) -> str:
-    """The refusal of the bytes as a code and a byte, or nothing where they spell a module."""
+    """Returns the refusal of the bytes as a code and a byte, or nothing if they spell a module."""
     try:
         text = text_of(data)
         tokens = layout_of(text, Lexer(text).read())
@@ -430,7 +431,7 @@ def reading(data: bytes, grammar: Grammar) -> str:
 # The comparison
 
 def wanted_of(refusal: str, report: rows.Answer) -> rows.Answer:
-    """The answer that belongs to a refusal, or to none."""
+    """Returns the answer for a refusal, or for none."""
     if not refusal:
         return report
     code, byte = refusal.split()
@@ -438,7 +439,7 @@ def wanted_of(refusal: str, report: rows.Answer) -> rows.Answer:
 
 
 def rows_of(given: str, names: List[str]) -> Iterator[Tuple[str, bytes, rows.Answer]]:
-    """The modules to be cut: a name, the bytes, the answer to the whole."""
+    """Yields the modules to be cut: a name, the bytes, the answer to the whole."""
     found = rows.examples_of_folder(given) if os.path.isdir(given) else rows.examples_of_rows(given)
     for name, data, want in found:
         if want and want[0] != 2 and data and (name in names if names else len(data) <= MOST):
@@ -446,7 +447,7 @@ def rows_of(given: str, names: List[str]) -> Iterator[Tuple[str, bytes, rows.Ans
 
 
 def cut(program: str, name: str, data: bytes, report: rows.Answer, grammar: Grammar) -> Tuple[int, int]:
-    """Compares each cut of one row: how many agree, how many differ."""
+    """Compares each cut of one row. Returns how many agree and how many differ."""
     agree = differ = 0
     for length in range(len(data) + 1):
         read = reading(data[:length], grammar)
@@ -463,7 +464,7 @@ def cut(program: str, name: str, data: bytes, report: rows.Answer, grammar: Gram
 
 
 def main(words: List[str]) -> int:
-    """Cuts the modules that the words name, and gives the exit status."""
+    """Cuts the modules that the words name, and returns the exit status."""
     parser = Words("tools/attack truncate", __doc__)
     parser.add_argument("program")
     parser.add_argument("file")

@@ -1,1 +1,1 @@
-"""Checks of what stands in the repository."""
+"""Checks of the contents of the repository."""

@@ -41,14 +41,14 @@ class Stage(NamedTuple):
 
 
 def libraries() -> Dict[str, List[str]]:
-    """The libraries in the line of each crate."""
+    """Returns the libraries in the line of each crate."""
     lines = (line.split("#")[0].strip() for line in CRATES.read_text(encoding="utf-8").splitlines())
     parts = (line.partition(":") for line in lines if line)
     return {name.split()[0]: below.split() for name, _, below in parts}
 
 
 def reached(graph: Dict[str, List[str]], start: str) -> Set[str]:
-    """All that a node of a graph stands on, directly or not."""
+    """Returns all nodes of a graph that a node depends on, directly or not."""
     found: Set[str] = set()
     left = list(graph.get(start, []))
     while left:
@@ -60,12 +60,12 @@ def reached(graph: Dict[str, List[str]], start: str) -> Set[str]:
 
 
 def nearest(graph: Dict[str, List[str]], node: str) -> List[str]:
-    """What a node stands on directly, without what another of these stands on."""
+    """Returns the nodes that a node depends on directly, without those that another of these depends on."""
     return [low for low in graph[node] if not any(low in reached(graph, other) for other in graph[node] if other != low)]
 
 
 def stages_of(page: str) -> List[Stage]:
-    """The stages of the page, with the crates of their tables."""
+    """Returns the stages of the page, with the crates of their tables."""
     found: List[Stage] = []
     within = False
     for line in page.splitlines():
@@ -80,7 +80,7 @@ def stages_of(page: str) -> List[Stage]:
 
 
 def graph_of(stages: List[Stage], below: Dict[str, List[str]]) -> Dict[str, List[str]]:
-    """The stages that each stage stands on, those that come first on the page first."""
+    """Returns the stages that each stage depends on, in the order of the page."""
     home = {crate: stage.name for stage in stages for crate in stage.crates}
     graph = {}
     for stage in stages:
@@ -90,7 +90,8 @@ def graph_of(stages: List[Stage], below: Dict[str, List[str]]) -> Dict[str, List
 
 
 def faults_of(stages: List[Stage], below: Dict[str, List[str]]) -> List[str]:
-    """A line for each crate that does not stand in one stage, and for each stage that stands on a later one."""
+    """Returns a line for each crate that is not in exactly one stage, and for each stage that depends on a later
+    one."""
     listed = [crate for stage in stages for crate in stage.crates]
     faults = [f"{crate} is in crates.txt, and in no stage" for crate in below if crate not in listed]
     faults += [f"{crate} is in a stage, and not in crates.txt" for crate in listed if crate not in below]
@@ -103,7 +104,7 @@ def faults_of(stages: List[Stage], below: Dict[str, List[str]]) -> List[str]:
 
 
 def page_with(page: str, below: Dict[str, List[str]]) -> str:
-    """The page, with what each crate stands on in its row."""
+    """Returns the page, with the dependencies of each crate in its row."""
     def row(line: str) -> str:
         found = ROW.fullmatch(line)
         if not found or found[1] not in below:
@@ -114,7 +115,7 @@ def page_with(page: str, below: Dict[str, List[str]]) -> str:
 
 
 def levels_of(stages: List[Stage], graph: Dict[str, List[str]]) -> Dict[str, int]:
-    """How far below the top each stage is drawn: one further than the lowest that it stands on."""
+    """Returns how far below the top each stage is drawn: one further than the lowest that it depends on."""
     levels: Dict[str, int] = {}
     for stage in stages:
         levels[stage.name] = max((levels[low] + 1 for low in graph[stage.name]), default=0)
@@ -130,7 +131,7 @@ class Box(NamedTuple):
 
 
 def boxes_of(stages: List[Stage], levels: Dict[str, int]) -> Dict[str, Box]:
-    """Where each stage is drawn: those of one level side by side, a level below the one before."""
+    """Returns where each stage is drawn: those of one level side by side, a level below the one before."""
     boxes: Dict[str, Box] = {}
     top = 10
     for level in range(max(levels.values(), default=-1) + 1):
@@ -144,7 +145,7 @@ def boxes_of(stages: List[Stage], levels: Dict[str, int]) -> Dict[str, Box]:
 
 
 def drawn_box(stage: Stage, box: Box) -> str:
-    """A stage: its name and what it does, and below them its crates."""
+    """Returns the SVG of a stage: its name and its purpose, and below them its crates."""
     head = f'<tspan font-weight="bold">{escape(stage.name)}</tspan>: {escape(stage.does)}'
     texts = [head, *(escape(line) for line in box.lines)]
     lines = "".join(f'<text x="{box.left + 12}" y="{box.top + 22 + at * LINE}">{text}</text>\n' for at, text in enumerate(texts))
@@ -152,13 +153,13 @@ def drawn_box(stage: Stage, box: Box) -> str:
 
 
 def drawn_arrow(low: Box, high: Box) -> str:
-    """An arrow from a stage to one that stands on it."""
+    """Returns the SVG of an arrow from a stage to one that depends on it."""
     start, end, middle = low.left + WIDTH // 2, high.left + WIDTH // 2, high.top - DOWN // 2
     return f'<path d="M{start} {low.top + low.height} V{middle} H{end} V{high.top - 2}" marker-end="url(#head)"/>\n'
 
 
 def picture(stages: List[Stage], below: Dict[str, List[str]]) -> str:
-    """The picture of the stages, as SVG."""
+    """Returns the picture of the stages, as SVG."""
     graph = graph_of(stages, below)
     boxes = boxes_of(stages, levels_of(stages, graph))
     arrows = "".join(drawn_arrow(boxes[low], boxes[name]) for name in graph for low in nearest(graph, name))
@@ -176,7 +177,7 @@ def picture(stages: List[Stage], below: Dict[str, List[str]]) -> str:
 
 
 def run(asked: argparse.Namespace) -> int:
-    """Writes both files, or compares them, and gives the exit status."""
+    """Writes both files, or compares them, and returns the exit status."""
     below, page = libraries(), PAGE.read_text(encoding="utf-8")
     stages = stages_of(page)
     faults = faults_of(stages, below)
@@ -196,7 +197,7 @@ def run(asked: argparse.Namespace) -> int:
 
 
 def main(words: List[str]) -> int:
-    """Does what the words of tools/architecture ask for, and gives the exit status."""
+    """Does what the words of tools/architecture ask for, and returns the exit status."""
     parser = Words("tools/architecture", __doc__)
     parser.add_argument("--check", dest="write", action="store_false")
     return run(parser.parse_args(words))

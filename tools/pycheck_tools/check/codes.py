@@ -1,19 +1,19 @@
-"""Compares what pycheck answers with what the page of codes, or another page, says.
+"""Compares the answers of pycheck with those on the page of codes, or on another page.
 
     tools/check codes [--program PYCHECK] [--page PAGE]
 
-The pages are README.md, docs/PROFILE.md, docs/CODES.md and docs/COOKBOOK.md where none is named. A page has modules, each with its report, a block `text`, directly after it:
+The pages are README.md, docs/PROFILE.md, docs/CODES.md and docs/COOKBOOK.md if none is named. A page has modules, each with its report, a block `text`, directly after it:
 
     python             the text of the module
-    python-escaped     the same, in which escapes as \\x00 stand for characters
+    python-escaped     the same, in which escapes as \\x00 mean characters
     python-expression  an expression for its bytes: bytes literals and numbers, put together by + and *
 
-Other blocks are not looked at. A page CODES.md also has an entry for each code, under a heading `### CODE TITLE`, and the
+Other blocks are ignored. A page CODES.md also has an entry for each code, under a heading `### CODE TITLE`, and the
 first module of an entry is the one that shows the code.
 
-Prints each module that is answered otherwise, and what is wrong with the page: a code without an entry, an entry that does not
+Prints each module that is answered otherwise, and the faults of the page: a code without an entry, an entry that does not
 show its code, a module without a report, a page without a module to compare. Last it says how many modules agree and how many
-differ. The exit status is 1 where something was printed before that.
+differ. The exit status is 1 if something was printed before that.
 """
 from __future__ import annotations
 
@@ -37,7 +37,7 @@ CODES = [f"{letter}{number:0{digits}}" for letter, last, digits in FAMILIES for 
 
 
 def value_of(node: ast.expr) -> Any:
-    """The value of an expression of bytes literals, numbers, + and *."""
+    """Returns the value of an expression of bytes literals, numbers, + and *."""
     if isinstance(node, ast.Constant) and type(node.value) in (bytes, int):
         return node.value
     if isinstance(node, ast.BinOp) and isinstance(node.op, (ast.Add, ast.Mult)):
@@ -47,12 +47,12 @@ def value_of(node: ast.expr) -> Any:
 
 
 def bytes_of_expression(text: str) -> bytes:
-    """The bytes of an expression."""
+    """Returns the bytes of an expression."""
     return bytes(value_of(ast.parse(f"({text})", mode="eval").body))
 
 
 def bytes_of_escaped(text: str) -> bytes:
-    """The bytes of a text with escapes."""
+    """Returns the bytes of a text with escapes."""
     return text.encode("ascii", "backslashreplace").decode("unicode_escape").encode()
 
 
@@ -60,7 +60,7 @@ KINDS: Dict[str, Callable[[str], bytes]] = {"python": str.encode, "python-escape
 
 
 def parts_of(page: Iterable[str]) -> Iterator[Tuple[int, str, str]]:
-    """The headings, the blocks and the other lines: the line where each begins, its kind, and its text."""
+    """Yields the headings, the blocks and the other lines: the line where each begins, its kind, and its text."""
     lines = enumerate(page, 1)
     for at, line in lines:
         if line.startswith("```"):
@@ -77,7 +77,8 @@ def parts_of(page: Iterable[str]) -> Iterator[Tuple[int, str, str]]:
 
 
 def read_page(page: Iterable[str], name: str) -> Tuple[Entries, List[str]]:
-    """The entries, a title and modules for each code, and what is wrong with the page. A module is its line, bytes and report."""
+    """Returns the entries, a title and modules for each code, and the faults of the page. A module is its line, bytes
+    and report."""
     module: Optional[Tuple[int, bytes]] = None
     modules: List[Module] = []
     faults: List[str] = []
@@ -112,7 +113,7 @@ def shows(code: str, title: str, report: str) -> bool:
 
 
 def faults_of_entries(entries: Entries) -> Iterator[str]:
-    """What is wrong with the entries of the codes."""
+    """Yields the faults of the entries of the codes."""
     for code in CODES:
         if code not in entries:
             yield f"{code}: there is no entry"
@@ -123,14 +124,14 @@ def faults_of_entries(entries: Entries) -> Iterator[str]:
 
 
 def wanted(report: str) -> Answer:
-    """The exit status, what is printed, and what is printed as an error."""
+    """Returns the expected exit status, standard output and standard error."""
     if report.startswith("refused "):
         return 2, "", report
     return (0 if "\nerrors 0," in "\n" + report else 1), report, ""
 
 
 def compare(program: str, entries: Entries) -> Tuple[int, int]:
-    """How many modules agree, and how many differ."""
+    """Returns how many modules agree, and how many differ."""
     agree = differ = 0
     for code, (_, modules) in entries.items():
         for at, text, report in modules:
@@ -144,7 +145,7 @@ def compare(program: str, entries: Entries) -> Tuple[int, int]:
 
 
 def run(asked: argparse.Namespace) -> int:
-    """Compares the modules of the pages, and gives the exit status."""
+    """Compares the modules of the pages, and returns the exit status."""
     agree = differ = wrong = 0
     for page in asked.page or PAGES:
         name = os.path.basename(page)

@@ -36,7 +36,8 @@ TAKING = {"page": {"help", "codes", "commands"}, "log": {"edits"}, "calls": {"te
 
 
 def asked_of(words: List[str]) -> argparse.Namespace:
-    """What the words ask for. An option that no named check takes is a mistake, and so is a page, or a thing to write, for all."""
+    """Returns the parsed words. An option that no named check takes is a mistake; so is a page, or `--write`, if no
+    check is named."""
     parser = Words("tools/check", __doc__)
     parser.add_argument("--program", default=str(ROOT / "pycheck"))
     parser.add_argument("--page", action="append", default=[], type=Path)
@@ -56,7 +57,7 @@ def asked_of(words: List[str]) -> argparse.Namespace:
 
 
 def main(words: List[str]) -> int:
-    """Runs the checks, and gives the exit status."""
+    """Runs the checks, and returns the exit status."""
     asked = asked_of(words)
     named = asked.names or CHECKS
     statuses = []

@@ -1,18 +1,18 @@
-"""Compares what pages show of files and commands with the files and with what the commands print.
+"""Compares excerpts and commands on pages with the files and with the output of the commands.
 
     tools/check commands [--program PYCHECK] [--page PAGE]
 
-The pages are docs/TUTORIAL.md and docs/CORE.md where none is named. A page has blocks of these kinds; FILE is a path from the top of the repository. Other blocks are not looked at.
+The pages are docs/TUTORIAL.md and docs/CORE.md if none is named. A page has blocks of these kinds; FILE is a path from the top of the repository. Other blocks are ignored.
 
-    py FILE      lines that stand in FILE, one after another
-    diff OLD NEW hunks, with an empty line between two: the lines that stay and those that begin with - stand in OLD one
-                 after another, and the lines that stay and those that begin with + stand so in NEW
-    console      lines `$ COMMAND`, each followed by what is printed, a refusal included. A COMMAND is `./pycheck`,
+    py FILE      lines that are in FILE, one after another
+    diff OLD NEW hunks, with an empty line between two: the lines that stay and those that begin with - are in OLD one
+                 after another, and the lines that stay and those that begin with + are in NEW
+    console      lines `$ COMMAND`, each followed by its output, a refusal included. A COMMAND is `./pycheck`,
                  `tools/check_all` or `python3`, with words after it; it runs at the top of the repository, and the
                  first two with the program PYCHECK
 
-Prints what is wrong, with the page and the line, and what a command printed instead. Last it says how many blocks were
-compared, and how many are wrong. The exit status is 1 where one is wrong, and where a page has none.
+Prints each fault, with the page and the line, and the actual output of a command. Last it says how many blocks were
+compared, and how many are wrong. The exit status is 1 if one is wrong, or if a page has none.
 """
 from __future__ import annotations
 
@@ -37,7 +37,7 @@ class Block(NamedTuple):
 
 
 def blocks_of(text: str) -> Iterator[Block]:
-    """The blocks of a page that can be compared."""
+    """Yields the blocks of a page that can be compared."""
     lines = enumerate(text.split("\n"), 1)
     for at, line in lines:
         if line.startswith("```"):
@@ -52,14 +52,14 @@ def blocks_of(text: str) -> Iterator[Block]:
 
 
 def stand_in(lines: List[str], file: str) -> bool:
-    """Whether lines stand in a file, one after another."""
+    """Whether lines are in a file, one after another."""
     path = ROOT / file
     there = path.read_text(encoding="utf-8").split("\n") if path.is_file() else []
     return bool(lines) and any(there[at:at + len(lines)] == lines for at in range(len(there)))
 
 
 def faults_of_diff(block: Block) -> Iterator[str]:
-    """What is wrong with the hunks of a block."""
+    """Yields the faults of the hunks of a block."""
     hunk: List[str] = []
     for line in [*block.lines, ""]:
         if line:
@@ -72,7 +72,7 @@ def faults_of_diff(block: Block) -> Iterator[str]:
 
 
 def printed_by(program: str, words: List[str]) -> List[str]:
-    """The lines that a command prints."""
+    """Returns the lines that a command prints."""
     called = {"./pycheck": [program], "tools/check_all": [sys.executable, "-B", "tools/check_all"],
               "python3": [sys.executable, "-B"]}[words[0]]
     done = subprocess.run([*called, *words[1:]], cwd=ROOT, env={**os.environ, "PYCHECK": program}, text=True,
@@ -81,7 +81,7 @@ def printed_by(program: str, words: List[str]) -> List[str]:
 
 
 def faults_of_console(program: str, block: Block) -> Iterator[str]:
-    """What is wrong with the commands of a block."""
+    """Yields the faults of the commands of a block."""
     at = 0
     while at < len(block.lines):
         after = next((later for later in range(at + 1, len(block.lines)) if block.lines[later].startswith("$ ")),
@@ -97,7 +97,7 @@ def faults_of_console(program: str, block: Block) -> Iterator[str]:
 
 
 def faults_of(program: str, block: Block) -> Iterator[str]:
-    """What is wrong with a block."""
+    """Yields the faults of a block."""
     if not block.lines:
         yield "an empty block"
     elif block.kind[0] == "console":
@@ -109,7 +109,7 @@ def faults_of(program: str, block: Block) -> Iterator[str]:
 
 
 def run(asked: argparse.Namespace) -> int:
-    """Compares the blocks of the pages, and gives the exit status."""
+    """Compares the blocks of the pages, and returns the exit status."""
     count = wrong = 0
     for page in asked.page or PAGES:
         blocks = list(blocks_of(page.read_text(encoding="utf-8")))

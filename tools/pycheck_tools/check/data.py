@@ -6,7 +6,7 @@ writes tools/pycheck_all/codes.json, an object with a member for each code, in t
 
     title    the title of its entry, which is the label of an error and of a dynamic place
     kind     `refused`, `error` or `dynamic`
-    meaning  what the table of all codes says of it
+    meaning  its meaning in the table of all codes
     run      of an error, the sentence of its paragraph `In a run`, which says whether it is heard, harmless or silent
     mend     one sentence that says how to mend it: the first of the paragraph `Instead` or `To make it static`
     entry    the whole entry, in Markdown, without its heading
@@ -25,10 +25,10 @@ for some words at the place of an error:
     words    the words
     write    what is said there
 
-With `--check` it writes nothing, and the exit status is 1 where a file is not the one that it would write, with a
-line that says so. A page without such forms, and a form that stands twice, are told too. A code without a title, a
-kind, a meaning or a sentence that mends it is told, and so is an error that does not say what it is in a run, in the
-form of the others; the exit status is 1 too.
+Without `--write` it only compares, prints a line for each file that differs, and the exit status is then 1. It also
+reports a page without such forms, and a form that is listed twice. A code without a title, a kind, a meaning or a
+sentence that mends it is reported, and so is an error that does not say what it is in a run, in the form of the
+others; the exit status is 1 in these cases too.
 """
 from __future__ import annotations
 
@@ -59,7 +59,7 @@ KINDS = {"E": "error", "A": "dynamic"}
 
 
 def entries_of(page: str) -> Iterator[Tuple[str, str, str]]:
-    """The entries: the code, the title and the text of each."""
+    """Yields the entries: the code, the title and the text of each."""
     heads = [(found.start(), found) for found in re.finditer(r"^#{2,3} .*$", page, re.MULTILINE)]
     ends = [at for at, _ in heads[1:]] + [len(page)]
     for (_, found), end in zip(heads, ends):
@@ -69,7 +69,7 @@ def entries_of(page: str) -> Iterator[Tuple[str, str, str]]:
 
 
 def left_out_of(page: str) -> Iterator[Dict[str, Any]]:
-    """The forms that the page says are left out and refused."""
+    """Yields the forms that the page lists as left out and refused."""
     for table in FORMS.findall(page):
         for line in table.splitlines():
             form, answer, write = (cell.strip().replace("\\|", "|") for cell in CELLS.split(line)[1:-1])
@@ -79,7 +79,7 @@ def left_out_of(page: str) -> Iterator[Dict[str, Any]]:
 
 
 def cases_of(page: str) -> Iterator[Dict[str, Any]]:
-    """The rows of what is said where a word at a place tells more than the code."""
+    """Yields the rows about words at a place that tell more than the code."""
     for table in WORDS.findall(page):
         for line in table.splitlines():
             code, words, write = (cell.strip() for cell in CELLS.split(line)[1:-1])
@@ -87,13 +87,14 @@ def cases_of(page: str) -> Iterator[Dict[str, Any]]:
 
 
 def run_of(code: str, entry: str) -> str:
-    """The sentence that says what an error is in a run; empty where it has none of the form, and of other codes."""
+    """Returns the sentence that says what an error is in a run; empty if the entry has none of that form, and for other
+    codes."""
     found = RUN.search(entry) if KINDS.get(code[0]) == "error" else None
     return found[1] if found and BEING.fullmatch(found[1]) else ""
 
 
 def texts_of(page: str) -> Dict[str, Dict[str, Any]]:
-    """The texts of each code."""
+    """Returns the texts of each code."""
     meanings = {found[1]: found[2] for found in map(ROW.fullmatch, page.splitlines()) if found}
     texts: Dict[str, Dict[str, Any]] = {}
     for code, title, entry in entries_of(page):
@@ -111,7 +112,7 @@ def texts_of(page: str) -> Dict[str, Dict[str, Any]]:
 
 
 def missing_in(texts: Dict[str, Dict[str, Any]], forms: List[Dict[str, Any]]) -> Iterator[str]:
-    """What the pages lack."""
+    """Yields a line for each text that the pages lack."""
     for code, it in texts.items():
         for part in ("title", "kind", "meaning", "mend"):
             if not it[part]:
@@ -127,7 +128,7 @@ def missing_in(texts: Dict[str, Dict[str, Any]], forms: List[Dict[str, Any]]) ->
 
 
 def faults_of(cases: List[Dict[str, Any]], texts: Dict[str, Dict[str, Any]]) -> Iterator[str]:
-    """What is wrong with the rows of words."""
+    """Yields the faults of the rows of words."""
     named = [(it["code"], word) for it in cases for word in it["words"]]
     for code, word in sorted({it for it in named if named.count(it) > 1}):
         yield f"{PAGE.name}: {word} of {code} stands twice"
@@ -137,12 +138,12 @@ def faults_of(cases: List[Dict[str, Any]], texts: Dict[str, Dict[str, Any]]) -> 
 
 
 def data_of(whole: Any) -> str:
-    """Data as it is written."""
+    """Returns data as it is written."""
     return json.dumps(whole, ensure_ascii=False, indent=1) + "\n"
 
 
 def run(asked: argparse.Namespace) -> int:
-    """Writes or compares the data; the exit status is 1 where a text is missing or the data is another."""
+    """Writes or compares the data. Returns the exit status: 1 if a text is missing or the data differs."""
     page = PAGE.read_text(encoding="utf-8")
     texts, cases = texts_of(page), list(cases_of(page))
     forms = list(left_out_of(PROFILE.read_text(encoding="utf-8")))

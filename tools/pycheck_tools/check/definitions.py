@@ -4,14 +4,14 @@
 
 docs/DEFINITIONS.md says `NAME`, `NAME` in [CRATE/specs/FILE.antt](LINK): the file defines these names. Each code of a report
 and of a refusal has a row there, which begins with the code. These rows are complete: of the files that they name, each definition
-that speaks of a code stands in the row of that code. A table in the README of a crate, or in docs/DEFINITIONS.md under
+that mentions a code is in the row of that code. A table in the README of a crate, or in docs/DEFINITIONS.md under
 a heading that names the crate, has rows | .. `NAME` .. | specs/FILE.antt, .. | .. |: one of the files defines each name.
-Each file that these pages name is there: the target of each link, each path specs/FILE.antt, proofs/FILE.antt and src/FILE.rt,
-which is one of the page's crate unless `CRATE`, or CRATE/ stands before it, and each name in the column File of a table whose
+Each file that these pages name exists: the target of each link, each path specs/FILE.antt, proofs/FILE.antt and src/FILE.rt,
+which is one of the page's crate unless `CRATE` or CRATE/ precedes it, and each name in the column File of a table whose
 first column that is, which is proofs/NAME.antt.
 
-Prints each name, file and code that is not there, and last how many names were found. The exit status is 1 if anything else
-was printed, and where no name was found.
+Prints each name, file and code that is missing, and last how many names were found. The exit status is 1 if anything else
+was printed, or if no name was found.
 """
 from __future__ import annotations
 
@@ -50,7 +50,7 @@ def defined_in(path: str) -> Optional[Set[str]]:
 
 
 def faults_of(at: str, names: List[str], paths: List[str]) -> List[str]:
-    """A line for each of the files that is not there, and for each name that none of them defines."""
+    """Returns a line for each file that is missing, and for each name that none of the files defines."""
     missing = [path for path in paths if defined_in(path) is None]
     if missing:
         return [f"{at}: there is no {path}" for path in missing]
@@ -59,7 +59,7 @@ def faults_of(at: str, names: List[str], paths: List[str]) -> List[str]:
 
 
 def sites_in(path: str) -> Iterator[Tuple[str, str]]:
-    """Each code that a definition of a file speaks of, with the name of that definition."""
+    """Yields each code that a definition of a file mentions, with the name of that definition."""
     name, in_record = "", False
     with open(os.path.join(ROOT, path), encoding="utf-8") as file:
         for line in file:
@@ -73,7 +73,7 @@ def sites_in(path: str) -> Iterator[Tuple[str, str]]:
 
 
 def faults_of_rows() -> List[str]:
-    """A line for each definition that speaks of a code and does not stand in the row of that code."""
+    """Returns a line for each definition that mentions a code and is not in the row of that code."""
     rows: Dict[str, Set[Tuple[str, str]]] = {}
     with open(os.path.join(ROOT, PAGE), encoding="utf-8") as file:
         for line in file:
@@ -88,7 +88,7 @@ def faults_of_rows() -> List[str]:
 
 
 def index_of(line: str, at: str) -> Tuple[List[str], List[str]]:
-    """The names that a line of the index says, and what is wrong with it."""
+    """Returns the names in a line of the index, and its faults."""
     names: List[str] = []
     faults: List[str] = []
     for listed, path, link in NAMES.findall(line):
@@ -102,7 +102,7 @@ def index_of(line: str, at: str) -> Tuple[List[str], List[str]]:
 
 
 def row_of(line: str, at: str, crate: Optional[str]) -> Tuple[List[str], List[str]]:
-    """The names that a row of a table of a crate's definitions says, and what is wrong with it."""
+    """Returns the names in a row of a table of a crate's definitions, and its faults."""
     cells = CELLS.split(line)
     paths = FILE.findall(cells[2]) if len(cells) > 3 else []
     if not paths or not crate:
@@ -112,7 +112,8 @@ def row_of(line: str, at: str, crate: Optional[str]) -> Tuple[List[str], List[st
 
 
 def files_in(line: str, page: str, crate: Optional[str]) -> Iterator[str]:
-    """The files that a line of a page names by a link or a path, each as a path from the top of the repository."""
+    """Yields the files that a line of a page names by a link or a path, each as a path from the top of the
+    repository."""
     for target in LINK.findall(line):
         if "://" not in target:
             yield os.path.normpath(os.path.join(os.path.dirname(page), target))
@@ -123,13 +124,13 @@ def files_in(line: str, page: str, crate: Optional[str]) -> Iterator[str]:
 
 
 class Table:
-    """The table that a page is in, line by line: whether its first column has names of files of proofs."""
+    """The table around a line of a page: whether its first column has names of files of proofs."""
 
     def __init__(self) -> None:
         self.head: Optional[str] = None
 
     def files_in(self, line: str, crate: Optional[str]) -> List[str]:
-        """The files of proofs that a further line of the page names in such a column."""
+        """Returns the files of proofs that a further line of the page names in such a column."""
         cells = [cell.strip() for cell in CELLS.split(line)]
         if len(cells) < 3 or cells[0]:
             self.head = None
@@ -144,7 +145,7 @@ class Table:
 
 
 def read(page: str, crate: Optional[str]) -> Tuple[List[str], List[str], List[str]]:
-    """The names that a page says, the codes that its rows begin with, and what is wrong with it."""
+    """Returns the names on a page, the codes that its rows begin with, and its faults."""
     names: List[str] = []
     codes: List[str] = []
     faults: List[str] = []
@@ -164,7 +165,7 @@ def read(page: str, crate: Optional[str]) -> Tuple[List[str], List[str], List[st
 
 
 def run(asked: argparse.Namespace) -> int:
-    """Prints the faults, and gives the exit status."""
+    """Prints the faults, and returns the exit status."""
     names, codes, faults = read(PAGE, None)
     faults += [f"{PAGE}: {code} has no row" for code in CODES if code not in codes] + faults_of_rows()
     for readme in sorted(glob.glob(os.path.join(ROOT, "crates", "*", "README.md"))):

@@ -5,15 +5,15 @@
 reads the edits crates/CRATE/must-fail/*.edit, which `rt ci` tries over whole crates, and wrong_bodies/CRATE/*.edit, each of
 functions alone, or of definitions with a law that they make false, which `tools/wrong_bodies --built` tries by these functions and
 laws. Each must be of the right form, fit the files of its crate, and change something; no two of a crate may have one name, and those
-of wrong_bodies/ change functions alone or name a law. One of must-fail/ names none, since `rt` reads no such line. So what
-`tools/wrong_bodies --list` finds is found here too. The edits in a folder wrong_bodies/CRATE/apart/, which the gate leaves out, must be
+of wrong_bodies/ change functions alone or name a law. One of must-fail/ names none, since `rt` reads no such line. This check
+therefore finds all that `tools/wrong_bodies --list` finds. The edits in a folder wrong_bodies/CRATE/apart/, which the gate leaves out, must be
 just those that wrong_bodies/APART.md has a row for, each refused. LOG is what `rt ci` or `rt must-fail` printed, in a file, or on standard
 input for `-`. Then the edits that it says were refused must be just those of must-fail/, whatever `rt ci` made of one that could not be
 applied, compiled or read. Where LOG counts the edits, of a crate or of all, its numbers must be those of the files.
 
-Prints what is wrong, then the edits whose refusal says little, since the prover only met a limit or missed a name, how many edits
-of the gate have a control, and last how many edits there are and how many of those of `rt ci` were refused. The exit status is 1 where something is wrong,
-where there is no edit, and where LOG tells of none.
+Prints the faults, then the edits whose refusal says little, since the prover only met a limit or missed a name, how many edits
+of the gate have a control, and last how many edits there are and how many of those of `rt ci` were refused. The exit status is 1 if something is wrong,
+if there is no edit, or if LOG tells of none.
 """
 from __future__ import annotations
 
@@ -26,7 +26,7 @@ from typing import Dict, Iterator, List, Tuple
 
 from .. import ROOT, sums, wrong_bodies as READING
 
-# What rt says of one edit, of how many it tries or knows of one crate, and of all that were refused
+# The words of rt about one edit, about how many it tries or knows of one crate, and about all that were refused
 VERDICT = re.compile(r"^rt: must-fail (\w+)/([^:\s]+): (.*)$", re.M)
 REFUSED = "refused, as it must be"
 WEAKLY = (f"{REFUSED} (only by a limit", f"{REFUSED} (only because a proof file names")
@@ -38,18 +38,19 @@ Edits = List[Tuple[str, Path]]
 
 
 def edits_of_gate() -> Edits:
-    """The edits that `rt ci` tries, each with its crate."""
+    """Returns the edits that `rt ci` tries, each with its crate."""
     folders = sorted((ROOT / "crates").glob("*/must-fail"))
     return [(folder.parent.name, edit) for folder in folders for edit in READING.edits_in(folder)]
 
 
 def edits_apart() -> Edits:
-    """The edits of functions alone, each with its crate, or with the name of the folder where there is none."""
+    """Returns the edits of functions alone, each with its crate, or with the name of the folder if there is no such
+    crate."""
     return [(edit.relative_to(READING.KEPT).parts[0], edit) for edit in READING.edits_in(READING.KEPT)]
 
 
 def faults_of_files(edits: Edits) -> Iterator[str]:
-    """What is wrong with the edits themselves."""
+    """Yields the faults of the edits themselves."""
     for crate, edit in edits:
         why = READING.misfit(crate, edit)
         if why:
@@ -65,7 +66,7 @@ def faults_of_files(edits: Edits) -> Iterator[str]:
 
 
 def faults_of_page(edits: Edits) -> Iterator[str]:
-    """Where the page on edits that the gate leaves out has others than there are."""
+    """Yields a line for each difference between the page on edits that the gate leaves out and the files."""
     rows = [tuple(name.split("/")) for name in sums.rows_of_apart()]
     files = [(crate, edit.stem) for crate, edit in edits if edit.parent.name == READING.APART]
     yield from (f"{crate}/{name}: no row of wrong_bodies/APART.md says that it was refused" for crate, name in files if (crate, name) not in rows)
@@ -78,14 +79,14 @@ def is_of_gate(edit: Path) -> bool:
 
 
 def faults_of_controls(edits: Edits) -> Iterator[str]:
-    """Where the page of controls has an edit that is not there, or has no control."""
+    """Yields a line for each edit on the page of controls that is missing, or has no control."""
     for name in sums.kept_controls():
         if not any(f"{crate}/{edit.stem}" == name and READING.has_control(crate, edit) for crate, edit in edits):
             yield f"{name}: wrong_bodies/CONTROLS.md has a row, and no edit with a control has this name"
 
 
 def stale(edits: Edits) -> Iterator[str]:
-    """How many verdicts of each crate on both pages are of other files."""
+    """Yields how many verdicts of each crate on both pages are of other files."""
     apart, controls = sums.rows_of_apart(), sums.kept_controls()
     crates = {crate: sums.sum_of_crate(READING.folder_of(crate)) for crate, _ in edits}
     left_out = Counter(crate for crate, edit in edits if apart.get(f"{crate}/{edit.stem}", crates[crate]) != crates[crate])
@@ -96,14 +97,14 @@ def stale(edits: Edits) -> Iterator[str]:
 
 
 def told_of_controls(edits: Edits) -> str:
-    """How many edits of the gate have a control, and how many a reason why they have none."""
+    """Returns how many edits of the gate have a control, and how many a reason why they have none."""
     read = [READING.alone(crate, [edit]) for crate, edit in edits if is_of_gate(edit)]
     with_one, with_none = sum(it.controls > 0 for it in read), sum(bool(it.why_none) for it in read)
     return f"{with_one} edits of the gate have a control, {with_none} a reason, {len(read) - with_one - with_none} neither"
 
 
 def faults_of_verdicts(told: Dict[str, str], edits: Edits) -> Iterator[str]:
-    """What is wrong with the verdicts, which are told by crate and name, on the edits of `rt ci`."""
+    """Yields the faults of the verdicts, by crate and name, on the edits of `rt ci`."""
     of_files = [f"{crate}/{edit.name}" for crate, edit in edits]
     for name in of_files:
         said = told.get(name, "it was not tried")
@@ -113,7 +114,7 @@ def faults_of_verdicts(told: Dict[str, str], edits: Edits) -> Iterator[str]:
 
 
 def faults_of_counts(log: str, edits: Edits) -> Iterator[str]:
-    """Where the log counts other numbers of edits than there are files."""
+    """Yields a line for each number of edits in the log that differs from that of the files."""
     files = Counter(crate for crate, _ in edits)
     new = {crate: int(number) for crate, number in TRYING.findall(log)}
     known = {crate: int(number) for crate, number, _ in EARLIER.findall(log)}
@@ -131,7 +132,7 @@ def faults_of_counts(log: str, edits: Edits) -> Iterator[str]:
 
 
 def faults_of_log(log: str, edits: Edits) -> Iterator[str]:
-    """What is wrong by the log of `rt ci`."""
+    """Yields the faults that the log of `rt ci` shows."""
     told = {f"{crate}/{name}": said for crate, name, said in VERDICT.findall(log)}
     if not told:
         yield "the log tells of no edit that was tried"
@@ -141,13 +142,13 @@ def faults_of_log(log: str, edits: Edits) -> Iterator[str]:
 
 
 def read_log(name: str) -> str:
-    """The log in a file, or on standard input."""
+    """Returns the log in a file, or on standard input."""
     data = sys.stdin.buffer.read() if name == "-" else Path(name).read_bytes()
     return data.decode(errors="replace")
 
 
 def run(asked: argparse.Namespace) -> int:
-    """Checks the edits, and gives the exit status."""
+    """Checks the edits, and returns the exit status."""
     gate, apart = edits_of_gate(), edits_apart()
     log = read_log(asked.log) if asked.log else ""
     faults = [*faults_of_files(gate + apart), *faults_of_page(apart), *(faults_of_log(log, gate) if asked.log else [])]

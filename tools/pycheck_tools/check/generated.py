@@ -3,14 +3,14 @@
     tools/check generated [--write]
 
 writes to crates/test_tables/data/reports/ the table `generated.stores`, of 1,000 modules, and the table
-`examples.stores`, of the modules of examples/. With `--check` it writes nothing, and the exit status is 1 where a
-table is not the one that it would write.
+`examples.stores`, of the modules of examples/. Without `--write` it only compares, and the exit status is 1 if
+a table differs.
 
 The modules of the first are those of the generator of tools/attack fuzz, from a fixed start. Half of them stay as they are
 made. Of the other half three in four have names, literals, types, operators or whole lines changed for others, and
-one in four is broken. Behind each module stands whether it has a report, or how it is refused, and where: of a
-generated module as the reader of tools/attack truncate says it, which knows nothing of the program; of an example as the
-report beside it does. Modules that are not UTF-8, which no table can hold, are left out.
+one in four is broken. After each module the table says whether it has a report, or how it is refused, and
+where: for a generated module by the reader of tools/attack truncate, which is independent of the program; for an example
+by the report beside it. Modules that are not UTF-8, which no table can hold, are left out.
 """
 from __future__ import annotations
 
@@ -28,14 +28,14 @@ MODULES = 1000
 
 
 def kind_of(number: int) -> str:
-    """Whether the module of this number is changed, and how."""
+    """Returns whether the module of this number is changed, and how."""
     if number % 2 == 0:
         return "as made"
     return "broken" if number % 8 == 7 else "alike"
 
 
 def text_of(data: bytes) -> Optional[str]:
-    """The text of the bytes, if a table can hold it."""
+    """Returns the text of the bytes, if a table can hold it."""
     try:
         text = data.decode()
     except UnicodeDecodeError:
@@ -44,7 +44,7 @@ def text_of(data: bytes) -> Optional[str]:
 
 
 def generated() -> List[Tuple[str, str]]:
-    """The generated modules, each with what is said of it."""
+    """Returns the generated modules, each with its answer."""
     found: List[Tuple[str, str]] = []
     grammar, number = truncate.Grammar(), 0
     while len(found) < MODULES:
@@ -58,7 +58,7 @@ def generated() -> List[Tuple[str, str]]:
 
 
 def examples() -> List[Tuple[str, str]]:
-    """The modules of the examples, each with what is said of it."""
+    """Returns the modules of the examples, each with its answer."""
     found = []
     for file in sorted((ROOT / "examples").rglob("*.py")):
         text, said = text_of(file.read_bytes()), file.with_suffix(".txt").read_text(encoding="utf-8").rstrip("\n")
@@ -68,12 +68,12 @@ def examples() -> List[Tuple[str, str]]:
 
 
 def table(cases: List[Tuple[str, str]]) -> bytes:
-    """The table of these modules."""
+    """Returns the table of these modules."""
     return BETWEEN.join(text + ROW + said + "\n" for text, said in cases).encode()
 
 
 def run(asked: argparse.Namespace) -> int:
-    """Compares or writes the tables, and gives the exit status."""
+    """Compares or writes the tables, and returns the exit status."""
     status = 0
     for name, cases in (("generated.stores", generated()), ("examples.stores", examples())):
         file, made = DATA / name, table(cases)

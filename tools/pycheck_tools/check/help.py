@@ -2,10 +2,10 @@
 
     tools/check help [--page PAGE]
 
-PAGE is docs/CODES.md where none is named. Reads the titles of refusals and, for each code, what it means and how it is
-mended from crates/pc_code_texts/src, and the labels of errors and dynamic places from crates/pc_tree/src. Prints each title or
+PAGE is docs/CODES.md if none is named. Reads the titles of refusals and, for each code, its meaning and how to mend
+it from crates/pc_code_texts/src, and the labels of errors and dynamic places from crates/pc_tree/src. Prints each title or
 label that is not that of the page's heading `### CODE TITLE`, each text that is no single sentence of ASCII, and each
-code without a text. Last it says how many codes agree and how many differ; the exit status is 1 where one differs.
+code without a text. Last it says how many codes agree and how many differ; the exit status is 1 if one differs.
 """
 from __future__ import annotations
 
@@ -21,13 +21,13 @@ TEXTS = os.path.join("crates", "pc_code_texts", "src")
 
 
 def text_in(*names: str) -> str:
-    """The text of a file of the repository."""
+    """Returns the text of a file of the repository."""
     with open(os.path.join(ROOT, *names), encoding="utf-8") as file:
         return file.read()
 
 
 def function_texts(source: str, function: str) -> Dict[str, str]:
-    """The text for each code in a function of a source, by the code; empty where there is no such function."""
+    """Returns the text for each code in a function of a source; empty if there is no such function."""
     parts = source.split(f"pub fn {function}(", 1)
     if len(parts) == 1:
         return {}
@@ -40,7 +40,7 @@ def is_sentence(text: str) -> bool:
 
 
 def faults_of(code: str, headings: Dict[str, str], titles: Dict[str, str], texts: List[Dict[str, str]]) -> List[str]:
-    """What is wrong with a code."""
+    """Returns the faults of a code."""
     faults = []
     if titles.get(code) != headings.get(code):
         faults.append(f"the title is {titles.get(code)!r}, and on the page {headings.get(code)!r}")
@@ -51,12 +51,12 @@ def faults_of(code: str, headings: Dict[str, str], titles: Dict[str, str], texts
 
 
 def run(asked: argparse.Namespace) -> int:
-    """Compares the texts with each page, and gives the exit status."""
+    """Compares the texts with each page, and returns the exit status."""
     return max(compared(page.read_text(encoding="utf-8")) for page in asked.page or [Path(ROOT, "docs", "CODES.md")])
 
 
 def compared(text: str) -> int:
-    """Compares the texts with those of a page, and gives the exit status."""
+    """Compares the texts with those of a page, and returns the exit status."""
     headings = dict(re.findall(r"^### ([A-Z]\d+) (.+)$", text, re.MULTILINE))
     findings = text_in(TEXTS, "findings.rt")
     refusals = text_in(TEXTS, "refusals.rt")

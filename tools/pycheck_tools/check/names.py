@@ -2,11 +2,11 @@
 
     tools/check names
 
-A type is a struct, an enum, a trait or an alias, and a function one that is no method. Public is what other modules may use, also
-those of its crate alone. The functions under SHARED may have one name in so many modules, for the reason that stands there.
+A type is a struct, an enum, a trait or an alias, and a function one that is no method. A name is public if other modules may use
+it, even if only those of its crate. The functions under SHARED may have one name in so many modules, for the reason given there.
 
-Prints each name that stands in more modules, with these, and each under SHARED that stands in another number of them. Last it says
-how many names there are. The exit status is 1 where something is wrong, and where there is no name.
+Prints each name that is in more modules, with these, and each under SHARED that is in another number of them. Last it says
+how many names there are. The exit status is 1 if something is wrong, or if there is no name.
 """
 from __future__ import annotations
 
@@ -19,7 +19,7 @@ from ..rt_files import modules_of
 
 
 class Shared(NamedTuple):
-    """In how many modules a name may stand, and why."""
+    """In how many modules a name may be, and why."""
 
     modules: int
     reason: str
@@ -58,7 +58,7 @@ Places = Dict[str, List[str]]
 
 
 def places() -> Tuple[Places, Places]:
-    """The modules of each public type and of each public function, by its name."""
+    """Returns the modules of each public type and of each public function, by its name."""
     types: Places = defaultdict(list)
     functions: Places = defaultdict(list)
     for folder in sorted(ROOT.glob("crates/*/src")):
@@ -72,7 +72,7 @@ def places() -> Tuple[Places, Places]:
 
 
 def faults_of(kind: str, found: Places, shared: Mapping[str, Shared]) -> Iterator[str]:
-    """The names that stand in other numbers of modules than they may."""
+    """Yields the names that are in more or fewer modules than they may be."""
     for name in sorted({*found, *shared}):
         modules = found.get(name, [])
         if len(modules) != (shared[name].modules if name in shared else 1):
@@ -81,7 +81,7 @@ def faults_of(kind: str, found: Places, shared: Mapping[str, Shared]) -> Iterato
 
 
 def run(_: argparse.Namespace) -> int:
-    """Prints the faults, and gives the exit status."""
+    """Prints the faults, and returns the exit status."""
     types, functions = places()
     faults = [*faults_of("type", types, {}), *faults_of("function", functions, SHARED)]
     for fault in faults:

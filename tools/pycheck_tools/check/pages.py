@@ -1,16 +1,16 @@
-"""Checks what the pages say of each other and of the files.
+"""Checks what the pages say about each other and about the files.
 
     tools/check pages
 
 The pages are README.md, CONTRIBUTING.md, SECURITY.md, CHANGELOG.md, docs/*.md, and the README.md of release and of each crate.
 
-- Each link to a file of the repository leads to a file or a folder that is there, and one with a `#` to a heading of that page.
+- Each link to a file of the repository leads to a file or a folder that exists, and one with a `#` to a heading of that page.
 - README.md has at most 8,192 bytes, so that it stays a first page.
-- docs/MEASURED.md has figures of the present tree alone: none of the words `before`, `since`, `older`, `earlier` stands there.
+- docs/MEASURED.md has figures of the present tree alone: it has none of the words `before`, `since`, `older`, `earlier`.
 - A block `diff` of CONTRIBUTING.md is a change that may be made to the present tree: after a line `--- FILE` the hunks of
-  the file follow, each from a line `@@` on, and in each the lines that stay and those that go stand once in that file, one after another.
+  the file follow, each from a line `@@` on, and in each the lines that stay and those that go are in that file once, one after another.
 
-Prints each fault, and last how many links and hunks there are. The exit status is 1 where something is wrong, and where there is no
+Prints each fault, and last how many links and hunks there are. The exit status is 1 if something is wrong, or if there is no
 link or no hunk.
 """
 from __future__ import annotations
@@ -32,20 +32,20 @@ FENCE = re.compile(r"\s*```(.*)")
 
 
 class Hunk(NamedTuple):
-    """A change of a page: the line of the page, the file, and the lines that stay and those that go."""
+    """A change on a page: the line of the page, the file, and the lines that stay and those that go."""
     at: int
     file: str
     old: List[str]
 
 
 def pages() -> List[str]:
-    """The pages, each as a path from the top of the repository."""
+    """Returns the pages, each as a path from the top of the repository."""
     found = [path for pattern in PAGES for path in sorted(ROOT.glob(pattern))]
     return [path.relative_to(ROOT).as_posix() for path in found]
 
 
 def lines_of(page: str) -> Iterator[Tuple[int, str, str]]:
-    """The lines of a page: the number of each, the kind of the block that it stands in, or nothing, and its text."""
+    """Yields the lines of a page: the number of each, the kind of the block around it, or nothing, and its text."""
     kind = ""
     for number, line in enumerate((ROOT / page).read_text(encoding="utf-8").splitlines(), 1):
         fence = FENCE.fullmatch(line)
@@ -57,7 +57,8 @@ def lines_of(page: str) -> Iterator[Tuple[int, str, str]]:
 
 @lru_cache(maxsize=None)
 def anchors(page: str) -> Set[str]:
-    """What links may say after `#`: the headings of a page, in small letters, with hyphens for spaces, without other signs."""
+    """Returns the words that links may have after `#`: the headings of a page, in small letters, with hyphens for
+    spaces, without other signs."""
     found: Set[str] = set()
     for _, kind, line in lines_of(page):
         if line.startswith("#") and not kind:
@@ -69,7 +70,7 @@ def anchors(page: str) -> Set[str]:
 
 
 def fault_of_link(page: str, target: str) -> str:
-    """What is wrong with a link of a page, or nothing."""
+    """Returns why a link of a page is wrong, or nothing."""
     path, _, anchor = target.partition("#")
     file = (ROOT / page).parent / path if path else ROOT / page
     if not file.exists():
@@ -80,21 +81,21 @@ def fault_of_link(page: str, target: str) -> str:
 
 
 def links_of(page: str) -> Iterator[Tuple[int, str]]:
-    """The links of a page to files of the repository, and the line of each."""
+    """Yields the links of a page to files of the repository, and the line of each."""
     for number, kind, line in lines_of(page):
         if not kind:
             yield from ((number, target) for target in LINK.findall(re.sub(r"`[^`]*`", "", line)) if "://" not in target)
 
 
 def hunks() -> List[Hunk]:
-    """The hunks of the page of changes."""
+    """Returns the hunks of the page of changes."""
     found: List[Hunk] = []
     file = ""
     lines = list(lines_of(CHANGES)) if (ROOT / CHANGES).is_file() else []
     for (number, kind, line), (_, _, after) in zip(lines, [*lines[1:], (0, "", "")]):
         if kind != "diff":
             file = ""
-        # A line that goes may begin so too, as a comment of a definition does
+        # A removed line may begin this way too, such as a comment of a definition
         elif line.startswith("--- ") and after.startswith("@@"):
             file = line[4:].strip()
         elif line.startswith("@@"):
@@ -105,7 +106,7 @@ def hunks() -> List[Hunk]:
 
 
 def fault_of_hunk(hunk: Hunk) -> str:
-    """Why a hunk does not fit its file, or nothing."""
+    """Returns why a hunk does not fit its file, or nothing."""
     path = ROOT / hunk.file
     if not hunk.file or not path.is_file():
         return f"there is no file {hunk.file or 'named before @@'}"
@@ -115,7 +116,7 @@ def fault_of_hunk(hunk: Hunk) -> str:
 
 
 def faults() -> Tuple[List[str], int, int]:
-    """What is wrong, and how many links and hunks there are."""
+    """Returns the faults, and how many links and hunks there are."""
     found, count = [], 0
     for page in pages():
         for number, target in links_of(page):
@@ -135,7 +136,7 @@ def faults() -> Tuple[List[str], int, int]:
 
 
 def run(_: argparse.Namespace) -> int:
-    """Prints the faults, and gives the exit status."""
+    """Prints the faults, and returns the exit status."""
     found, links, changes = faults()
     for fault in found:
         print(fault)

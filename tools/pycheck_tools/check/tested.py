@@ -3,23 +3,23 @@
     tools/check tested [--calls]
 
 A public call is a function, or a method of a type or a trait, that is `pub` and is reached from the root of its crate
-by `pub mod` and `pub use`. Those of the crates under OF_TESTS are none, since these are tests themselves, and what a
-crate passes on of another one is a call of that one. A call is written `CRATE::NAME` or `CRATE::TYPE::NAME`, with the
-public modules between, where it stands in some.
+by `pub mod` and `pub use`. Those of the crates under OF_TESTS are none, since these are tests themselves, and a call
+that a crate exports again from another one is a call of that one. A call is written `CRATE::NAME` or
+`CRATE::TYPE::NAME`, with the public modules between, if it is in some.
 
-A row of the table is | `CALL`, `CALL` | FILE, FILE |. A file is one of tests: one of a crate under OF_TESTS that stands
+A row of the table is | `CALL`, `CALL` | FILE, FILE |. A file is one of tests: one of a crate under OF_TESTS that depends
 on the call's crate, from crates/ on, or a file with a function marked `#[test]`. Each file must name each call of its
 row as a call: a method as `.NAME(` or `TYPE::NAME(`, an associated function as `TYPE::NAME(`, a function as `NAME(`. In
-place of files stands `none` for calls that no test calls by themselves, and `law` for a law, which is a function whose
+place of files a row has `none` for calls that no test calls directly, and `law` for a law, which is a function whose
 body is empty: there is nothing to call.
 
 The page also says how many calls no test calls by itself, as `N of the M calls are called by no test itself`, where M leaves the laws
 out, and how many tests a folder of tests has, as `tests/NAME/run`, N tests: the functions test_.. of the files there.
 
-Prints each call of the list that is not there, each public call that is not on the list, or twice, each file that does
-not call what it is listed for, and each of these numbers that is another one; and last how many calls there are, how many
+Prints each call of the list that does not exist, each public call that is not on the list, or twice, each file that does
+not call what it is listed for, and each of these numbers that is wrong; and last how many calls there are, how many
 are laws, and how many have no test.
-The exit status is 1 where something is wrong. `--calls` prints all calls instead, with the files of tests that name
+The exit status is 1 if something is wrong. `--calls` prints all calls instead, with the files of tests that name
 them.
 """
 from __future__ import annotations
@@ -34,7 +34,7 @@ from ..rt_files import NAME, Function, modules_of, without_text
 
 PAGE = ROOT / "docs/TESTED.md"
 HEADING = "## Which test calls which public call"
-OF_TESTS = ("test_rows", "test_layers", "test_cases", "test_typing", "test_tables", "test_server_calls")
+OF_TESTS = ("test_rows", "test_layers", "test_cases", "test_runs", "test_typing", "test_tables", "test_server_calls")
 NONE, LAW = "none", "law"
 
 ROW = re.compile(r"^\|(.+)\|(.+)\|\s*$")
@@ -50,17 +50,17 @@ class Call(NamedTuple):
 
 
 class Crate:
-    """The sources of a crate, and what is reached from its root."""
+    """The sources of a crate, and the calls that are reached from its root."""
 
     def __init__(self, name: str) -> None:
         self.name, self.modules = name, modules_of(name)
 
     def calls(self) -> Iterator[Call]:
-        """The public calls."""
+        """Yields the public calls."""
         yield from self.calls_in("", [])
 
     def calls_in(self, path: str, shown: List[str]) -> Iterator[Call]:
-        """The public calls of a public module, which is shown by these names."""
+        """Yields the public calls of a public module, whose path consists of these names."""
         module = self.modules[path]
         for function in module.functions.values():
             if function.is_pub:
@@ -73,18 +73,18 @@ class Crate:
             yield from self.calls_in(f"{path}::{name}" if path else name, [*shown, name])
 
     def call(self, names: List[str], type_name: str, function: Function) -> Call:
-        """The public call of these names."""
+        """Returns the public call with these names."""
         return Call("::".join([self.name, *names]), self.name, type_name, function)
 
     def methods_of(self, name: str, shown: List[str]) -> Iterator[Call]:
-        """The public functions of a type or of a trait, which may stand in several modules."""
+        """Yields the public functions of a type or of a trait, which may be in several modules."""
         for module in self.modules.values():
             for function in module.methods.get(name, []):
                 if function.is_pub:
                     yield self.call([*shown, name, function.name], name, function)
 
     def passed_on(self, path: str, name: str, shown: List[str]) -> Iterator[Call]:
-        """The public calls that a `pub use` passes on, where they are of this crate."""
+        """Yields the public calls that a `pub use` exports again, if they are of this crate."""
         module = self.modules.get(path[len("crate::"):] if path.startswith("crate::") else path)
         if module is None:
             return
@@ -95,19 +95,19 @@ class Crate:
 
 
 def crates() -> Dict[str, List[str]]:
-    """The crates that the list is of, each with those on which it stands, as crates.txt has them."""
+    """Returns the crates that the list covers, each with those that it depends on, as crates.txt has them."""
     lines = (ROOT / "crates.txt").read_text(encoding="utf-8").splitlines()
     pairs = [line.split(":", 1) for line in lines if line[:1] not in ("", "#")]
-    # A name may be followed by what the crate is made into
+    # A name may be followed by the kind of library
     return {name.split()[0]: below.split() for name, below in pairs}
 
 
 def public_calls() -> List[Call]:
-    """All public calls, in the order of the crates."""
+    """Returns all public calls, in the order of the crates."""
     return [call for name in crates() if name not in OF_TESTS for call in Crate(name).calls()]
 
 
-# What tests call
+# The calls of tests
 
 USE = re.compile(r"\buse\s+(\w+)::([^;]*);")
 TYPES = r"(?:::<[^;()<>]*>)?"
@@ -116,7 +116,7 @@ OF_TYPE = re.compile(rf"\b([A-Z]\w*){TYPES}::(\w+)")
 
 
 class Test:
-    """A file of tests: what it takes from which crates, and what it calls."""
+    """A file of tests: its imports by crate, and its calls."""
 
     def __init__(self, file: Path) -> None:
         self.name, self.crate = file.relative_to(ROOT).as_posix(), file.relative_to(ROOT / "crates").parts[0]
@@ -131,7 +131,7 @@ class Test:
             self.take(found["before"] or "", found["path"].split("::")[:-1], found["name"])
 
     def take(self, before: str, path: List[str], name: str) -> None:
-        """Takes what stands before a bracket: a method, a function, or neither."""
+        """Records the text before a bracket: a method, a function, or neither."""
         if before.startswith("."):
             self.methods.add(name)
         elif not before and not (path and path[-1][:1].isupper()):
@@ -139,11 +139,11 @@ class Test:
             self.taken.update((crate, name) for crate in path[:1])
 
     def is_test(self) -> bool:
-        """Whether the file is one of tests."""
+        """Whether the file has tests."""
         return self.crate in OF_TESTS or self.has_tests
 
     def calls(self, call: Call) -> bool:
-        """Whether the file calls this, by the names that stand there."""
+        """Whether the file calls this, judging by the names in it."""
         name = call.function.name
         if not call.type:
             return name in self.functions and (call.crate, name) in self.taken
@@ -152,7 +152,7 @@ class Test:
 
 
 def tests() -> List[Test]:
-    """The files of tests."""
+    """Returns the files of tests."""
     folders = [ROOT / "crates" / name / "src" for name in crates()]
     files = [Test(file) for folder in folders for file in sorted(folder.rglob("*.rt"))]
     return [file for file in files if file.is_test()]
@@ -168,7 +168,7 @@ class Row(NamedTuple):
 
 
 def listed() -> List[Row]:
-    """The rows of the list, which is the table under its heading."""
+    """Returns the rows of the list, which is the table under its heading."""
     rows, is_list = [], False
     for number, line in enumerate(PAGE.read_text(encoding="utf-8").splitlines(), 1):
         if line.startswith("#"):
@@ -180,7 +180,7 @@ def listed() -> List[Row]:
 
 
 def faults_of_row(row: Row, calls: Dict[str, Call], files: Dict[str, Test]) -> Iterator[str]:
-    """What is wrong with a row of the list."""
+    """Yields the faults of a row of the list."""
     at = f"{PAGE.relative_to(ROOT)}, line {row.line}"
     for name in row.calls:
         if name not in calls:
@@ -197,7 +197,7 @@ def faults_of_row(row: Row, calls: Dict[str, Call], files: Dict[str, Test]) -> I
 
 
 def faults_of_list(rows: List[Row], calls: Dict[str, Call]) -> Iterator[str]:
-    """Which public calls the list lacks, and which it has twice."""
+    """Yields the public calls that the list lacks, and those that it has twice."""
     names = [name for row in rows for name in row.calls]
     yield from (f"{name} is a public call, and is not on the list" for name in calls if name not in names)
     yield from (f"{name} is on the list twice" for name in calls if names.count(name) > 1)
@@ -211,12 +211,12 @@ TEST = re.compile(r"^ +def test_", re.M)
 
 
 def number_of(digits: str) -> int:
-    """The number that digits with commas between them stand for."""
+    """Returns the number that digits with commas between them mean."""
     return int(digits.replace(",", ""))
 
 
 def faults_of_numbers(page: str, calls: int, untested: int) -> Iterator[str]:
-    """Which numbers of calls and of tests on the page are other ones."""
+    """Yields the numbers of calls and of tests on the page that are wrong."""
     said = list(UNTESTED.finditer(page))
     if not said:
         yield f"{PAGE.relative_to(ROOT)}: no line says how many calls are called by no test itself"
@@ -231,7 +231,7 @@ def faults_of_numbers(page: str, calls: int, untested: int) -> Iterator[str]:
 
 
 def at_line(page: str, found: "re.Match[str]") -> str:
-    """The line of the page at which something is found."""
+    """Returns the line of the page with a match."""
     return f"{PAGE.relative_to(ROOT)}, line {page.count(chr(10), 0, found.start()) + 1}"
 
 
@@ -243,12 +243,12 @@ def print_calls(calls: Dict[str, Call], files: Dict[str, Test]) -> None:
 
 
 def compared(calls: Dict[str, Call], files: Dict[str, Test], rows: List[Row]) -> List[str]:
-    """What is wrong with the list."""
+    """Returns the faults of the list."""
     return [fault for row in rows for fault in faults_of_row(row, calls, files)] + [*faults_of_list(rows, calls)]
 
 
 def run(asked: argparse.Namespace) -> int:
-    """Compares the list with the sources, and gives the exit status."""
+    """Compares the list with the sources, and returns the exit status."""
     calls, files = {call.full: call for call in public_calls()}, {test.name: test for test in tests()}
     if asked.calls:
         print_calls(calls, files)
@@ -256,7 +256,7 @@ def run(asked: argparse.Namespace) -> int:
     rows = listed()
     without = sum(len(row.calls) for row in rows if row.files == [NONE])
     laws = sum(call.function.is_law for call in calls.values())
-    # There is nothing to call of a law
+    # A law has nothing to call
     faults = compared(calls, files, rows) + [*faults_of_numbers(PAGE.read_text(encoding="utf-8"), len(calls) - laws, without)]
     for fault in faults:
         print(fault)

@@ -1,13 +1,13 @@
-"""Checks that no function and no definition stands twice.
+"""Checks that no function and no definition is there twice.
 
     tools/check twice
 
 Two are the same if they have six lines or more, and these are the same but for blanks and comments: the bodies of functions of
 crates/NAME/src, of tools/ and of tests/, and the definitions of crates/NAME/specs, in which their own names may differ. Lines of brackets
-alone do not count. Those under EXPLAINED may stand twice, as long as docs/DECISIONS.md has the words that stand there.
+alone do not count. Those under EXPLAINED may be there twice, as long as docs/DECISIONS.md has the words given there.
 
-Prints all that is the same and is not explained, and each explanation that is not needed or not on the page. Last it says how many
-functions and definitions were compared. The exit status is 1 where something is wrong, and where there was nothing to compare.
+Prints all duplicates that are not explained, and each explanation that is not needed or not on the page. Last it says how many
+functions and definitions were compared. The exit status is 1 if something is wrong, or if there was nothing to compare.
 """
 from __future__ import annotations
 
@@ -23,27 +23,26 @@ from ..rt_files import closing, without_text
 
 PAGE = "docs/DECISIONS.md"
 FEWEST = 6
-EXPLAINED: Dict[FrozenSet[str], str] = {
-    frozenset({"crates/pc_flow/src/alike.rt: is_same", "crates/pc_overrides/src/alike.rt: is_same"}):
-        "`is_same` in `alike.rt` of `pc_flow` and of `pc_overrides`",
-}
+# The places of duplicates, and the words of the page that explain them; there are none at present
+EXPLAINED: Dict[FrozenSet[str], str] = {}
 BRACKETS = re.compile(r"[{}()\[\];,]+")
 FUNCTION = re.compile(r"\bfn\s+(\w+)")
 CLAUSE = re.compile(r"\b(?:requires|ensures|decreases)\b")
 DEFINED = re.compile(r"(?:(?:abbrev|unfoldable|pub|record|data)\s+)+([^\s:({]+)")
-# Where something stands, and its lines
+# The place of a piece of code, and its lines
 Piece = Tuple[str, str]
 
 
 def lines_of(text: str, comment: str) -> str:
-    """The lines of a text without comments, blanks at their ends and lines of brackets alone; empty if they are few."""
+    """Returns the lines of a text without comments, blanks at their ends and lines of brackets alone; empty if they are
+    few."""
     lines = [" ".join(line.split(comment)[0].split()) for line in text.split("\n")]
     kept = [line for line in lines if line and not BRACKETS.fullmatch(line)]
     return "\n".join(kept) if len(kept) >= FEWEST else ""
 
 
 def bodies_in(source: str) -> Iterator[Piece]:
-    """The functions of a source of a crate, with their bodies: the last brackets before the next item."""
+    """Yields the functions of a source of a crate, with their bodies: the last brackets before the next item."""
     code = without_text(source)
     for found in FUNCTION.finditer(code):
         place = closing(code, code.index("(", found.end()))
@@ -57,7 +56,7 @@ def bodies_in(source: str) -> Iterator[Piece]:
 
 
 def definitions_in(source: str) -> Iterator[Piece]:
-    """The definitions of a file of specs, each with its own name left out of its lines."""
+    """Yields the definitions of a file of specs, each with its own name left out of its lines."""
     parts = re.split(r"^(?=\S)", source, flags=re.MULTILINE)
     name, lines = "", ""
     for part in [*parts, "-- the end"]:
@@ -71,7 +70,7 @@ def definitions_in(source: str) -> Iterator[Piece]:
 
 
 def functions_in(source: str) -> Iterator[Piece]:
-    """The functions of a source of Python, with their bodies without the text that says what they do."""
+    """Yields the functions of a source of Python, with their bodies without docstrings."""
     for node in ast.walk(ast.parse(source)):
         if isinstance(node, (ast.FunctionDef, ast.AsyncFunctionDef)):
             body = node.body[1:] if ast.get_docstring(node) is not None else node.body
@@ -79,14 +78,14 @@ def functions_in(source: str) -> Iterator[Piece]:
 
 
 def is_python(path: Path) -> bool:
-    """Whether a file is a module or a command in Python, and none that a test checks."""
+    """Whether a file is a module or a command in Python, and not one that a test checks."""
     if path.suffix == ".py":
         return path.parent.name != "modules"
     return not path.suffix and path.is_file() and path.read_bytes().startswith(b"#!/usr/bin/env python3\n")
 
 
 def pieces() -> Iterator[Piece]:
-    """All that is compared."""
+    """Yields everything that is compared."""
     kinds = (("crates/*/src/**/*.rt", bodies_in), ("crates/*/specs/**/*.antt", definitions_in),
              ("tools/**/*", functions_in), ("tests/**/*", functions_in))
     for pattern, read in kinds:
@@ -97,7 +96,7 @@ def pieces() -> Iterator[Piece]:
 
 
 def faults_of(found: Dict[str, List[str]], page: str) -> Iterator[str]:
-    """What is the same without an explanation, and each explanation that is not needed, or not on the page."""
+    """Yields the duplicates without an explanation, and each explanation that is not needed, or not on the page."""
     same = {frozenset(places) for places in found.values() if len(places) > 1}
     for places in sorted(sorted(it) for it in same - set(EXPLAINED)):
         yield f"the same: {', '.join(places)}"
@@ -109,7 +108,7 @@ def faults_of(found: Dict[str, List[str]], page: str) -> Iterator[str]:
 
 
 def run(_: argparse.Namespace) -> int:
-    """Prints the faults, and gives the exit status."""
+    """Prints the faults, and returns the exit status."""
     found: Dict[str, List[str]] = defaultdict(list)
     number = 0
     for place, lines in pieces():

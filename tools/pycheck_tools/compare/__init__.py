@@ -1,1 +1,1 @@
-"""Tools that compare what the programs answer with what others say."""
+"""Tools that compare the answers of the programs with those of others."""

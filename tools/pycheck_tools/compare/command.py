@@ -20,5 +20,5 @@ TOOLS = ("rows", "texts", "python", "mypy", "types")
 
 
 def main() -> int:
-    """Runs the tool that the words name, and gives the exit status."""
+    """Runs the tool that the words name, and returns its exit status."""
     return run_tool("compare", __doc__, TOOLS)

@@ -58,7 +58,7 @@ SECONDS = 300
 
 
 class Failure(Exception):
-    """A program that cannot be run, or gives no answer."""
+    """A program cannot be run, or gives no answer."""
 
 
 class Command(NamedTuple):
@@ -86,7 +86,7 @@ class Row(NamedTuple):
 
 
 class Page:
-    """What a page says, and its faults so far, each with its line, which is 0 where the whole page is meant."""
+    """The contents of a page, and its faults so far, each with its line, which is 0 for one of the whole page."""
 
     def __init__(self) -> None:
         self.modules: List[Module] = []
@@ -105,7 +105,7 @@ class Page:
 
 
 def parts_of(text: str) -> Iterator[Tuple[int, str, List[str]]]:
-    """The blocks of a page, each with its line, its kind and its lines, and the other lines, of kind `line`."""
+    """Yields the blocks of a page, each with its line, its kind and its lines, and the other lines, of kind `line`."""
     lines = enumerate(text.split("\n"), 1)
     for at, line in lines:
         if not line.startswith("```"):
@@ -120,18 +120,18 @@ def parts_of(text: str) -> Iterator[Tuple[int, str, List[str]]]:
 
 
 def anchor_of(heading: str) -> str:
-    """The name by which a link finds a heading."""
+    """Returns the name by which a link finds a heading."""
     kept = re.sub(r"[^\w\- ]", "", heading.lstrip("#").strip().lower())
     return kept.replace(" ", "-")
 
 
 def cells_of(line: str) -> List[str]:
-    """The cells of a row. In a cell, a bar has a backslash before it."""
+    """Returns the cells of a row. In a cell, a bar has a backslash before it."""
     return [cell.strip().replace("\\|", "|") for cell in re.split(r"(?<!\\)\|", line.strip())[1:-1]]
 
 
 def commands_of(at: int, block: Sequence[str], page: Page) -> List[Command]:
-    """The commands of a block `console` whose first line has the number `at`."""
+    """Returns the commands of a block `console` whose first line has the number `at`."""
     commands: List[Command] = []
     for number, line in enumerate(block, at):
         prompt = PROMPT.fullmatch(line)
@@ -145,7 +145,7 @@ def commands_of(at: int, block: Sequence[str], page: Page) -> List[Command]:
 
 
 def read_line(at: int, line: str, page: Page) -> None:
-    """Takes a heading or a row of a table."""
+    """Reads a heading or a row of a table."""
     if line.startswith("#"):
         page.anchors.add(anchor_of(line))
     elif line.startswith("|"):
@@ -153,7 +153,7 @@ def read_line(at: int, line: str, page: Page) -> None:
 
 
 def read_page(text: str) -> Page:
-    """What a page says, with its faults that need no program to be seen."""
+    """Returns the contents of a page, with the faults that can be seen without running a program."""
     page = Page()
     module: Optional[Tuple[int, str]] = None
     parts = list(parts_of(text))
@@ -186,7 +186,7 @@ def read_page(text: str) -> Page:
 
 
 def run(words: Sequence[str], folder: str) -> Tuple[int, str, str]:
-    """The exit status of a program, what it prints, and what it prints as an error."""
+    """Returns the exit status of a program, its output, and its error output."""
     try:
         done = subprocess.run(words, cwd=folder, stdin=subprocess.DEVNULL, capture_output=True, timeout=SECONDS)
     except (OSError, subprocess.TimeoutExpired) as fault:
@@ -195,7 +195,7 @@ def run(words: Sequence[str], folder: str) -> Tuple[int, str, str]:
 
 
 class Programs:
-    """The three programs, run in a folder of their own, where mypy.ini lies."""
+    """The three programs, run in a folder of their own with mypy.ini."""
 
     def __init__(self, pycheck: str, folder: str, config: str) -> None:
         self.pycheck = os.path.abspath(shutil.which(pycheck) or pycheck)
@@ -213,24 +213,24 @@ class Programs:
         return version[1]
 
     def file(self, text: bytes, name: str = "module.py") -> str:
-        """The name of a file in the folder that has this text."""
+        """Writes a text into a file in the folder, and returns its name."""
         Path(self.folder, name).write_bytes(text)
         return name
 
     def report(self, text: bytes) -> str:
-        """The report of pycheck, or its refusal."""
+        """Returns the report of pycheck, or its refusal."""
         status, said, error = run([self.pycheck, self.file(text)], self.folder)
         if status not in (0, 1, 2):
             raise Failure(f"pycheck ends with status {status}: {error}")
         return error if status == 2 else said
 
     def ran(self, text: bytes) -> str:
-        """What a run prints, and the last line of its traceback, if it ends so."""
+        """Returns the output of a run, and the last line of its traceback, if it ends with one."""
         status, said, error = run([sys.executable, "-I", "-B", self.file(text)], self.folder)
         return said + (error.rstrip("\n").rsplit("\n", 1)[-1] + "\n" if status else "")
 
     def said_of(self, files: Sequence[str], words: Sequence[str]) -> Tuple[bool, Dict[str, List[str]]]:
-        """Whether mypy came to its end, and what it says of each file."""
+        """Returns whether mypy ran to its end, and its messages for each file."""
         fixed = ["--no-error-summary", "--no-color-output", "--cache-dir", "cache"]
         status, text, error = run([self.mypy, *fixed, *words, *files], self.folder)
         if status not in ((1, 2) if ": error: " in text else (0,)) or "mypy.ini" in error:
@@ -244,7 +244,8 @@ class Programs:
         return status < 2, said
 
     def answers(self, texts: Sequence[bytes], words: Sequence[str] = ()) -> List[List[str]]:
-        """What mypy says of each module. A fault of syntax ends a call of mypy, so a module with one is asked alone."""
+        """Returns the messages of mypy for each module. A syntax error ends a call of mypy, so a module with one is
+        checked alone."""
         files = [self.file(text, f"module{at}.py") for at, text in enumerate(texts)]
         answers: Dict[str, List[str]] = {}
         alone = [file for file, text in zip(files, texts) if not compiles(text)]
@@ -264,13 +265,13 @@ class Programs:
 
     @staticmethod
     def blocking(said: Dict[str, List[str]]) -> List[str]:
-        """The files that may have ended a call of mypy."""
+        """Returns the files that may have ended a call of mypy."""
         faulty = [file for file, lines in said.items() if any(line.endswith("[syntax]") for line in lines)]
         return faulty or [file for file, lines in said.items() if lines]
 
 
 def compiles(text: bytes) -> bool:
-    """Whether Python takes the text as a module."""
+    """Whether Python accepts the text as a module."""
     try:
         compile(text, "module.py", "exec", dont_inherit=True)
     except (SyntaxError, ValueError):
@@ -282,7 +283,7 @@ def compiles(text: bytes) -> bool:
 
 
 def errors_of_mypy(lines: Sequence[str]) -> List[Tuple[int, str]]:
-    """The line and the code of each error that mypy printed."""
+    """Returns the line and the code of each error that mypy printed."""
     errors = (ERROR_OF_MYPY.fullmatch(line) for line in lines)
     return [(int(error[1]), error[2] or "") for error in errors if error]
 
@@ -297,7 +298,7 @@ def lines_of_pycheck(report: str) -> List[int]:
 
 
 def shown(lines: Sequence[int]) -> str:
-    """Lines as a table has them."""
+    """Returns lines as a table has them."""
     return ", ".join(map(str, lines)) or "none"
 
 
@@ -316,7 +317,7 @@ class Comparison:
             self.page.fault(row.line, f"{row.cells[0]}: {good} of {every}")
 
     def compare_modules(self) -> None:
-        """Each module of the page with its answers."""
+        """Compares each module of the page with its answers."""
         by_words: Dict[Tuple[str, ...], List[Tuple[Module, Command]]] = {}
         for module in self.page.modules:
             programs = {command.program for command in module.commands}
@@ -333,7 +334,7 @@ class Comparison:
                 self.compare_mypy(command, lines or [SUCCESS])
 
     def compare_whole(self, module: Module, command: Command) -> None:
-        """An answer of pycheck or of Python."""
+        """Compares an answer of pycheck or of Python."""
         text = module.text.encode()
         got = self.programs.ran(text) if command.program == "python3" else self.programs.report(text)
         want = command.output
@@ -342,7 +343,8 @@ class Comparison:
         self.compare_lines(command, want, got.splitlines())
 
     def compare_mypy(self, command: Command, lines: List[str]) -> None:
-        """An answer of mypy: all of it, or of another version than the page's the lines of its errors."""
+        """Compares an answer of mypy: all of it or, for another version than that of the page, the lines of its
+        errors."""
         if self.same_mypy:
             self.compare_lines(command, command.output, lines)
         else:
@@ -355,7 +357,8 @@ class Comparison:
             self.page.fault(command.line, answer)
 
     def compare_examples(self, folder: Path) -> None:
-        """The examples that pycheck gives a report, by the lines of their errors, as mypy is called by each row."""
+        """Compares the examples that pycheck gives a report by the lines of their errors, with mypy called as each row
+        says."""
         texts = {str(file.relative_to(folder)): file.read_bytes() for file in sorted(folder.rglob("*.py"))}
         reports = {name: self.programs.report(text) for name, text in texts.items()}
         names = [name for name in texts if not reports[name].startswith("refused ")]
@@ -374,12 +377,12 @@ class Comparison:
             self.page.fault(0, f"there is no row: `mypy`, {self.agreeing} of {self.examples}")
 
     def lines_by_mypy(self, texts: Dict[str, bytes], names: List[str], words: Sequence[str]) -> Dict[str, List[int]]:
-        """The lines of the errors that mypy finds in examples."""
+        """Returns the lines of the errors that mypy finds in examples."""
         answers = self.programs.answers([texts[name] for name in names], words)
         return {name: lines_of_mypy(lines) for name, lines in zip(names, answers)}
 
     def compare_table(self, differing: Dict[str, Tuple[List[int], List[int]]]) -> None:
-        """The examples that differ with those that the page names."""
+        """Compares the examples that differ with those that the page names."""
         named: Dict[str, Row] = {}
         for row in self.page.rows:
             example = EXAMPLE.fullmatch(row.cells[0]) if row.cells else None
@@ -396,7 +399,7 @@ class Comparison:
                 self.page.fault(row.line, f"{name}: it is no example that differs")
 
     def compare_named(self, name: str, row: Row, lines: Tuple[List[int], List[int]]) -> None:
-        """The row of an example that differs."""
+        """Compares the row of an example that differs."""
         if row.cells[1:3] != [shown(lines[0]), shown(lines[1])]:
             self.page.fault(row.line, f"{name}: pycheck {shown(lines[0])}, mypy {shown(lines[1])}")
         reason = ANCHOR.search(row.cells[-1])
@@ -404,7 +407,7 @@ class Comparison:
             self.page.fault(row.line, f"{name}: its reason links to no heading of the page")
 
     def compare_left_out(self, file: Path) -> None:
-        """The forms that the profile leaves out, and what to write instead, with what mypy finds in them."""
+        """Compares the forms that the profile leaves out, and what to write instead, with mypy's errors in them."""
         rows = json.loads(file.read_bytes())["rows"] if file.exists() else []
         texts = {row["name"]: row["input"]["text"].encode() for row in rows}
         answers = dict(zip(texts, self.programs.answers(list(texts.values()))))
@@ -423,7 +426,7 @@ class Comparison:
             self.compare_form(plain[name], wrong.get(plain[name]), named.get(name))
 
     def compare_form(self, name: str, codes: Optional[str], row: Optional[Row]) -> None:
-        """A form with the row that names it, if one does: there is one exactly where mypy finds an error."""
+        """Compares a form with the row that names it: there must be one exactly if mypy finds an error."""
         if row is None and codes is not None:
             self.page.fault(0, f"{name}: mypy finds an error, {codes}, and it is not on the page")
         elif row is not None and codes is None:
@@ -433,17 +436,17 @@ class Comparison:
 
 
 def codes_of(lines: Sequence[str]) -> str:
-    """The codes of mypy's errors, each once; `none` stands for an error without one."""
+    """Returns the codes of mypy's errors, each once; `none` means an error without one."""
     return ", ".join(sorted({f"`{code or 'none'}`" for _, code in errors_of_mypy(lines)}))
 
 
 def without_message(lines: Sequence[str]) -> List[str]:
-    """What a run prints, with of an exception its kind alone."""
+    """Returns the output of a run, with only the kind of an exception."""
     return [*lines[:-1], re.sub(r"^(\w+(?:Error|Exception)):.*", r"\1", lines[-1])] if lines else []
 
 
 def compare(pycheck: str, file: Path, folder: Path) -> int:
-    """The exit status."""
+    """Compares the page, and returns the exit status."""
     page = read_page(file.read_text(encoding="utf-8"))
     with tempfile.TemporaryDirectory() as work:
         comparison = Comparison(page, Programs(pycheck, work, page.config))
@@ -461,7 +464,7 @@ def compare(pycheck: str, file: Path, folder: Path) -> int:
 
 
 def main(words: List[str]) -> int:
-    """Compares the page that the words name, and gives the exit status."""
+    """Compares the page that the words name, and returns the exit status."""
     parser = Words("tools/compare mypy", __doc__)
     parser.add_argument("pycheck")
     parser.add_argument("page", nargs="?", type=Path, default=ROOT / "docs" / "BESIDE_MYPY.md")

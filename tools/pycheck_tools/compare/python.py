@@ -49,7 +49,7 @@ KINDS = ("outside", "unread", "cut", "built-in", "free")
 
 
 def model_run(data: bytes) -> Tuple[Optional[List[List[int]]], str]:
-    """The places and the end of pyrun."""
+    """Returns the places and the end of pyrun."""
     with tempfile.NamedTemporaryFile(suffix=".py") as file:
         file.write(data)
         file.flush()
@@ -61,7 +61,7 @@ def model_run(data: bytes) -> Tuple[Optional[List[List[int]]], str]:
 
 
 def as_model(end: str) -> str:
-    """Python's end in the words of the model, which tells four exceptions from the others."""
+    """Returns Python's end in the words of the model, which tells four exceptions from the others."""
     return end if end in NAMED or end in ("Done", "no end", "no answer") else "Other"
 
 
@@ -72,12 +72,13 @@ def is_built_in(data: bytes, place: List[int]) -> bool:
 
 
 def is_unread(data: bytes, place: List[int]) -> bool:
-    """Whether a place is a call of which Python reads more than pyrun: the second argument, or the name without its header."""
+    """Whether a place is a call of which Python evaluates more than pyrun: the second argument, or the name without its
+    header."""
     return re.match(rb"(isinstance|Any|dataclass)\s*\(", data[place[0] : place[1]]) is not None
 
 
 def difference(data: bytes, events: List[List[int]], end: str, run: python_runs.Run) -> Tuple[List[str], str]:
-    """The kinds of what differs, and whatever no kind explains, as a text."""
+    """Returns the kinds of the differences, and a text about those that no kind explains."""
     kinds: List[str] = []
     shorter = min(len(events), len(run.events))
     same = next((at for at in range(shorter) if events[at] != run.events[at]), shorter)
@@ -103,7 +104,7 @@ def difference(data: bytes, events: List[List[int]], end: str, run: python_runs.
 
 
 def cases_of(table: str) -> Iterator[Tuple[List[str], str]]:
-    """The lines of each case of a table, whose last line has a comment that says what comes, and that comment."""
+    """Yields the lines of each case of a table, and the comment of its last line, which gives the expected end."""
     lines: List[str] = []
     for line in table.split("\n"):
         part, mark, comment = line.rpartition("  # ")
@@ -116,7 +117,8 @@ def cases_of(table: str) -> Iterator[Tuple[List[str], str]]:
 
 
 def parts_of(text: str) -> Iterator[Tuple[Optional[str], str]]:
-    """Of each part of a table but those of whole texts: what stands before main, or None where a case has that itself, and the cases."""
+    """Yields the parts of a table, except those of whole texts: the text before main, or None if each case has its own,
+    and the cases."""
     for part in text.split("\n==== ")[1:]:
         heading, _, lines = part.partition("\n")
         if heading.endswith(" of texts"):
@@ -129,14 +131,15 @@ def parts_of(text: str) -> Iterator[Tuple[Optional[str], str]]:
 
 
 def whole_module(before: Optional[str], lines: List[str]) -> str:
-    """The text of a module: that of a case which has all but its ends, or only the statements of main."""
+    """Returns the text of a module: from a case that has all but its ends, or only the statements of main."""
     if before is not None:
         lines = [before + "def main():", *("    " + line for line in lines)]
     return HEADER + "\n".join(lines) + "\nmain()\n"
 
 
 def written_modules() -> Iterator[Named]:
-    """The name and the bytes of each of examples/, and of each module of the tables in the order of its table."""
+    """Yields the name and the bytes of each of examples/, and of each module of the tables in the order of its
+    table."""
     for file in sorted((ROOT / "examples").glob("*.py")):
         yield file.name, file.read_bytes()
     for file in sorted(TABLES.glob("*.runs")):
@@ -149,7 +152,7 @@ def written_modules() -> Iterator[Named]:
 
 
 def made_modules(seed: str, number: int) -> Iterator[Named]:
-    """Modules of the generator of tools/attack fuzz, half of them changed."""
+    """Yields modules of the generator of tools/attack fuzz, half of them changed."""
     for at in range(number):
         rng = random.Random(f"{seed}/{at}")
         text = fuzz.made_module(rng)
@@ -157,13 +160,13 @@ def made_modules(seed: str, number: int) -> Iterator[Named]:
 
 
 def named_kinds(page: str) -> List[str]:
-    """The words of the table of the page."""
+    """Returns the words of the table of the page."""
     section = page.partition(HEADING + "\n")[2].partition("\n## ")[0]
     return re.findall(r"^\| `([a-z-]+)` \|", section, re.MULTILINE)
 
 
 def compare(modules: Iterable[Named], page: str) -> bool:
-    """Compares each module, and prints what is wrong; gives whether nothing is."""
+    """Compares each module, and prints the faults. Returns whether there are none."""
     kinds: Counter[str] = collections.Counter()
     places = number = wrong = 0
     for name, data in modules:
@@ -189,7 +192,7 @@ def compare(modules: Iterable[Named], page: str) -> bool:
 
 
 def main(words: List[str]) -> int:
-    """Compares the runs of the modules that the words name, and gives the exit status."""
+    """Compares the runs of the modules that the words name, and returns the exit status."""
     parser = Words("tools/compare python", __doc__)
     parser.add_argument("--modules", type=int, default=0)
     parser.add_argument("--seed", default="1")

@@ -1,8 +1,8 @@
-"""How an interpreter of Python runs a module of the profile, with the places that it evaluates.
+"""Runs a module of the profile in an interpreter of Python, and records the places that it evaluates.
 
-`run_of` gives what docs/RUNS.md calls a run, made by the interpreter that runs this library: the tree of a module, as `ast`
-has it, gets a call for each expression that leaves an event, which notes the place and then acts. Free answers are taken as
-pyrun takes them: false and empty. The module runs in a process of its own, with limits, and once more as it is written.
+`run_of` returns a run in the sense of docs/RUNS.md, made by the interpreter that runs this library. Each expression of
+the tree of `ast` that leaves an event gets a call that records the place and then acts. Free answers are those of
+pyrun: false and empty. The module runs in a process of its own, with limits, and once more as it is written.
 """
 from __future__ import annotations
 
@@ -25,7 +25,7 @@ SIMPLE = (int, str, type(None))
 
 
 class Run(NamedTuple):
-    """A run: its places, its end, whether a free answer was another one than Python's, and how the module itself ends."""
+    """A run: its places, its end, whether a free answer differed from Python's, and how the module itself ends."""
     events: List[List[int]]
     end: str
     answered_otherwise: bool
@@ -33,11 +33,11 @@ class Run(NamedTuple):
 
 
 class Enough(BaseException):
-    """The run has left more places than it is compared with."""
+    """The run has left more places than are compared."""
 
 
 class Instrument(ast.NodeTransformer):
-    """Puts calls of a Trace around what leaves an event."""
+    """Puts calls of a Trace around expressions that leave an event."""
 
     def __init__(self, data: bytes) -> None:
         self.text = data
@@ -47,14 +47,14 @@ class Instrument(ast.NodeTransformer):
         self.places: List[Tuple[int, int]] = []
 
     def place(self, node: ast.expr, start: "Tuple[int, int] | None" = None) -> ast.Constant:
-        """The number of the place of a node, or of one that starts earlier."""
+        """Returns the number of the place of a node, or of one that starts earlier."""
         line, column = start or (node.lineno, node.col_offset)
         last, end = node.end_lineno or line, node.end_col_offset or column
         self.places.append((self.starts[line - 1] + column, self.starts[last - 1] + end))
         return ast.Constant(len(self.places) - 1)
 
     def value(self, node: ast.expr) -> ast.expr:
-        """An expression with the calls around its parts."""
+        """Returns an expression with the calls around its parts."""
         made = self.visit(node)
         assert isinstance(made, ast.expr)
         return made
@@ -90,7 +90,7 @@ class Instrument(ast.NodeTransformer):
         return self.call("act", self.place(node), ast.Constant(type(node.op).__name__), self.value(node.operand))
 
     def visit_BoolOp(self, node: ast.BoolOp) -> ast.expr:
-        """`a and b and c` is `(a and b) and c`, which the tree of Python has as one."""
+        """Rewrites `a and b and c`, which is one node in the tree of Python, as `(a and b) and c`."""
         made = self.value(node.values[0])
         for value in node.values[1:]:
             both = ast.BoolOp(node.op, [made, self.value(value)])
@@ -98,7 +98,7 @@ class Instrument(ast.NodeTransformer):
         return made
 
     def place_up_to(self, node: ast.BoolOp, value: ast.expr) -> ast.Constant:
-        """The place of the part of a row of operands that ends with a value, its brackets too."""
+        """Returns the place of the part of a row of operands that ends with a value, with its brackets."""
         last = value is node.values[-1]
         end = node if last else value
         number = self.place(end, (node.lineno, node.col_offset))
@@ -107,7 +107,7 @@ class Instrument(ast.NodeTransformer):
         return number
 
     def past_brackets(self, end: int, node: ast.BoolOp, value: ast.expr) -> int:
-        """The end of a value with the brackets around it, which stand before the next operator."""
+        """Returns the end of a value with the brackets around it, which come before the next operator."""
         following = node.values[node.values.index(value) + 1]
         between = self.text[end : self.starts[following.lineno - 1] + following.col_offset].decode()
         before = between[: between.index("and" if isinstance(node.op, ast.And) else "or")]
@@ -133,7 +133,7 @@ class Instrument(ast.NodeTransformer):
         return self.call("item", self.place(node), self.value(node.value), self.value(node.slice))
 
     def assigned(self, target: ast.expr, value: ast.expr) -> ast.stmt:
-        """An assignment: the value first, then the parts of its target, then its place."""
+        """Returns an assignment: the value first, then the parts of its target, then its place."""
         if isinstance(target, ast.Name):
             return ast.Assign([target], value)
         if isinstance(target, ast.Attribute):
@@ -163,7 +163,7 @@ class Instrument(ast.NodeTransformer):
         return node
 
     def visit_ClassDef(self, node: ast.ClassDef) -> ast.stmt:
-        """The methods of a class, each of which leaves the place of its name; defaults leave none."""
+        """Rewrites the methods of a class, each of which leaves the place of its name; defaults leave none."""
         for member in node.body:
             if isinstance(member, ast.FunctionDef):
                 self.visit_FunctionDef(member)
@@ -171,7 +171,7 @@ class Instrument(ast.NodeTransformer):
         return node
 
     def place_of_name(self, method: ast.FunctionDef) -> ast.Constant:
-        """The place of the name in a header `def NAME(`, as it is written."""
+        """Returns the place of the name in a header `def NAME(`, as it is written."""
         start = self.starts[method.lineno - 1] + method.col_offset
         head = self.text[start : start + 4096].decode(errors="ignore")
         gap = len(head) - len(head[3:].lstrip(" \t\f"))
@@ -182,13 +182,13 @@ class Instrument(ast.NodeTransformer):
         return ast.Constant(len(self.places) - 1)
 
     def visit_Module(self, node: ast.Module) -> ast.Module:
-        """All but the last line, `main()`, which leaves nothing."""
+        """Rewrites all but the last line, `main()`, which leaves nothing."""
         node.body[:-1] = [self.visit(each) for each in node.body[:-1]]
         return node
 
 
 class Trace:
-    """What an instrumented module calls: each call notes a place, and then acts."""
+    """The calls of an instrumented module: each records a place, and then acts."""
 
     def __init__(self, places: List[Tuple[int, int]], most: int) -> None:
         self.places, self.most = places, most
@@ -220,7 +220,7 @@ class Trace:
         return (operand is None) == (kind == "Is")
 
     def freely(self, answer: Any, taken: Any) -> Any:
-        """A free answer, taken as pyrun takes it."""
+        """Returns a free answer as pyrun has it."""
         self.answered_otherwise |= answer != taken
         return taken
 
@@ -265,7 +265,7 @@ def alike(left: object, right: object) -> bool:
 
 
 def end_of(code: types.CodeType, names: Dict[str, object]) -> str:
-    """How code ends: Done, the name of an exception, or `no end`."""
+    """Returns how code ends: Done, the name of an exception, or `no end`."""
     module = types.ModuleType("compared")
     sys.modules["compared"] = module
     module.__dict__.update(names)
@@ -279,7 +279,7 @@ def end_of(code: types.CodeType, names: Dict[str, object]) -> str:
 
 
 def run_here(data: bytes, most: int, out: int) -> None:
-    """Runs a module here, instrumented and as it is, and writes what came, a line for each."""
+    """Runs a module here, instrumented and as it is, and writes the results, a line for each."""
     resource.setrlimit(resource.RLIMIT_CPU, (SECONDS, SECONDS))
     resource.setrlimit(resource.RLIMIT_AS, (BYTES, BYTES))
     sys.stdout = open(os.devnull, "w", encoding="utf-8")
@@ -298,7 +298,7 @@ def run_here(data: bytes, most: int, out: int) -> None:
 
 
 def run_of(data: bytes, most: int) -> Run:
-    """The run of a module, with so many places at most."""
+    """Returns the run of a module, with at most `most` places."""
     reading, writing = os.pipe()
     child = os.fork()
     if child == 0:

@@ -27,12 +27,12 @@ from ..words import Words
 Data = Dict[str, Any]
 # An exit status, what is printed, and what is printed as an error
 Answer = Tuple[int, str, str]
-# A name, the bytes, the words of a form, and what is wanted
+# A name, the bytes, the words of a form, and the expected answer
 Form = Tuple[str, bytes, List[str], Optional[Answer]]
 
 
 def bytes_of_part(part: Data) -> bytes:
-    """The bytes of a part of an input."""
+    """Returns the bytes of a part of an input."""
     if "text" in part:
         return str(part["text"]).encode()
     if "repeat" in part:
@@ -45,7 +45,7 @@ def bytes_of_part(part: Data) -> bytes:
 
 
 def bytes_of(given: Data) -> bytes:
-    """The bytes of an input."""
+    """Returns the bytes of an input."""
     if "text" in given:
         return str(given["text"]).encode()
     if "hex" in given:
@@ -54,7 +54,7 @@ def bytes_of(given: Data) -> bytes:
 
 
 def last_answer(row: Data) -> Optional[Data]:
-    """The answer that holds at the last step, if there is one."""
+    """Returns the answer that holds at the last step, if there is one."""
     answers = [answer for answer in row.get("check", []) if "until" not in answer]
     return answers[-1] if answers else None
 
@@ -64,7 +64,7 @@ FORMS: Dict[str, List[str]] = {"text": ["--format", "1"], "json": ["--json", "--
 
 
 def wanted(answer: Data, form: str = "text") -> Answer:
-    """The exit status, what is printed, and what is printed as an error."""
+    """Returns the exit status, the output, and the error output."""
     if "refused" in answer:
         code, byte = answer["refused"]
         return 2, "", f"refused {code} at byte {byte}\n"
@@ -72,7 +72,7 @@ def wanted(answer: Data, form: str = "text") -> Answer:
 
 
 def rows_in(file: str) -> Iterator[Tuple[str, bytes, Optional[Data]]]:
-    """The rows, with their bytes and the answer that holds at the last step, or None."""
+    """Yields the rows, with their bytes and the answer that holds at the last step, or None."""
     with open(file, encoding="utf-8") as given:
         rows = json.load(given)["rows"]
     for row in rows:
@@ -80,13 +80,14 @@ def rows_in(file: str) -> Iterator[Tuple[str, bytes, Optional[Data]]]:
 
 
 def examples_of_rows(file: str) -> Iterator[Tuple[str, bytes, Optional[Answer]]]:
-    """Each row with its report as text in format one, or None."""
+    """Yields each row with its report as text in format one, or None."""
     for name, text, answer in rows_in(file):
         yield name, text, wanted(answer) if answer else None
 
 
 def forms_of_rows(file: str) -> Iterator[Form]:
-    """Each row in each form that it has, or once with None: its name, its bytes, the words of the form, and what is wanted."""
+    """Yields each row in each form that it has, or once with None: its name, its bytes, the words of the form, and the
+    expected answer."""
     for name, text, answer in rows_in(file):
         forms = [form for form in FORMS if answer and ("refused" in answer or form in answer)]
         for form in forms:
@@ -96,7 +97,7 @@ def forms_of_rows(file: str) -> Iterator[Form]:
 
 
 def report_beside(file: str) -> Optional[Answer]:
-    """The answer that stands beside a module, if one does."""
+    """Returns the answer in the file beside a module, if there is one."""
     try:
         with open(file[: -len(".py")] + ".txt") as report:
             text = report.read()
@@ -108,7 +109,7 @@ def report_beside(file: str) -> Optional[Answer]:
 
 
 def modules_in(folder: str) -> Iterator[str]:
-    """The modules in a folder and in those below it."""
+    """Yields the modules in a folder and in those below it."""
     for at, _, names in os.walk(folder):
         for name in names:
             if name.endswith(".py"):
@@ -116,25 +117,25 @@ def modules_in(folder: str) -> Iterator[str]:
 
 
 def in_format_one(text: str) -> str:
-    """A report without the types of its flows."""
+    """Returns a report without the types of its flows."""
     return re.sub(r"( A1 any-flow) .*", r"\1", text)
 
 
 def modules_with_reports(folder: str) -> Iterator[Tuple[str, bytes, Optional[Answer]]]:
-    """Each module with the report beside it, in format two."""
+    """Yields each module with the report beside it, in format two."""
     for file in sorted(modules_in(folder)):
         with open(file, "rb") as module:
             yield os.path.relpath(file, folder), module.read(), report_beside(file)
 
 
 def examples_of_folder(folder: str) -> Iterator[Tuple[str, bytes, Optional[Answer]]]:
-    """Each module with its report in format one."""
+    """Yields each module with its report in format one."""
     for name, text, want in modules_with_reports(folder):
         yield name, text, (want[0], in_format_one(want[1]), want[2]) if want else None
 
 
 def forms_of_folder(folder: str) -> Iterator[Form]:
-    """Each module in both formats."""
+    """Yields each module in both formats."""
     for name, text, want in modules_with_reports(folder):
         yield name, text, [], want
         if want is not None:
@@ -142,7 +143,7 @@ def forms_of_folder(folder: str) -> Iterator[Form]:
 
 
 def answer_of(program: str, text: bytes, words: Sequence[str] = FORMS["text"]) -> Answer:
-    """What the program answers."""
+    """Returns the answer of the program."""
     with tempfile.NamedTemporaryFile(suffix=".py") as file:
         file.write(text)
         file.flush()
@@ -160,7 +161,7 @@ def show(name: str, answers: List[Tuple[str, Answer]]) -> None:
 
 
 def compare(program: str, examples: Iterable[Form]) -> int:
-    """Compares each example, and gives the exit status."""
+    """Compares each example, and returns the exit status."""
     agree = differ = without = 0
     for name, text, words, want in examples:
         got = answer_of(program, text, words)
@@ -177,7 +178,7 @@ def compare(program: str, examples: Iterable[Form]) -> int:
 
 
 def main(words: List[str]) -> int:
-    """Compares the examples that the words name, and gives the exit status."""
+    """Compares the examples that the words name, and returns the exit status."""
     parser = Words("tools/compare rows", __doc__)
     parser.add_argument("program")
     parser.add_argument("given")

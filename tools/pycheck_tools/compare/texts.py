@@ -56,7 +56,7 @@ ERROR = "E31"
 
 
 def written_out(row: str) -> str:
-    """The text of a row, its repeated parts written out, as crates/test_rows does."""
+    """Returns the text of a row, with its repeated parts written out, as crates/test_rows does."""
     def repeated(found: "re.Match[str]") -> str:
         times, _, part = found[1].partition("×")
         if ".." not in times:
@@ -67,7 +67,7 @@ def written_out(row: str) -> str:
 
 
 def rows_of(table: str) -> Iterator[Tuple[Tuple[str, str], str]]:
-    """The frame and the text of each row of a table."""
+    """Yields the frame and the text of each row of a table."""
     frame = FRAMES["WHOLE"]
     lines: List[str] = []
     for line in table.split("\n"):
@@ -82,7 +82,7 @@ def rows_of(table: str) -> Iterator[Tuple[Tuple[str, str], str]]:
 
 
 def written_texts(each: int) -> Iterator[Named]:
-    """The name and the bytes of each text of examples/, and of every so many of the tables."""
+    """Yields the name and the bytes of each text of examples/, and of one in `each` of the tables."""
     for file in sorted((ROOT / "examples").rglob("*.py")):
         yield file.name, file.read_bytes()
     for file in sorted(TABLES.glob("*.modules")):
@@ -93,7 +93,7 @@ def written_texts(each: int) -> Iterator[Named]:
 
 
 def made_texts(seed: str, number: int) -> Iterator[Named]:
-    """Texts of the generator of tools/attack fuzz, each as it is and broken."""
+    """Yields texts of the generator of tools/attack fuzz, each as it is and broken."""
     for at in range(number):
         rng = random.Random(f"texts {seed}/{at}")
         text = fuzz.made_module(rng)
@@ -102,7 +102,8 @@ def made_texts(seed: str, number: int) -> Iterator[Named]:
 
 
 def refusal_of(pycheck: str, data: bytes, room: "IO[bytes]") -> Union[None, str, Refusal]:
-    """The code and the byte of a refusal, nothing where pycheck takes the text, or the error that Python refuses."""
+    """Returns the code and the byte of a refusal, nothing if pycheck accepts the text, or the error that Python
+    refuses."""
     room.seek(0)
     room.truncate()
     room.write(data)
@@ -117,7 +118,7 @@ def refusal_of(pycheck: str, data: bytes, room: "IO[bytes]") -> Union[None, str,
 
 
 def fault_of_python(data: bytes) -> Optional[str]:
-    """Why Python does not take a text, or nothing where it does."""
+    """Returns why Python does not accept a text, or nothing if it does."""
     try:
         ast.parse(data)
         for _ in tokenize.tokenize(io.BytesIO(data).readline):
@@ -136,7 +137,7 @@ class Reasons:
         self.needed: Counter[int] = collections.Counter()
 
     def of(self, code: str, data: bytes, byte: int) -> Optional[int]:
-        """The number of the first reason for a refusal, or nothing."""
+        """Returns the number of the first reason for a refusal, or nothing."""
         rest, before = data[byte:].decode(errors="replace"), data[:byte].decode(errors="replace")
         for at, row in enumerate(self.rows):
             if row["code"] == code and re.match(row["at"], rest, re.DOTALL) and re.search(row.get("behind", "") + r"\Z", before, re.DOTALL):
@@ -145,7 +146,7 @@ class Reasons:
         return None
 
     def faults(self) -> Iterator[str]:
-        """What is wrong with the list itself."""
+        """Yields the faults of the list itself."""
         for at, row in enumerate(self.rows):
             if row["page"] not in self.page:
                 yield f"no page has {row['page']!r}, which a reason for {row['code']} cites"
@@ -154,7 +155,7 @@ class Reasons:
 
 
 def compare(pycheck: str, texts: Iterable[Named], reasons: Reasons) -> bool:
-    """Compares what is taken of each text, and prints what is wrong; gives whether nothing is."""
+    """Compares the answers to each text, and prints the faults. Returns whether there are none."""
     counts: Counter[str] = collections.Counter()
     with tempfile.NamedTemporaryFile(suffix=".py") as room:
         for name, data in texts:
@@ -185,7 +186,7 @@ def compare(pycheck: str, texts: Iterable[Named], reasons: Reasons) -> bool:
 
 
 def main(words: List[str]) -> int:
-    """Compares the texts that the words name, and gives the exit status."""
+    """Compares the texts that the words name, and returns the exit status."""
     parser = Words("tools/compare texts", __doc__)
     parser.add_argument("pycheck")
     parser.add_argument("--made", type=int, default=0)

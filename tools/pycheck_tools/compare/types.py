@@ -53,7 +53,7 @@ class Listed(NamedTuple):
 
 
 def canonical(node: ast.expr) -> str:
-    """A type in one spelling: the members of a union in order, each once."""
+    """Returns a type in one spelling: the members of a union in order, each once."""
     if isinstance(node, ast.BinOp):
         return " | ".join(sorted(members(node)))
     if isinstance(node, ast.Subscript):
@@ -66,19 +66,19 @@ def canonical(node: ast.expr) -> str:
 
 
 def members(node: ast.expr) -> Set[str]:
-    """The members of a union, or the type itself."""
+    """Returns the members of a union, or the type itself."""
     if isinstance(node, ast.BinOp):
         return members(node.left) | members(node.right)
     return set(canonical(node).split(" | "))
 
 
 def of_literal(found: "re.Match[str]") -> str:
-    """The type of a literal's value."""
+    """Returns the type of a literal's value."""
     return "bool" if found[1] else "int" if found[2] else "str"
 
 
 def plain(text: str) -> str:
-    """A type as both programs would write it, or the text itself if it is no type of the profile."""
+    """Returns a type as both programs would write it, or the text itself if it is no type of the profile."""
     text = LITERAL.sub(of_literal, text)
     text = re.sub(r"\b(?:builtins|module\d*)\.", "", text).replace("<nothing>", "Never").replace("[()]", "[Empty]")
     try:
@@ -99,13 +99,13 @@ class Copy(NamedTuple):
 
 
 def copy_of(text: bytes, place: Place) -> Copy:
-    """The copy in which the expression at this place is revealed."""
+    """Returns the copy in which the expression at this place is revealed."""
     before, after = text[: place[0]] + CALL, b")" + text[place[1] :]
     return Copy(before + text[slice(*place)] + after, before.count(b"\n") + 1, len(before) - before.rfind(b"\n"))
 
 
 def revealed(lines: Sequence[str], copy: Copy) -> List[str]:
-    """What mypy reveals of the expression: in a loop several types, and nothing where it does not get to."""
+    """Returns the types that mypy reveals for the expression: in a loop several, and none if mypy does not reach it."""
     notes = (REVEALED.fullmatch(line) for line in lines)
     found = {plain(note[3]) for note in notes if note and (int(note[1]), int(note[2])) == (copy.line, copy.column)}
     return sorted(found) or ["none"]
@@ -115,7 +115,7 @@ def revealed(lines: Sequence[str], copy: Copy) -> List[str]:
 
 
 class Example(NamedTuple):
-    """A module that both programs take, with the expressions that pycheck lists."""
+    """A module that both programs accept, with the expressions that pycheck lists."""
 
     name: str
     text: bytes
@@ -123,7 +123,7 @@ class Example(NamedTuple):
 
 
 class Comparison:
-    """The examples, and the pairs of types that differ, each with the places that have it."""
+    """The examples, and the pairs of types that differ, each with its places."""
 
     def __init__(self, programs: Programs) -> None:
         self.programs = programs
@@ -131,7 +131,7 @@ class Comparison:
         self.pairs: Dict[Pair, List[str]] = {}
 
     def listed(self, text: bytes) -> List[Listed]:
-        """What pycheck lists, or nothing if it finds an error or refuses the module."""
+        """Returns the list of pycheck, or nothing if it finds an error or refuses the module."""
         words = [self.programs.pycheck, "--types", "--json", self.programs.file(text)]
         status, said, error = run(words, self.programs.folder)
         if status not in (0, 1, 2):
@@ -140,7 +140,7 @@ class Comparison:
         return [Listed((row["start"], row["end"]), row["line"], row["type"]) for row in rows]
 
     def examples_in(self, folder: Path) -> List[Example]:
-        """The examples that both programs take."""
+        """Returns the examples that both programs accept."""
         texts = {str(file.relative_to(folder)): file.read_bytes() for file in sorted(folder.rglob("*.py"))}
         found = [Example(name, text, self.listed(text)) for name, text in texts.items()]
         taken = [example for example in found if example.rows]
@@ -148,7 +148,7 @@ class Comparison:
         return [example for example, lines in zip(taken, answers) if not lines_of_mypy(lines)]
 
     def compare(self, folder: Path) -> None:
-        """Each expression of the examples by both programs."""
+        """Compares the types of each expression of the examples by both programs."""
         examples = self.examples_in(folder)
         self.examples = len(examples)
         asked = [(example, row, copy_of(example.text, row.place)) for example in examples for row in example.rows]
@@ -157,7 +157,7 @@ class Comparison:
             self.take(f"{example.name}:{row.line}", plain(row.type), revealed(lines, copy))
 
     def take(self, where: str, ours: str, theirs: List[str]) -> None:
-        """An expression with its type by pycheck and its types by mypy."""
+        """Records an expression with its type by pycheck and its types by mypy."""
         self.expressions += 1
         if theirs == [ours]:
             self.agreeing += 1
@@ -166,7 +166,7 @@ class Comparison:
 
 
 def compare_page(page: Page, found: Comparison) -> None:
-    """The rows of the page with the pairs that were found."""
+    """Compares the rows of the page with the pairs that were found."""
     typed = [row for row in page.rows if len(row.cells) == 4 and re.fullmatch("`[^`]+`", row.cells[0])]
     rows = {(plain(row.cells[0].strip("`")), row.cells[1].strip("`")): row for row in typed if row.cells[2].isdigit()}
     for pair, row in rows.items():
@@ -184,7 +184,7 @@ def compare_page(page: Page, found: Comparison) -> None:
 
 
 def compare(pycheck: str, file: Path, folder: Path) -> int:
-    """The exit status."""
+    """Compares the types, and returns the exit status."""
     page = read_page(file.read_text(encoding="utf-8"))
     with tempfile.TemporaryDirectory() as work:
         programs = Programs(pycheck, work, page.config)
@@ -204,7 +204,7 @@ def compare(pycheck: str, file: Path, folder: Path) -> int:
 
 
 def main(words: List[str]) -> int:
-    """Compares the types of the examples, and gives the exit status."""
+    """Compares the types of the examples, and returns the exit status."""
     parser = Words("tools/compare types", __doc__)
     parser.add_argument("pycheck")
     parser.add_argument("page", nargs="?", type=Path, default=ROOT / "docs" / "BESIDE_MYPY.md")

@@ -1,1 +1,1 @@
-"""Tools that measure what the programs and their proofs take."""
+"""Tools that measure the cost of the programs and their proofs."""

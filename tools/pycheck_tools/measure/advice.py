@@ -30,14 +30,14 @@ OF_TESTS = {"test", "tests", "idle_test", "site-packages", "dist-packages", "__p
 
 
 def sample(folder: Path, count: int) -> List[str]:
-    """So many modules of a folder, spread over it, in the order of their paths."""
+    """Returns `count` modules of a folder, spread over it, in the order of their paths."""
     found = sorted(str(it) for it in folder.rglob("*.py") if not OF_TESTS & set(it.relative_to(folder).parts))
     step = max(1, len(found) // count)
     return found[::step][:count]
 
 
 def refusals_of(command: str, files: List[str]) -> Iterator[Dict[str, Any]]:
-    """The refusals of some files, each with the path of its file."""
+    """Yields the refusals of some files, each with the path of its file."""
     words = [command, "--all-refusals", "--timeout", "600", "--output", "json", "--", *files]
     done = subprocess.run([sys.executable, *words], capture_output=True)
     for file in json.loads(done.stdout)["files"]:
@@ -47,7 +47,7 @@ def refusals_of(command: str, files: List[str]) -> Iterator[Dict[str, Any]]:
 
 
 def main(words: List[str]) -> int:
-    """Counts, and says it."""
+    """Counts the refusals, prints the counts, and returns the exit status."""
     parser = Words("tools/measure advice", __doc__)
     parser.add_argument("--list", action="store_true")
     parser.add_argument("command", nargs="?", default=str(COMMAND))

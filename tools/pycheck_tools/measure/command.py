@@ -20,5 +20,5 @@ TOOLS = ("crates", "speed", "shapes", "advice", "coverage")
 
 
 def main() -> int:
-    """Runs the tool that the words name, and gives the exit status."""
+    """Runs the tool that the words name, and returns its exit status."""
     return run_tool("measure", __doc__, TOOLS)

@@ -41,7 +41,8 @@ PROGRAMS = ("pycheck", "pyrun", "pycheck_server", "test_tables")
 TABLES, ALL = "tables", "all"
 COLUMNS = ("crate", "functions", "by the tables", "by all suites", "branches", "by the tables", "by all suites",
            "branches that pass on a failure", "by all suites")
-# The suites: the words of each command, with the programs in braces; `*` is what the gate has test_tables read
+# The suites: the words of each command, with the programs in braces; `*` means the tables that the gate has test_tables
+# read
 SUITES: Dict[str, List[str]] = {
     TABLES: ["{test_tables} *"],
     "rows": ["tools/compare rows {pycheck} examples", "tools/compare rows {pycheck} examples/left_out.json"],
@@ -53,10 +54,10 @@ SUITES: Dict[str, List[str]] = {
     "cookbook": ["tests/cookbook/run {pycheck} {pyrun}"],
     "memory": ["tests/memory/run {pycheck} {pyrun} {test_tables} {pycheck_server}"],
 }
-# A block of functions of a type, of a trait where it names one before
+# A block of functions of a type, of a trait if it names one before
 BLOCK = re.compile(r"(?:unsafe )?(?:impl|trait)(?:<[^{]*?>)? (?:(\w+)\S* for )?&?(\w+)")
 NEEDED = re.compile(r"\{(\w+)\}")
-# Before a program begins, its marks are made those of a file that all of its processes share: so a process may end in
+# Before a program begins, its marks are mapped to a file that all of its processes share, so that a process may end in
 # any way, and none is counted twice.
 SHARED = """
 extern int open(const char *, int, ...), close(int);
@@ -83,13 +84,13 @@ class Program(NamedTuple):
 
 
 def crates() -> List[str]:
-    """The crates, lowest first."""
+    """Returns the crates, lowest first."""
     lines = (ROOT / "crates.txt").read_text(encoding="utf-8").splitlines()
     return [line.split(":")[0].split()[0] for line in lines if line[:1] not in ("", "#")]
 
 
 def compile_and_link(name: str, room: Path, size: int, marks: Path) -> Path:
-    """Makes a program of its marked module, `marked.ll`."""
+    """Makes a program from its marked module, `marked.ll`."""
     toolchain, shared = kit() / "toolchain", room / "shared.c"
     shared.write_text(SHARED.format(marks=MARKS, size=size, file=marks), encoding="utf-8")
     compiler = (toolchain / "bin" / "clang", "--no-default-config", *COMPILED)
@@ -102,7 +103,7 @@ def compile_and_link(name: str, room: Path, size: int, marks: Path) -> Path:
 
 
 def made(name: str, module: Optional[Path], folder: Path) -> Program:
-    """Makes a program with marks in a folder, of an LLVM module or of its crate."""
+    """Makes a program with marks in a folder, from an LLVM module or from its crate."""
     with tempfile.TemporaryDirectory(prefix="coverage-") as it:
         room, marks, marker = Path(it), folder / f"{name}.marks", Marker(crates())
         write_text_of(module or build_module(name, room, room / "built.o"), room / "module.ll")
@@ -114,17 +115,18 @@ def made(name: str, module: Optional[Path], folder: Path) -> Program:
 
 
 def worded(command: str, programs: Dict[str, Program]) -> List[str]:
-    """The words of a command of a suite, with the files of the programs in it."""
+    """Returns the words of a command of a suite, with the files of the programs in it."""
     words = [it.format(**{name: program.file for name, program in programs.items()}) for it in command.split()]
     given = (ROOT / "crates" / "test_tables" / "args").read_text(encoding="utf-8").split() if "*" in words else []
     return [it for word in words for it in (given if word == "*" else [word])]
 
 
 def run_suite(name: str, programs: Dict[str, Program]) -> bool:
-    """Runs a suite. Whether all of its commands pass; the end of what the others said stands on standard error."""
+    """Runs a suite. Returns whether all of its commands pass, and prints the end of the output of the others on
+    standard error."""
     passed = True
     for command in SUITES[name]:
-        # The tables lie where test_tables runs
+        # The tables are in the folder in which test_tables runs
         folder = ROOT / "crates" / "test_tables" / "data" if "*" in command else ROOT
         done = subprocess.run(worded(command, programs), cwd=folder, stdout=subprocess.PIPE, stderr=subprocess.STDOUT,
                               text=True, errors="replace")
@@ -135,7 +137,7 @@ def run_suite(name: str, programs: Dict[str, Program]) -> bool:
 
 
 class Shape:
-    """A function, or one of its forms where these differ, with the blocks that were reached in any program."""
+    """A function, or one of its forms if these differ, with the blocks that were reached in any program."""
 
     def __init__(self, function: Function) -> None:
         self.function = function
@@ -147,17 +149,18 @@ class Shape:
         self.by_suite.setdefault(suite, set()).update(labels)
 
     def reached(self, suites: Sequence[str]) -> Set[str]:
-        """The labels of the blocks that one of the suites reached."""
+        """Returns the labels of the blocks that one of the suites reached."""
         return {label for suite in suites for label in self.by_suite.get(suite, ())}
 
     def figures(self, suites: Sequence[str]) -> Tuple[int, int, int]:
-        """Whether one of the suites called it, how many branches these reached, and how many that pass on a failure."""
+        """Returns whether one of the suites called it, how many branches these reached, and how many that pass on a
+        failure."""
         reached = self.reached(suites)
         return int(bool(reached)), len((self.branches - self.failures) & reached), len(self.failures & reached)
 
 
 class Reached:
-    """What the suites reached."""
+    """The functions and blocks that the suites reached."""
 
     def __init__(self, programs: Dict[str, Program]) -> None:
         self.programs = programs
@@ -167,7 +170,7 @@ class Reached:
                 self.shapes.setdefault(function.shape(), Shape(function))
 
     def take(self, suite: str) -> None:
-        """Adds the marks that a suite made, and takes them away."""
+        """Adds the marks that a suite made, and clears them."""
         for program in self.programs.values():
             marks = program.marks.read_bytes()
             for function in program.functions:
@@ -175,7 +178,7 @@ class Reached:
             program.marks.write_bytes(bytes(len(marks)))
 
     def row(self, name: str, suites: Sequence[str]) -> Optional[str]:
-        """The row of a crate, or of all of them, where a program has functions of it."""
+        """Returns the row of a crate, or of all of them; none if no program has functions of it."""
         shapes = [it for it in self.shapes.values() if name in (ALL, it.function.name.split("::")[0])]
         if not shapes:
             return None
@@ -187,14 +190,14 @@ class Reached:
         return f"| {name if name == ALL else f'`{name}`'} | {' | '.join(f'{it:,}' for it in counts)} |"
 
     def missed_functions(self, suites: Sequence[str]) -> Iterator[str]:
-        """A line for each function that was not called."""
+        """Yields a line for each function that was not called."""
         for shape in self.shapes.values():
             if not shape.reached(suites):
                 yield f"{place_of(shape.function.name)}: {shape.function.name}"
 
     def missed_branches(self, suites: Sequence[str], passes_on: bool) -> Iterator[str]:
-        """A line for each branch that was not reached though its decision was: of those that pass on a failure, or of
-        the others."""
+        """Yields a line for each branch that was not reached though its decision was: of those that pass on a failure,
+        or of the others."""
         for shape in self.shapes.values():
             for decision, block in shape.function.first_missed(shape.reached(suites)):
                 if (block.label in shape.failures) == passes_on:
@@ -202,7 +205,7 @@ class Reached:
 
 
 def told(decision: Block, block: Block) -> str:
-    """A branch as the list says it: its label, the case that leads there, and what it calls."""
+    """Returns a branch as the list shows it: its label, the case that leads there, and its calls."""
     case = decision.cases.get(block.label)
     calls = ", ".join(block.calls[:3])
     by = f", case {case}" if case else ""
@@ -210,8 +213,8 @@ def told(decision: Block, block: Block) -> str:
 
 
 def place_of(name: str) -> str:
-    """The file and the line of the head of a function, or of the one that it is inside of; the file alone, or the
-    crate, where the sources have no such head, as for what an attribute stands for."""
+    """Returns the file and the line of the head of a function, or of the one around it. Returns the file alone, or the
+    crate, if the sources have no such head, as for the code of an attribute."""
     crate, *path = name.split("::")
     at = path.index("fn") if "fn" in path else None
     # `module::fn::outer::filter+FnMut::call_mut` is inside `outer`
@@ -231,7 +234,7 @@ def place_of(name: str) -> str:
 
 
 def line_of(source: str, name: str, owner: str) -> Optional[int]:
-    """The line of the head of a function, inside a block of its owner where there is one."""
+    """Returns the line of the head of a function, inside a block of its owner if there is one."""
     inside = ""
     for number, line in enumerate(source.splitlines(), 1):
         block = BLOCK.match(line)
@@ -261,7 +264,7 @@ def show(reached: Reached, suites: Sequence[str], asked: argparse.Namespace) -> 
 
 
 def asked_of(words: List[str]) -> argparse.Namespace:
-    """What is asked for."""
+    """Returns the parsed words."""
     parser = Words("tools/measure coverage", __doc__)
     parser.add_argument("--module", action="append", default=[])
     parser.add_argument("--keep", type=Path)
@@ -275,7 +278,7 @@ def asked_of(words: List[str]) -> argparse.Namespace:
 
 
 def measured(asked: argparse.Namespace, folder: Path) -> int:
-    """Makes the programs in a folder, runs the suites, and prints what they reached. Gives the exit status."""
+    """Makes the programs in a folder, runs the suites, and prints what they reached. Returns the exit status."""
     files = {name: Path(file).resolve() for name, file in asked.modules.items()}
     programs = {name: made(name, files.get(name), folder) for name in files or PROGRAMS}
     suites = [name for name in asked.suite or SUITES
@@ -289,7 +292,7 @@ def measured(asked: argparse.Namespace, folder: Path) -> int:
 
 
 def main(words: List[str]) -> int:
-    """Measures what the words ask for, and gives the exit status."""
+    """Measures the suites that the words name, and returns the exit status."""
     asked = asked_of(words)
     with tempfile.TemporaryDirectory() as room:
         folder = (asked.keep or Path(room)).resolve()

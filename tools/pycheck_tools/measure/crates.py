@@ -36,11 +36,11 @@ from .. import ROOT
 from ..words import Words
 
 CRATES = ROOT / "crates"
-# What stands in the cell of a command that failed
+# The text in the cell of a command that failed
 FAILED = "failed"
-# What stands in the cell of a part whose seconds are not told
+# The text in the cell of a part whose seconds are unknown
 UNKNOWN = "–"
-# How the folders begin in which `rt ci` and tools/wrong_bodies try wrong bodies, and the part that these are
+# The beginnings of the folders in which `rt ci` and tools/wrong_bodies try wrong bodies, and the part that these are
 TRIED = [("rt-edit-", "bodies"), ("wrong-bodies-", "functions")]
 LINES = [line.split(":") for line in (ROOT / "crates.txt").read_text(encoding="utf-8").splitlines() if line[:1] not in ("", "#")]
 LISTED = [name.split()[0] for name, _ in LINES]
@@ -49,7 +49,8 @@ BELOW = {name: [it for it in below.split() if it in LISTED] for name, (_, below)
 
 
 def seconds(folder: Path, *words: str) -> object:
-    """The seconds of processor that a command takes; where it fails, its output is printed, and there is no figure."""
+    """Returns the seconds of processor time that a command takes; if it fails, prints its output, and returns no
+    number."""
     before = resource.getrusage(resource.RUSAGE_CHILDREN)
     done = subprocess.run(words, cwd=folder, stdout=subprocess.PIPE, stderr=subprocess.STDOUT, text=True, errors="replace")
     after = resource.getrusage(resource.RUSAGE_CHILDREN)
@@ -60,24 +61,24 @@ def seconds(folder: Path, *words: str) -> object:
 
 
 def lines_of(crate: str) -> int:
-    """How many lines of source, definitions and proofs the crate has."""
+    """Returns how many lines of source, definitions and proofs the crate has."""
     files = [file for part in ("src", "specs", "proofs") for file in (CRATES / crate / part).rglob("*") if file.suffix in (".rt", ".antt")]
     return sum(len(file.read_text(encoding="utf-8").splitlines()) for file in files)
 
 
 def from_nothing(crate: str, *words: str) -> object:
-    """The seconds of a command in the crate's folder that finds nothing kept of it."""
+    """Returns the seconds of a command in the crate's folder, after the results kept for the crate are deleted."""
     shutil.rmtree(CRATES / crate / "out", ignore_errors=True)
     return seconds(CRATES / crate, "rt", *words, "--jobs", "1")
 
 
 def edits_of(crate: str) -> List[str]:
-    """The crate's wrong bodies that `rt ci` tries, each as its text."""
+    """Returns the crate's wrong bodies that `rt ci` tries, each as its text."""
     return [file.read_text(encoding="utf-8") for file in sorted((CRATES / crate / "must-fail").glob("*.edit"))]
 
 
 def of_functions(crate: str) -> List[str]:
-    """The crate's wrong bodies of functions alone, each as its text."""
+    """Returns the crate's wrong bodies of functions alone, each as its text."""
     return [file.read_text(encoding="utf-8") for file in sorted((ROOT / "wrong_bodies" / crate).glob("*.edit"))]
 
 
@@ -87,13 +88,14 @@ def has_tests(crate: str) -> bool:
 
 
 def row(crate: str, proof: object = "", tests: object = "", bodies: object = "", functions: object = "") -> str:
-    """The crate's row of the table."""
+    """Returns the crate's row of the table."""
     shown = [str(it) for it in (proof, tests, len(edits_of(crate)), bodies, len(of_functions(crate)), functions)]
     return f"| `{crate}` | {lines_of(crate):,} | {' | '.join(shown)} |"
 
 
 def measured(crate: str) -> Tuple[str, object, object, object, object]:
-    """The crate with the seconds of its proof, its tests and its wrong bodies: the first check builds the libraries below."""
+    """Returns the crate with the seconds of its proof, its tests and its wrong bodies: the first check builds the
+    libraries below."""
     below = seconds(CRATES / crate, "rt", "check", "--only", "", "--jobs", "1")
     tests = from_nothing(crate, "test") if has_tests(crate) else 0
     proof = from_nothing(crate, "check" if (CRATES / crate / "src/main.rt").exists() else "lib") if below != FAILED else FAILED
@@ -103,7 +105,7 @@ def measured(crate: str) -> Tuple[str, object, object, object, object]:
 
 
 class Told:
-    """Seconds that were taken elsewhere."""
+    """Seconds that were measured elsewhere."""
 
     def __init__(self) -> None:
         self.seconds: Dict[Tuple[str, str], float] = {}
@@ -113,18 +115,18 @@ class Told:
         self.seconds[crate, part] = self.seconds.get((crate, part), 0) + seconds
 
     def cell(self, crate: str, part: str) -> object:
-        """The seconds of a part of a crate."""
+        """Returns the seconds of a part of a crate."""
         return round(self.seconds[crate, part]) if (crate, part) in self.seconds else UNKNOWN
 
     def cells(self, crate: str) -> Tuple[str, object, object, object, object]:
-        """The crate with the seconds of its proof, of its tests and of its wrong bodies."""
+        """Returns the crate with the seconds of its proof, of its tests and of its wrong bodies."""
         tests = self.cell(crate, "tests") if has_tests(crate) else 0
         bodies = self.cell(crate, "bodies") if edits_of(crate) else 0
         return crate, self.cell(crate, "proof"), tests, bodies, self.cell(crate, "functions") if of_functions(crate) else 0
 
 
 def told(file: str) -> Told:
-    """The seconds that stand in a file."""
+    """Returns the seconds in a file."""
     found = Told()
     try:
         for line in Path(file).read_text(encoding="utf-8").splitlines():
@@ -148,18 +150,18 @@ class Process(NamedTuple):
         return "--crate-name" in self.words and any(Path(word).name == "rattle" for word in self.words[:2])
 
     def part(self) -> Tuple[str, str]:
-        """The crate that it checks, and what of it. A wrong body is tried in a folder of its own."""
+        """The crate that it checks, and which part. A wrong body is tried in a folder of its own."""
         crate = self.words[self.words.index("--crate-name") + 1]
         tried = [part for name, part in TRIED if f"/{name}" in self.folder]
         return crate, tried[0] if tried else "tests" if "--test" in self.words else "proof"
 
 
 def processes() -> Dict[str, Process]:
-    """The processes that run, by their numbers."""
+    """Returns the processes that run, by their numbers."""
     found: Dict[str, Process] = {}
     for folder in Path("/proc").glob("[0-9]*"):
         try:
-            # What stands behind the name of the program: state, parent, .., and four times of the process.
+            # The fields after the name of the program: state, parent, .., and four times of the process.
             stat = (folder / "stat").read_text(encoding="utf-8", errors="replace").rpartition(")")[2].split()
             words = (folder / "cmdline").read_text(encoding="utf-8", errors="replace").split("\0")
             where = os.readlink(folder / "cwd")
@@ -171,7 +173,8 @@ def processes() -> Dict[str, Process]:
 
 
 def provers(ancestor: str) -> Iterator[Tuple[str, Process]]:
-    """The provers below a process. A copy that a prover makes of itself is left out: its seconds are told by the prover."""
+    """Yields the provers below a process. A copy that a prover makes of itself is left out, since the prover counts its
+    seconds."""
     running = processes()
     for number, it in running.items():
         above = it.parent
@@ -184,7 +187,7 @@ def provers(ancestor: str) -> Iterator[Tuple[str, Process]]:
 
 
 def watched(*words: str) -> Tuple[List[Process], bool]:
-    """Each prover that a command starts, by what was last seen of it, and whether the command succeeds."""
+    """Runs a command. Returns the last observed state of each prover that it starts, and whether it succeeds."""
     last: Dict[str, Process] = {}
     with subprocess.Popen(words, cwd=ROOT, stdout=sys.stderr) as command:
         while command.poll() is None:
@@ -194,7 +197,8 @@ def watched(*words: str) -> Tuple[List[Process], bool]:
 
 
 def gate() -> Tuple[Told, bool]:
-    """The seconds of the provers that the gate starts, and whether all was proved and each wrong body refused."""
+    """Returns the seconds of the provers that the gate starts, and whether all was proved and each wrong body
+    refused."""
     found = Told()
     proved, is_proved = watched("rt", "ci")
     tried, is_refused = watched("tools/wrong_bodies", "--built") if is_proved else ([], False)
@@ -204,8 +208,8 @@ def gate() -> Tuple[Told, bool]:
 
 
 def longest_chain(proofs: Dict[str, int]) -> Tuple[int, List[str]]:
-    """The longest chain of crates of which each waits for the one before, by these seconds of their proofs: all of its seconds,
-    and the crates, lowest first."""
+    """Returns the longest chain of crates of which each waits for the one before, by these seconds of their proofs: all
+    of its seconds, and the crates, lowest first."""
     chains: Dict[str, Tuple[int, List[str]]] = {}
     for name in LISTED:
         none: Tuple[int, List[str]] = (0, [])
@@ -223,7 +227,7 @@ def print_edits() -> None:
 
 
 def asked_of(words: List[str]) -> argparse.Namespace:
-    """What is asked for."""
+    """Returns the parsed words."""
     parser = Words("tools/measure crates", __doc__)
     ways = parser.add_mutually_exclusive_group()
     ways.add_argument("--count", action="store_true")
@@ -238,7 +242,7 @@ def asked_of(words: List[str]) -> argparse.Namespace:
 
 
 def main(words: List[str]) -> int:
-    """Prints the table, and gives the exit status: 1 where a command failed."""
+    """Prints the table, and returns the exit status: 1 if a command failed."""
     asked = asked_of(words)
     seconds_told, is_proved = gate() if asked.gate else (asked.seconds, True)
     cells_of = seconds_told.cells if seconds_told else measured

@@ -43,23 +43,23 @@ DATACLASS = "from dataclasses import dataclass\n"
 EMPTY_MAIN = "def main():\n    pass\nmain()\n"
 SECONDS = 120
 LENGTHS = "262144,524288,1048576"
-# By how much instructions may grow more than n log n
+# How much more than n log n instructions may grow
 SLACK = 1.15
-# What makes a module of a shape by a number, and what makes a thing by the number of its parts: what stands before `main`, and
+# Makes a module of a shape from a number; and makes a thing from the number of its parts: the text before `main`, and
 # lines of `main`
 Shape = Callable[[int], str]
 Thing = Callable[[int], Tuple[str, str]]
 
 
 def each(count: int, line: str) -> str:
-    """So many lines, each with its number and the one before."""
+    """Returns `count` lines, each with its number and the one before."""
     if "{i}" not in line:
         return line * count
     return "".join(line.replace("{i}", str(i)).replace("{before}", str(i - 1)) for i in range(1, count + 1))
 
 
 def in_main(lines: str) -> str:
-    """A module of these lines."""
+    """Returns a module of these lines."""
     return "def main():\n    x = 1\n" + lines + "main()\n"
 
 
@@ -73,7 +73,8 @@ def class_chain(count: int, members: str) -> str:
 
 
 def overrides_in_turn(count: int, returned: Shape) -> str:
-    """A chain of classes whose methods return nothing that is said and what `returned` says of their number, in turn."""
+    """Returns a chain of classes whose methods have in turn no return annotation and the one that `returned` gives for
+    their number."""
     head = "@dataclass\nclass A0:\n    def m(self, x: A0) -> A0:\n        return x\n"
     lines = (
         f"@dataclass\nclass A{i}(A{i - 1}):\n" + ("    def m(self, x):\n" if i % 2 else returned(i)) + "        return x\n"
@@ -130,32 +131,33 @@ def unions(count: int) -> str:
 
 
 def union_of(count: int, name: str = "A") -> str:
-    """The union of so many classes."""
+    """Returns the union of `count` classes."""
     return " | ".join(f"{name}{i}" for i in range(1, count + 1))
 
 
 def over_unions(line: str, members: str = "    pass\n") -> Shape:
-    """A line again and again, in which `a` and `b` are of unions of 24 classes, and `c` is a test."""
+    """Returns a line again and again, in which `a` and `b` are of unions of 24 classes, and `c` is a test."""
     before = DATACLASS + each(24, "@dataclass\nclass A{i}:\n" + members) + each(24, "@dataclass\nclass B{i}:\n    pass\n")
     head = f"def f(c: bool, a: {union_of(24)}, b: {union_of(24, 'B')}, x: {union_of(24)} | {union_of(24, 'B')}):\n"
     return lambda n: before + head + line * n + EMPTY_MAIN
 
 
 def listed_unions(head: str, items: str) -> Shape:
-    """A list of two locals in turn, of these types."""
+    """Returns a list of two locals in turn, of these types."""
     before = DATACLASS + each(24, "@dataclass\nclass A{i}:\n    pass\n") + each(24, "@dataclass\nclass B{i}:\n    pass\n")
     return lambda n: before + f"def f({head}):\n    x = [" + items * n + "a]\n" + EMPTY_MAIN
 
 
 def over_chains(line: str) -> Shape:
-    """A line again and again, in which `a` is of a union of 16 roots, and `b` of the ends of chains of 4 classes below them."""
+    """Returns a line again and again, in which `a` is of a union of 16 roots, and `b` of the ends of chains of 4
+    classes below them."""
     below = "".join(f"@dataclass\nclass {name}{{i}}({base}{{i}}):\n    pass\n" for base, name in zip("AKLM", "KLMN"))
     before = DATACLASS + each(16, "@dataclass\nclass A{i}:\n    pass\n" + below)
     return lambda n: before + f"def f(a: {union_of(16)}, b: {union_of(16, 'N')}):\n" + line * n + EMPTY_MAIN
 
 
 def over_tuples(line: str) -> Shape:
-    """A line again and again, in which `k6` and `m6` are tuples of 127 nodes, and `k7` is one of 255."""
+    """Returns a line again and again, in which `k6` and `m6` are tuples of 127 nodes, and `k7` is one of 255."""
     front = "    k1 = (1, 1)\n    m1 = (\"\", \"\")\n"
     doubled = "".join(f"    {name}{i} = ({name}{i - 1}, {name}{i - 1})\n" for i in range(2, 8) for name in "km")
     return lambda n: "def f():\n" + front + doubled + line * n + EMPTY_MAIN
@@ -180,8 +182,8 @@ SHAPES.update({
 })
 
 
-# Things with many parts: what stands before `main`, and lines of `main`, by the number of parts. The local `x` is the thing, or
-# the last of its parts; `f` is a function, `A1` a class, and `Z` the last class of a chain, where there is one.
+# Things with many parts: the text before `main`, and lines of `main`, by the number of parts. The local `x` is the
+# thing, or the last of its parts; `f` is a function, `A1` a class, and `Z` the last class of a chain, if there is one.
 THINGS: Dict[str, Thing] = {
     "tuple-of-classes": lambda n: (classes(n), "    x = (" + listed(n, "A{i}()") + ",)\n"),
     "tuple-of-numbers": lambda n: ("", "    x = (" + listed(n, "{i}") + ",)\n"),
@@ -206,7 +208,7 @@ THINGS: Dict[str, Thing] = {
     "nothing": lambda n: ("", "    x = 1\n"),
 }
 
-# What is done again and again.
+# The uses that are repeated.
 USES: Dict[str, str] = {
     "item": "    print(x[i])\n",
     "first": "    print(x[0])\n",
@@ -244,14 +246,14 @@ USES: Dict[str, str] = {
 
 
 def product(thing: str, parts: int, use: str, uses: int) -> str:
-    """A module in which a thing of so many parts is used so many times."""
+    """Returns a module in which a thing of `parts` parts is used `uses` times."""
     before, lines = THINGS[thing](parts)
     main = "def g(a: object):\n    pass\ndef main():\n    i = 0\n    y = 0\n" + lines
     return before + main + each(uses, USES[use]) + "main()\n"
 
 
 def longest_product(thing: str, use: str, most: int) -> str:
-    """The longest such module within so many bytes, of which the thing takes about half."""
+    """Returns the longest such module within `most` bytes, of which the thing takes about half."""
     parts = parts_of(thing, most // 2)
     ends = ends_of_uses(use, most)
     room = most - len(HEADER + product(thing, parts, use, 0))
@@ -260,19 +262,20 @@ def longest_product(thing: str, use: str, most: int) -> str:
 
 @functools.lru_cache(maxsize=None)
 def parts_of(thing: str, most: int) -> int:
-    """The greatest number of parts of a thing with which a module that does not use it stays within so many bytes."""
+    """Returns the greatest number of parts of a thing with which a module that does not use it stays within `most`
+    bytes."""
     return greatest(lambda n: product(thing, n, "first", 0), most) if thing != "nothing" else 1
 
 
 @functools.lru_cache(maxsize=None)
 def ends_of_uses(use: str, most: int) -> List[int]:
-    """Where each use ends when it stands again and again, up to so many bytes."""
+    """Returns the end of each use when it is repeated, up to `most` bytes."""
     lengths = (len(each(1, USES[use].replace("{i}", str(i)))) for i in itertools.count(1))
     return list(itertools.takewhile(lambda end: end <= most, itertools.accumulate(lengths)))
 
 
 def greatest(shape: Shape, most: int) -> int:
-    """The greatest number with which a module of a shape stays within so many bytes."""
+    """Returns the greatest number with which a module of a shape stays within `most` bytes."""
     least, past = 1, 2
     while len(HEADER + shape(past)) <= most:
         least, past = past, 2 * past
@@ -286,12 +289,12 @@ def greatest(shape: Shape, most: int) -> int:
 
 
 def longest(shape: Shape, most: int) -> str:
-    """The longest module of a shape within so many bytes."""
+    """Returns the longest module of a shape within `most` bytes."""
     return HEADER + shape(greatest(shape, most))
 
 
 class Taken(NamedTuple):
-    """What a check took, seconds or millions of instructions, as it is shown, and whether there was a report."""
+    """The cost of a check, seconds or millions of instructions, as it is shown, and whether there was a report."""
 
     number: float
     shown: str
@@ -304,7 +307,7 @@ def processor_time() -> float:
 
 
 def timed(program: str, most: int, text: str) -> Taken:
-    """The seconds of processor time that a check takes, which is ended after so many."""
+    """Returns the seconds of processor time of a check, which is ended after `most` seconds."""
     with tempfile.NamedTemporaryFile("w", suffix=".py") as file:
         file.write(text)
         file.flush()
@@ -321,7 +324,7 @@ def timed(program: str, most: int, text: str) -> Taken:
 
 
 def counted(program: str, valgrind: str, instructions: "Callable[..., float]", text: str) -> Taken:
-    """The millions of instructions that a check takes."""
+    """Returns the millions of instructions of a check."""
     with tempfile.NamedTemporaryFile("w", suffix=".py") as file:
         file.write(text)
         file.flush()
@@ -330,7 +333,7 @@ def counted(program: str, valgrind: str, instructions: "Callable[..., float]", t
 
 
 class Asked(NamedTuple):
-    """What the words of a call ask for."""
+    """The parsed words of a call."""
 
     program: str
     makers: Dict[str, Shape]
@@ -340,19 +343,19 @@ class Asked(NamedTuple):
 
 
 def all_makers(of_products: bool) -> Dict[str, Shape]:
-    """What makes the longest module of each shape, or of each thing and use."""
+    """Returns the functions that make the longest module of each shape, or of each thing and use."""
     if of_products:
         return {f"{thing} {use}": functools.partial(longest_product, thing, use) for thing in THINGS for use in USES}
     return {name: functools.partial(longest, shape) for name, shape in SHAPES.items()}
 
 
 def lengths_of(word: str) -> List[int]:
-    """The numbers `N,N,..`."""
+    """Returns the numbers `N,N,..`."""
     return [int(number) for number in word.split(",")]
 
 
 def asked_of(words: List[str]) -> Asked:
-    """What is asked for."""
+    """Returns the parsed words."""
     parser = Words("tools/measure shapes", __doc__)
     bounds = parser.add_mutually_exclusive_group()
     bounds.add_argument("--most", type=float)
@@ -371,12 +374,12 @@ def asked_of(words: List[str]) -> Asked:
 
 
 def number_of(taken: Taken) -> float:
-    """The seconds or the instructions of a check."""
+    """Returns the seconds or the instructions of a check."""
     return taken.number
 
 
 def taker(asked: Asked) -> "Tuple[Callable[[str], Taken], float]":
-    """What tells what a check of a text takes, and the bound of it."""
+    """Returns the function that measures a check of a text, and its bound."""
     if asked.valgrind is not None:
         return functools.partial(counted, asked.program, asked.valgrind, speed.instructions), math.inf
     if asked.most is None:
@@ -388,14 +391,14 @@ def taker(asked: Asked) -> "Tuple[Callable[[str], Taken], float]":
 
 
 def growths(sizes: List[int], row: List[Taken]) -> List[float]:
-    """How many times of what n log n tells each number is, by the one before it."""
+    """Returns for each number how many times n log n it has grown from the one before it."""
     told = [size * math.log(size) for size in sizes]
     pairs = zip(zip(row, told), zip(row[1:], told[1:]))
     return [after.number / before.number * of_before / of_after for (before, of_before), (after, of_after) in pairs]
 
 
 def faults_of(sizes: List[int], row: List[Taken], grown: List[float], bound: float) -> Iterator[str]:
-    """What is wrong with what the checks of a shape took."""
+    """Yields the faults in the measurements of a shape."""
     for size, taken in zip(sizes, row):
         if not taken.is_well:
             yield f"{taken.shown} at {size:,} bytes"
@@ -407,7 +410,7 @@ def faults_of(sizes: List[int], row: List[Taken], grown: List[float], bound: flo
 
 
 def show_all(asked: Asked) -> List[str]:
-    """Prints what each check takes, and gives what is wrong with it."""
+    """Prints the cost of each check, and returns the faults."""
     take, bound = taker(asked)
     columns = ["shape", *(f"{length:,} bytes" for length in asked.lengths), *(["of n log n"] if asked.valgrind else [])]
     print(f"| {' | '.join(columns)} |\n|{'---|' * len(columns)}", flush=True)
@@ -423,7 +426,7 @@ def show_all(asked: Asked) -> List[str]:
 
 
 def main(words: List[str]) -> int:
-    """Checks the shapes that the words name, and gives the exit status."""
+    """Checks the shapes that the words name, and returns the exit status."""
     asked = asked_of(words)
     try:
         wrong = show_all(asked)

@@ -43,7 +43,7 @@ from typing import Any, Callable, Dict, List, Optional, Sequence, Tuple, TypeVar
 
 from ..words import Words
 
-# What comes of a try
+# The result of a try
 Tried = TypeVar("Tried")
 HEADER = "from __future__ import annotations\nfrom dataclasses import dataclass\n"
 LENGTHS = (225_000, 450_000, 900_000)
@@ -184,17 +184,18 @@ def scaled_n(amount, factor):
 LIMIT = '\nlimit_n: int = 12\n'
 EVERY = (CLASS, BELOW, LIMIT, TOTAL, FIND, COUNTS, SEARCH, WORDS, SHOWN, PAIRS, USED)
 SOME = (CLASS, LIMIT, TOTAL, FIND, WORDS)
-# The modules whose instructions are counted, and how many millions a check of so many bytes may take, where there is a bound
+# The modules whose instructions are counted, and how many millions a check of so many bytes may take, if there is a
+# bound
 COUNTED = ((10_240, SOME, 4), (225_000, EVERY, None), (815_752, EVERY, 300), (900_000, EVERY, None))
 HELD = 25  # MiB that a check of any of them may hold
-# What a machine is worth is told by a check of a module of so many bytes, which takes so many seconds on the machine
-# for which bounds of seconds are said; how many times as long it may take elsewhere, and how often a check is tried
-# that takes too long
+# The speed of a machine is measured by a check of a module of so many bytes, which takes so many seconds on the machine
+# that the bounds of seconds are for; how many times as long it may take elsewhere, and how often a check that takes too
+# long is tried
 PLAIN, PLAIN_SECONDS, MOST_TIMES, TRIES = 1_000_000, 0.11, 5.0, 3
 
 
 def group(number: int, rng: random.Random, parts: Sequence[str]) -> str:
-    """Some parts of a module about one class; what they define has a number of its own."""
+    """Returns some parts of a module about one class; their definitions have a number of their own."""
     thing, (a, b, d) = rng.choice(THINGS), rng.sample(FIELDS, 3)
     kind = f"{thing.capitalize()}{number}"
     words = {"C": kind, "SpecialC": f"Special{kind}", "c": thing, "a": a, "b": b, "d": f"is_{d}"}
@@ -203,7 +204,7 @@ def group(number: int, rng: random.Random, parts: Sequence[str]) -> str:
 
 
 def module(length: int, parts: Sequence[str]) -> str:
-    """The shortest module of such groups that has at least this length."""
+    """Returns the shortest module of such groups that has at least this length."""
     rng, text, number = random.Random(1), HEADER, 0
     while number == 0 or len(text) < length:
         number += 1
@@ -212,14 +213,14 @@ def module(length: int, parts: Sequence[str]) -> str:
 
 
 def ended(process: subprocess.Popen[bytes]) -> Any:
-    """Waits until a process ends, and gives what it used."""
+    """Waits until a process ends, and returns its use of resources."""
     _, status, used = os.wait4(process.pid, 0)
     process.returncode = os.waitstatus_to_exitcode(status)
     return used
 
 
 def measured(words: List[str]) -> Tuple[float, float, str]:
-    """The seconds of processor time that a process takes, the MiB that it held at most, and what it printed."""
+    """Returns the seconds of processor time that a process takes, the MiB that it held at most, and its output."""
     with subprocess.Popen(words, stdout=subprocess.PIPE) as process:
         printed = process.stdout.read().decode() if process.stdout else ""
         used = ended(process)
@@ -229,7 +230,7 @@ def measured(words: List[str]) -> Tuple[float, float, str]:
 
 
 def least(commands: Dict[str, List[str]], runs: int) -> Dict[str, Tuple[float, float]]:
-    """Runs the commands in turn, and gives the least seconds and the most memory of each."""
+    """Runs the commands in turn, and returns the least seconds and the most memory of each."""
     found = {name: (float("inf"), 0.0) for name in commands}
     for _ in range(runs):
         for name, words in commands.items():
@@ -243,7 +244,7 @@ def least(commands: Dict[str, List[str]], runs: int) -> Dict[str, Tuple[float, f
 
 
 def commands_for(program: str, python: str, file: str) -> Dict[str, List[str]]:
-    """What is run on a file."""
+    """Returns the commands that are run on a file."""
     compiled = COMPILE.format(file=file)
     return {
         "pycheck": [program, file],
@@ -254,7 +255,7 @@ def commands_for(program: str, python: str, file: str) -> Dict[str, List[str]]:
 
 
 def show(text: str, program: str, python: str, runs: int, file: Path) -> None:
-    """Prints what the commands take on a module."""
+    """Prints the cost of the commands on a module."""
     file.write_text(text, encoding="utf-8")
     found = least(commands_for(program, python, str(file)), runs)
     seconds, held = found["pycheck"]
@@ -265,7 +266,7 @@ def show(text: str, program: str, python: str, runs: int, file: Path) -> None:
 
 
 def session(text: str, changes: int) -> bytes:
-    """The bytes of a session that opens a module and changes it so often, each time in one line."""
+    """Returns the bytes of a session that opens a module and changes it so often, each time in one line."""
     document = {"uri": "file:///module.py", "languageId": "python", "version": 0, "text": text}
     said: List[Tuple[str, Any]] = [("initialize", {"capabilities": {}}), ("initialized", {})]
     said.append(("textDocument/didOpen", {"textDocument": document}))
@@ -283,7 +284,7 @@ def session(text: str, changes: int) -> bytes:
 
 
 def served(server: str, given: bytes, changes: int) -> float:
-    """The seconds of processor time that the server takes for a session, which has to end as it should."""
+    """Returns the seconds of processor time that the server takes for a session, which has to end as it should."""
     with tempfile.TemporaryFile() as input_file, tempfile.TemporaryFile() as output_file:
         input_file.write(given)
         input_file.seek(0)
@@ -298,7 +299,7 @@ def served(server: str, given: bytes, changes: int) -> float:
 
 
 def show_edit(server: str, runs: int) -> None:
-    """Prints what an edit takes in the language server."""
+    """Prints the cost of an edit in the language server."""
     length = 0
     while module(length, EVERY).count("\n") < EDITED_LINES:
         length += 500
@@ -313,11 +314,11 @@ def show_edit(server: str, runs: int) -> None:
 
 
 class Uncounted(Exception):
-    """Instructions were not counted, and why."""
+    """Instructions could not be counted; the text says why."""
 
 
 def instructions(valgrind: str, words: Sequence[str], statuses: Sequence[int] = (0,)) -> float:
-    """How many millions of instructions a process takes that ends with one of these statuses."""
+    """Returns the millions of instructions of a process that must end with one of these statuses."""
     counted = [valgrind, "--tool=callgrind", "--callgrind-out-file=/dev/null", *words]
     try:
         done = subprocess.run(counted, stdout=subprocess.DEVNULL, stderr=subprocess.PIPE, text=True, errors="replace")
@@ -330,14 +331,16 @@ def instructions(valgrind: str, words: Sequence[str], statuses: Sequence[int] = 
 
 
 def slowness(take: "Callable[[str], float]") -> float:
-    """How many times as long as is said this machine takes: at least once, and at most five times, so that a program
-    that is slow at everything is not taken for a slow machine. What is given tells the seconds of a check of a text."""
+    """Returns how many times slower than the stated machine this one is: at least once, and at most five times, so that
+    a program that is slow at everything is not mistaken for a slow machine. `take` returns the seconds of a check of a
+    text."""
     text = module(PLAIN, EVERY)
     return min(max(1.0, min(take(text) for _ in range(TRIES)) / PLAIN_SECONDS), MOST_TIMES)
 
 
 def quickest(take: Callable[[], Tried], seconds: Callable[[Tried], float], most: float) -> Tried:
-    """What takes the least seconds: it is taken once, and up to twice more while each takes more than the most."""
+    """Returns the try with the least seconds: it is made once, and up to twice more while each takes more than
+    `most`."""
     taken: List[Tried] = []
     while len(taken) < TRIES and all(seconds(it) > most for it in taken):
         taken.append(take())
@@ -347,8 +350,8 @@ def quickest(take: Callable[[], Tried], seconds: Callable[[Tried], float], most:
 def show_instructions(
     valgrind: str, text: str, program: str, python: Optional[str], file: Path
 ) -> Tuple[float, float]:
-    """Prints how many instructions a check of a module takes, and the compile by a Python where there is one. Gives the
-    check's, and the MiB that it held."""
+    """Prints how many instructions a check of a module takes, and the compile by a Python if one is given. Returns
+    those of the check, and the MiB that it held."""
     file.write_text(text, encoding="utf-8")
     held = least({"pycheck": [program, str(file)]}, 1)["pycheck"][1]
     checked = instructions(valgrind, [program, str(file)])
@@ -362,7 +365,7 @@ def show_instructions(
 
 
 def show_all_instructions(valgrind: str, program: str, python: Optional[str], folder: Path) -> int:
-    """Prints the instructions for each length, and what is over its bound. Gives the exit status."""
+    """Prints the instructions for each length, and those over their bound. Returns the exit status."""
     columns = ["bytes", "lines", "millions of instructions", "instructions for each byte", "MiB"]
     columns += ["compile, in millions"] if python else []
     print(f"| {' | '.join(columns)} |\n|{'---|' * len(columns)}", flush=True)
@@ -380,7 +383,7 @@ def show_all_instructions(valgrind: str, program: str, python: Optional[str], fo
 
 
 def asked_of(words: List[str]) -> argparse.Namespace:
-    """What is asked for."""
+    """Returns the parsed words."""
     parser = Words("tools/measure speed", __doc__)
     parser.add_argument("program")
     parser.add_argument("--runs", type=int, default=7)
@@ -394,7 +397,7 @@ def asked_of(words: List[str]) -> argparse.Namespace:
 
 
 def show_all(asked: argparse.Namespace, folder: Path) -> None:
-    """Prints what the commands take on each module, which is left in the folder."""
+    """Prints the cost of the commands on each module, which is left in the folder."""
     own = resource.getrusage(resource.RUSAGE_SELF).ru_maxrss / 1024
     print(f"Milliseconds of processor time, the least of {asked.runs} runs; in brackets, pycheck's part of it."
           f" Memory is told from {own:.0f} MiB.")
@@ -407,7 +410,7 @@ def show_all(asked: argparse.Namespace, folder: Path) -> None:
 
 
 def main(words: List[str]) -> int:
-    """Measures what the words ask for, and gives the exit status."""
+    """Measures what the words ask for, and returns the exit status."""
     asked = asked_of(words)
     with tempfile.TemporaryDirectory() as folder:
         kept = asked.keep or Path(folder)

@@ -1,6 +1,8 @@
-use Rattle.std.proofs.Common.{◌∙◌, ap}
+use Rattle.std.proofs.Common.{◌≡◌, ◌∙◌, Option, Some, None, refl, ap}
+use Rattle.std.specs.Global.{Box}
 use Rattle.std.specs.Prelude.{is_some, Bool as Test}
 use Rattle.pc_tree.specs.Tree.{ann_of, name_of, option_expr_of}
+use Rattle.pc_tree.specs.declared.tree.Expr.{Expr as RustExpr}
 use Rattle.pc_scope.specs.declared.resolution.NameMeaning.{NameMeaning}
 use Rattle.pc_flow.specs.Naming.{meanings}
 use Rattle.pc_flow.specs.Stored.{env_of}
@@ -9,6 +11,11 @@ use Rattle.pc_module_rules.specs.Computed.Statements.{annotated_binding, with_no
 use Rattle.pc_walk.specs.Walks.{body_context_in}
 use Rattle.pc_walk.proofs.NotedBindings.{bound_noted}
 use Rattle.pc_statements.proofs.binding.bind_annotated.Goals as goal
+
+-- there is a value exactly if the tree has one
+some_value : (value : Option (Box RustExpr)) → is_some value ≡ is_some (option_expr_of value)
+some_value None = refl
+some_value (Some e) = refl
 
 pub returns-clause-bound : goal.returns-clause-bound
 returns-clause-bound g c =
@@ -34,6 +41,6 @@ returns-clause-bound g c =
           (annotated_binding F T E r name annotation value found)) meaning
           ∙ ap (λ (v : Test). with_note F v (meanings w.context.names.now name.text) place
           (annotated_binding F T E (meanings w.context.names.now name.text) name annotation value found))
-          c.is_some.ensures;
+          (c.is_some.ensures ∙ some_value c.args.value.now);
       stands = bound.stands;
     }

@@ -1,5 +1,5 @@
 use Rattle.std.proofs.Common.{◌∙◌, ap, None, true}
-use Rattle.pc_tree.specs.Tree.{expr_of, name_of}
+use Rattle.pc_tree.specs.Tree.{expr_of}
 use Rattle.pc_scope.specs.declared.resolution.NameMeaning.{NameMeaning}
 use Rattle.pc_flow.specs.Naming.{meanings}
 use Rattle.pc_flow.specs.Stored.{env_of}

@@ -2,6 +2,7 @@ use Rattle.std.proofs.Common.{◌∙◌, ◌++◌, List, sym, ap}
 use Rattle.std.specs.Option.{option_copied}
 use Rattle.pc_flow.proofs.Assigned.{local_given}
 use Rattle.pc_notes.specs.Notes.{Note, notes_of}
+use Rattle.pc_rules.proofs.Along.{pushed_by}
 use Rattle.pc_walk.proofs.NotedBindings.{asked_given, noted_types, noted_none}
 use Rattle.pc_walk.proofs.binding.note_local.Goals as goal
 
@@ -29,7 +30,7 @@ pub returns-in-Some-clause-noted : goal.returns-in-Some-clause-noted
 returns-in-Some-clause-noted g c =
     let S = g.S.TypeStore in
     let w = c.args.walk.now in
-    c.put_name.ensures ∙ ap (λ (l : List Note). notes_of w.found.now ++ l)
+    pushed_by c.put_name.result _ _ _ (ap (λ (l : List Note). notes_of w.found.now ++ l)
     (noted_types (S.has w.store.now) S.tree w.declared.now c.args.env.now c.args.local c.args.valued c.args.place
     c.in-Some.ty.now (option_copied c.current_if-now.result) (sym c.declared.ensures ∙ ap option_copied c.in-Some.is)
-    c.current_if-now.ensures)
+    c.current_if-now.ensures)) c.put_name.ensures

@@ -1,5 +1,4 @@
 use Rattle.std.proofs.Common.{◌∙◌, ap, true}
-use Rattle.pc_tree.specs.Tree.{name_of}
 use Rattle.pc_scope.specs.declared.resolution.NameMeaning.{NameMeaning}
 use Rattle.pc_flow.specs.Stored.{env_of}
 use Rattle.pc_notes.specs.Notes.{notes_of}

@@ -1,5 +1,5 @@
 //! Tables of actions on values, with ample memory, and the outcome of each.
-use crate::runs::values::named;
+use crate::values::named;
 use pc_tree::{BinaryOperator, ComparisonOperator};
 use pc_value::{Action, DictEntry, Heap, Iteration, Value, act, takes_choice};
 use std::alloc::{AllocError, Global};

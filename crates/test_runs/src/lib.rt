@@ -1,4 +1,6 @@
 //! Tables of worked modules with their traces, of actions with their outcomes, and of the words of command lines.
+#![tactic(auto)]
+
 mod actions;
 mod cases;
 mod devices;

@@ -1,5 +1,5 @@
 //! The statuses of runs, and the reasons of devices, by `pc_commands`.
-use crate::runs::options::fault_text;
+use crate::options::fault_text;
 use pc_commands::{OptionFault, RemembersError, reason_of, status_of, traced};
 use pc_source::Fault;
 use pc_tree::Keys;

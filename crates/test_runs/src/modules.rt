@@ -1,6 +1,6 @@
 //! Modules built from the lines of a case.
 
-use crate::runs::cases::Case;
+use crate::cases::Case;
 use pc_front::read_module;
 use pc_run::{Trace, run, trace_text};
 use pc_source::{Fault, OutOfMemory};

@@ -1,10 +1,10 @@
 //! Tables of runs, of actions, and of the words of command lines.
 
-use crate::runs::actions::count_actions;
-use crate::runs::cases::{Case, cases};
-use crate::runs::devices::{reason_text, status_text};
-use crate::runs::modules::{module_of_lines, module_of_statements, trace_of};
-use crate::runs::options::{check_text, run_text};
+use crate::actions::count_actions;
+use crate::cases::{Case, cases};
+use crate::devices::{reason_text, status_text};
+use crate::modules::{module_of_lines, module_of_statements, trace_of};
+use crate::options::{check_text, run_text};
 use std::alloc::{AllocError, Global};
 use test_rows::{TableFault, TableRow, Tally, rows};
 
