@@ -157,7 +157,7 @@ function findingUnder(event) {
   return findingAt(around, place);
 }
 
-/** The box in which the marks draw the character at a place of the text. */
+/** Returns the box in which the marks draw the character at a place of the text. */
 function boxOf(place) {
   const nodes = document.createTreeWalker(at("marks"), NodeFilter.SHOW_TEXT), range = document.createRange();
   for (let left = place; nodes.nextNode(); ) {
@@ -172,7 +172,7 @@ function boxOf(place) {
   return range.getBoundingClientRect();
 }
 
-/** The place of the character under the pointer, if there is one: it is before or behind the nearest place of a caret. */
+/** Returns the place of the character under the pointer, if there is one: before or behind the nearest place of a caret. */
 function placeUnder({ clientX: x, clientY: y }) {
   const caret = document.caretPositionFromPoint?.(x, y);
   if (caret?.offsetNode !== at("text")) return undefined;
@@ -183,7 +183,7 @@ function placeUnder({ clientX: x, clientY: y }) {
   });
 }
 
-/** The text that is there, its bytes and the rows of its types. They are listed when a type is first asked for. */
+/** Returns the present text, its bytes and the rows of its types, which are listed when a type is first asked for. */
 function typed() {
   const text = at("text").value;
   if (page.typed?.text !== text) {
