@@ -33,8 +33,8 @@ typedef struct pycheck_answer {
    stays as it is. Neither pointer may be null, even where there are no bytes; the room lies apart from the module. */
 pycheck_answer pycheck_check(const uint8_t *bytes, size_t length, bool json, uint32_t format, uint8_t *room, size_t size);
 
-/* Lists the type of each expression of a module, and puts the listing into a room, as JSON or as text. All else is as for
-   `pycheck_check`, but that there is no kind PYCHECK_UNKNOWN_FORMAT. */
+/* Lists the types of the expressions and of the bound names of a module, and puts the listing into a room, as JSON or as
+   text. All else is as for `pycheck_check`, but that there is no kind PYCHECK_UNKNOWN_FORMAT. */
 pycheck_answer pycheck_types(const uint8_t *bytes, size_t length, bool json, uint8_t *room, size_t size);
 
 #ifdef __cplusplus

@@ -1,4 +1,4 @@
-// The page: the text, its report as one types, and what is said of each finding and of the types of expressions.
+// The page: the text, its report as one types, and what is said of each finding and of the types of expressions and names.
 import { checkerOf, isSupported } from "./checker.mjs";
 import { findingAt, shownOf } from "./findings.mjs";
 import { fragmentOf, textOf } from "./link.mjs";
@@ -195,17 +195,18 @@ function typed() {
 
 const cut = (text, most) => (text.length > most ? `${text.slice(0, most)}…` : text);
 
-/** What is said of the type of the smallest expression at a place: a paragraph, or none where there is no expression. */
+/** What is said of the types of the smallest expression or name at a place: a paragraph, or none where there is neither. */
 function typeAt(place) {
   const { text, bytes, rows } = typed();
   const row = smallestAt(rows, new TextEncoder().encode(text.slice(0, place)).length);
   if (!row) return [];
   const expression = new TextDecoder().decode(bytes.subarray(row.start, row.end));
-  const [shown, type] = [cut(expression, MOST_OF_TEXT), cut(row.type, MOST_OF_TYPE)].map((it) => element("code", "", it));
+  const told = "current" in row ? `${row.type} = ${row.current}` : row.type;
+  const [shown, type] = [cut(expression, MOST_OF_TEXT), cut(told, MOST_OF_TYPE)].map((it) => element("code", "", it));
   return [element("p", "type", "Type of ", shown, ": ", type)];
 }
 
-/** Says beside the pointer what is found under it, and the type of the expression there. */
+/** Says beside the pointer what is found under it, and the type of the expression or the name there. */
 function showHint(event) {
   const found = findingUnder(event), place = placeUnder(event), hint = at("hint");
   const said = [...(found ? saidOf(found) : []), ...(place === undefined ? [] : typeAt(place))];

@@ -1,7 +1,7 @@
 // The types of a text: the listing of the proved check, and which of its rows is told at a byte.
 import { REPORTED } from "./checker.mjs";
 
-/** The rows of a listing as JSON, each with its first byte, the byte behind it, and the type; none where there is no listing. */
+/** The rows of a listing as JSON, each with its first byte, the byte behind it, and its types; none where there is no listing. */
 export function rowsOf(answer) {
   return answer.kind === REPORTED ? JSON.parse(new TextDecoder().decode(answer.text)).types : [];
 }

@@ -10,7 +10,7 @@ Arguments:
 
 Options:
       --json        Write the report as JSON
-      --types       List the type of each expression, without a report
+      --types       List the types of expressions and of bound names, without a report
       --format <N>  The report's format: 1, or 2 with the types of each dynamic flow [default: 2]
   -h, --help        Print help
   -V, --version     Print version

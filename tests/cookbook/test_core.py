@@ -41,7 +41,7 @@ class Core(RoomCase):
                          ["caller.py:3", "caller.py:4"])
 
     def test_a_call_from_outside_is_one_of_a_main(self) -> None:
-        """The results of random calls by Python hold in runs of the module with a main that makes these calls."""
+        """The results of random calls by Python are those in runs of the module with a main that makes these calls."""
         chance, core = Random("shop"), module_of(self.source)
         counts = {name: chance.randrange(40) for name in NAMES[:2]}
         shop = core.Shop({name: core.Item(100 + count, count) for name, count in counts.items()})

@@ -45,7 +45,7 @@ def step(module: Any, ours: List[int], own: List[int], chance: Random) -> Tuple[
 
 
 def differences(module: types.ModuleType) -> Iterator[str]:
-    """Yields a line for each step after which the heap has another result than Python's, has other items, or is no
+    """Yields a line for each step after which the heap has another result than Python's, has other items, or is not a
     heap."""
     chance, ours, own = Random("heap"), list[int](), list[int]()
     for _ in range(STEPS):

@@ -15,7 +15,7 @@ SECONDS = 120
 
 
 def found() -> Optional[str]:
-    """Returns the path of a browser, or none."""
+    """Returns the path of a browser, or None."""
     return next(filter(None, map(shutil.which, ("chromium", "chromium-browser", "google-chrome"))), None)
 
 

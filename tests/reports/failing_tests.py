@@ -56,7 +56,7 @@ class Folders(Test):
 
 
 class Baselines(Test):
-    """Files that are no baseline, and baselines that cannot be written."""
+    """Files that are not baselines, and baselines that cannot be written."""
 
     def refused(self, done: Done, said: str) -> None:
         """Asserts that nothing was checked, and that this message was printed."""

@@ -115,7 +115,7 @@ class Random(Test):
         self.addCleanup(lambda: sys.modules.pop("pycheck_guards", None))
 
     def guarded(self, text: bytes, number: int) -> Optional[str]:
-        """Writes guards of a core with this text, and returns its name; none if it is not clean."""
+        """Writes guards of a core with this text, and returns its name; None if it is not clean."""
         path = self.write(f"core{number}.py", text)
         made = guards.make(guards.Asked(str(path), "", False), Program(os.environ["PYCHECK"]), 60)
         return path.stem if made.written else None

@@ -209,7 +209,8 @@ class LeftOut(Test):
         self.assertEqual(self.check("a.py").status, 0)
 
     def test_time_grows_with_the_length(self) -> None:
-        """For texts that repeat a piece: quadratic time would be some seconds here."""
+        """Texts that repeat a piece take a time in proportion to their length: quadratic time would be some seconds
+        here."""
         for text in repeated(1 << 15):
             self.compare_time(text, 3)
 

@@ -44,7 +44,7 @@ def plain(value: Any) -> Any:
 
 
 class Toml(unittest.TestCase):
-    """The values of the table, and texts that are no TOML."""
+    """The values of the table, and texts that are not TOML."""
 
     def test_wrong_texts(self) -> None:
         for text in WRONG:

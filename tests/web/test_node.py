@@ -64,7 +64,7 @@ class Node(RoomCase):
         self.compare(self.files(made_modules()))
 
     def test_bytes_that_are_nearly_utf8(self) -> None:
-        """They use the one instruction of x86-64 that is replaced by one of WebAssembly."""
+        """Bytes that are nearly UTF-8 use the one instruction of x86-64 that is replaced by one of WebAssembly."""
         self.compare(self.files(nearly_utf8()))
 
     def test_reports_and_types_of_the_longest_texts(self) -> None:
@@ -81,7 +81,7 @@ class Node(RoomCase):
         self.assertEqual(done.stdout.decode().splitlines(), [found for _, _, found in rows], done.stderr.decode())
 
     def test_the_deepest_texts(self) -> None:
-        """As deep as the profile allows a text to be, and one step deeper: the engine's own stack suffices."""
+        """Texts as deep as the profile allows, and one step deeper, are answered: the engine's own stack suffices."""
         head, tail = "from __future__ import annotations\ndef main():\n", "main()\n"
         texts = [f"{head} x = {'-' * depth}1\n{tail}" for depth in (61, 62, 63, 64, 65)]
         texts += [f"{head} x = {'(' * depth}1{')' * depth}\n{tail}" for depth in (63, 64, 65)]
@@ -160,7 +160,7 @@ class Command(RoomCase):
         return kinds
 
     def test_words(self) -> None:
-        """Words in any order, and misspelt options."""
+        """Words in any order, and misspelt options, are read as by the program."""
         rng = random.Random("words")
         orders = [[rng.choice(VOCABULARY) for _ in range(rng.randint(0, 4))] for _ in range(ORDERS)]
         for _ in range(ORDERS):
@@ -170,7 +170,7 @@ class Command(RoomCase):
         self.assertGreater(min(kinds[it] for it in ("help", "mistake", "file", "similar")), 10, kinds)
 
     def test_words_with_types(self) -> None:
-        """Each order of up to four of these words."""
+        """Each order of up to four of these words is read as by the program."""
         words = ("--types", "--json", "a.py", "--format", "2")
         kinds = self.compare_words([order for count in range(5) for order in itertools.permutations(words, count)])
         self.assertGreater(min(kinds[it] for it in ("mistake", "file", "types")), 10, kinds)

@@ -212,6 +212,14 @@ class Pages(unittest.TestCase):
         self.assertEqual(self.types(10, range(10, 24)), 2 * [""] + [both] + 6 * [key] + [both] + 3 * [value] + [both])
         self.assertEqual([self.hint(1, 8), self.hint(2, 1)], ["", ""])
 
+    def test_a_pointer_over_a_bound_name_is_told_its_types(self) -> None:
+        """Its declared type, and its current one after the binding if that is another; also behind its last character."""
+        # `def age_of(ages: dict[str, int]`
+        function, parameter = "age_of: int", "ages: dict[str, int]"
+        self.assertEqual(self.types(3, (4, 5, 11, 12, 16, 17)), ["", function, function, parameter, parameter, ""])
+        self.put("from __future__ import annotations\ndef main():\n    found: int | None = 1\nmain()\n")
+        self.assertEqual(self.types(3, (4, 5, 10, 11)), ["", *(2 * ["found: int | None = int"]), ""])
+
     def test_types_are_those_of_the_present_text(self) -> None:
         text = "from __future__ import annotations\ndef main():\n    print(\"\U0001f40d\u00e9\")\n    print(1 < 2)\nmain()\n"
         self.put(text)

@@ -25,7 +25,7 @@ Key = Tuple[str, str, str]
 
 
 class NoBaseline(Exception):
-    """Raised if a file is no baseline, or cannot be read or written; the text says why."""
+    """Raised if a file is not a baseline, or cannot be read or written; the text says why."""
 
 
 class Baseline:

@@ -22,7 +22,7 @@ OF_TESTED, OF_UNKNOWN = "is None", "unknown name"
 TYPES = frozenset("int bool str None object list dict tuple List Dict Tuple Optional Union".split())
 # How many bytes before an attribute are searched for a test of its value
 NEAR = 1 << 12
-# How many bytes of a place are read: a longer name is no word of a row
+# How many bytes of a place are read: no word of a row is longer
 LONGEST = 64
 FIRST = re.compile(rb"[\w\x80-\xff]+")
 LAST = re.compile(rb"\.\s*([\w\x80-\xff]+)\Z")

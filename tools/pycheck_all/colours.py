@@ -27,7 +27,7 @@ class Colours:
 
 
 def wanted(choice: str, output: TextIO) -> bool:
-    """Whether to use colours: as chosen, else on a terminal that has some, if the variable NO_COLOR is not set."""
+    """Whether to use colours: as chosen, otherwise on a terminal that has some, if the variable NO_COLOR is not set."""
     if choice != "auto":
         return choice == "always"
     return output.isatty() and not os.environ.get("NO_COLOR") and os.environ.get("TERM") != "dumb"

@@ -1,6 +1,7 @@
-"""The language server for a project with a core. It starts `pycheck_server` and passes each message on to it. Of a
-document
-that the settings of its project leave out it says that it is no Python, so that the server checks the core alone.
+"""The language server for a project with a core. It starts `pycheck_server` and passes each message on to it. If the
+settings of its project leave a document out, it says that the document is not Python, so that the server checks the
+core
+alone.
 
 The server writes to standard output itself. Messages that are not understood here are passed on unchanged."""
 from __future__ import annotations
@@ -141,7 +142,7 @@ class Relay:
 
 
 def length_of(head: bytes) -> Optional[int]:
-    """Returns the length that a header states; none if it states none, or several."""
+    """Returns the length that a header states; None if it states none, or several."""
     found = [it for it in map(LENGTH.fullmatch, head.split(b"\r\n")) if it]
     return int(found[0][1]) if len(found) == 1 else None
 
@@ -227,7 +228,7 @@ class Documents:
 
 
 def path_of(uri: Any) -> Optional[str]:
-    """Returns the path of a file on this machine that a URI names; none if it names something else."""
+    """Returns the path of a file on this machine that a URI names; None if it names something else."""
     try:
         parts = urllib.parse.urlsplit(uri) if isinstance(uri, str) else None
     except ValueError:

@@ -84,7 +84,7 @@ class Checked:
         return self.text.line(finding.place.start.line).strip()
 
     def spot_of(self, finding: Finding) -> Optional[Spot]:
-        """Returns the word or sign at which a refusal is; none for other findings."""
+        """Returns the word or sign at which a refusal is; None for other findings."""
         if finding.kind not in (REFUSED, GUIDE):
             return None
         spot = self.text.spot(finding.place.start.byte)

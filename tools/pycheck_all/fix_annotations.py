@@ -9,7 +9,7 @@ from .fix_module import Edit, Fix, Module, tree_of
 
 GENERICS = {"List": "list", "Dict": "dict", "Tuple": "tuple"}
 KNOWN = frozenset(["Optional", "Union", "Any", *GENERICS])
-# In these a string is no annotation
+# In these a string is not an annotation
 TEXTS = ("Literal", "Annotated")
 
 
@@ -43,7 +43,7 @@ def imported_once(module: Module, names: Set[str]) -> bool:
 
 
 def is_used_elsewhere(module: Module, names: Set[str], within: Set[ast.AST]) -> bool:
-    """Whether names are used outside of annotations, or in a string that is none."""
+    """Whether names are used outside of annotations, or in a string that is not one."""
     for node in module.nodes:
         if node in within:
             continue
@@ -66,7 +66,7 @@ def header_edit(module: Module, node: ast.ImportFrom, has_any: bool) -> Edit:
 
 
 def edit_of(module: Module, node: ast.expr, names: Set[str]) -> Optional[Edit]:
-    """Returns the edit of an annotation that has a removed name; none for another annotation."""
+    """Returns the edit of an annotation that has a removed name; None for another annotation."""
     text = spelled(node, names)
     start, end = module.at(node)
     if text is None or module.has_comment(start, end):
@@ -75,7 +75,7 @@ def edit_of(module: Module, node: ast.expr, names: Set[str]) -> Optional[Edit]:
 
 
 def spelled(node: ast.expr, names: Set[str]) -> Optional[str]:
-    """Returns an annotation without some names and without quotes; none if nothing changes."""
+    """Returns an annotation without some names and without quotes; None if nothing changes."""
     tree = Spelling(names)
     found = tree.visit(ast.parse(ast.unparse(node), mode="eval").body)
     return ast.unparse(found) if tree.changed else None
@@ -125,7 +125,7 @@ class Spelling(ast.NodeTransformer):
 
 
 def quoted(text: str) -> Optional[ast.expr]:
-    """Returns the annotation that a string contains; none if it contains none."""
+    """Returns the annotation that a string contains; None if it contains none."""
     try:
         body = tree_of(text.strip().encode()).body
     except (SyntaxError, ValueError, RecursionError):

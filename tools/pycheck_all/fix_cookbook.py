@@ -79,7 +79,7 @@ def closure(name: str) -> List[str]:
 
 
 def pasted(module: Module, name: str) -> Optional[List[Edit]]:
-    """Returns the edits that put a function, and what it calls, into the module unless it has them already; none if one
+    """Returns the edits that put a function, and what it calls, into the module unless it has them already; None if one
     of the names means something else there."""
     if name not in recipes():
         return None

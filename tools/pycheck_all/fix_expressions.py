@@ -120,7 +120,7 @@ class Place(NamedTuple):
 
 def place_of(module: Module, node: ast.expr) -> Optional[Place]:
     """Returns the place of an expression that is evaluated once and unconditionally, with nothing with effects before
-    it; none for another expression."""
+    it; None for another expression."""
     statement = module.statement(node)
     if statement is None or module.function(node) is None or module.reflects or module.rebinds:
         return None
@@ -151,7 +151,7 @@ def root_of(statement: ast.stmt) -> Optional[ast.expr]:
 
 
 def is_first_on_line(module: Module, statement: ast.stmt) -> bool:
-    """Whether a statement begins its line, and is no `elif`."""
+    """Whether a statement begins its line, and is not an `elif`."""
     if isinstance(statement, (ast.If, ast.For)):
         start = module.at(statement)[0]
         return not module.indent(statement).strip(b" ") and module.data[start : start + 4] != b"elif"
@@ -293,7 +293,7 @@ def direct_name(module: Module, place: Place, node: Comprehension) -> str:
 
 
 def renamed(module: Module, node: Comprehension) -> Optional[Dict[str, str]]:
-    """Returns the names of the loops, each with a name that its function does not have; none if there are no such
+    """Returns the names of the loops, each with a name that its function does not have; None if there are no such
     names."""
     if not all(isinstance(it.target, ast.Name) and not it.is_async for it in node.generators):
         return None

@@ -31,7 +31,7 @@ def docstrings(module: Module) -> Iterator[Fix]:
 
 
 def comment_of(value: str) -> Optional[List[str]]:
-    """Returns the lines of a comment with this text; none if a comment cannot have it."""
+    """Returns the lines of a comment with this text; None if a comment cannot have it."""
     lines = [it.rstrip() for it in value.expandtabs().strip().split("\n")]
     margins = [len(it) - len(it.lstrip()) for it in lines[1:] if it.strip()]
     margin = min(margins, default=0)

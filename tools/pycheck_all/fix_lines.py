@@ -57,7 +57,7 @@ def inline_suites(module: Module) -> List[Token]:
 
 
 def colon_before(module: Module, node: ast.stmt) -> Optional[Token]:
-    """Returns the colon before a statement; none if the token before it is another one."""
+    """Returns the colon before a statement; None if the token before it is another one."""
     start = min([module.at(node)[0], *(module.at(it)[0] - 1 for it in getattr(node, "decorator_list", []))])
     before = module.between(0, start)
     return before[-1] if before and before[-1].text == ":" and before[-1].kind == tokenize.OP else None
@@ -114,7 +114,7 @@ def others(module: Module, start: int, end: int, but: int) -> Iterator[Edit]:
 
 
 def outermost(module: Module, start: int, end: int) -> Optional["tuple[ast.expr, bool]"]:
-    """Returns the outermost expression around a gap, and whether brackets are open there; none if there is no such
+    """Returns the outermost expression around a gap, and whether brackets are open there; None if there is no such
     expression."""
     found = [it for it in module.nodes if isinstance(it, ast.expr) and around(module, it, start, end)]
     if not found:

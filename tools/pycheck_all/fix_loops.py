@@ -36,7 +36,7 @@ def is_range_of_two(node: ast.Call) -> bool:
 
 
 def literal(node: ast.expr) -> Optional[int]:
-    """Returns the number that a literal is, with a sign if it has one; none for another expression."""
+    """Returns the number that a literal is, with a sign if it has one; None for another expression."""
     if isinstance(node, ast.UnaryOp) and isinstance(node.op, ast.USub):
         found = literal(node.operand)
         return None if found is None else -found

@@ -48,7 +48,7 @@ class Token(NamedTuple):
 
 
 def tree_of(data: bytes) -> ast.Module:
-    """Returns the tree of a text; raises SyntaxError and the like if it is no Python."""
+    """Returns the tree of a text; raises SyntaxError and the like if it is not valid Python."""
     with warnings.catch_warnings():
         warnings.simplefilter("ignore")
         return ast.parse(data)
@@ -142,7 +142,7 @@ class Module:
         return next((it for it in [node, *self.ancestors(node)] if isinstance(it, ast.stmt)), None)
 
     def function(self, node: ast.AST) -> Optional[ast.AST]:
-        """Returns the function whose body has a node; none if the nearest scope is no function."""
+        """Returns the function whose body has a node; None if the nearest scope is not a function."""
         found = next((it for it in self.ancestors(node) if isinstance(it, SCOPES)), None)
         return found if isinstance(found, FUNCTIONS) else None
 

@@ -65,7 +65,7 @@ def direct(module: Module, targets: List[ast.expr], values: List[ast.expr]) -> O
 def by_names(
     module: Module, node: ast.stmt, targets: List[ast.expr], values: List[ast.expr]
 ) -> Optional[List[bytes]]:
-    """Returns assignments of all values to new names, followed by those to the targets; none if there are no new
+    """Returns assignments of all values to new names, followed by those to the targets; None if there are no new
     names."""
     if module.function(node) is None or module.reflects:
         return None

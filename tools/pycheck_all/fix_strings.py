@@ -19,7 +19,7 @@ ROOMY = (ast.Assign, ast.AnnAssign, ast.Return, ast.Call, ast.keyword, ast.List,
 
 
 def spelled(value: str) -> Optional[bytes]:
-    """Returns a string of the profile with this value; none if it has no readable one."""
+    """Returns a string of the profile with this value; None if it has no readable one."""
     if not all(it.isprintable() or it in ESCAPES for it in value):
         return None
     return b'"' + "".join(ESCAPES.get(it, it) for it in value).encode() + b'"'
@@ -148,7 +148,7 @@ def formats(module: Module) -> Iterator[Fix]:
 
 
 def part_of(node: ast.expr) -> Optional[bytes]:
-    """Returns a part of an f-string as an expression; none if it has none."""
+    """Returns a part of an f-string as an expression; None if it has none."""
     if isinstance(node, ast.Constant):
         return spelled(node.value) if isinstance(node.value, str) else None
     if not isinstance(node, ast.FormattedValue) or node.format_spec is not None or node.conversion not in (-1, 115):

@@ -120,7 +120,7 @@ def is_told(module: Module, site: Site) -> bool:
 
 
 def inside(text: str, name: str) -> Optional[ast.expr]:
-    """Returns the text in the brackets of a type with this name; none for another type."""
+    """Returns the text in the brackets of a type with this name; None for another type."""
     found = ast.parse(text or "None", mode="eval").body
     is_it = isinstance(found, ast.Subscript) and isinstance(found.value, ast.Name) and found.value.id == name
     return found.slice if is_it and isinstance(found, ast.Subscript) else None

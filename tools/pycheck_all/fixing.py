@@ -205,7 +205,7 @@ class Fixer:
             self.useless.add((fix.name, asked.data[fix.start : fix.end]))
 
     def after(self, asked: Asked, chosen: Sequence[Fix]) -> Optional[Asked]:
-        """Returns the program's answer after some rewrites; none if the text is no Python any more or gets no
+        """Returns the program's answer after some rewrites; None if the text is no longer valid Python or gets no
         answer."""
         data = applied(asked.data, [edit for fix in chosen for edit in fix.edits])
         try:

@@ -77,7 +77,7 @@ class Causes:
         self.errors = errors
 
     def of_finding(self, code: str, node: ast.expr) -> Optional[int]:
-        """Returns the error from which a dynamic place at an expression follows; none if it follows from no error."""
+        """Returns the error from which a dynamic place at an expression follows; None if it follows from no error."""
         if code in OF_VALUE:
             return self.of_value(node)
         return self.first(operands(node))

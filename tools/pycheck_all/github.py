@@ -19,7 +19,7 @@ def value(text: str) -> str:
 
 
 def level_of(finding: Finding, strict: bool) -> str:
-    """Returns the level of a finding: one that does not fail is no error."""
+    """Returns the level of a finding: one that does not fail is not an error."""
     if finding.kind == GUIDE:
         return "notice"
     return "warning" if finding.kind == DYNAMIC and not strict else "error"

@@ -134,7 +134,7 @@ class Core:
 
 
 def shape_of(name: str, nodes: Dict[str, ast.ClassDef], shapes: Dict[str, type]) -> Optional[type]:
-    """Returns an empty class with the name and the ancestors of a class of the core; none if the class is its own
+    """Returns an empty class with the name and the ancestors of a class of the core; None if the class is its own
     ancestor."""
     above: List[str] = []
     at: Optional[str] = name

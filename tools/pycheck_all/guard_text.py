@@ -105,7 +105,7 @@ class Writer:
             yield from indented_lines(signature(it.name, it.parameters, it.returns, own) + " ...")
 
     def free(self, name: str, others: Sequence[str]) -> str:
-        """Returns a name that is none of the others, made from this one."""
+        """Returns a name that differs from the others, made from this one."""
         while name in others:
             name += "_"
         return name

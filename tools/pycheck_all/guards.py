@@ -56,7 +56,7 @@ def name_of(path: str) -> str:
 
 
 def packages(folder: str) -> List[str]:
-    """Returns the names of the package that a folder is, from the outermost on; none if it is no package."""
+    """Returns the names of the package that a folder is, from the outermost on; empty if it is not a package."""
     found: List[str] = []
     while os.path.exists(os.path.join(folder, "__init__.py")) and os.path.basename(folder).isidentifier():
         found.insert(0, os.path.basename(folder))
@@ -97,7 +97,7 @@ def make(asked: Asked, program: Program, seconds: float) -> Made:
 
 
 def apart(path: str) -> str:
-    """Returns a warning about a core whose folder is no package but is inside one, from which the core cannot be
+    """Returns a warning about a core whose folder is not a package but is inside one, from which the core cannot be
     imported by that name; empty for others."""
     folder = os.path.dirname(os.path.abspath(path))
     if packages(folder) or not packages(os.path.dirname(folder)):
@@ -146,7 +146,7 @@ def refuse_hidden(read: Core, run: running.Run, name: str, data: bytes) -> None:
 
 
 def refuse_broken(asked: Asked, text: str) -> None:
-    """Raises NoGuards if the guards of a core with errors would be no module, for example if two fields have one
+    """Raises NoGuards if the guards of a core with errors would not be a module, for example if two fields have one
     name."""
     try:
         compile(text, asked.output, "exec", dont_inherit=True)

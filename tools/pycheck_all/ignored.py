@@ -50,7 +50,7 @@ def unescaped(found: "re.Match[str]") -> str:
 
 
 def excludes_file_in(text: str) -> Optional[str]:
-    """Returns the value of `core.excludesFile` in a configuration; none if it has none."""
+    """Returns the value of `core.excludesFile` in a configuration; None if it has none."""
     section, found = "", None
     for line in re.sub(r"\\\r?\n", "", text).splitlines():
         opened = SECTION.match(line)
@@ -146,7 +146,7 @@ class Unknown(Exception):
 
 
 def folders_of(path: str) -> Optional[Tuple[str, str]]:
-    """Returns the folder of git at a path, and the one that it shares with others; none if there is none."""
+    """Returns the folder of git at a path, and the one that it shares with others; None if there is none."""
     link = content(os.path.join(path, "commondir"))
     common = os.path.join(path, os.fsdecode(link).rstrip("\r\n")) if link and b"\0" not in link else path
     is_one = os.path.lexists(os.path.join(path, "HEAD"))
@@ -155,8 +155,8 @@ def folders_of(path: str) -> Optional[Tuple[str, str]]:
 
 
 def repository_at(top: str) -> Optional[Repository]:
-    """Returns the repository whose top is a folder; none if the folder is no top. Raises Unknown for a file `.git` that
-    names no folder of git."""
+    """Returns the repository whose top is a folder; None if the folder is not a top. Raises Unknown for a file `.git`
+    that names no folder of git."""
     path = os.path.join(top, ".git")
     if not os.path.isfile(path):
         found = folders_of(path)
@@ -183,7 +183,7 @@ def repository_around(folder: str) -> Optional[Repository]:
 
 
 def rules_of(folder: str) -> Optional[Rules]:
-    """Returns the rules for a folder that is named; none if git ignores nothing there, as outside a checkout. A folder
+    """Returns the rules for a folder that is named; None if git ignores nothing there, as outside a checkout. A folder
     that is itself ignored is checked, since it is named."""
     try:
         folder = os.path.realpath(folder)

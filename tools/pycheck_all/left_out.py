@@ -46,7 +46,7 @@ def rows() -> Dict[str, Row]:
 
 
 def row_of(code: str, spot: Spot) -> Optional[Row]:
-    """Returns the row of the refused form at a spot; none if no form of the page is there."""
+    """Returns the row of the refused form at a spot; None if no form of the page is there."""
     found = rows()
     # If the header is missing, one code alone refuses the first word
     spot = dataclasses.replace(spot, first=spot.first and code == HEADLESS)
@@ -137,7 +137,7 @@ def is_string(spot: Spot) -> bool:
 
 
 def has_escape(spot: Spot, pattern: str) -> bool:
-    """Whether the string at the spot has an escape; two backslashes are none."""
+    """Whether the string at the spot has an escape; two backslashes do not count."""
     return bool(re.search(r"(?<!\\)(?:\\\\)*\\" + pattern, spot.word))
 
 

@@ -281,7 +281,7 @@ class Patterns:
         self.others.reverse()
 
     def say(self, path: bytes, name: bytes, is_folder: bool) -> Optional[bool]:
-        """Whether a path from the top is ignored, according to the last pattern that fits; none if no pattern fits."""
+        """Whether a path from the top is ignored, according to the last pattern that fits; None if no pattern fits."""
         named = [it[name] for it in self.names[: 1 + is_folder] if name in it]
         best = max(named, default=Verdict(-1, False))
         inside = path[len(self.base) :]

@@ -20,7 +20,7 @@ TOKEN = re.compile(r"\w+|[\[\](),|]")
 STEPS, LETTERS = 16, 40
 # How a message calls the instance whose method is called
 RECEIVER = "self"
-# Reads the name of a type, even if the type defines a `__name__` of its own
+# Reads the name of a type, even if its metaclass defines another `__name__`
 NAME: Any = vars(type)["__name__"]
 
 
@@ -316,7 +316,7 @@ def digest_of(module: ModuleType) -> str:
 
 class Guard(type):
     """The type of the guards of classes: such a class is called like the core's class, and replaces it in `isinstance`
-    and `issubclass`. It has no instances of its own, and is no base."""
+    and `issubclass`. It has no instances of its own, and cannot be a base."""
 
     def __new__(mcs, name: str, bases: Tuple[type, ...], members: Dict[str, Any]) -> Guard:
         if bases:

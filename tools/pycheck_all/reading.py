@@ -7,7 +7,7 @@ import stat
 
 
 def beginning(path: str, limit: int, follow: bool = True) -> bytes:
-    """Returns the bytes of a regular file, at most `limit`. Raises OSError, also if it is no regular file. A link is
+    """Returns the bytes of a regular file, at most `limit`. Raises OSError, also if it is not a regular file. A link is
     followed only with `follow`."""
     flags = os.O_RDONLY | os.O_NONBLOCK | os.O_CLOEXEC | os.O_NOCTTY | (0 if follow else os.O_NOFOLLOW)
     descriptor = os.open(path, flags)

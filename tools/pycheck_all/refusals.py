@@ -1,6 +1,6 @@
 """All refusals of a file, as a guide.
 
-The program names the first fault of a file that is no module. Here the statement with that fault is replaced by one
+The program names the first fault of a file that is not a module. Here the statement with that fault is replaced by one
 that is allowed there, the program is asked again, and so on. These further refusals are a guide, not the program's
 answer on the file: a statement with two faults is listed once, and the replacement of a statement may raise a refusal
 of its own.
@@ -70,7 +70,7 @@ class Draft:
         return at, byte - (ends[at] - len(self.statements[at].text))
 
     def origin(self, byte: int) -> Optional[int]:
-        """Returns the byte of the file for a byte of the draft; none if that was inserted."""
+        """Returns the byte of the file for a byte of the draft; None if that was inserted."""
         if byte >= len(self.data) and self.end is None:
             return self.length
         at, within = self.find(byte)
@@ -179,7 +179,7 @@ class Draft:
         return False
 
     def insert(self, at: int, text: bytes) -> Statement:
-        """Inserts a statement, which is no text of the file."""
+        """Inserts a statement, which is not part of the file."""
         made = Statement(text + b"\n", 0, tries=1)
         self.statements.insert(at, made)
         return made
@@ -228,7 +228,7 @@ class Draft:
         found = self.statements[at]
         place, spaces, word = self.context(at), b" " * found.indent, found.word
         if found.tries and place == FUNCTION and found.code.startswith(b"def ") and self.has_suite(at):
-            # It replaced a method, in a class that was itself replaced since
+            # This `def` replaced a method of a class that has been replaced itself since
             lines = [spaces + b"if True:"]
         elif found.tries:
             rest = self.statements[at + 1 :]
@@ -266,7 +266,7 @@ class Draft:
 
     def simple(self, at: int, place: str) -> List[bytes]:
         """Returns the lines that replace a statement without a suite: none if others are in the same suite of a class,
-        so that a `pass` among them is no second fault."""
+        so that a `pass` among them is not a second fault."""
         if place == MODULE or place == CLASS and self.has_neighbour(at):
             return []
         return [b" " * self.statements[at].indent + b"pass"]

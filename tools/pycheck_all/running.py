@@ -124,7 +124,7 @@ class Run:
         return f"pycheck did not end within {self.seconds:g} seconds"
 
     def refusal(self, until: float, path: str) -> Optional[Tuple[str, int]]:
-        """Returns the code and the byte of the refusal of a file, or none; raises Unanswered if there is no report
+        """Returns the code and the byte of the refusal of a file, or None; raises Unanswered if there is no report
         either."""
         try:
             answer = self.program.ask(until, "--json", "--", path)

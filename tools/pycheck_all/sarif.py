@@ -21,7 +21,7 @@ def uri_of(path: str) -> str:
 
 
 def level_of(kind: str, strict: bool) -> str:
-    """Returns the level of a kind of findings: one that does not fail is no error."""
+    """Returns the level of a kind of findings: one that does not fail is not an error."""
     if kind == GUIDE:
         return "note"
     return "warning" if kind == DYNAMIC and not strict else "error"

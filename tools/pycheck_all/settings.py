@@ -35,12 +35,12 @@ class Settings(NamedTuple):
 
 
 def of_project() -> Optional[Settings]:
-    """Returns the settings of the project in which the command runs; none if there are none. Raises NoSettings."""
+    """Returns the settings of the project in which the command runs; None if there are none. Raises NoSettings."""
     return of_folders(folders(os.path.abspath(os.curdir)))
 
 
 def of_folders(looked_in: Sequence[str]) -> Optional[Settings]:
-    """Returns the settings of the first of some folders that has any; none if none has. Raises NoSettings."""
+    """Returns the settings of the first of some folders that has any; None if none has. Raises NoSettings."""
     for folder in looked_in:
         path = os.path.join(folder, NAME)
         if os.path.lexists(path):
@@ -72,7 +72,7 @@ def folders(start: str, tops: Sequence[str] = ()) -> List[str]:
 
 
 def read(path: str, folder: str) -> Optional[Settings]:
-    """Returns the settings of a file; none if it has no such table. Raises ValueError if they are wrong."""
+    """Returns the settings of a file; None if it has no such table. Raises ValueError if they are wrong."""
     table = toml.table_of(reading.regular(path, LIMIT).decode("utf-8"), TABLE)
     if table is None:
         return None

@@ -44,7 +44,7 @@ class Line(NamedTuple):
 
     @property
     def first(self) -> bytes:
-        """Its first word."""
+        """The first word of the line."""
         return self.tokens[0].text
 
 

@@ -92,7 +92,7 @@ class Text:
         return spot_at(self.data, self.outline, byte, self.word(byte), rest)
 
     def opening(self, code: str, byte: int) -> Optional[Place]:
-        """Returns the open bracket of a mismatch, which only this code reports; none if there is none."""
+        """Returns the open bracket of a mismatch, which only this code reports; None if there is none."""
         if code != UNMATCHED:
             return None
         if byte < len(self.data):

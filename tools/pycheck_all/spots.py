@@ -11,7 +11,7 @@ from .statements import MODULE, Outline, tokens
 # How many bytes of a logical line are read before and after a spot; a longer line is some table of data
 BYTES_BEFORE, BYTES_AFTER = 1 << 15, 1 << 12
 GLUED = re.compile(r"\w*$")
-# A prefix of a string has two letters at most; a longer word is none
+# A prefix of a string has two letters at most; longer words are not prefixes
 LONGEST_PREFIX = 8
 NAME = re.compile(r"\w+$")
 # After these a bracket begins a value: it neither calls nor picks an item
@@ -38,7 +38,8 @@ class Spot:
 
     @functools.cached_property
     def levels(self) -> List[List[str]]:
-        """The tokens before it in each open bracket, outermost first; a bracket that is closed again is one token."""
+        """The tokens before the spot in each open bracket, outermost first; a bracket that is closed again is one
+        token."""
         found: List[List[str]] = [[]]
         for token in self.before:
             if token in PAIRS:
@@ -54,22 +55,22 @@ class Spot:
 
     @property
     def level(self) -> List[str]:
-        """The tokens before it in the innermost open bracket."""
+        """The tokens before the spot in the innermost open bracket."""
         return self.levels[-1]
 
     @functools.cached_property
     def part(self) -> List[str]:
-        """The tokens before it since the last comma of the innermost open bracket."""
+        """The tokens before the spot since the last comma of the innermost open bracket."""
         return after_comma(self.level)
 
     @property
     def last(self) -> str:
-        """The token before it; empty at the beginning."""
+        """The token before the spot; empty at the beginning."""
         return self.before[-1] if self.before else ""
 
     @property
     def keyword(self) -> str:
-        """The first word of its logical line, without `async`."""
+        """The first word of the spot's logical line, without `async`."""
         words = [it for it in [*self.before, self.word] if it != "async"]
         return words[0] if words else ""
 
@@ -90,12 +91,12 @@ class Spot:
 
     @property
     def is_parameter(self) -> bool:
-        """Whether it is among the parameters of a function, in no further bracket."""
+        """Whether the spot is among the parameters of a function, in no further bracket."""
         return self.keyword == "def" and len(self.levels) == 2 and self.bracket == "(" and "->" not in self.levels[0]
 
     @functools.cached_property
     def is_annotation(self) -> bool:
-        """Whether it is in an annotation."""
+        """Whether the spot is in an annotation."""
         levels = self.levels
         if self.keyword == "def":
             if "->" in levels[0]:
@@ -107,7 +108,7 @@ class Spot:
 
     @property
     def is_alone(self) -> bool:
-        """Whether it is a string, with or without a prefix, that begins its logical line."""
+        """Whether the spot is a string, with or without a prefix, that begins its logical line."""
         return self.word[:1] in ('"', "'") and self.before in ([], [self.glued])
 
 

@@ -1,7 +1,7 @@
 """The logical lines of a text and their tokens. They are read here, not by Python's own parser, for the texts beside a
 refusal.
 
-Any bytes can be read, also those that are no Python, and none is read more than some twenty times."""
+Any bytes can be read, also those that are not Python, and none is read more than some twenty times."""
 from __future__ import annotations
 
 import bisect
@@ -51,8 +51,8 @@ class Statement:
     """A logical line with the blank and comment lines before it.
 
     `start` is its first byte in the file, `cut` how many bytes of the file are left out in front (less than 0:
-    inserted). `tries` counts how often it was replaced; one that was replaced or inserted is no text of the file.
-    `colon` is the byte after the colon that opens a suite, from its own first byte, 0 without one."""
+    inserted). `tries` counts how often it was replaced; one that was replaced or inserted is not part of the file.
+    `colon` is the byte after the colon that opens a suite, from its own first byte, 0 if there is none."""
 
     text: bytes
     start: int
@@ -64,40 +64,40 @@ class Statement:
 
     @property
     def shape(self) -> Shape:
-        """Its beginning, computed once for each text that it has."""
+        """The beginning of the statement, computed once for each text that it has."""
         if self.kept is None or self.kept.text is not self.text:
             self.kept = shape_of(self.text)
         return self.kept
 
     @property
     def code(self) -> bytes:
-        """Its text without the blank and comment lines before it and without its end."""
+        """The text of the statement without the blank and comment lines before it and without its end."""
         return self.shape.code
 
     @property
     def lead(self) -> int:
-        """The byte of its first word."""
+        """The byte of the statement's first word."""
         return self.shape.lead
 
     @property
     def indent(self) -> int:
-        """The columns before its first word."""
+        """The columns before the statement's first word."""
         return self.shape.indent
 
     @property
     def word(self) -> bytes:
-        """Its first word, or b"@" for a decorator."""
+        """The statement's first word, or b"@" for a decorator."""
         found = re.match(rb"\w+|@", self.code)
         return found[0] if found else b""
 
     @property
     def opens(self) -> bool:
-        """Whether it begins like a statement that has a suite."""
+        """Whether the statement begins like one that has a suite."""
         return self.colon > 0 and self.word in OPENERS
 
     @property
     def awaits(self) -> bool:
-        """Whether it ends in the colon that opens a suite."""
+        """Whether the statement ends in the colon that opens a suite."""
         if self.tries:
             return self.code.endswith(b":")
         return self.opens and not re.sub(rb"#[^\n]*", b"", self.text[self.colon :]).strip()
@@ -171,7 +171,7 @@ def line_end(data: bytes, at: int) -> int:
 
 
 def statement_at(pieces: Pieces, at: int) -> Optional[Statement]:
-    """Returns the statement at a byte; none if its brackets are not closed."""
+    """Returns the statement at a byte; None if its brackets are not closed."""
     depth, colon, begun, end = 0, 0, False, at
     for start, end in pieces.read(at):
         sign = pieces.data[start:end]
@@ -188,7 +188,7 @@ def statement_at(pieces: Pieces, at: int) -> Optional[Statement]:
 
 
 def around(all_of_them: Sequence[Statement], at: int) -> Optional[int]:
-    """Returns the number of the statement in whose suite a statement is; none if it is in none."""
+    """Returns the number of the statement in whose suite a statement is; None if it is in none."""
     indent = all_of_them[at].indent
     if not indent:
         return None

@@ -1,6 +1,6 @@
 """Texts as they are printed. The content of a name, a line of source or a baseline cannot control the terminal, begin a
 line
-of its own, turn the direction of writing, or give a command to a system that reads the output."""
+of its own, change the direction of writing, or give a command to a system that reads the output."""
 from __future__ import annotations
 
 import json

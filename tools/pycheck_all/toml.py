@@ -27,7 +27,7 @@ Path = Tuple[str, ...]
 
 
 class NoToml(Exception):
-    """A text is no TOML; the text of the exception says where and why."""
+    """A text is not TOML; the text of the exception says where and why."""
 
 
 class Other(NamedTuple):
@@ -210,7 +210,7 @@ class Reader:
 
 def table_of(text: str, path: Path) -> Any:
     """Returns the value at a path: a table as a dictionary, and None if nothing is there. Raises NoToml if the text is
-    no TOML, or has the table twice."""
+    not TOML, or has the table twice."""
     reader = Reader(text)
     found: Any = {}
     heads: Set[Path] = set()

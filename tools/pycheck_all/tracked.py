@@ -165,7 +165,7 @@ def read_index(folder: str, sum_length: int) -> Tracked:
 
 
 def tracked_by(folder: str) -> Optional[Tracked]:
-    """Returns the modules that a folder of git lists as tracked; none if that cannot be read."""
+    """Returns the modules that a folder of git lists as tracked; None if that cannot be read."""
     if not os.path.lexists(os.path.join(folder, "index")):
         return Tracked()
     for sum_length in SUMS:

@@ -14,7 +14,7 @@ State = Dict[str, Optional[Tuple[int, int, int]]]
 
 
 def state_of(path: str) -> Optional[Tuple[int, int, int]]:
-    """Returns what tells a file from its earlier state: its time, its length and its number; none if it does not
+    """Returns what tells a file from its earlier state: its time, its length and its number; None if it does not
     exist."""
     try:
         found = os.stat(path)

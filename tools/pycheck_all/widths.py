@@ -10,8 +10,8 @@ from .texts import CONTROLS
 TAB = 4
 NEAR = 8
 REPLACEMENT = "\ufffd"
-# Characters that control a terminal, those that are no characters, and those that turn the direction of a line; a tab
-# is none of them
+# Characters that control a terminal, noncharacters, and those that change the direction of a line; a tab is not one of
+# them
 UNFIT = re.compile(f"(?!\t)[{CONTROLS}]")
 
 

@@ -93,7 +93,7 @@ def functions_in(code: str, all_pub: bool) -> List[Function]:
 
 
 def without_brackets(text: str) -> str:
-    """Returns a text without the brackets < > that it may begin with; the > of an arrow is none."""
+    """Returns a text without the brackets < > that it may begin with; the > of an arrow does not count."""
     depth = 0
     for at, letter in enumerate(text):
         depth += (letter == "<") - (letter == ">" and text[at - 1:at] != "-")

@@ -340,7 +340,7 @@ def fit_together(crate: str, edits: List[Path]) -> bool:
 
 
 def control_rounds(crate: str, edits: List[Path]) -> Iterator[List[Path]]:
-    """Yields edits in rounds in which their controls are tried at once. Those of definitions keep the meaning of each,
+    """Yields edits in rounds in which their controls are tried at once. Controls of definitions keep the meaning of each,
     so all laws that they name are proved over all of them."""
     left = edits
     while left:

@@ -1,10 +1,9 @@
 -- The output of the program for each outcome, from the clauses of the calls that it makes.
 use Rattle.std.proofs.Common.{◌≡◌, ℕ, List, length, take, Bool, true, false, Option, None, Some, Result, Ok, Err, IfOk, IfErr}
-use Rattle.std.proofs.Common.{sym, subst, ◌∙◌, inl, inr, IsTrue, refl}
+use Rattle.std.proofs.Common.{sym, subst, ◌∙◌, inl, inr}
 use Rattle.std.specs.Io.KnownBytes.{Appends, Keeps}
 use Rattle.std.proofs.Math.Seq.{take-length}
 use Rattle.pc_source.specs.declared.counted.Counted.{Counted}
-use Rattle.pc_source.specs.Taken.{TakesAll, TakesBeginning}
 use Rattle.pc_report.specs.declared.format.Format.{Format}
 use Rattle.pc_top.specs.Streaming.{IsReported, IsBegun, WhenWriteFails, UnlessWriteFails, report_bytes}
 use Rattle.pc_top.specs.TypesOfBytes.{IsListed, IsListingBegun, listing_bytes}
@@ -12,7 +11,7 @@ use Rattle.pc_top.specs.declared.fault.CheckFault.{CheckFault}
 use Rattle.pc_top.specs.declared.fault.CheckFault.TheVariants as check_fault
 use Rattle.pc_top.specs.declared.stream.FindingCounts.{FindingCounts}
 use Rattle.pc_checked_file.specs.declared.asked.Asked.{Asked}
-use Rattle.pc_checked_file.specs.Answers.{Chosen, IsTold, IsOutput, IsReportCut, IsListingCut, IsFaultToldOf}
+use Rattle.pc_checked_file.specs.Answers.{Chosen, IsOutput, IsReportCut, IsListingCut, IsExplainedAs}
 
 -- known bytes that grew by some are still grown by these after a call that keeps them
 keeps_grown : (old mid new : Option (List ℕ)) (bytes : List ℕ) → Appends old mid bytes → Keeps mid new
@@ -26,13 +25,6 @@ keeps_grown (Some xs) (Some ys) (Some zs) bytes grown kept = kept ∙ grown
 chosen : {P Q R S : Type 0} (choice : Bool) → (P → R) → (Q → S) → Chosen P Q choice → Chosen R S choice
 chosen true f g h = f h
 chosen false f g h = g h
-
--- a device either accepted all of a line or a beginning of it
-pub told_of : {W : Type 0} (contents : W → Option (List ℕ)) (line : List ℕ) (old new : Counted W) (whole : Bool)
-    → (IsTrue whole → TakesAll contents line old new) → (whole ≡ false → TakesBeginning contents line old new)
-    → IsTold contents line old new
-told_of contents line old new true all beginning = inl (all tt)
-told_of contents line old new false all beginning = inr (beginning refl)
 
 module _ {W : Type 0} (contents : W → Option (List ℕ)) (told : Option (List ℕ)) where
   report_cut : (json : Bool) (format : Format) (old new : Counted W) → IsBegun contents told json format old new
@@ -102,7 +94,7 @@ module _ {W : Type 0} (contents : W → Option (List ℕ)) (told : Option (List 
   listing_output asked yes (Err fault) old new listed begun same = listing_fault asked yes fault old new begun same
 
   -- a fault in place of another one: the output is the same
-  pub told_output : (asked : Asked) (fault other : CheckFault) (old new : Counted W) → IsFaultToldOf fault other
+  pub told_output : (asked : Asked) (fault other : CheckFault) (old new : Counted W) → IsExplainedAs fault other
       → IsOutput contents told asked (Err fault) old new → IsOutput contents told asked (Err other) old new
   told_output asked (check_fault.Refused r) other old new (inl is) output =
       subst (λ f. IsOutput contents told asked (Err f) old new) (sym is) output

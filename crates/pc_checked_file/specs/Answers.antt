@@ -1,9 +1,8 @@
 -- The answer of the program to the bytes of a reader: standard output and standard error. Own rule of the profile.
-use Rattle.std.specs.Prelude.{◌≡◌, ℕ, ◌⊎◌, Bool, true, false, List, take, Option, Result, Ok, Err, codes}
+use Rattle.std.specs.Prelude.{◌≡◌, ℕ, ◌⊎◌, Bool, true, false, List, take, Option, Result, Ok, Err}
 use Rattle.std.specs.Io.KnownBytes.{Appends}
 use Rattle.pc_source.specs.declared.counted.Counted.{Counted}
-use Rattle.pc_source.specs.Taken.{TakesAll, TakesBeginning}
-use Rattle.pc_report.specs.RefusalLine.{refusal_line}
+use Rattle.pc_report.specs.FaultLines.{refusal_line, memory_line, IsTold}
 use Rattle.pc_report.specs.declared.format.Format.{Format}
 use Rattle.pc_report.specs.declared.report.Row.{Row}
 use Rattle.pc_report.specs.declared.listing.TypeRow.{TypeRow}
@@ -15,29 +14,21 @@ use Rattle.pc_top.specs.declared.fault.CheckFault.TheVariants as check_fault
 use Rattle.pc_top.specs.declared.stream.FindingCounts.{FindingCounts}
 use Rattle.pc_checked_file.specs.declared.asked.Asked.{Asked}
 
--- the line of a failed allocation
-abbrev pub memory_line : List ℕ
-memory_line = codes "out of memory\n"
-
 -- P holds where a choice is true, and Q where it is false
 abbrev pub Chosen : (P Q : Type 0) → Bool → Type 0
 Chosen P Q true = P
 Chosen P Q false = Q
 
 -- the fault is still the same, or that of an allocation which failed as a refusal was told
-abbrev pub IsFaultToldOf : (old new : CheckFault) → Type 0
-IsFaultToldOf (check_fault.Refused refusal) new = (new ≡ check_fault.Refused refusal) ⊎ (new ≡ check_fault.OutOfMemory)
-IsFaultToldOf old new = new ≡ old
+abbrev pub IsExplainedAs : (old new : CheckFault) → Type 0
+IsExplainedAs (check_fault.Refused refusal) new = (new ≡ check_fault.Refused refusal) ⊎ (new ≡ check_fault.OutOfMemory)
+IsExplainedAs old new = new ≡ old
 
 module _ {W : Type 0} (contents : W → Option (List ℕ)) where
-  -- the writer accepted all of a line, or a beginning of it, after which a call failed
-  abbrev pub IsTold : List ℕ → Counted W → Counted W → Type 0
-  IsTold line old new = TakesAll contents line old new ⊎ TakesBeginning contents line old new
-
   -- standard error after an outcome: it has the line of a refusal or of a failed allocation, and is the same otherwise
   abbrev pub IsFaultShown : Result FindingCounts CheckFault → (old new : Counted W) → Type 0
-  IsFaultShown (Err (check_fault.Refused refusal)) old new = IsTold (refusal_line refusal) old new
-  IsFaultShown (Err check_fault.OutOfMemory) old new = IsTold memory_line old new
+  IsFaultShown (Err (check_fault.Refused refusal)) old new = IsTold contents (refusal_line refusal) old new
+  IsFaultShown (Err check_fault.OutOfMemory) old new = IsTold contents memory_line old new
   IsFaultShown _ old new = new ≡ old
 
   -- a beginning of the report of the reader's bytes is written, of this many bytes

@@ -5,7 +5,7 @@ ghost use Rattle.pc_top.specs.Streaming.{IsRefusedStream, WhenRefused};
 ghost use Rattle.pc_checked_file.specs.Answers.{IsFaultShown, IsOutput};
 
 use crate::asked::Asked;
-use crate::telling::tell_fault;
+use crate::telling::explained;
 use pc_source::Counted;
 use pc_top::{CheckFault, FindingCounts, check_stream, types_stream};
 use std::alloc::Global;
@@ -68,6 +68,6 @@ pub fn check_file<R: Read + Drop, W: Write + Drop, E: Write + Drop>(
 {
     match shown_whole(alloc, asked, input, output) {
         Ok(counts) => Ok(counts),
-        Err(fault) => Err(tell_fault(alloc, fault, errors)),
+        Err(fault) => Err(explained(alloc, fault, errors)),
     }
 }

@@ -62,7 +62,7 @@ fn types_argument<'a>(alloc: Global) -> Arg<'a>
     Arg::new(alloc, "types")
         .long("types")
         .action(ArgAction::SetTrue)
-        .help("List the type of each expression, without a report")
+        .help("List the types of expressions and of bound names, without a report")
 }
 
 /// Returns the option `--format N`.

@@ -1,10 +1,10 @@
+pub mod FaultLines
 pub mod Flows
 pub mod Format
 pub mod Json
 pub mod Pieces
 pub mod ReadBack
 pub mod ReadWhole
-pub mod RefusalLine
 pub mod Report
 pub mod TypeListing
 pub mod TypeTexts

@@ -2,6 +2,7 @@
 //! device.
 #![tactic(auto)]
 
+mod fault_lines;
 mod flow;
 mod format;
 mod json_pieces;
@@ -11,16 +12,15 @@ mod listing_pieces;
 mod object;
 mod pieces;
 mod reading;
-mod refusals;
 mod report;
 mod text_pieces;
 mod writing;
 
+pub use fault_lines::tell_fault;
 pub use flow::FlowTexts;
 pub use format::Format;
 pub use laws::reports_are_read_back;
 pub use listing::{TypeEntry, TypeKind, TypeListing, TypeRow};
 pub use reading::{ReadFault, read_at_most};
-pub use refusals::refusal_line;
 pub use report::{Report, Row};
 pub use writing::WriteFault;

@@ -1,19 +1,24 @@
 -- The types that are noted of a module are told of it, and nothing else is.
 use Rattle.std.proofs.Common.{◌≡◌, ℕ, ◌+◌, ◌<◌, List, [], ◌∷◌, ◌++◌, map, length, take, get_or, true, Contains}
-use Rattle.std.proofs.Common.{refl, ap, sym, ◌∙◌, subst}
+use Rattle.std.proofs.Common.{refl, ap, sym, ◌∙◌, subst, flat_map, append_assoc}
 use Rattle.std.proofs.lemmas.List.{map-append, take_more}
 use Rattle.std.specs.Prelude.{◌↔◌}
 use Rattle.pc_tree.specs.Tree.{Module}
-use Rattle.pc_notes.specs.Notes.{types_of}
+use Rattle.pc_notes.specs.Notes.{Note, types_of, names_of}
 use Rattle.pc_module_rules.specs.Modules.{Labelling, IsLawful}
 use Rattle.pc_module_rules.specs.Computed.Modules.{module_notes}
+use Rattle.pc_module_rules.specs.Laws.Names.{as_noted, names_by_labels}
+use Rattle.pc_module_rules.specs.NamesOfStatements.{NameAt}
+use Rattle.pc_module_rules.specs.NamesOfModules.{names_declared, names_under}
 use Rattle.pc_module_rules.proofs.LabelledModule.{every_module_has_a_labelling}
+use Rattle.pc_module_rules.proofs.NamedModules.{names_noted}
 use Rattle.pc_module_rules.proofs.TypedModules.{types_noted}
 use Rattle.pc_front.specs.Bytes.{IsModuleOf}
 use Rattle.pc_front.proofs.BytesLaws.{one_module}
 use Rattle.pc_report.specs.declared.listing.TypeRow.{TypeRow}
 use Rattle.pc_report.specs.TypeListing.{TypeFact, ListsTypes}
-use Rattle.pc_top.specs.TypesOfBytes.{IsTypeFact, ListsTypesOf, expression_fact, facts_under}
+use Rattle.pc_top.specs.NamesRead.{noted_fact}
+use Rattle.pc_top.specs.TypesOfBytes.{IsTypeFact, ListsTypesOf, expression_fact, name_fact, facts_under}
 
 -- the next element mapped, as a list of others that are mapped to the same grows
 pub next_mapped : {S T Y : Type 0} (of : S → Y) (to : T → Y) (items : List S) (taken : List T) (k : ℕ) (x : S) (y : T)
@@ -29,14 +34,44 @@ pub mapped_twice : {X Y Z : Type 0} (f : X → Y) (g : Y → Z) (xs : List X) �
 mapped_twice f g [] = refl
 mapped_twice f g (x ∷ xs) = ap (λ l. g (f x) ∷ l) (mapped_twice f g xs)
 
+-- the names noted of a module, and those whose types are by annotations alone, are the names bound under its labels
+named_facts : (m : Module) (labels : Labelling m) → IsLawful m labels
+    → map (name_fact m) (flat_map (names_declared m) m.items)
+    ++ map (noted_fact m) (names_of (module_notes true m [])) ≡ map (name_fact m) (names_under m labels)
+named_facts m labels l =
+    let declared : List NameAt = flat_map (names_declared m) m.items in
+    let others : List NameAt = names_by_labels m labels in
+    ap (λ (fs : List TypeFact). map (name_fact m) declared ++ fs)
+    (ap (map (noted_fact m)) (names_noted m labels l) ∙ mapped_twice as_noted (noted_fact m) others)
+    ∙ sym (map-append (name_fact m) declared others)
+
+-- what a walk over a module notes, and the names whose types are by annotations alone, as what a listing tells
+abbrev pub facts_noted : Module → List TypeFact
+facts_noted m = (map (expression_fact m) (types_of (module_notes true m []))
+    ++ map (name_fact m) (flat_map (names_declared m) m.items))
+    ++ map (noted_fact m) (names_of (module_notes true m []))
+
+-- entries of what is noted, with the names whose types are by annotations alone, are these
+pub all_noted : (m named : Module) (notes : List Note) (first second third : List TypeFact) → named ≡ m
+    → notes ≡ module_notes true m [] → first ≡ map (expression_fact named) (types_of notes)
+    → second ≡ first ++ map (name_fact m) (flat_map (names_declared m) m.items)
+    → third ≡ second ++ map (noted_fact named) (names_of notes) → third ≡ facts_noted m
+all_noted m named notes first second third of_module of_notes types declared others =
+    let declared_facts : List TypeFact = map (name_fact m) (flat_map (names_declared m) m.items) in
+    others
+    ∙ ap (λ (fs : List TypeFact). fs ++ map (noted_fact named) (names_of notes))
+    (declared ∙ ap (λ (fs : List TypeFact). fs ++ declared_facts) types)
+    ∙ (λ i. (map (expression_fact (of_module i)) (types_of (of_notes i)) ++ declared_facts)
+    ++ map (noted_fact (of_module i)) (names_of (of_notes i)))
+
 -- what is noted of a module is what its labels have
-noted_facts : (m : Module) (labels : Labelling m) → IsLawful m labels
-    → map (expression_fact m) (types_of (module_notes true m [])) ≡ facts_under m labels
-noted_facts m labels l = ap (map (expression_fact m)) (types_noted m labels l)
+noted_facts : (m : Module) (labels : Labelling m) → IsLawful m labels → facts_noted m ≡ facts_under m labels
+noted_facts m labels l =
+    append_assoc (map (expression_fact m) (types_of (module_notes true m []))) _ _
+    ∙ (λ i. map (expression_fact m) (types_noted m labels l i) ++ named_facts m labels l i)
 
 -- facts that are those noted of a module are told of it, and no others
-pub just_noted : (m : Module) (facts : List TypeFact)
-    → facts ≡ map (expression_fact m) (types_of (module_notes true m []))
+pub just_noted : (m : Module) (facts : List TypeFact) → facts ≡ facts_noted m
     → (f : TypeFact) → Contains facts f ↔ IsTypeFact m f
 just_noted m facts is f = (
   λ h labels l. subst (λ (fs : List TypeFact). Contains fs f) (is ∙ noted_facts m labels l) h,

@@ -1,5 +1,5 @@
 -- Two listings of the types of the same bytes have the same content and are written in one way.
-use Rattle.std.proofs.Common.{◌≡◌, ℕ, List, subst}
+use Rattle.std.proofs.Common.{ℕ, List, subst}
 use Rattle.pc_tree.specs.Tree.{Module}
 use Rattle.pc_report.specs.declared.listing.TypeRow.{TypeRow}
 use Rattle.pc_report.specs.TypeListing.{ListsTypes}

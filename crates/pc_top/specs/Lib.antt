@@ -1,5 +1,6 @@
 pub mod BesideErrors
 pub mod Headline
+pub mod NamesRead
 pub mod NoNeedlessFlow
 pub mod OneListing
 pub mod OneReport

@@ -1,6 +1,7 @@
 -- The guarantees of a listing of types about the bytes: it has exactly the types under the one lawful labelling of the
 -- module that they spell. Own rule of the profile.
-use Rattle.std.specs.Prelude.{◌≡◌, ℕ, List, map, Contains, Option, None, Bool, true, false, option_map}
+use Rattle.std.specs.Prelude.{◌≡◌, ℕ, List, ◌++◌, map, Contains, Option, Some, None, Bool, true, false, option_map}
+use Rattle.std.specs.Prelude.{bytes_eq, if◌then◌else◌}
 use Rattle.pc_source.specs.declared.counted.Counted.{Counted}
 use Rattle.pc_source.specs.declared.place.Place.{Place}
 use Rattle.pc_source.specs.Taken.{TakesAll, TakesBeginning}
@@ -9,8 +10,10 @@ use Rattle.pc_types.specs.Tree.{Tree}
 use Rattle.pc_annotations.specs.Text.{type_text}
 use Rattle.pc_module_rules.specs.Modules.{Labelling, IsLawful, HasLabelling}
 use Rattle.pc_module_rules.specs.TypesOfModules.{types_under, as_pair}
+use Rattle.pc_module_rules.specs.NamesOfStatements.{NameAt}
+use Rattle.pc_module_rules.specs.NamesOfModules.{names_under}
 use Rattle.pc_front.specs.Bytes.{IsModuleOf}
-use Rattle.pc_report.specs.declared.listing.TypeKind.TheVariants.{Expression}
+use Rattle.pc_report.specs.declared.listing.TypeKind.TheVariants.{Expression, Name}
 use Rattle.pc_report.specs.declared.listing.TypeRow.{TypeRow}
 use Rattle.pc_report.specs.declared.report.Row.{Row}
 use Rattle.pc_report.specs.Report.{errors_of, dynamic_count}
@@ -23,9 +26,25 @@ use Rattle.pc_top.specs.Streaming.{AreBytesOf}
 abbrev pub expression_fact : Module → Place × Tree → TypeFact
 expression_fact m t = record { place = t.0; kind = Expression; type = type_text m t.1; current = None }
 
--- what a listing tells of a module under a labelling: the type of each labelled expression
+-- a current type, if its text is another than that of the declared type
+abbrev pub other_text : (declared : List ℕ) → Option (List ℕ) → Option (List ℕ)
+other_text declared None = None
+other_text declared (Some t) = if bytes_eq t declared then None else Some t
+
+-- what a listing tells of a bound name: its declared type, and its current type after the binding, if that is another
+abbrev pub name_fact : Module → NameAt → TypeFact
+name_fact m n = record {
+  place = n.place;
+  kind = Name;
+  type = type_text m n.declared;
+  current = other_text (type_text m n.declared) (option_map (type_text m) n.current);
+}
+
+-- what a listing tells of a module under a labelling: the type of each labelled expression, and the types of each bound
+-- name
 abbrev pub facts_under : (m : Module) → Labelling m → List TypeFact
 facts_under m labels = map (expression_fact m) (map as_pair (types_under m labels))
+    ++ map (name_fact m) (names_under m labels)
 
 -- a listing tells this of a module: it is so under every lawful labelling, of which there is exactly one
 abbrev pub IsTypeFact : Module → TypeFact → Type 0

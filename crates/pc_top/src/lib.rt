@@ -5,6 +5,7 @@
 mod checking;
 mod fault;
 mod laws;
+mod names;
 mod stream;
 mod teardown;
 mod top;

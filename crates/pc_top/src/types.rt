@@ -1,19 +1,22 @@
 //! The types of the module that bytes spell.
 
-ghost use Rattle.std.specs.Prelude.{◌≡◌, ◌↔◌, ◌≤◌, [], length, map, true, Contains, IfOk, IfErr};
+ghost use Rattle.std.specs.Prelude.{◌≡◌, ◌↔◌, ◌≤◌, ◌++◌, [], flat_map, length, map, true, Contains, IfOk, IfErr, OnOk};
 ghost use Rattle.pc_tree.specs.Tree.{module_of};
 ghost use Rattle.pc_scope.specs.ModuleScopes.{AreScopes};
+ghost use Rattle.pc_annotations.specs.Named.{named_module};
 ghost use Rattle.pc_class.specs.Facts.{classes_of};
 ghost use Rattle.pc_class.specs.Tables.{HasEntries, classes_with};
 ghost use Rattle.pc_notes.specs.Notes.{IsGivenShown, notes_of, type_shown, types_of};
 ghost use Rattle.pc_module_rules.specs.Computed.Modules.{module_notes};
+ghost use Rattle.pc_module_rules.specs.NamesOfModules.{names_declared};
 ghost use Rattle.pc_front.specs.Bytes.{IsRefusalOf};
 ghost use Rattle.pc_report.specs.TypeListing.{TypeFact, fact_of};
 ghost use Rattle.pc_top.specs.Headline.{OnCheckFault};
-ghost use Rattle.pc_top.specs.TypesOfBytes.{IsTypeAt, IsTypeFact, ListsTypesOf, expression_fact};
+ghost use Rattle.pc_top.specs.TypesOfBytes.{IsTypeAt, IsTypeFact, ListsTypesOf, expression_fact, name_fact};
 
 use crate::fault::CheckFault;
-use pc_annotations::{parents_of, type_text};
+use crate::names::{NameReading, add_noted};
+use pc_annotations::{ClassNames, ModuleOutline, named_text, parents_of};
 use pc_check::check_module;
 use pc_class::{ClassTable, class_table};
 use pc_front::module_in;
@@ -64,13 +67,13 @@ fn noted<S: TypeStore>(
 /// Returns a shown type as an entry of a listing.
 fn entry_of(
     alloc: Global,
-    module: &Module,
+    names: &ClassNames<'_>,
     shown: &(Place, &BoxType),
 ) -> Result<TypeEntry, OutOfMemory>
     requires { IsGivenShown shown.now }
-    ensures { IfOk result (λ e. fact_of e ≡ expression_fact (module_of «module».now) (type_shown shown.now)) }
+    ensures { IfOk result (λ e. fact_of e ≡ expression_fact (named_module names.now) (type_shown shown.now)) }
 {
-    let text = type_text(&BoxStore::new(), alloc, module, shown.1)?;
+    let text = named_text(&BoxStore::new(), alloc, names, shown.1)?;
     Ok(TypeEntry {
         place: shown.0,
         kind: TypeKind::Expression,
@@ -80,16 +83,49 @@ fn entry_of(
 }
 
 /// Returns the types that notes show, as entries of a listing.
-fn entries_of(alloc: Global, module: &Module, notes: &Notes) -> Result<Vec<TypeEntry>, OutOfMemory>
+fn entries_of(
+    alloc: Global,
+    names: &ClassNames<'_>,
+    notes: &Notes,
+) -> Result<Vec<TypeEntry>, OutOfMemory>
     ensures { IfOk result (λ v. map fact_of v.items
-        ≡ map (expression_fact (module_of «module».now)) (types_of (notes_of notes.now))) }
+        ≡ map (expression_fact (named_module names.now)) (types_of (notes_of notes.now))) }
 {
     let types = notes.types(alloc)?;
     let mut entries = Vec::with_capacity(alloc, types.len())?;
     for shown in &types {
-        entries.push(entry_of(alloc, module, shown)?)?;
+        entries.push(entry_of(alloc, names, shown)?)?;
     }
     Ok(entries)
+}
+
+/// Appends the names of a module whose types are by annotations alone, with the types that are read in a store.
+fn add_declared<S: TypeStore>(
+    store: &mut S,
+    alloc: Global,
+    module: &Module,
+    scopes: &Scopes,
+    names: &ClassNames<'_>,
+    entries: &mut Vec<TypeEntry>,
+) -> Result<(), OutOfMemory>
+    requires scopes { AreScopes (module_of «module».now) scopes.now }
+    requires names { named_module names.now ≡ module_of «module».now }
+    ensures { OnOk result (map fact_of entries.new.items ≡ map fact_of entries.old.items
+        ++ map (name_fact (module_of «module».now)) (flat_map (names_declared (module_of «module».now))
+        (module_of «module».now).items)) }
+{
+    let parents = parents_of(alloc, module, scopes)?;
+    let outline = ModuleOutline {
+        tree: module,
+        scopes,
+        parents: &parents,
+    };
+    let reading = NameReading {
+        alloc,
+        outline: &outline,
+        names,
+    };
+    reading.add_declared(store, entries)
 }
 
 /// Returns the entries of the listing of a module's types, in any order.
@@ -101,13 +137,18 @@ fn entries(alloc: Global, module: &Module) -> Result<Vec<TypeEntry>, OutOfMemory
     let parents = parents_of(alloc, module, &scopes)?;
     let mut store = InternStore::new(alloc, module.keys, parents)?;
     let notes = noted(&mut store, alloc, module, &scopes)?;
-    entries_of(alloc, module, &notes)
+    let names = ClassNames::of(alloc, module)?;
+    let mut entries = entries_of(alloc, &names, &notes)?;
+    add_declared(&mut store, alloc, module, &scopes, &names, &mut entries)?;
+    add_noted(alloc, &names, &notes, &mut entries)?;
+    Ok(entries)
 }
 
 /// Returns the types of the module that the bytes spell.
 ///
 /// If there is a listing, the bytes spell exactly one module, and the listing has exactly the types under the module's
-/// one lawful labelling: of each labelled expression its place and the text of its type, sorted, none twice. A callee
+/// one lawful labelling: of each labelled expression its place and the text of its type, and of each bound name its
+/// place, the text of its declared type, and that of its current type if it is another; sorted, none twice. A callee
 /// that is a name or an attribute, the expressions in annotations, the literals of defaults, and statements that no run
 /// reaches after one that cannot complete have no row. Own rule of the profile.
 ///
@@ -127,9 +168,9 @@ pub fn types_of(alloc: Global, bytes: &[u8]) -> Result<TypeListing, CheckFault>
     Ok(listing)
 }
 
-/// Returns the type of the smallest expression around a byte of the module that the bytes spell: the row of the listing
-/// of its types with the smallest place around the byte, or `None` if no row is around it. An expression is around its
-/// own bytes, and around the byte behind it. Own rule of the profile.
+/// Returns the type of the smallest expression or bound name around a byte of the module that the bytes spell: the row
+/// of the listing of its types with the smallest place around the byte, or `None` if no row is around it. A place is
+/// around its own bytes, and around the byte behind it. Own rule of the profile.
 ///
 /// # Errors
 ///

@@ -248,7 +248,7 @@ class Body:
         return ", ".join(texts)
 
     def called(self, ty: Type, deep: int) -> Optional[Made]:
-        """Returns a call that results in the type; none if there is none."""
+        """Returns a call that results in the type; None if there is none."""
         calls = [(name, params) for name, (params, returns) in self.of.functions.items() if self.of.below(returns, ty)]
         calls += [(name, self.of.fields(name)) for name in self.of.classes if self.of.below(("class", name), ty)]
         for name, has in self.known.items():
@@ -268,7 +268,7 @@ class Body:
         return f"{name}({given}{',' if given and self.of.chance(0.05) else ''})", 7
 
     def of_any(self, deep: int) -> Optional[Made]:
-        """Returns a use of a local of type Any: an attribute, a call, an item, an operator; none if there is no such
+        """Returns a use of a local of type Any: an attribute, a call, an item, an operator; None if there is no such
         local."""
         held = [name for name, ty in self.known.items() if ty == ANY]
         if not held:
@@ -541,7 +541,7 @@ class Body:
 
 
 def default_for(module: Module, ty: Type) -> Optional[str]:
-    """Returns a literal that fits a type, or none."""
+    """Returns a literal that fits a type, or None."""
     fits = [text for text, of in (("0", INT), ("-1", INT), ("True", BOOL), ('"d"', STR), ("None", NONE)) if module.below(of, ty)]
     return module.rng.choice(fits) if fits and module.chance(0.4) else None
 
@@ -710,7 +710,7 @@ EXTRA = {"type": ["int", "str", "bool", "object", "Any", "None"], "sign": ["+", 
 
 
 def kind_of(token: str) -> Optional[str]:
-    """Returns the kind of a token that may be changed for another one, or none."""
+    """Returns the kind of a token that may be changed for another one, or None."""
     if token in EXTRA["sign"]:
         return "sign"
     if token in ("==", "!=", "<", "<=", ">", ">="):
@@ -891,7 +891,7 @@ def judged(listed: List[Finding], events: Set[Tuple[int, ...]], end: str) -> Tup
 
 
 def kind_found(programs: Programs, data: bytes) -> Optional[str]:
-    """Returns the kind of finding for an input, or none."""
+    """Returns the kind of finding for an input, or None."""
     try:
         tried(programs, data)
     except Found as found:

@@ -163,7 +163,7 @@ def wrong_field(plan: Plan) -> None:
 
 
 def early_test(plan: Plan) -> None:
-    """Plants an initializer that tests for a class below it, or for something that is no class."""
+    """Plants an initializer that tests for a class below it, or for something that is not a class."""
     name, later = plan.name("k"), plan.name("C")
     value = plan.pick("1", "'a'", "None", "[]", "(1, 2)", f"isinstance(2, {plan.pick('int', later)})")
     test = f"isinstance({value}, {plan.pick(later, later, f'({later})', f'{later},')})"
@@ -231,7 +231,7 @@ def lost_header(plan: Plan) -> None:
 
 
 def wrong_base(plan: Plan) -> None:
-    """Plants a base that is no earlier class."""
+    """Plants a base that is not an earlier class."""
     name, other = plan.name("C"), plan.name("C")
     made = plan.cls(name, [], other)
     below = plan.pick([], [plan.cls(other, [])])
@@ -250,7 +250,7 @@ def late_field(plan: Plan) -> None:
 
 
 def no_test(plan: Plan) -> None:
-    """Plants a test for something that is no type."""
+    """Plants a test for something that is not a type."""
     name, p = plan.name("f"), plan.name("p")
     other = plan.pick("1", "'int'", "None", "(int, str)", "object", "dict", "len", "q7", p, name, "main", "[int]")
     test = f"isinstance({p}, {other})"
@@ -343,7 +343,7 @@ q9 = [X]|q9.append('a')|q9.append(None)|q9[0] = None|print(q9[0] + 1)
 q9: list[int] = [X]|q8: list[int | str] = q9|q8.append('a')|print(q9[1] + 1)
 q9 = (X, X, X, X)|q8 = (q9, q9, q9, q9)|q7 = (q8, q8, q8, q8)|q6 = (q7, q7, q7, q7)|print(q6[0][0][0][0] + 1)
 """.strip().split("\n")
-# Initializers that use items below them, or call something that is no name
+# Initializers that use items below them, or call something that is not a name
 EARLY = ("f0()", "C0(1)", "k0 + 1", "1()", "[1].pop()", "[f0]", "main()", "len(k0)", "(1, f0)[0]", "C0(1).m()", "-k0",
          "(1)()", "[1].pop", "print(C0)")
 
@@ -359,7 +359,7 @@ def heard_body(plan: Plan) -> None:
 
 
 def early_name(plan: Plan) -> None:
-    """Plants an initializer that uses an item below it, or calls something that is no name."""
+    """Plants an initializer that uses an item below it, or calls something that is not a name."""
     cls = plan.cls("C0", ["a: int", "def m(self) -> int:", "    return self.a"])
     others = [cls, ["def f0():", "    return 1"], ["k0 = 1"]]
     plan.rng.shuffle(others)
@@ -404,7 +404,7 @@ def made_module(rng: random.Random) -> bytes:
 # Findings
 
 def answers(programs: Programs, data: bytes) -> Optional[Answered]:
-    """Returns the findings of a report and the events and the end of the run; none if the module is refused."""
+    """Returns the findings of a report and the events and the end of the run; None if the module is refused."""
     pycheck, pyrun = programs
     with tempfile.NamedTemporaryFile(suffix=".py") as file:
         file.write(data)

@@ -2,7 +2,8 @@
 
     tools/check codes [--program PYCHECK] [--page PAGE]
 
-The pages are README.md, docs/PROFILE.md, docs/CODES.md and docs/COOKBOOK.md if none is named. A page has modules, each with its report, a block `text`, directly after it:
+The pages are README.md, docs/PROFILE.md, docs/CODES.md and docs/COOKBOOK.md if none is named. A page has modules, each
+with its report, a block `text`, directly after it:
 
     python             the text of the module
     python-escaped     the same, in which escapes as \\x00 mean characters

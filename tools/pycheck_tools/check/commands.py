@@ -2,7 +2,8 @@
 
     tools/check commands [--program PYCHECK] [--page PAGE]
 
-The pages are docs/TUTORIAL.md and docs/CORE.md if none is named. A page has blocks of these kinds; FILE is a path from the top of the repository. Other blocks are ignored.
+The pages are docs/TUTORIAL.md and docs/CORE.md if none is named. A page has blocks of these kinds; FILE is a path from
+the top of the repository. Other blocks are ignored.
 
     py FILE      lines that are in FILE, one after another
     diff OLD NEW hunks, with an empty line between two: the lines that stay and those that begin with - are in OLD one

@@ -41,7 +41,7 @@ DEFINED = re.compile(r"\s*(?:(?:abbrev|unfoldable|pub|record|data)\s+)+([^\s:({]
 
 @functools.cache
 def defined_in(path: str) -> Optional[Set[str]]:
-    """The names that a file defines, or None if it is not there."""
+    """Returns the names that a file defines, or None if it does not exist."""
     try:
         with open(os.path.join(ROOT, path), encoding="utf-8") as file:
             return {found[1] for found in map(DEFINED.match, file) if found}

@@ -3,7 +3,7 @@
     tools/check tested [--calls]
 
 A public call is a function, or a method of a type or a trait, that is `pub` and is reached from the root of its crate
-by `pub mod` and `pub use`. Those of the crates under OF_TESTS are none, since these are tests themselves, and a call
+by `pub mod` and `pub use`. Calls of the crates under OF_TESTS do not count, since these are tests themselves, and a call
 that a crate exports again from another one is a call of that one. A call is written `CRATE::NAME` or
 `CRATE::TYPE::NAME`, with the public modules between, if it is in some.
 

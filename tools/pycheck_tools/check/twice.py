@@ -1,10 +1,10 @@
-"""Checks that no function and no definition is there twice.
+"""Checks that no function and no definition is duplicated.
 
     tools/check twice
 
 Two are the same if they have six lines or more, and these are the same but for blanks and comments: the bodies of functions of
 crates/NAME/src, of tools/ and of tests/, and the definitions of crates/NAME/specs, in which their own names may differ. Lines of brackets
-alone do not count. Those under EXPLAINED may be there twice, as long as docs/DECISIONS.md has the words given there.
+alone do not count. Duplicates under EXPLAINED are allowed, as long as docs/DECISIONS.md has the words given there.
 
 Prints all duplicates that are not explained, and each explanation that is not needed or not on the page. Last it says how many
 functions and definitions were compared. The exit status is 1 if something is wrong, or if there was nothing to compare.

@@ -102,7 +102,7 @@ def made_texts(seed: str, number: int) -> Iterator[Named]:
 
 
 def refusal_of(pycheck: str, data: bytes, room: "IO[bytes]") -> Union[None, str, Refusal]:
-    """Returns the code and the byte of a refusal, nothing if pycheck accepts the text, or the error that Python
+    """Returns the code and the byte of a refusal, None if pycheck accepts the text, or the error that Python
     refuses."""
     room.seek(0)
     room.truncate()
@@ -118,7 +118,7 @@ def refusal_of(pycheck: str, data: bytes, room: "IO[bytes]") -> Union[None, str,
 
 
 def fault_of_python(data: bytes) -> Optional[str]:
-    """Returns why Python does not accept a text, or nothing if it does."""
+    """Returns why Python does not accept a text, or None if it does."""
     try:
         ast.parse(data)
         for _ in tokenize.tokenize(io.BytesIO(data).readline):
@@ -137,7 +137,7 @@ class Reasons:
         self.needed: Counter[int] = collections.Counter()
 
     def of(self, code: str, data: bytes, byte: int) -> Optional[int]:
-        """Returns the number of the first reason for a refusal, or nothing."""
+        """Returns the number of the first reason for a refusal, or None."""
         rest, before = data[byte:].decode(errors="replace"), data[:byte].decode(errors="replace")
         for at, row in enumerate(self.rows):
             if row["code"] == code and re.match(row["at"], rest, re.DOTALL) and re.search(row.get("behind", "") + r"\Z", before, re.DOTALL):

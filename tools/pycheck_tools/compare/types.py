@@ -78,7 +78,7 @@ def of_literal(found: "re.Match[str]") -> str:
 
 
 def plain(text: str) -> str:
-    """Returns a type as both programs would write it, or the text itself if it is no type of the profile."""
+    """Returns a type as both programs would write it, or the text itself if it is not a type of the profile."""
     text = LITERAL.sub(of_literal, text)
     text = re.sub(r"\b(?:builtins|module\d*)\.", "", text).replace("<nothing>", "Never").replace("[()]", "[Empty]")
     try:

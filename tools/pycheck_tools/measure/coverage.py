@@ -178,7 +178,7 @@ class Reached:
             program.marks.write_bytes(bytes(len(marks)))
 
     def row(self, name: str, suites: Sequence[str]) -> Optional[str]:
-        """Returns the row of a crate, or of all of them; none if no program has functions of it."""
+        """Returns the row of a crate, or of all of them; None if no program has functions of it."""
         shapes = [it for it in self.shapes.values() if name in (ALL, it.function.name.split("::")[0])]
         if not shapes:
             return None

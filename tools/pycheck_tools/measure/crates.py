@@ -146,11 +146,11 @@ class Process(NamedTuple):
     seconds: float
 
     def is_prover(self) -> bool:
-        """Whether it checks a crate."""
+        """Whether the process checks a crate."""
         return "--crate-name" in self.words and any(Path(word).name == "rattle" for word in self.words[:2])
 
     def part(self) -> Tuple[str, str]:
-        """The crate that it checks, and which part. A wrong body is tried in a folder of its own."""
+        """The crate that the process checks, and which part. A wrong body is tried in a folder of its own."""
         crate = self.words[self.words.index("--crate-name") + 1]
         tried = [part for name, part in TRIED if f"/{name}" in self.folder]
         return crate, tried[0] if tried else "tests" if "--test" in self.words else "proof"

@@ -28,7 +28,7 @@ invariant-check_suite-loop-statement g l =
           → BreaksSettle bases locals (touched_by resolve (stmts_of_list l.body)) l.fn.exit.unsettled.items
           before.broken base
           before.env
-          → BreaksSettle bases locals (touched_by resolve rest) l.exit.unsettled.items here.exit.env base here.env;
+          → BreaksSettle bases locals (touched_by resolve rest) l.exit.unsettled.items here.broken base here.env;
       is : walk_suite (body_context_in S l.walk) (reached S l.walk l.env l.exit.env) rest
           ≡ walk_suite (body_context_in S l.fn.walk) before (stmts_of_list l.body);
     }
@@ -51,7 +51,7 @@ invariant-check_branches-loop-branch g l =
           → BreaksSettle bases locals (touched_by_branches resolve (branches_of_list l.branches))
           l.fn.exit.unsettled.items
           before.broken base (Some before.last)
-          → BreaksSettle bases locals (touched_by_branches resolve rest) l.exit.unsettled.items here.exit.env base
+          → BreaksSettle bases locals (touched_by_branches resolve rest) l.exit.unsettled.items here.broken base
           (Some here.last);
       is : walk_branches (body_context_in S l.walk) here rest
           ≡ walk_branches (body_context_in S l.fn.walk) before (branches_of_list l.branches);

@@ -1,14 +1,14 @@
-use Rattle.std.proofs.Common.{◌≡◌, ◌+◌, ◌++◌, ◌∷◌, [], List, ap, map, take, sym, ◌∙◌, subst, arith}
+use Rattle.std.proofs.Common.{◌≡◌, ◌+◌, List, ap, map, take, sym, ◌∙◌, subst, arith}
 use Rattle.std.proofs.lemmas.List.{take_all}
 use Rattle.std.specs.Borrow.{Bor}
 use Rattle.pc_source.specs.declared.place.Place.{Place}
-use Rattle.pc_tree.specs.Tree.{module_of}
+use Rattle.pc_annotations.specs.Named.{named_module}
 use Rattle.pc_types.specs.Tree.{Tree}
 use Rattle.pc_types.specs.declared.boxed.BoxType.{BoxType}
 use Rattle.pc_notes.specs.Notes.{IsGivenShown, type_shown}
 use Rattle.pc_notes.proofs.Taken.{held_at}
 use Rattle.pc_report.specs.declared.listing.TypeEntry.{TypeEntry}
-use Rattle.pc_report.specs.TypeListing.{TypeFact, fact_of}
+use Rattle.pc_report.specs.TypeListing.{fact_of}
 use Rattle.pc_top.specs.TypesOfBytes.{expression_fact}
 use Rattle.pc_top.proofs.ModuleTypes.{next_mapped, mapped_twice}
 use Rattle.pc_top.proofs.types.entries_of.Goals as goal
@@ -23,7 +23,7 @@ entry_of-requires c = held_at IsGivenShown c.deref-shown-items.result.now c.in_o
 
 pub loop-shown-preserved : goal.loop-shown-preserved
 loop-shown-preserved c =
-    let m = module_of c.args.module.now in
+    let m = named_module c.args.names.now in
     let items : List Shown = c.deref-shown-items.result.now in
     subst (λ (l : List TypeEntry). map fact_of l ≡ map (λ (t : Shown). expression_fact m (type_shown t))
     (take (c.loop-shown.shown-index + 1) items))
@@ -34,7 +34,7 @@ loop-shown-preserved c =
 
 pub returns : goal.returns
 returns c =
-    let m = module_of c.args.module.now in
+    let m = named_module c.args.names.now in
     let fact = λ (t : Place × Tree). expression_fact m t in
     let items : List Shown = c.deref-shown-items.result.now in
     c.loop-shown.invariant

@@ -1,8 +1,5 @@
-use Rattle.std.proofs.Common.{◌≤◌, Some, None, ap, refl, length}
-use Rattle.std.proofs.lemmas.Result.{err_from_is_err_and}
-use Rattle.pc_front.specs.Bytes.{IsRefusalOf}
+use Rattle.std.proofs.Common.{Some, None, ap, refl}
 use Rattle.pc_report.specs.declared.listing.TypeRow.{TypeRow}
-use Rattle.pc_top.proofs.Main.{no_refusal}
 use Rattle.pc_top.proofs.types.type_at.Goals as goal
 
 pub returns-in-None-clause-found : goal.returns-in-None-clause-found
