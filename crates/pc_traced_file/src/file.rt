@@ -50,17 +50,19 @@ fn shown<R: Read + Drop, W: Write + Drop>(
     }
 }
 
-/// Runs the module that the bytes of a reader spell: writes the text of its trace to `output`, with that fuel and
-/// without choices, or the line of a refusal or of a failed allocation to `errors`. Reading stops after 1,048,577
-/// bytes, one more than a source text may have. `keys` are the keys for hashing names, which no author of a text should
-/// know. `status_of` gives the exit status of the program for the result. Own rule of the profile.
+/// Runs the module that the bytes of a reader spell, with that fuel and without choices. Writes the text of its trace
+/// to `output`, or the line of a refusal or of a failed allocation to `errors`. `status_of` gives the exit status of
+/// the program for the result.
+///
+/// Reading stops after 1,048,577 bytes, one more than a source text may have. `keys` are the keys for hashing names,
+/// which no author of a text should know. Own rule of the profile.
 ///
 /// # Errors
 ///
-/// `Refused` if the bytes spell no module; more than 1,048,576 bytes are refused once one more is read. `Read` and
-/// `Write` if a call of that device failed, even by an interruption, and a failed flush is `Write`: no call follows it,
-/// and nothing is written to `errors`. `OutOfMemory` only if an allocation failed; it takes the place of a refusal whose
-/// line found no memory. Nothing is written to `output` after any of these except `Write`, after which a beginning of
+/// `Refused` if the bytes spell no module; more than 1,048,576 bytes are refused once one more is read. `OutOfMemory`
+/// only if an allocation failed; it takes the place of a refusal whose line found no memory. `Read` and `Write` if a
+/// call of that device failed, a flush included, and even by an interruption: no call of it follows, and nothing is
+/// written to `errors`. Nothing is written to `output` after any of these except `Write`, after which a beginning of
 /// the trace is.
 pub fn run_file<R: Read + Drop, W: Write + Drop, E: Write + Drop>(
     alloc: Global,
