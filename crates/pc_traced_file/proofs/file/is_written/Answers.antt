@@ -1,4 +1,4 @@
-use Rattle.std.proofs.Common.{◌≡◌, ◌∙◌, sym, subst, ℕ, List, length, take, Option, None, Some}
+use Rattle.std.proofs.Common.{◌∙◌, sym, subst, ℕ, List, length, take, Option, None, Some}
 use Rattle.std.specs.Io.KnownBytes.{Appends, Keeps}
 use Rattle.std.proofs.Math.Seq.{take-length}
 use Rattle.pc_traced_file.proofs.file.is_written.Goals as goal
