@@ -68,7 +68,8 @@ GROUPS: Tuple[Group, ...] = (
     }),
     Group("one meaning, in reports and in editors", {"flow_text": 2, "said_by": 2, "shown_flow": 2, "texts_of": 4}),
     Group("one meaning, of checks, of sessions, of runs and of the library", {
-        "IsBegun": 2, "IsListed": 2, "IsReported": 2, "IsWritten": 2, "status": 3, "status_of": 3,
+        "IsBegun": 2, "IsExplainedAs": 2, "IsFaultShown": 2, "IsListed": 2, "IsOutput": 2, "IsReported": 2,
+        "IsWritten": 2, "WhenRefused": 2, "most_read": 2, "status": 3, "status_of": 3,
     }),
     Group("one definition, stated once more in a crate that could use it", {"is_range_call": 2, "is_same_code": 2}),
     Group("one definition, stated in two crates of which neither stands on the other", {"place_cmp": 2}),
