@@ -1,9 +1,9 @@
 //! Checks a module: `pycheck [--json] [--types | --format N] FILE`.
 #![tactic(auto)]
 
+use pc_checked_file::{Asked, CheckFault, FindingCounts, check_file, status_of};
 use pc_commands::{RemembersError, given_words, reason_of, tell};
 pub use pc_commands::{CheckOptions as Options, OptionFault, check_options as options};
-use pc_checked_file::{Asked, CheckFault, FindingCounts, check_file, status_of};
 use pc_source::Counted;
 use std::fs::File;
 use std::io;
