@@ -114,9 +114,9 @@ def copy_of(text: bytes, place: Place) -> Copy:
 
 def copy_of_name(text: bytes, question: Question) -> Copy:
     """Returns the copy with the line that asks for a name."""
-    lines = text.splitlines(keepends=True)
-    lines.insert(question.line - 1, question.indent + CALL + question.asked.encode() + b")\n")
-    return Copy(b"".join(lines), question.line, len(question.indent) + len(CALL) + 1)
+    lines = text.splitlines()
+    lines.insert(question.line - 1, question.indent + CALL + question.asked.encode() + b")")
+    return Copy(b"\n".join([*lines, b""]), question.line, len(question.indent) + len(CALL) + 1)
 
 
 def copies_of(text: bytes, rows: Sequence[Listed]) -> Iterator[Tuple[Listed, Copy]]:
