@@ -157,14 +157,14 @@ function findingUnder(event) {
   return findingAt(around, place);
 }
 
-/** The part of the marks that draws some characters of the text, from a place on. */
-function drawn(place, length) {
+/** Returns the box in which the marks draw the character at a place of the text. */
+function boxOf(place) {
   const nodes = document.createTreeWalker(at("marks"), NodeFilter.SHOW_TEXT), range = document.createRange();
   for (let left = place; nodes.nextNode(); ) {
     const node = nodes.currentNode, isText = !node.parentElement.classList.contains("empty");
     if (isText && left < node.length) {
       range.setStart(node, left);
-      range.setEnd(node, Math.min(node.length, left + length));
+      range.setEnd(node, left + 1);
       break;
     }
     left -= isText ? node.length : 0;
@@ -172,20 +172,18 @@ function drawn(place, length) {
   return range.getBoundingClientRect();
 }
 
-/** The place of the character under the pointer, if there is one: it is before or behind the nearest place of a caret. */
+/** Returns the place of the character under the pointer, if there is one: before or behind the nearest place of a caret. */
 function placeUnder({ clientX: x, clientY: y }) {
-  const caret = document.caretPositionFromPoint?.(x, y), text = at("text").value;
+  const caret = document.caretPositionFromPoint?.(x, y);
   if (caret?.offsetNode !== at("text")) return undefined;
-  const isPair = (place) => text.codePointAt(place) > 0xffff;
-  const before = caret.offset - (isPair(caret.offset - 2) ? 2 : 1);
-  return [before, caret.offset].find((place) => {
+  return [caret.offset - 1, caret.offset].find((place) => {
     if (place < 0) return false;
-    const { left, right, top, bottom } = drawn(place, isPair(place) ? 2 : 1);
+    const { left, right, top, bottom } = boxOf(place);
     return left <= x && x < right && top <= y && y < bottom;
   });
 }
 
-/** The text that is there, its bytes and the rows of its types. They are listed when a type is first asked for. */
+/** Returns the present text, its bytes and the rows of its types, which are listed when a type is first asked for. */
 function typed() {
   const text = at("text").value;
   if (page.typed?.text !== text) {

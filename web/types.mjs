@@ -6,7 +6,7 @@ export function rowsOf(answer) {
   return answer.kind === REPORTED ? JSON.parse(new TextDecoder().decode(answer.text)).types : [];
 }
 
-/** The row with the smallest place around a byte, the first of equally small ones: as `type_at` of the proved check has it. */
+/** Returns the row with the smallest place around a byte, the first of equally small ones, as `type_at` of `pc_top` does. */
 export function smallestAt(rows, byte) {
   const around = rows.filter(({ start, end }) => start <= byte && byte <= end);
   return around.reduce((best, it) => (best && best.end - best.start <= it.end - it.start ? best : it), undefined);

@@ -6,6 +6,7 @@ from pathlib import Path
 from typing import Dict, List, NamedTuple, Optional, Set, Tuple
 
 from . import ROOT
+from .antt_files import Definition, used_in
 
 # Comments, strings and characters, which hold no code
 NO_CODE = re.compile(r'//[^\n]*|"(?:[^"\\]|\\.)*"|\'(?:[^\'\\\n]|\\.[^\'\n]*)\'', re.S)
@@ -19,11 +20,13 @@ CYCLE = re.compile(r" *#\[cycle\((\w+)\)\]")
 
 
 class Function(NamedTuple):
-    """A function of the sources: whether it takes `self`, and whether its body is empty."""
+    """A function of the sources: whether it takes `self`, whether its body is empty, and the text from its parameters to
+    its body."""
     name: str
     is_pub: bool
     takes_self: bool
     is_law: bool
+    head: str
 
 
 class Module:
@@ -40,6 +43,8 @@ class Module:
         # The names that other modules may use, also those of the crate alone
         self.offered_types: Set[str] = set()
         self.offered_functions: Set[str] = set()
+        # The definitions that its clauses may cite, by the names that they have there
+        self.definitions: Dict[str, Definition] = {}
 
 
 def without_text(source: str) -> str:
@@ -75,10 +80,10 @@ def read_function(code: str, at: int, is_pub: bool) -> Tuple[Function, int]:
     while True:
         brace, semicolon = code.find("{", place), code.find(";", place)
         if brace < 0 or 0 <= semicolon < brace:
-            return Function(name, is_pub, takes_self, False), semicolon + 1
+            return Function(name, is_pub, takes_self, False, code[params:semicolon]), semicolon + 1
         end = closing(code, brace)
         if not re.search(r"\b(?:ensures|requires|decreases)\b", code[place:brace]):
-            return Function(name, is_pub, takes_self, not code[brace + 1 : end - 1].strip()), end
+            return Function(name, is_pub, takes_self, not code[brace + 1 : end - 1].strip(), code[params:brace]), end
         place = end
 
 
@@ -124,6 +129,7 @@ def read_use(module: Module, tree: str, before: str = "") -> None:
 def read_items(code: str) -> Module:
     """Returns the contents of a module, whose source has no text in it."""
     module, place = Module(), 0
+    module.definitions = used_in(code)
     starts = [(found.start(), found) for found in ITEM.finditer(code)]
     starts += [(found.start(), found) for found in IMPL.finditer(code)]
     for start, found in sorted(starts, key=lambda each: each[0]):

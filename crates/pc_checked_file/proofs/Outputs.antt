@@ -35,7 +35,7 @@ module _ {W : Type 0} (contents : W → Option (List ℕ)) (told : Option (List 
     rows = h.rows;
     headline = h.headline;
     count = h.written.0;
-    written = h.written.2.0;
+    written = h.written.2;
   }
 
   listing_cut : (json : Bool) (old new : Counted W) → IsListingBegun contents told json old new
@@ -46,30 +46,30 @@ module _ {W : Type 0} (contents : W → Option (List ℕ)) (told : Option (List 
     types = h.types;
     lists = h.lists;
     count = h.written.0;
-    written = h.written.2.0;
+    written = h.written.2;
   }
 
   report_fault : (asked : Asked) → asked.types ≡ false → (fault : CheckFault) (old new : Counted W)
       → WhenWriteFails (IsBegun contents told asked.json asked.format old new) fault
       → UnlessWriteFails (new ≡ old) fault → IsOutput contents told asked (Err fault) old new
-  report_fault asked no check_fault.Write old new begun same =
+  report_fault asked reported_alone check_fault.Write old new begun same =
       subst (Chosen (IsListingCut contents told asked.json old new)
-      (IsReportCut contents told asked.json asked.format old new)) (sym no)
+      (IsReportCut contents told asked.json asked.format old new)) (sym reported_alone)
       (report_cut asked.json asked.format old new begun)
-  report_fault asked no check_fault.Read old new begun same = same
-  report_fault asked no check_fault.OutOfMemory old new begun same = same
-  report_fault asked no (check_fault.Refused r) old new begun same = same
+  report_fault asked reported_alone check_fault.Read old new begun same = same
+  report_fault asked reported_alone check_fault.OutOfMemory old new begun same = same
+  report_fault asked reported_alone (check_fault.Refused r) old new begun same = same
 
   listing_fault : (asked : Asked) → asked.types ≡ true → (fault : CheckFault) (old new : Counted W)
       → WhenWriteFails (IsListingBegun contents told asked.json old new) fault
       → UnlessWriteFails (new ≡ old) fault → IsOutput contents told asked (Err fault) old new
-  listing_fault asked yes check_fault.Write old new begun same =
+  listing_fault asked listed_asked check_fault.Write old new begun same =
       subst (Chosen (IsListingCut contents told asked.json old new)
-      (IsReportCut contents told asked.json asked.format old new)) (sym yes)
+      (IsReportCut contents told asked.json asked.format old new)) (sym listed_asked)
       (listing_cut asked.json old new begun)
-  listing_fault asked yes check_fault.Read old new begun same = same
-  listing_fault asked yes check_fault.OutOfMemory old new begun same = same
-  listing_fault asked yes (check_fault.Refused r) old new begun same = same
+  listing_fault asked listed_asked check_fault.Read old new begun same = same
+  listing_fault asked listed_asked check_fault.OutOfMemory old new begun same = same
+  listing_fault asked listed_asked (check_fault.Refused r) old new begun same = same
 
   -- the output of a report, by the clauses of the check of a stream
   pub report_output : (asked : Asked) → asked.types ≡ false → (result : Result FindingCounts CheckFault)
@@ -77,10 +77,10 @@ module _ {W : Type 0} (contents : W → Option (List ℕ)) (told : Option (List 
       → IfOk result (λ counts. IsReported contents told asked.json asked.format old new counts.errors counts.dynamic)
       → IfErr result (WhenWriteFails (IsBegun contents told asked.json asked.format old new))
       → IfErr result (UnlessWriteFails (new ≡ old)) → IsOutput contents told asked result old new
-  report_output asked no (Ok counts) old new reported begun same =
+  report_output asked reported_alone (Ok counts) old new reported begun same =
       subst (Chosen (IsListed contents told asked.json old new counts.errors counts.dynamic)
-      (IsReported contents told asked.json asked.format old new counts.errors counts.dynamic)) (sym no) reported
-  report_output asked no (Err fault) old new reported begun same = report_fault asked no fault old new begun same
+      (IsReported contents told asked.json asked.format old new counts.errors counts.dynamic)) (sym reported_alone) reported
+  report_output asked reported_alone (Err fault) old new reported begun same = report_fault asked reported_alone fault old new begun same
 
   -- the output of a listing of types, by the clauses of its stream
   pub listing_output : (asked : Asked) → asked.types ≡ true → (result : Result FindingCounts CheckFault)
@@ -88,10 +88,10 @@ module _ {W : Type 0} (contents : W → Option (List ℕ)) (told : Option (List 
       → IfOk result (λ counts. IsListed contents told asked.json old new counts.errors counts.dynamic)
       → IfErr result (WhenWriteFails (IsListingBegun contents told asked.json old new))
       → IfErr result (UnlessWriteFails (new ≡ old)) → IsOutput contents told asked result old new
-  listing_output asked yes (Ok counts) old new listed begun same =
+  listing_output asked listed_asked (Ok counts) old new listed begun same =
       subst (Chosen (IsListed contents told asked.json old new counts.errors counts.dynamic)
-      (IsReported contents told asked.json asked.format old new counts.errors counts.dynamic)) (sym yes) listed
-  listing_output asked yes (Err fault) old new listed begun same = listing_fault asked yes fault old new begun same
+      (IsReported contents told asked.json asked.format old new counts.errors counts.dynamic)) (sym listed_asked) listed
+  listing_output asked listed_asked (Err fault) old new listed begun same = listing_fault asked listed_asked fault old new begun same
 
   -- a fault in place of another one: the output is the same
   pub told_output : (asked : Asked) (fault other : CheckFault) (old new : Counted W) → IsExplainedAs fault other

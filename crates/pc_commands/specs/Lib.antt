@@ -2,4 +2,3 @@ pub mod Faults
 pub mod CheckWords
 pub mod RunWords
 pub mod Running
-pub mod Status

@@ -8,7 +8,6 @@ mod devices;
 mod faults;
 mod run_words;
 mod running;
-mod status;
 
 pub use check_words::{CheckOptions, check_options};
 pub use command_line::{given_words, tell};
@@ -16,4 +15,3 @@ pub use devices::{RemembersError, reason_of};
 pub use faults::OptionFault;
 pub use run_words::{RunOptions, run_options};
 pub use running::traced;
-pub use status::status_of;

@@ -1,17 +1,17 @@
 //! Runs a module: `pyrun --fuel N FILE`.
 #![tactic(auto)]
 
-use pc_commands::{given_words, reason_of, tell, traced};
-pub use pc_commands::{OptionFault, RunOptions as Options, run_options as options, status_of};
-use pc_run::{Trace, trace_text};
-use pc_source::Fault;
-use std::alloc::AllocError;
+use pc_commands::{RemembersError, given_words, reason_of, tell};
+pub use pc_commands::{OptionFault, RunOptions as Options, run_options as options};
+use pc_source::Counted;
+use pc_traced_file::{RunFault, run_file, status_of};
+use std::fs::File;
 use std::hash::RandomState;
-use std::io::ErrorKind;
+use std::io;
+use std::io::{ErrorKind, Write};
 use std::process::ExitCode;
 use std::random::RandomSource;
 use std::rt::{Env, Files};
-use std::{fs, io};
 
 /// Reads the words of the command line.
 fn asked_for<R: Env + AllocGlobal>(rt: &R) -> Result<Options, OptionFault> {
@@ -20,60 +20,97 @@ fn asked_for<R: Env + AllocGlobal>(rt: &R) -> Result<Options, OptionFault> {
     options(rt.alloc(), words.as_slice())
 }
 
-/// Prints a trace.
-fn print_trace<R: Print + AllocGlobal>(rt: &R, trace: &Trace) -> io::Result<()> {
-    let text = trace_text(rt.alloc(), trace).map_err(|_| io::Error::from(AllocError))?;
-    print!(rt; "{text}")
-}
-
-/// Prints the reason that a device failed, as the system words it, and returns the exit status.
-fn explain<R: Eprint + AllocGlobal>(rt: &R, device: &str, error: &io::Error) -> u8 {
-    let reason = reason_of(rt.alloc(), error);
-    let _ = match reason {
-        // Printing asks for memory too; a failed allocation is no fault of the device.
+/// Prints the system's reason that a device failed; if there is none, the fault.
+fn explain<R: Eprint + AllocGlobal>(
+    rt: &R,
+    fault: &RunFault,
+    device: &str,
+    error: Option<io::Error>,
+) {
+    let Some(error) = error else {
+        let _ = eprintln!(rt; "{fault}");
+        return;
+    };
+    // If standard error fails too, there is no other way to report it.
+    let _ = match reason_of(rt.alloc(), &error) {
+        // Opening a file asks for memory too; a failed allocation is no fault of the device.
         Ok(reason) if error.kind() != ErrorKind::OutOfMemory => {
             eprintln!(rt; "pyrun: {device}: {reason}")
         }
         _ => eprintln!(rt; "out of memory"),
     };
-    3
 }
 
-/// Prints the trace or the fault of a run and returns the exit status.
-fn report<R: Print + Eprint + AllocGlobal>(rt: &R, outcome: &Result<Trace, Fault>) -> u8 {
-    match outcome {
-        Ok(trace) => {
-            if let Err(error) = print_trace(rt, trace) {
-                return explain(rt, "standard output", &error);
-            }
-        }
-        Err(fault) => {
-            let _ = eprintln!(rt; "{fault}");
-        }
+/// Prints the reason that a device failed which is needed before the run, and returns the fault.
+fn unread<R: Eprint + AllocGlobal>(rt: &R, device: &str, error: io::Error) -> RunFault {
+    explain(rt, &RunFault::Read, device, Some(error));
+    RunFault::Read
+}
+
+/// Runs the content of a file and writes the trace to standard output.
+fn traced<R: Print + Eprint + Files + AllocGlobal, E: Write + Drop>(
+    rt: &R,
+    options: &Options,
+    keys: RandomState,
+    file: R::File,
+    errors: E,
+) -> Result<(), RunFault> {
+    let mut input = Counted::new(RemembersError::new(file));
+    let mut output = Counted::new(RemembersError::new(io::writer(rt)));
+    let mut errors = Counted::new(errors);
+    let outcome = run_file(
+        rt.alloc(),
+        keys,
+        options.fuel,
+        &mut input,
+        &mut output,
+        &mut errors,
+    );
+    match &outcome {
+        Err(RunFault::Read) => explain(
+            rt,
+            &RunFault::Read,
+            options.file.as_str(),
+            input.inner().error(),
+        ),
+        Err(RunFault::Write) => explain(
+            rt,
+            &RunFault::Write,
+            "standard output",
+            output.inner().error(),
+        ),
+        _ => {}
     }
-    status_of(outcome)
+    outcome
+}
+
+/// Opens the file and runs it, with random keys from the system.
+fn opened<R: Print + Eprint + Files + RandomSource + AllocGlobal, E: Write + Drop>(
+    rt: &R,
+    options: &Options,
+    errors: E,
+) -> Result<(), RunFault> {
+    let file = match File::open(rt, options.file.as_str()) {
+        Ok(file) => file,
+        Err(error) => return Err(unread(rt, options.file.as_str(), error)),
+    };
+    match RandomState::new(rt) {
+        Ok(keys) => traced(rt, options, keys, file, errors),
+        Err(error) => Err(unread(rt, "random keys", error)),
+    }
 }
 
 /// Runs the program on the words of its command line and returns the exit status.
-fn run<R: Print + Eprint + Env + Files + RandomSource + AllocGlobal>(rt: &R) -> u8 {
-    let options = match asked_for(rt) {
-        Ok(options) => options,
-        Err(fault) => return tell(rt, &fault),
-    };
-    let bytes = match fs::read(rt, options.file.as_str()) {
-        Ok(bytes) => bytes,
-        Err(error) => return explain(rt, options.file.as_str(), &error),
-    };
-    let keys = match RandomState::new(rt) {
-        Ok(keys) => keys,
-        Err(error) => return explain(rt, "random keys", &error),
-    };
-    report(
-        rt,
-        &traced(rt.alloc(), keys, bytes.as_slice(), options.fuel),
-    )
+fn run<R: Print + Eprint + Env + Files + RandomSource + AllocGlobal, E: Write + Drop>(
+    rt: &R,
+    errors: E,
+) -> u8 {
+    match asked_for(rt) {
+        Ok(options) => status_of(&opened(rt, &options, errors)),
+        Err(fault) => tell(rt, &fault),
+    }
 }
 
 fn main(rt: HostRuntime) -> ExitCode {
-    ExitCode::from(run(&rt))
+    ExitCode::from(run(&rt, rt.stderr()))
 }

@@ -1,27 +1,49 @@
-//! The statuses of runs, and the reasons of devices, by `pc_commands`.
+//! The statuses of runs, by `pc_traced_file`, and the reasons of devices, by `pc_commands`.
 use crate::options::fault_text;
-use pc_commands::{OptionFault, RemembersError, reason_of, status_of, traced};
-use pc_source::Fault;
+use pc_commands::{OptionFault, RemembersError, reason_of};
+use pc_source::Counted;
+use pc_traced_file::{RunFault, run_file, status_of};
 use pc_tree::Keys;
 use std::alloc::{AllocError, Global};
 use std::io;
 use std::io::Write;
 
+/// Returns the number of events of the trace that was written, and its end.
+fn trace_summary(alloc: Global, written: &[u8]) -> Result<String, AllocError> {
+    let text = str::from_utf8(written).unwrap_or("");
+    let (events, end) = text.split_once("end ").unwrap_or((text, ""));
+    let count = events.lines().count();
+    format!(in alloc; "{count} {}", end.trim_end())
+}
+
+/// Returns the status of the run of a module with that fuel, and a summary of its trace or the line of its fault.
+fn outcome_text(alloc: Global, text: &str, fuel: u64) -> Result<String, AllocError> {
+    let Ok(keys) = Keys::of(text.as_bytes()).state() else {
+        return Err(AllocError);
+    };
+    let mut input = Counted::new(text.as_bytes());
+    let mut output = Counted::new(Vec::new(alloc));
+    let mut errors = Counted::new(Vec::new(alloc));
+    let outcome = run_file(alloc, keys, fuel, &mut input, &mut output, &mut errors);
+    let status = status_of(&outcome);
+    if outcome.is_ok() {
+        let summary = trace_summary(alloc, output.inner().as_slice())?;
+        return format!(in alloc; "{status}: {summary}");
+    }
+    let line = str::from_utf8(errors.inner().as_slice()).unwrap_or("");
+    format!(in alloc; "{status}: {}", line.trim_end())
+}
+
 /// Returns the exit status of the run of a module, its number of events and its end, or its fault. The first line of
 /// the row is the fuel; a row without such a line is a run that was out of memory.
 pub fn status_text(alloc: Global, row: &str) -> Result<String, AllocError> {
     let (fuel, text) = row.split_once('\n').unwrap_or(("", ""));
-    let Ok(keys) = Keys::of(text.as_bytes()).state() else {
-        return Err(AllocError);
-    };
-    let outcome = match fuel.parse() {
-        Ok(fuel) => traced(alloc, keys, text.as_bytes(), fuel),
-        Err(_) => Err(Fault::OutOfMemory),
-    };
-    let status = status_of(&outcome);
-    match outcome {
-        Ok(trace) => format!(in alloc; "{status}: {} {}", trace.events.len(), trace.end.word()),
-        Err(fault) => format!(in alloc; "{status}: {fault}"),
+    match fuel.parse() {
+        Ok(fuel) => outcome_text(alloc, text, fuel),
+        Err(_) => {
+            let fault = RunFault::OutOfMemory;
+            format!(in alloc; "{}: {fault}", status_of(&Err(fault)))
+        }
     }
 }
 

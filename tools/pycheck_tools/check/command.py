@@ -8,7 +8,7 @@ NAME is one of these, and all are run where none is named:
     edits         each wrong body can be applied; with --log LOG, what `rt ci` printed, that it tried each of its own
     tested        the list of docs/TESTED.md, which test calls which public call; --calls prints all calls instead
     pages         links, the size of README.md, and the changes that CONTRIBUTING.md shows
-    names         no two public types, and no two public functions, of the crates have one name
+    names         no two public types, functions or definitions of the crates have one name and two meanings
     twice         no function and no definition of six lines stands twice
     architecture  the picture and the crates of docs/ARCHITECTURE.md; with --write they are written
     help          the texts of crates/pc_code_texts; of each --page, or of docs/CODES.md

@@ -23,6 +23,7 @@ import re
 from typing import Dict, Iterator, List, Optional, Set, Tuple
 
 from .. import ROOT
+from ..antt_files import DEFINED
 from .codes import CODES
 
 PAGE = os.path.join("docs", "DEFINITIONS.md")
@@ -36,7 +37,6 @@ PATH = re.compile(r"(?:`(\w+)`, )?(?<![\w/.])(?:crates/)?(?:(\w+)/)?((?:specs|pr
 # A definition that orders all codes and finds none
 ORDERS = {"code_rank"}
 OF_CODE = re.compile(r"(?<![\w'.])([SLING]\d|E\d\d|A\d)(?![\w'])")
-DEFINED = re.compile(r"\s*(?:(?:abbrev|unfoldable|pub|record|data)\s+)+([^\s:({]+)")
 
 
 @functools.cache
@@ -44,7 +44,7 @@ def defined_in(path: str) -> Optional[Set[str]]:
     """Returns the names that a file defines, or None if it does not exist."""
     try:
         with open(os.path.join(ROOT, path), encoding="utf-8") as file:
-            return {found[1] for found in map(DEFINED.match, file) if found}
+            return {found[2] for found in map(DEFINED.match, file) if found}
     except FileNotFoundError:
         return None
 
@@ -64,10 +64,10 @@ def sites_in(path: str) -> Iterator[Tuple[str, str]]:
     with open(os.path.join(ROOT, path), encoding="utf-8") as file:
         for line in file:
             found = DEFINED.match(line)
-            words = line[:found.start(1)].split() if found else []
+            words = found[1].split() if found else []
             # Below the head of a record an indented `pub NAME` is a field of it, and elsewhere a definition
             if found and not (in_record and words == ["pub"] and line[0] == " "):
-                name, in_record = found[1], "record" in words
+                name, in_record = found[2], "record" in words
             if not re.match(r"\s*(?:use |--)", line) and name not in ORDERS:
                 yield from ((code, name) for code in OF_CODE.findall(line.split("--")[0]) if code in CODES)
 

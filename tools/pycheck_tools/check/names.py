@@ -1,90 +1,113 @@
-"""Checks that no two public types of the crates have one name, and no two public functions.
+"""Checks that no two public types, functions or definitions of the crates have one name and two meanings.
 
     tools/check names
 
-A type is a struct, an enum, a trait or an alias, and a function one that is no method. A name is public if other modules may use
-it, even if only those of its crate. The functions under SHARED may have one name in so many modules, for the reason given there.
+A type is a struct, an enum, a trait or an alias, a function one that is no method, and a definition one of
+crates/NAME/specs. A name is public if other modules may use it, even if only those of its crate. Fields and variants,
+and fields and constructors of definitions, are read with the type that has them, and are left out. A definition belongs
+to a function of its name whose contract cites it, and to a type of its name that one file uses as RustNAME beside it;
+the two are one thing.
 
-Prints each name that is in more modules, with these, and each under SHARED that is in another number of them. Last it says
-how many names there are. The exit status is 1 if something is wrong, or if there is no name.
+pycheck_tools/shared_names.py has two lists. Names under GROUPS may be in so many places, for the reason given there.
+Those under NAMED_ALIKE mean two things, and what has one of them is to have the better name given there.
+
+Prints each name that is in more places than it may be, with these, and each entry of the lists that is wrong or that no
+name needs. Last it says how many names there are, and how many are to have a better one. The exit status is 1 if
+something is wrong, or if there is no name.
 """
 from __future__ import annotations
 
 import argparse
+import re
 from collections import defaultdict
-from typing import Dict, Iterator, List, Mapping, NamedTuple, Tuple
+from typing import Dict, Iterable, Iterator, List, Mapping, NamedTuple, Set
 
 from .. import ROOT
-from ..rt_files import modules_of
+from ..antt_files import Definition, public_in, specs, used_in
+from ..rt_files import Module, modules_of
+from ..shared_names import GROUPS, NAMED_ALIKE, Alike, Group
 
-
-class Shared(NamedTuple):
-    """In how many modules a name may be, and why."""
-
-    modules: int
-    reason: str
-
-
-SHARED: Dict[str, Shared] = {
-    "answer": Shared(2, "of a server's messages, and of a test's question"),
-    "characters": Shared(2, "of a value, and of a literal without quotes and escapes"),
-    "fault_text": Shared(3, "the text of a fault, for each kind of tables"),
-    "findings_are_listed": Shared(2, "one law, of annotations and of expressions"),
-    "is_alike": Shared(2, "one meaning, of types and of methods"),
-    "is_same": Shared(3, "one meaning, of types in boxes, of names and of kinds of tokens"),
-    "join": Shared(2, "of operands, as Python's grammar has it, and of types, as the typing specification has it"),
-    "join_or_object": Shared(2, "one meaning, over a store and over boxes"),
-    "judge": Shared(6, "one meaning: each crate of tests judges its tables"),
-    "kept": Shared(2, "a node that is not too deep, and a document that is open"),
-    "made": Shared(2, "a number of a run, and a type of a test's question"),
-    "meet": Shared(2, "of kinds of operands, and of the ways through a statement"),
-    "module_text": Shared(2, "one meaning, for two kinds of tables"),
-    "named": Shared(3, "one meaning, of a token, a message and a table: what it names"),
-    "names_of": Shared(2, "one meaning, of a module and of its items"),
-    "one_refusal": Shared(2, "one law, of bytes and of lines"),
-    "position_in": Shared(2, "one meaning, in a text and in a message"),
-    "put": Shared(2, "one meaning, into documents and into names"),
-    "refusals_within": Shared(2, "one law, of bytes and of tokens"),
-    "replies_are_determined": Shared(2, "one law, over any checker and over the proved one"),
-    "sessions_are_written": Shared(2, "one law, over any checker and over the proved one"),
-    "sessions_go_on": Shared(2, "one law, over any checker and over the proved one"),
-    "sessions_stay_in_step": Shared(2, "one law, over any checker and over the proved one"),
-    "status_of": Shared(3, "one meaning: the exit status of each program"),
-    "text_of": Shared(2, "a copy of a text, and the `str` of a value"),
-    "type_condition": Shared(2, "one meaning: that of statements calls that of expressions"),
-    "write_whole": Shared(2, "one meaning, to a device, and to one that is counted"),
-}
 Places = Dict[str, List[str]]
+# The folder of the types of the program, as files of specs see them
+DECLARED = "/specs/declared/"
 
 
-def places() -> Tuple[Places, Places]:
-    """Returns the modules of each public type and of each public function, by its name."""
-    types: Places = defaultdict(list)
-    functions: Places = defaultdict(list)
+class Found(NamedTuple):
+    """The places of each name, and how many types, functions and definitions there are."""
+
+    places: Places
+    types: int
+    functions: int
+    definitions: int
+
+
+def cited_by(module: Module, name: str) -> Iterator[Definition]:
+    """Yields the definitions of a function's name that its clauses cite."""
+    for known, definition in module.definitions.items():
+        if definition[1] == name and re.search(rf"(?<![\w'.]){re.escape(known)}(?![\w'])", module.functions[name].head):
+            yield definition
+
+
+def twins_in(file: str, text: str) -> Iterator[Definition]:
+    """Yields the definitions beside which a file of specs uses a type of the same name, as RustNAME."""
+    used = used_in(text)
+    types = {name for known, (path, name) in used.items() if DECLARED in path and known.startswith("Rust")}
+    yield from ((file, name) for name in types)
+    yield from ((path, name) for path, name in used.values() if name in types and DECLARED not in path)
+
+
+def found_in_crates() -> Found:
+    """Returns the public names of all crates. A definition that belongs to a type or a function has no place."""
+    places: Places = defaultdict(list)
+    belonging: Set[Definition] = set()
+    types = functions = definitions = 0
     for folder in sorted(ROOT.glob("crates/*/src")):
         crate = folder.parent.name
         for path, module in modules_of(crate).items():
-            at = f"{crate}::{path}" if path else crate
-            for names, found in ((module.offered_types, types), (module.offered_functions, functions)):
-                for name in sorted(names):
-                    found[name].append(at)
-    return types, functions
+            for name in sorted(module.offered_types | module.offered_functions):
+                places[name].append(f"{crate}::{path}" if path else crate)
+            for name in module.offered_functions:
+                belonging.update(cited_by(module, name))
+            types += len(module.offered_types)
+            functions += len(module.offered_functions)
+    texts = list(specs())
+    for file, text in texts:
+        belonging.update(twins_in(file, text))
+    for file, text in texts:
+        for name in public_in(text):
+            definitions += 1
+            if (file, name) not in belonging:
+                places[name].append(file)
+    return Found(places, types, functions, definitions)
 
 
-def faults_of(kind: str, found: Places, shared: Mapping[str, Shared]) -> Iterator[str]:
-    """Yields the names that are in more or fewer modules than they may be."""
-    for name in sorted({*found, *shared}):
-        modules = found.get(name, [])
-        if len(modules) != (shared[name].modules if name in shared else 1):
-            may = f", and {shared[name].modules} are listed" if name in shared else ""
-            yield f"the {kind} {name} is in {len(modules)} modules{may}: {', '.join(modules)}"
+def faults_of(places: Places, groups: Iterable[Group], alike: Mapping[str, Alike]) -> Iterator[str]:
+    """Yields the names in more or fewer places than they may be in, and the entries of the lists that are wrong."""
+    shared: Dict[str, int] = {}
+    for group in groups:
+        yield from (f"{name} is listed twice" for name in group.names if name in shared)
+        shared.update(group.names)
+    for name in sorted({*places, *shared, *alike}):
+        here = places.get(name, [])
+        renamed = alike[name].others if name in alike else {}
+        left = [place for place in here if place not in renamed]
+        yield from (f"{name} is not at {place}" for place in renamed if place not in here)
+        if renamed and not left:
+            yield f"{name} means two things only where it is to be renamed"
+        if name in shared and (len(left) != shared[name] or shared[name] < 2):
+            yield f"{name} is in {len(left)} places, and {shared[name]} are listed: {', '.join(left)}"
+        elif name not in shared and len(left) > 1:
+            yield f"{name} is in {len(left)} places: {', '.join(left)}"
 
 
 def run(_: argparse.Namespace) -> int:
     """Prints the faults, and returns the exit status."""
-    types, functions = places()
-    faults = [*faults_of("type", types, {}), *faults_of("function", functions, SHARED)]
+    found = found_in_crates()
+    faults = list(faults_of(found.places, GROUPS, NAMED_ALIKE))
     for fault in faults:
         print(fault)
-    print(f"{len(types)} types, {len(functions)} functions, {len(SHARED)} shared, {len(faults)} faults")
-    return 1 if faults or not types or not functions else 0
+    shared = sum(len(group.names) for group in GROUPS)
+    renamed = sum(len(name.others) for name in NAMED_ALIKE.values())
+    print(f"{found.types} types, {found.functions} functions, {found.definitions} definitions, {shared} shared names, "
+          f"{renamed} to be renamed, {len(faults)} faults")
+    return 1 if faults or not found.places else 0

@@ -19,6 +19,7 @@ from pathlib import Path
 from typing import Dict, FrozenSet, Iterator, List, Tuple
 
 from .. import ROOT
+from ..antt_files import DEFINED
 from ..rt_files import closing, without_text
 
 PAGE = "docs/DECISIONS.md"
@@ -28,7 +29,6 @@ EXPLAINED: Dict[FrozenSet[str], str] = {}
 BRACKETS = re.compile(r"[{}()\[\];,]+")
 FUNCTION = re.compile(r"\bfn\s+(\w+)")
 CLAUSE = re.compile(r"\b(?:requires|ensures|decreases)\b")
-DEFINED = re.compile(r"(?:(?:abbrev|unfoldable|pub|record|data)\s+)+([^\s:({]+)")
 # The place of a piece of code, and its lines
 Piece = Tuple[str, str]
 
@@ -66,7 +66,7 @@ def definitions_in(source: str) -> Iterator[Piece]:
             continue
         if name:
             yield name, lines_of(re.sub(rf"(?<![\w'.]){re.escape(name)}(?![\w'])", "@", lines), "--")
-        name, lines = (found[1], part) if found else ("", "")
+        name, lines = (found[2], part) if found else ("", "")
 
 
 def functions_in(source: str) -> Iterator[Piece]:
