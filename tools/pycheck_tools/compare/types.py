@@ -1,4 +1,4 @@
-"""Compares the types of expressions by pycheck with those that mypy reveals.
+"""Compares the types of expressions and of bound names by pycheck with those that mypy reveals.
 
     tools/compare types PYCHECK [PAGE [EXAMPLES]]
 
@@ -9,15 +9,17 @@ Compared are the examples in which neither program finds an error. Each expressi
 given to mypy as `reveal_type(EXPRESSION)`, and the two types are compared: a literal's type is that of its value, the
 order of the members of a union does not count, and neither do the modules of names. An expression that mypy does not
 get to has no type by mypy, `none`. Each is revealed in a copy of the module of its own, since mypy does not narrow by a
-revealed expression, and gives one of two equal notes of a line.
+revealed expression, and gives one of two equal notes of a line. A bound name is revealed in a line of its own behind
+its binding, and its current type is compared if it has another than the declared one; of a function the type that it
+returns.
 
 The page has a table with a row for each pair of types that differ: the type by pycheck, the type by mypy, the number
-of expressions, and a reason; and a row `the same type` with the number of expressions that agree, as `90 of 102`. Where
-mypy has the version that the page names, each row must hold, and no pair may be missing.
+of places, and a reason; and rows `the same type` and `the same type of a bound name` with the numbers of those that
+agree, as `90 of 102`. Where mypy has the version that the page names, each row must hold, and no pair may be missing.
 
-Prints each pair that differs, with its number and with the first expression that has it, and what is wrong with the
-page. The exit status is 1 where something is wrong with the page, or where nothing was compared; 3 where a program
-cannot be run.
+Prints each pair that differs, with its number and with the first place that has it, and what is wrong with the page.
+The exit status is 1 where something is wrong with the page, or where nothing was compared; 3 where a program cannot be
+run.
 """
 from __future__ import annotations
 
@@ -26,26 +28,30 @@ import json
 import re
 import sys
 import tempfile
+from collections import Counter
 from pathlib import Path
-from typing import Dict, List, NamedTuple, Sequence, Set, Tuple
+from typing import Dict, Iterator, List, NamedTuple, Sequence, Set, Tuple
 
 from .. import ROOT
 from ..words import Words
+from .bound_names import Question, Questions
 from .mypy import Failure, Page, Programs, lines_of_mypy, read_page, run
 
 REVEALED = re.compile(r'module\.py:(\d+):(\d+): note: Revealed type is "(.*)"')
 LITERAL = re.compile(r"""Literal\[(?:(True|False)|(-?\d+)|('(?:[^'\\]|\\.)*'|"(?:[^"\\]|\\.)*"))\]\??""")
-AGREE = "the same type"
+# The rows of the page with the numbers of those that agree, by their kind
+AGREE = {"expression": "the same type", "name": "the same type of a bound name"}
 CALL = b"reveal_type("
 Place = Tuple[int, int]
 Pair = Tuple[str, str]
 
 
 class Listed(NamedTuple):
-    """An expression that pycheck lists: its bytes, its line, and its type."""
+    """An expression or a bound name that pycheck lists: its bytes, its line, its kind, and its type."""
 
     place: Place
     line: int
+    kind: str
     type: str
 
 
@@ -79,6 +85,8 @@ def of_literal(found: "re.Match[str]") -> str:
 
 def plain(text: str) -> str:
     """Returns a type as both programs would write it, or the text itself if it is not a type of the profile."""
+    if text.startswith("def ("):
+        text = text.rpartition(") -> ")[2]
     text = LITERAL.sub(of_literal, text)
     text = re.sub(r"\b(?:builtins|module\d*)\.", "", text).replace("<nothing>", "Never").replace("[()]", "[Empty]")
     try:
@@ -91,7 +99,7 @@ def plain(text: str) -> str:
 
 
 class Copy(NamedTuple):
-    """A copy of a module in which one expression is revealed, with the line and the column where mypy says so."""
+    """A copy of a module in which one type is revealed, with the line and the column where mypy says so."""
 
     text: bytes
     line: int
@@ -102,6 +110,23 @@ def copy_of(text: bytes, place: Place) -> Copy:
     """Returns the copy in which the expression at this place is revealed."""
     before, after = text[: place[0]] + CALL, b")" + text[place[1] :]
     return Copy(before + text[slice(*place)] + after, before.count(b"\n") + 1, len(before) - before.rfind(b"\n"))
+
+
+def copy_of_name(text: bytes, question: Question) -> Copy:
+    """Returns the copy with the line that asks for a name."""
+    lines = text.splitlines()
+    lines.insert(question.line - 1, question.indent + CALL + question.asked.encode() + b")")
+    return Copy(b"\n".join([*lines, b""]), question.line, len(question.indent) + len(CALL) + 1)
+
+
+def copies_of(text: bytes, rows: Sequence[Listed]) -> Iterator[Tuple[Listed, Copy]]:
+    """Yields the rows that mypy can be asked for, each with its copy of the module."""
+    questions = Questions(text).found
+    for row in rows:
+        if row.kind == "expression":
+            yield row, copy_of(text, row.place)
+        elif row.place[0] in questions:
+            yield row, copy_of_name(text, questions[row.place[0]])
 
 
 def revealed(lines: Sequence[str], copy: Copy) -> List[str]:
@@ -115,7 +140,7 @@ def revealed(lines: Sequence[str], copy: Copy) -> List[str]:
 
 
 class Example(NamedTuple):
-    """A module that both programs accept, with the expressions that pycheck lists."""
+    """A module that both programs accept, with the expressions and the bound names that pycheck lists."""
 
     name: str
     text: bytes
@@ -127,7 +152,9 @@ class Comparison:
 
     def __init__(self, programs: Programs) -> None:
         self.programs = programs
-        self.expressions = self.agreeing = self.examples = 0
+        self.examples = 0
+        self.asked = Counter({kind: 0 for kind in AGREE})
+        self.agreeing = Counter({kind: 0 for kind in AGREE})
         self.pairs: Dict[Pair, List[str]] = {}
 
     def listed(self, text: bytes) -> List[Listed]:
@@ -136,8 +163,9 @@ class Comparison:
         status, said, error = run(words, self.programs.folder)
         if status not in (0, 1, 2):
             raise Failure(f"pycheck ends with status {status}: {error}")
-        rows = [row for row in json.loads(said)["types"] if row["kind"] == "expression"] if status == 0 else []
-        return [Listed((row["start"], row["end"]), row["line"], row["type"]) for row in rows]
+        rows = json.loads(said)["types"] if status == 0 else []
+        return [Listed((row["start"], row["end"]), row["line"], row["kind"], row.get("current", row["type"]))
+                for row in rows]
 
     def examples_in(self, folder: Path) -> List[Example]:
         """Returns the examples that both programs accept."""
@@ -148,19 +176,19 @@ class Comparison:
         return [example for example, lines in zip(taken, answers) if not lines_of_mypy(lines)]
 
     def compare(self, folder: Path) -> None:
-        """Compares the types of each expression of the examples by both programs."""
+        """Compares the types of each expression and bound name of the examples by both programs."""
         examples = self.examples_in(folder)
         self.examples = len(examples)
-        asked = [(example, row, copy_of(example.text, row.place)) for example in examples for row in example.rows]
+        asked = [(example, *pair) for example in examples for pair in copies_of(example.text, example.rows)]
         answers = self.programs.answers([copy.text for _, _, copy in asked], ["--show-column-numbers"])
         for (example, row, copy), lines in zip(asked, answers):
-            self.take(f"{example.name}:{row.line}", plain(row.type), revealed(lines, copy))
+            self.take(f"{example.name}:{row.line}", row.kind, plain(row.type), revealed(lines, copy))
 
-    def take(self, where: str, ours: str, theirs: List[str]) -> None:
-        """Records an expression with its type by pycheck and its types by mypy."""
-        self.expressions += 1
+    def take(self, where: str, kind: str, ours: str, theirs: List[str]) -> None:
+        """Records an expression or a name with its type by pycheck and its types by mypy."""
+        self.asked[kind] += 1
         if theirs == [ours]:
-            self.agreeing += 1
+            self.agreeing[kind] += 1
         else:
             self.pairs.setdefault((ours, " or ".join(theirs)), []).append(where)
 
@@ -171,16 +199,17 @@ def compare_page(page: Page, found: Comparison) -> None:
     rows = {(plain(row.cells[0].strip("`")), row.cells[1].strip("`")): row for row in typed if row.cells[2].isdigit()}
     for pair, row in rows.items():
         if len(found.pairs.get(pair, [])) != int(row.cells[2]):
-            page.fault(row.line, f"{pair[0]} beside {pair[1]}: {len(found.pairs.get(pair, []))} expressions")
+            page.fault(row.line, f"{pair[0]} beside {pair[1]}: {len(found.pairs.get(pair, []))} places")
     for pair in found.pairs:
         if pair not in rows:
-            page.fault(0, f"{pair[0]} beside {pair[1]} is not on the page: {len(found.pairs[pair])} expressions")
-    agree = [row for row in page.rows if row.cells[0] == AGREE]
-    if not agree:
-        page.fault(0, f"there is no row `{AGREE}`")
-    for row in agree:
-        if row.cells[1:2] != [f"{found.agreeing} of {found.expressions}"]:
-            page.fault(row.line, f"{AGREE}: {found.agreeing} of {found.expressions}")
+            page.fault(0, f"{pair[0]} beside {pair[1]} is not on the page: {len(found.pairs[pair])} places")
+    for kind, words in AGREE.items():
+        agree = [row for row in page.rows if row.cells[0] == words]
+        if not agree:
+            page.fault(0, f"there is no row `{words}`")
+        for row in agree:
+            if row.cells[1:2] != [f"{found.agreeing[kind]} of {found.asked[kind]}"]:
+                page.fault(row.line, f"{words}: {found.agreeing[kind]} of {found.asked[kind]}")
 
 
 def compare(pycheck: str, file: Path, folder: Path) -> int:
@@ -192,14 +221,14 @@ def compare(pycheck: str, file: Path, folder: Path) -> int:
         found.compare(folder)
         if programs.version_of_mypy() == page.mypy:
             compare_page(page, found)
-    if not found.expressions:
+    if not found.asked["expression"]:
         page.fault(0, "nothing was compared: there are no examples that both programs take")
     for (ours, theirs), places in sorted(found.pairs.items()):
         print(f"{ours} beside {theirs}: {len(places)}, first {places[0]}")
     for line, text in sorted(page.faults):
         print(f"{file.name}:{line}: {text}" if line else f"{file.name}: {text}")
-    print(f"{found.examples} examples, {found.expressions} expressions: {found.agreeing} agree; "
-          f"{len(page.faults)} wrong on the page")
+    counts = ", ".join(f"{found.asked[kind]} {kind}s, {found.agreeing[kind]} of which agree" for kind in AGREE)
+    print(f"{found.examples} examples: {counts}; {len(page.faults)} wrong on the page")
     return 1 if page.faults else 0
 
 
