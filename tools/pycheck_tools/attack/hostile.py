@@ -44,7 +44,7 @@ KNOWN: Dict[str, Set[str]] = {
     "a part of an unknown name as every item": {"MiB"},
     "an attribute of an unknown name as every item": {"MiB"},
     "flows into a wide tuple": {"MiB"},
-    # Nearly the greatest length of a text
+    # These take nearly as many seconds as they may
     "methods of a large union": {"seconds"},
     "large unions that are tested": {"seconds"},
 }
