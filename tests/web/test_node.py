@@ -34,9 +34,8 @@ MISTAKES = ((), ("--nope",), ("--nope", "a.py"), ("a.py", "--nope"), ("--json", 
             ("--format=1", "a.py", "--types"), ("--types", "--format", "3", "a.py"), ("--types", "--format", "2"),
             ("--types", "--json", "--nope"), ("--type", "a.py"), ("--json", "--typs"))
 ORDERS = 400
-# How long the check of a large module may take beside the program's, once the engine has compiled it. The aim is twice
-# as long
-SLOWER = 4
+# How many times as long as the program the check of a large module may take, once the engine has compiled it
+SLOWER = 2
 
 
 class Node(RoomCase):

@@ -31,8 +31,8 @@ SNAKE = """(part => {
   return [box.x + part * box.width, box.y + box.height / 2];
 })(%f)"""
 HINT = "document.getElementById('hint').hidden ? '' : document.getElementById('hint').textContent"
-# Milliseconds to the first answer. A page that opens alone has it within 300; here other work takes the processors
-FIRST_ANSWER = 3000
+# Milliseconds to the first answer, and how often the page is opened for it, since other work may take the processors
+FIRST_ANSWER, OPENINGS = 300, 10
 
 
 class Quiet(http.server.SimpleHTTPRequestHandler):
@@ -139,9 +139,12 @@ class Pages(unittest.TestCase):
         self.assertEqual(marked, ["ages.get(name)", "age + 1"])
 
     def test_the_first_answer_comes_soon(self) -> None:
-        spent = self.page.value("performance.getEntriesByName('answered')[0].startTime")
-        print(f"first answer after {spent:.0f} ms")
-        self.assertLess(spent, FIRST_ANSWER)
+        spent: List[float] = []
+        while len(spent) < OPENINGS and min(spent, default=FIRST_ANSWER) >= FIRST_ANSWER:
+            self.page.visit(self.base)
+            spent.append(self.page.value("performance.getEntriesByName('answered')[0].startTime"))
+        print(f"first answer after {min(spent):.0f} ms")
+        self.assertLess(min(spent), FIRST_ANSWER)
 
     def test_each_example_has_the_report_of_the_program(self) -> None:
         names = self.page.value("[...document.querySelectorAll('#example option')].length")
