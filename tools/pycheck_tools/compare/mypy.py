@@ -38,7 +38,7 @@ import subprocess
 import sys
 import tempfile
 from pathlib import Path
-from typing import Dict, Iterator, List, NamedTuple, Optional, Sequence, Set, Tuple
+from typing import Callable, Dict, Iterator, List, NamedTuple, Optional, Sequence, Set, Tuple
 
 from .. import ROOT
 from ..words import Words
@@ -463,15 +463,20 @@ def compare(pycheck: str, file: Path, folder: Path) -> int:
     return 1 if page.faults else 0
 
 
-def main(words: List[str]) -> int:
-    """Compares the page that the words name, and returns the exit status."""
-    parser = Words("tools/compare mypy", __doc__)
+def compared(name: str, about: Optional[str], by: Callable[[str, Path, Path], int], words: List[str]) -> int:
+    """Reads the words of a comparison with a page, makes it by `by`, and returns its exit status, 3 where it failed."""
+    parser = Words(f"tools/compare {name}", about)
     parser.add_argument("pycheck")
     parser.add_argument("page", nargs="?", type=Path, default=ROOT / "docs" / "BESIDE_MYPY.md")
     parser.add_argument("folder", nargs="?", type=Path, default=ROOT / "examples")
     asked = parser.parse_args(words)
     try:
-        return compare(asked.pycheck, asked.page, asked.folder)
+        return by(asked.pycheck, asked.page, asked.folder)
     except (Failure, OSError) as fault:
-        print(f"compare mypy: {fault}", file=sys.stderr)
+        print(f"compare {name}: {fault}", file=sys.stderr)
         return 3
+
+
+def main(words: List[str]) -> int:
+    """Compares the page that the words name, and returns the exit status."""
+    return compared("mypy", __doc__, compare, words)

@@ -26,16 +26,13 @@ from __future__ import annotations
 import ast
 import json
 import re
-import sys
 import tempfile
 from collections import Counter
 from pathlib import Path
 from typing import Dict, Iterator, List, NamedTuple, Sequence, Set, Tuple
 
-from .. import ROOT
-from ..words import Words
 from .bound_names import Question, Questions
-from .mypy import Failure, Page, Programs, lines_of_mypy, read_page, run
+from .mypy import Failure, Page, Programs, compared, lines_of_mypy, read_page, run
 
 REVEALED = re.compile(r'module\.py:(\d+):(\d+): note: Revealed type is "(.*)"')
 LITERAL = re.compile(r"""Literal\[(?:(True|False)|(-?\d+)|('(?:[^'\\]|\\.)*'|"(?:[^"\\]|\\.)*"))\]\??""")
@@ -234,13 +231,4 @@ def compare(pycheck: str, file: Path, folder: Path) -> int:
 
 def main(words: List[str]) -> int:
     """Compares the types of the examples, and returns the exit status."""
-    parser = Words("tools/compare types", __doc__)
-    parser.add_argument("pycheck")
-    parser.add_argument("page", nargs="?", type=Path, default=ROOT / "docs" / "BESIDE_MYPY.md")
-    parser.add_argument("folder", nargs="?", type=Path, default=ROOT / "examples")
-    asked = parser.parse_args(words)
-    try:
-        return compare(asked.pycheck, asked.page, asked.folder)
-    except (Failure, OSError) as fault:
-        print(f"compare types: {fault}", file=sys.stderr)
-        return 3
+    return compared("types", __doc__, compare, words)
