@@ -30,7 +30,7 @@ use Rattle.pc_notes.specs.Texts.{FlowText, IsFlowText, place_cmp, places_of, Has
 
 -- ---- one note more
 
-or_else_none : {A : Type 0} → (o : Option A) → or_else o None ≡ o
+pub or_else_none : {A : Type 0} → (o : Option A) → or_else o None ≡ o
 or_else_none None = refl
 or_else_none (Some a) = refl
 
@@ -72,7 +72,7 @@ equal Rattle.std.specs.declared.cmp.Ordering.TheVariants.Greater h = cc
 one_place : (p q : Place) → p.start ≡ q.start → p.end ≡ q.end → p ≡ q
 one_place p q s e = λ i. record { start = s i; end = e i }
 
-place_same : (p q : Place) → is_eq (place_cmp p q) ≡ true → p ≡ q
+pub place_same : (p q : Place) → is_eq (place_cmp p q) ≡ true → p ≡ q
 place_same p q h =
     let both = then_equal (nat_cmp p.start q.start) (nat_cmp p.end q.end) (equal (place_cmp p q) h) in
     one_place p q (nat_equal p.start q.start both.0) (nat_equal p.end q.end both.1)
@@ -85,7 +85,7 @@ at_self x Rattle.std.specs.declared.cmp.Ordering.TheVariants.Greater m = absurd 
 nat_self : (x : ℕ) → nat_cmp x x ≡ Equal
 nat_self x = at_self x (nat_cmp x x) (ranked x x (nat_cmp x x) refl)
 
-place_self : (p : Place) → is_eq (place_cmp p p) ≡ true
+pub place_self : (p : Place) → is_eq (place_cmp p p) ≡ true
 place_self p = rw (nat_self p.start, nat_self p.end) refl
 
 both_true : (a b : Bool) → (a && b) ≡ true → (a ≡ true) × (b ≡ true)
@@ -96,13 +96,13 @@ tested_same : (p q : Place) → is_same_place p q ≡ true → p ≡ q
 tested_same p q h = let both = both_true (nat_eq p.start q.start) (nat_eq p.end q.end) h in
     one_place p q (eqb-true p.start q.start both.0) (eqb-true p.end q.end both.1)
 
-self_tested : (p : Place) → is_same_place p p ≡ true
+pub self_tested : (p : Place) → is_same_place p p ≡ true
 self_tested p = rw (eq-eqb p.start p.start refl, eq-eqb p.end p.end refl) refl
 
-apart : (x : Bool) → x ≡ true → x ≡ false → ⊥
+pub apart : (x : Bool) → x ≡ true → x ≡ false → ⊥
 apart x a b = cc
 
-not_same : (p k : Place) → is_eq (place_cmp k p) ≡ false → (b : Bool) → is_same_place p k ≡ b → b ≡ false
+pub not_same : (p k : Place) → is_eq (place_cmp k p) ≡ false → (b : Bool) → is_same_place p k ≡ b → b ≡ false
 not_same p k h true e = absurd (apart (is_eq (place_cmp k p))
     (subst (λ q. is_eq (place_cmp q p) ≡ true) (tested_same p k e) (place_self p)) h)
 not_same p k h false e = refl
@@ -144,11 +144,12 @@ left_out c es e flows n has = record { first = first; given = has.given }
     first p = has.first p ∙ sym (noted_more c p (notes_of es) (note_of e) ∙ ap (or_else (flow_noted c p (notes_of es)))
         (none_kept c p e n) ∙ or_else_none (flow_noted c p (notes_of es)))
 
-kept_first : (o x : Option (Tree × Tree)) → is_some o ≡ true → or_else o x ≡ o
+-- the first of two values is kept
+pub kept_first : {A : Type 0} → (o x : Option A) → is_some o ≡ true → or_else o x ≡ o
 kept_first None x h = cc
 kept_first (Some a) x h = refl
 
-some_mapped : {A B : Type 0} (f : A → B) (o : Option A) → is_some (option_map f o) ≡ is_some o
+pub some_mapped : {A B : Type 0} (f : A → B) (o : Option A) → is_some (option_map f o) ≡ is_some o
 some_mapped f None = refl
 some_mapped f (Some a) = refl
 
@@ -174,7 +175,8 @@ known_place c es e flows known has = record {
     by p false h = ap (or_else (flow_noted c p (notes_of es))) (other_at c p e h)
         ∙ or_else_none (flow_noted c p (notes_of es))
 
-none_first : (o x : Option (Tree × Tree)) → is_some o ≡ false → or_else o x ≡ x
+-- the second of two values stands where there is no first
+pub none_first : {A : Type 0} → (o x : Option A) → is_some o ≡ false → or_else o x ≡ x
 none_first None x h = refl
 none_first (Some a) x h = cc
 

@@ -1,4 +1,6 @@
 pub mod FirstFlows
+pub mod FirstTypes
 pub mod Noted
 pub mod SameCode
 pub mod Taken
+pub mod TypesOfFlows

@@ -103,6 +103,21 @@ abbrev pub flow_noted : Code → Place → List Note → Option (Tree × Tree)
 flow_noted c p [] = None
 flow_noted c p (n ∷ ns) = flow_or c p n (flow_noted c p ns)
 
+-- the type of a note if it is that of a label at this place, shown or not, else the type of the notes after it
+abbrev pub type_or : Place → Note → (rest : Option Tree) → Option Tree
+type_or p (told f flow) rest = rest
+type_or p (typed shown q t) rest = if is_same_place p q then Some t else rest
+type_or p (named q d t) rest = rest
+
+-- the first type noted at a place, of a label that is shown or not
+abbrev pub type_noted : Place → List Note → Option Tree
+type_noted p [] = None
+type_noted p (n ∷ ns) = type_or p n (type_noted p ns)
+
+-- the meaning of two types that are borrowed
+abbrev pub pair_shown : Bor BoxType × Bor BoxType → Tree × Tree
+pair_shown t = (tree_of t.0.now, tree_of t.1.now)
+
 -- the tree of a shared type
 abbrev pub shared_tree : SharedType → Tree
 shared_tree s = tree_of (rc_value s.ty)
@@ -120,6 +135,12 @@ abbrev pub kept_flow : Code → NoteEntry → Option NotedFlow
 kept_flow c (Told f flow) = if is_same_code c f.code then option_map box_value flow else None
 kept_flow c (Typed shown p t) = None
 kept_flow c (Bound p t) = None
+
+-- the type of an entry, out of its box, if it is that of a label, shown or not
+abbrev pub kept_type : NoteEntry → Option BoxType
+kept_type (Told f flow) = None
+kept_type (Typed shown p t) = Some (box_value t)
+kept_type (Bound p t) = None
 
 -- the place of an entry
 abbrev pub entry_place : NoteEntry → Place

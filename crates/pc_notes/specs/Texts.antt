@@ -14,10 +14,11 @@ use Rattle.pc_source.specs.declared.place.Place.{Place}
 use Rattle.pc_tree.specs.declared.code.Code.{Code}
 use Rattle.pc_tree.specs.Tree.{Module}
 use Rattle.pc_types.specs.Boxed.{tree_of}
+use Rattle.pc_types.specs.declared.boxed.BoxType.{BoxType}
 use Rattle.pc_annotations.specs.Text.{type_text}
 use Rattle.pc_notes.specs.declared.notes.NotedFlow.{NotedFlow}
 use Rattle.pc_notes.specs.declared.sharing.NamedType.{NamedType}
-use Rattle.pc_notes.specs.Notes.{Note, flow_types, flow_noted, IsGivenFlow}
+use Rattle.pc_notes.specs.Notes.{Note, flow_types, flow_noted, type_noted, IsGivenFlow}
 
 -- a place, with the texts of the type that flows there and of the type that it flows into
 abbrev pub FlowText : Type 0
@@ -52,6 +53,10 @@ HasGivenFlows flows = (p : Place) → IfSome (get place_cmp flows p) (λ f. IsGi
 pub record HasFirstFlows (c : Code) (notes : List Note) (flows : BTreeMap Place (Bor NotedFlow)) : Type 0 where
   pub first : (p : Place) → option_map (λ f. flow_types f.now) (get place_cmp flows p) ≡ flow_noted c p notes
   pub given : HasGivenFlows flows
+
+-- a map has at each place the first type noted there, of a label that is shown or not
+abbrev pub HasFirstTypes : List Note → BTreeMap Place (Bor BoxType) → Type 0
+HasFirstTypes notes types = (p : Place) → option_map (λ t. tree_of t.now) (get place_cmp types p) ≡ type_noted p notes
 
 -- the text of a type is its text
 abbrev pub IsNamed : Module → NamedType → Type 0

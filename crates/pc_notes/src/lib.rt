@@ -1,6 +1,7 @@
 //! Findings as they are gathered, with the two types of each flow that they report.
 #![tactic(auto)]
 
+mod by_place;
 mod notes;
 mod rebuilding;
 mod sharing;

@@ -6,15 +6,19 @@ ghost use Rattle.std.specs.Option.{option_copied};
 ghost use Rattle.pc_tree.specs.declared.code.Code.{Code as RustCode};
 ghost use Rattle.pc_tree.specs.Code.{finding};
 ghost use Rattle.pc_tree.specs.Tree.{module_of};
+ghost use Rattle.std.specs.BTreeMap.{get};
+ghost use Rattle.pc_source.specs.declared.place.Place.{Place as PlaceOf};
+ghost use Rattle.pc_types.specs.Boxed.{tree_of};
 ghost use Rattle.pc_annotations.specs.Named.{named_module};
 ghost use Rattle.pc_types.specs.Store.{KeepsTypes};
 ghost use Rattle.pc_notes.specs.Notes.{IsGivenEntry, Note, note_of, notes_of, plain_note, flow_note, typed};
 ghost use Rattle.pc_notes.specs.Notes.{is_same_place, is_same_code, entry_place, kept_flow, flow_noted, ExplainsFlow};
 ghost use Rattle.pc_notes.specs.Notes.{findings_of, types_of, type_shown, IsGivenShown, named, names_of};
-ghost use Rattle.pc_notes.specs.Notes.{name_shown, AreGivenBound};
+ghost use Rattle.pc_notes.specs.Notes.{name_shown, AreGivenBound, type_noted, pair_shown, flow_types};
 ghost use Rattle.pc_notes.specs.declared.notes.NoteEntry.{NoteEntry as Kept};
-ghost use Rattle.pc_notes.specs.Texts.{AreFlowTexts, HasFirstFlows, HasGivenFlows};
+ghost use Rattle.pc_notes.specs.Texts.{AreFlowTexts, HasFirstFlows, HasGivenFlows, place_cmp};
 
+use crate::by_place::{first_types, types_of_flows};
 use crate::rebuilding::transfer;
 use crate::sharing::{SharedType, SharedTypes, shared_text};
 use pc_annotations::ClassNames;
@@ -31,6 +35,15 @@ use std::rc::RcStr;
 pub(crate) struct NotedFlow {
     pub(crate) from: SharedType,
     pub(crate) into: SharedType,
+}
+
+impl NotedFlow {
+    /// Returns the two types of a flow.
+    pub(crate) fn types(&self) -> (&BoxType, &BoxType)
+        ensures { pair_shown result ≡ flow_types self.now }
+    {
+        (&self.from.ty, &self.into.ty)
+    }
 }
 
 /// The types of a bound name: its declared type, and its current type after the binding, if it has a value then.
@@ -59,7 +72,7 @@ fn is_same_code(code: Code, other: Code) -> bool
 
 impl NoteEntry {
     /// Returns the place of an entry.
-    fn place(&self) -> Place
+    pub(crate) fn place(&self) -> Place
         ensures { result ≡ entry_place self.now }
     {
         match self {
@@ -298,6 +311,27 @@ impl Notes {
             keep_first(&mut flows, code, entry)?;
         }
         Ok(flows)
+    }
+
+    /// Returns the first flow noted with a code at each place: the type that flows, and the type that it flows into.
+    pub fn flow_types(
+        &self,
+        alloc: Global,
+        code: Code,
+    ) -> Result<BTreeMap<Place, (&BoxType, &BoxType)>, OutOfMemory>
+        ensures { IfOk result (λ types. (place : PlaceOf)
+            → option_map pair_shown (get place_cmp types place) ≡ flow_noted code place (notes_of self.now)) }
+    {
+        let flows = self.first_flows(alloc, code)?;
+        Ok(types_of_flows(alloc, &flows)?)
+    }
+
+    /// Returns the first type noted at each place, shown or not.
+    pub fn label_types(&self, alloc: Global) -> Result<BTreeMap<Place, &BoxType>, OutOfMemory>
+        ensures { IfOk result (λ types. (place : PlaceOf)
+            → option_map (λ t. tree_of t.now) (get place_cmp types place) ≡ type_noted place (notes_of self.now)) }
+    {
+        Ok(first_types(alloc, &self.entries)?)
     }
 
     /// Returns the flows noted with a code by place, each with the texts of the two types of the first such flow there:
