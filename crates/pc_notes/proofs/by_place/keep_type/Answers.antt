@@ -1,4 +1,4 @@
-use Rattle.std.proofs.Common.{◌≡◌, ◌∙◌, sym, ap, Bor}
+use Rattle.std.proofs.Common.{◌∙◌, sym, ap, Bor}
 use Rattle.std.specs.Prelude.{option_map}
 use Rattle.pc_types.specs.declared.boxed.BoxType.{BoxType}
 use Rattle.pc_notes.proofs.FirstTypes.{left_out, known_at, new_at}

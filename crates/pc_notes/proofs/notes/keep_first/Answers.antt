@@ -1,5 +1,5 @@
-use Rattle.std.proofs.Common.{◌≡◌, ◌∙◌, sym, ap, subst, Bor}
-use Rattle.std.specs.Prelude.{IfSome, Some, None, option_map}
+use Rattle.std.proofs.Common.{◌∙◌, sym, ap, subst, Bor}
+use Rattle.std.specs.Prelude.{IfSome, option_map}
 use Rattle.pc_notes.specs.declared.notes.NotedFlow.{NotedFlow}
 use Rattle.pc_notes.specs.Notes.{IsGivenFlow}
 use Rattle.pc_notes.proofs.FirstFlows.{left_out, known_at, new_at}
