@@ -393,6 +393,9 @@ NAMED_ALIKE: Dict[str, Alike] = {
     "type_in": Alike("types an expression in a body", {
         "pc_notes/specs/Notes.antt": Better("shown_type", "the type that a note shows"),
     }),
+    "type_noted": Alike("the first type that is noted at a place", {
+        "pc_rules/specs/Computed/Findings.antt": Better("note_of_type", "the note of the type of a label, if types are kept"),
+    }),
     "types_in": Alike("the types of expressions", {
         "pc_report/specs/ReadWhole.antt": Better("types_around_arrow", "the two types in a text of a flow"),
     }),
