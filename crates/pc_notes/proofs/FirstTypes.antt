@@ -110,11 +110,12 @@ pub known_at : (es : List NoteEntry) (e : NoteEntry) (types : BTreeMap Place (Bo
 known_at es e types q same known =
     known_place es e types (subst (λ x. is_some (get place_cmp types x) ≡ true) same known)
 
-pub new_at : (es : List NoteEntry) (e : NoteEntry) (t : Bor BoxType) (old new : BTreeMap Place (Bor BoxType)) (q : Place)
-    → q ≡ entry_place e → kept_type e ≡ Some t.now → is_some (get place_cmp old q) ≡ false
+-- likewise, with the place under which the program puts it in
+pub new_at : (es : List NoteEntry) (e : NoteEntry) (t : Bor BoxType) (old new : BTreeMap Place (Bor BoxType))
+    → {q : Place} → kept_type e ≡ Some t.now → is_some (get place_cmp old (entry_place e)) ≡ false
     → ((r : Place) → get place_cmp new r ≡ cond (is_eq (place_cmp q r)) (Some t) (get place_cmp old r))
-    → HasFirstTypes (notes_of es) old → HasFirstTypes (notes_of es ++ note_of e ∷ []) new
-new_at es e t old new q same is fresh step =
-    new_place es e t old new is (subst (λ x. is_some (get place_cmp old x) ≡ false) same fresh)
+    → HasFirstTypes (notes_of es) old → q ≡ entry_place e → HasFirstTypes (notes_of es ++ note_of e ∷ []) new
+new_at es e t old new is fresh step has same =
+    new_place es e t old new is fresh
     (subst (λ x. (r : Place) → get place_cmp new r ≡ cond (is_eq (place_cmp x r)) (Some t) (get place_cmp old r))
-    same step)
+    same step) has

@@ -1,6 +1,8 @@
-use Rattle.std.proofs.Common.{◌∙◌, sym, ap, Bor}
-use Rattle.std.specs.Prelude.{option_map}
+use Rattle.std.proofs.Common.{rules, ◌≡◌, ◌∙◌, false, sym, ap, subst, Bor}
+use Rattle.std.specs.Prelude.{is_some, option_map}
+use Rattle.std.specs.BTreeMap.{get}
 use Rattle.pc_types.specs.declared.boxed.BoxType.{BoxType}
+use Rattle.pc_notes.specs.Texts.{place_cmp}
 use Rattle.pc_notes.proofs.FirstTypes.{left_out, known_at, new_at}
 use Rattle.pc_notes.proofs.by_place.keep_type.Goals as goal
 
@@ -14,6 +16,7 @@ returns-then-contains_key c = λ entries has. known_at entries c.args.entry.now 
 
 pub returns : goal.returns
 returns c = λ entries has. new_at entries c.args.entry.now c.in-Some.ty c.args.types.now c.insert.new.self
-    c.place-place.result c.place-place.ensures
     (sym c.label_type.ensures ∙ ap (option_map (λ (t : Bor BoxType). t.now)) c.in-Some.is)
-    (sym c.contains_key.ensures ∙ c.if-contains_key.false) c.in_ok-insert.ensures.updates.0 has
+    (subst (λ p. is_some (get place_cmp c.args.types.now p) ≡ false) c.place-place.ensures
+    (sym c.contains_key.ensures ∙ c.if-contains_key.false))
+    c.in_ok-insert.ensures.updates.0 has (search rules)
