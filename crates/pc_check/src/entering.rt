@@ -16,7 +16,7 @@ ghost use Rattle.pc_module_rules.specs.Computed.Statements.{body_context_of, fun
 ghost use Rattle.pc_module_rules.specs.Computed.Statements.{enter_name};
 ghost use Rattle.pc_module_rules.specs.Computed.Statements.{end_finds};
 ghost use Rattle.pc_walk.specs.StatementsHeld.{body_context_with, HoldsContext};
-ghost use Rattle.pc_walk.specs.Walks.{Stands, HoldsOne, WalkKept, Bound, body_context_in};
+ghost use Rattle.pc_walk.specs.Walks.{Stands, HoldsOne, WalkKept, BindsName, body_context_in};
 ghost use Rattle.pc_check.specs.Internal.Entry.{HoldsParameters, entered};
 
 use crate::statements::{LoopExit, check_suite};
@@ -39,7 +39,7 @@ fn enter_name<S: TypeStore>(
 ) -> Result<(), OutOfMemory>
     requires stands { Stands S.TypeStore walk.old env.old }
     requires ty { HoldsOne S.TypeStore walk.old ty.now }
-    ensures bound { OnOk result (Bound S.TypeStore walk.old env.old walk.new env.new
+    ensures bound { OnOk result (BindsName S.TypeStore walk.old env.old walk.new env.new
         (λ f t k. entered (enter_name t k (f.context.resolve name.now) (S.tree ty.now)))) }
     ensures goes_on { WalkKept S.TypeStore walk.old walk.new }
 {
@@ -65,7 +65,7 @@ fn enter<S: TypeStore>(
 ) -> Result<(), OutOfMemory>
     requires stands { Stands S.TypeStore walk.old env.old }
     requires params { HoldsParameters S.TypeStore walk.old params.now }
-    ensures bound { OnOk result (Bound S.TypeStore walk.old env.old walk.new env.new
+    ensures bound { OnOk result (BindsName S.TypeStore walk.old env.old walk.new env.new
         (λ f t k. entered (enter_parameters f.context.resolve t k (parameters_with S.tree params.now)))) }
     ensures goes_on { WalkKept S.TypeStore walk.old walk.new }
 {
@@ -83,7 +83,7 @@ fn enter_receiver<S: TypeStore>(
     owner: Owner,
 ) -> Result<(), OutOfMemory>
     requires { Stands S.TypeStore walk.old env.old }
-    ensures bound { OnOk result (Bound S.TypeStore walk.old env.old walk.new env.new
+    ensures bound { OnOk result (BindsName S.TypeStore walk.old env.old walk.new env.new
         (λ f t k. entered (enter_parameters f.context.resolve t k (receiver_parameter owner)))) }
     ensures goes_on { WalkKept S.TypeStore walk.old walk.new }
 {

@@ -11,8 +11,8 @@ ghost use Rattle.pc_flow.specs.Stored.{env_of};
 ghost use Rattle.pc_module_rules.specs.Computed.Statements.{step, walk_suite, walk_branches, behind_branches};
 ghost use Rattle.pc_walk.specs.Touched.{touched_by, touched_by_branches, touched_by_stmt};
 ghost use Rattle.pc_walk.specs.Walks.{Stands, HoldsWay, WalkKept};
-ghost use Rattle.pc_check.specs.Internal.StatementWalk.{IsLong, IsAsLong, ForkSettles};
-ghost use Rattle.pc_check.specs.Internal.Walked.{StandsIn, Settles, StaysSettled, Walked, Forked, reached, forked};
+ghost use Rattle.pc_check.specs.Internal.StatementWalk.{HasAllLocals, IsAsLong, ForkSettles};
+ghost use Rattle.pc_check.specs.Internal.Walked.{StandsIn, ExitSubsumes, StaysSettled, Walked, Forked, reached, forked};
 
 use pc_flow::{BothWays, Env, copy_env};
 use pc_source::{OutOfMemory, Place};
@@ -58,8 +58,8 @@ pub(crate) fn check_suite<S: TypeStore>(
     body: &[Stmt],
 ) -> Result<Option<Env<S::Ty>>, OutOfMemory>
     requires stands { StandsIn S.TypeStore walk.old env exit.old.env }
-    requires long { IsLong (reached S.TypeStore walk.old env exit.old.env) }
-    requires breaks { Settles S.TypeStore walk.old exit.old.unsettled.items env exit.old.env }
+    requires long { HasAllLocals (reached S.TypeStore walk.old env exit.old.env) }
+    requires breaks { ExitSubsumes S.TypeStore walk.old exit.old.unsettled.items env exit.old.env }
     ensures breaks { OnOk result (StaysSettled S.TypeStore walk.old walk.new
         (λ resolve. touched_by resolve (stmts_of_list body.now)) exit.old.unsettled.items exit.new.unsettled.items env
         exit.old.env exit.new.env) }
@@ -85,12 +85,12 @@ fn check_next<S: TypeStore>(
     statement: &Stmt,
 ) -> Result<Option<Env<S::Ty>>, OutOfMemory>
     requires stands { StandsIn S.TypeStore walk.old env exit.old.env }
-    requires long { IsLong (reached S.TypeStore walk.old env exit.old.env) }
-    requires breaks { Settles S.TypeStore walk.old exit.old.unsettled.items env exit.old.env }
+    requires long { HasAllLocals (reached S.TypeStore walk.old env exit.old.env) }
+    requires breaks { ExitSubsumes S.TypeStore walk.old exit.old.unsettled.items env exit.old.env }
     ensures breaks { OnOk result (StaysSettled S.TypeStore walk.old walk.new
         (λ resolve. touched_by_stmt resolve (stmt_of statement.now)) exit.old.unsettled.items exit.new.unsettled.items
         env exit.old.env exit.new.env) }
-    ensures settled { IfOk result (λ out. Settles S.TypeStore walk.new exit.new.unsettled.items out exit.new.env) }
+    ensures settled { IfOk result (λ out. ExitSubsumes S.TypeStore walk.new exit.new.unsettled.items out exit.new.env) }
     ensures walked { IfOk result (λ out. Walked S.TypeStore walk.old env exit.old.env walk.new out exit.new.env
         (λ f w. step f w.table w.env w.broken w.found (stmt_of statement.now))) }
     ensures goes_on { WalkKept S.TypeStore walk.old walk.new }
@@ -121,8 +121,8 @@ fn check_stmt<S: TypeStore>(
     kind: &StmtKind,
 ) -> Result<Option<Env<S::Ty>>, OutOfMemory>
     requires stands { StandsIn S.TypeStore walk.old (Some env) exit.old.env }
-    requires long { IsLong (reached S.TypeStore walk.old (Some env) exit.old.env) }
-    requires breaks { Settles S.TypeStore walk.old exit.old.unsettled.items (Some env) exit.old.env }
+    requires long { HasAllLocals (reached S.TypeStore walk.old (Some env) exit.old.env) }
+    requires breaks { ExitSubsumes S.TypeStore walk.old exit.old.unsettled.items (Some env) exit.old.env }
     ensures breaks { OnOk result (StaysSettled S.TypeStore walk.old walk.new
         (λ resolve. touched_by_stmt resolve (stmt_of_kind first kind.now)) exit.old.unsettled.items
         exit.new.unsettled.items (Some env) exit.old.env exit.new.env) }
@@ -246,7 +246,7 @@ fn check_otherwise<S: TypeStore>(
     requires ways { HoldsWay S.TypeStore walk.old fork.ways.met }
     requires settled { ForkSettles walk.old.context.globals.now.outline.now.parents.now fork.ways.unsettled.items
         (forked S.TypeStore walk.old fork.last fork.ways.met exit.old.env) }
-    requires breaks { Settles S.TypeStore walk.old exit.old.unsettled.items (Some fork.last) exit.old.env }
+    requires breaks { ExitSubsumes S.TypeStore walk.old exit.old.unsettled.items (Some fork.last) exit.old.env }
     ensures breaks { OnOk result (StaysSettled S.TypeStore walk.old walk.new
         (λ resolve. touched_by resolve (stmts_of_list otherwise.now)) exit.old.unsettled.items exit.new.unsettled.items
         (Some fork.last) exit.old.env exit.new.env) }
@@ -274,13 +274,13 @@ fn check_branches<S: TypeStore>(
     branches: &[Branch],
 ) -> Result<IfState<S::Ty>, OutOfMemory>
     requires stands { StandsIn S.TypeStore walk.old (Some env) exit.old.env }
-    requires long { IsLong (reached S.TypeStore walk.old (Some env) exit.old.env) }
-    requires breaks { Settles S.TypeStore walk.old exit.old.unsettled.items (Some env) exit.old.env }
+    requires long { HasAllLocals (reached S.TypeStore walk.old (Some env) exit.old.env) }
+    requires breaks { ExitSubsumes S.TypeStore walk.old exit.old.unsettled.items (Some env) exit.old.env }
     ensures breaks { OnOk result (StaysSettled S.TypeStore walk.old walk.new
         (λ resolve. touched_by_branches resolve (branches_of_list branches.now)) exit.old.unsettled.items
         exit.new.unsettled.items (Some env) exit.old.env exit.new.env) }
     ensures breaks_settle { IfOk result
-        (λ k. Settles S.TypeStore walk.new exit.new.unsettled.items (Some k.last) exit.new.env) }
+        (λ k. ExitSubsumes S.TypeStore walk.new exit.new.unsettled.items (Some k.last) exit.new.env) }
     ensures walked { IfOk result (λ k. Forked S.TypeStore walk.old env None exit.old.env walk.new k.last k.ways.met
         exit.new.env (λ f b. walk_branches f b (branches_of_list branches.now))) }
     ensures settled { IfOk result (λ k. ForkSettles walk.new.context.globals.now.outline.now.parents.now
@@ -314,12 +314,12 @@ fn check_branch<S: TypeStore>(
     requires ways { HoldsWay S.TypeStore walk.old fork.ways.met }
     requires settled { ForkSettles walk.old.context.globals.now.outline.now.parents.now fork.ways.unsettled.items
         (forked S.TypeStore walk.old fork.last fork.ways.met exit.old.env) }
-    requires breaks { Settles S.TypeStore walk.old exit.old.unsettled.items (Some fork.last) exit.old.env }
+    requires breaks { ExitSubsumes S.TypeStore walk.old exit.old.unsettled.items (Some fork.last) exit.old.env }
     ensures breaks { OnOk result (StaysSettled S.TypeStore walk.old walk.new
         (λ resolve. touched_by_branches resolve (with_branch branch.now no_branches)) exit.old.unsettled.items
         exit.new.unsettled.items (Some fork.last) exit.old.env exit.new.env) }
     ensures breaks_settle { IfOk result
-        (λ k. Settles S.TypeStore walk.new exit.new.unsettled.items (Some k.last) exit.new.env) }
+        (λ k. ExitSubsumes S.TypeStore walk.new exit.new.unsettled.items (Some k.last) exit.new.env) }
     ensures walked { IfOk result (λ k. Forked S.TypeStore walk.old fork.last fork.ways.met exit.old.env walk.new k.last
         k.ways.met exit.new.env (λ f b. walk_branches f b (with_branch branch.now no_branches))) }
     ensures settled { IfOk result (λ k. ForkSettles walk.new.context.globals.now.outline.now.parents.now

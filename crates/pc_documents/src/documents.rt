@@ -1,7 +1,7 @@
 //! The open documents.
 
 ghost use Rattle.std.specs.Prelude.{◌≡◌, OnOk, OnErr, map, option_map, position, bytes_eq, string_bytes, remove};
-ghost use Rattle.pc_documents.specs.Documents.{place_at, document_at, with_document, forgotten, opened_of};
+ghost use Rattle.pc_documents.specs.Documents.{index_of_document, document_at, with_document, forgotten, opened_of};
 
 use std::alloc::AllocFailed;
 
@@ -28,7 +28,7 @@ fn first_of(documents: &[Document], uri: &str) -> Option<usize>
 /// Returns the index of the document with this URI, if it is open.
 #[tactic(auto, using(crate::proofs::Keeping::place_of_map))]
 pub fn place_of(documents: &[Document], uri: &str) -> Option<usize>
-    ensures { result ≡ place_at uri.now (map opened_of documents.now) }
+    ensures { result ≡ index_of_document uri.now (map opened_of documents.now) }
 {
     first_of(documents, uri)
 }

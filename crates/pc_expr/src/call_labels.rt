@@ -17,7 +17,7 @@ ghost use Rattle.pc_rules.specs.Computed.Findings.{brief, notes_of_code, shows};
 ghost use Rattle.pc_rules.specs.Computed.Standing.{label_with, context_with};
 ghost use Rattle.pc_calls.specs.JudgedCalls.{offer_called, rule_of, second_code_of, HasCallOffer, IsCallee};
 ghost use Rattle.pc_expr.specs.Typing.{unnamed_callee};
-ghost use Rattle.pc_rules.specs.Computed.Checkers.{Finds, CheckerKept, IsLabel};
+ghost use Rattle.pc_rules.specs.Computed.Checkers.{AddsNotes, CheckerKept, IsLabel};
 ghost use Rattle.pc_flow.specs.Naming.{meanings};
 
 use crate::items::Typed;
@@ -91,7 +91,7 @@ pub(crate) fn judge_call<S: TypeStore>(
         (whole_call_label (context_with S.tree setting.now) (env_of S.tree env.now) (rule_of callee.now.rule)
         (map (offer_called S.tree) callee.now.offers.items) (exprs_of_list arguments.now)
         (map S.tree typed.now.types.items))) }
-    ensures found { OnOk result (Finds checker.old checker.new
+    ensures found { OnOk result (AddsNotes checker.old checker.new
         (notes_of_code (second_place (exprs_of_list arguments.now) place)
         (second_code_of (meanings setting.now.names.now) (rule_of callee.now.rule)
         (exprs_of_list arguments.now) typed.now.early))) }

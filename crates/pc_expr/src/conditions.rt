@@ -13,7 +13,7 @@ ghost use Rattle.pc_flow.specs.Narrowing.{IsSimple, tested_locals};
 ghost use Rattle.pc_flow.specs.Stored.{env_of, declared_of, HasEach, GivesEnv};
 ghost use Rattle.pc_flow.specs.Ways.{way_on, way_out};
 ghost use Rattle.pc_flow.specs.WellFormed.{IsWellFormedEnv};
-ghost use Rattle.pc_rules.specs.Computed.Checkers.{Finds, CheckerKept, IsLabel, Stands};
+ghost use Rattle.pc_rules.specs.Computed.Checkers.{AddsNotes, CheckerKept, IsLabel, Stands};
 ghost use Rattle.pc_rules.specs.Operations.{clean};
 ghost use Rattle.pc_rules.specs.Computed.Standing.{HasGivenAll, standing_of, label_in, finds_in};
 ghost use Rattle.pc_expr.specs.Ways.{GivesWays};
@@ -150,7 +150,7 @@ pub fn type_condition<S: TypeStore>(
     ensures ways { IfOk result
         (λ n. GivesWays S.has S.tree checker.new.store.now setting.now (standing_of S.tree setting.now env.now) n.ways
         (expr_of e.now)) }
-    ensures found { OnOk result (Finds checker.old checker.new
+    ensures found { OnOk result (AddsNotes checker.old checker.new
         (finds_in (standing_of S.tree setting.now env.now) None (expr_of e.now))) }
     ensures goes_on { CheckerKept S.TypeStore checker.old checker.new }
 {

@@ -70,6 +70,6 @@ module _ {Store Ty : Type 0} (has : Store → Ty → Type 0) (tree : Ty → Tree
     pub failing : GivesOne has tree store l.failing f
 
   -- stored types that mean these: one where a test is true, one where it is false
-  pub record Splits (s : Split Ty) (p f : Tree) : Type 0 where
+  pub record MeansSplit (s : Split Ty) (p f : Tree) : Type 0 where
     pub passing : Means has tree store s.passing p
     pub failing : Means has tree store s.failing f

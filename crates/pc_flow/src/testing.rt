@@ -7,7 +7,7 @@ ghost use Rattle.pc_types.specs.Normal.{IsNormal};
 ghost use Rattle.pc_types.specs.Store.{Means, KeepsTypes};
 ghost use Rattle.pc_types.specs.WellFormed.{IsWellFormed};
 ghost use Rattle.pc_flow.specs.Narrowing.{type_where_true, type_where_false, member_passing, member_failing};
-ghost use Rattle.pc_flow.specs.Tests.{tested_of, type_for, class_standing, how_stands, IsOne, GivesLeft, Splits};
+ghost use Rattle.pc_flow.specs.Tests.{tested_of, type_for, class_standing, how_stands, IsOne, GivesLeft, MeansSplit};
 
 use pc_source::OutOfMemory;
 use pc_types::{Head, Parents, TypeStore};
@@ -192,7 +192,7 @@ pub(crate) fn split_type<S: TypeStore>(
     requires has { S.has store.old ty.now }
     requires well_formed { IsWellFormed parents.now (S.tree ty.now) }
     ensures value { IfOk result
-        (λ s. Splits S.has S.tree store.new s (type_where_true parents.now (tested_of test) (S.tree ty.now))
+        (λ s. MeansSplit S.has S.tree store.new s (type_where_true parents.now (tested_of test) (S.tree ty.now))
         (type_where_false parents.now (tested_of test) (S.tree ty.now))) }
     ensures kept { KeepsTypes S.has store.old store.new }
 {

@@ -37,7 +37,7 @@ use Rattle.pc_rules.specs.Computed.Findings.{own_at, has_code, add_code, once_on
 use Rattle.pc_rules.specs.Computed.Findings.{own_flow, flow_then, flows_behind, flows_at, whole}
 use Rattle.pc_rules.specs.Computed.Findings.{found_in_parts, found_in_items, found_in_arguments, found_in_entries}
 use Rattle.pc_rules.specs.Computed.Findings.{found_in_keywords, notes_under, callee_notes_under, type_noted, label_at}
-use Rattle.pc_rules.specs.Computed.Findings.{called, shows}
+use Rattle.pc_rules.specs.Computed.Findings.{callee_notes, shows}
 use Rattle.pc_rules.specs.Computed.Standing.{Standing, label_in, finds_in, items_in, keywords_in, arguments_find}
 use Rattle.pc_rules.specs.Computed.Standing.{keywords_find}
 use Rattle.pc_rules.specs.Laws.WellFormed.{ContextWellFormed, FlowsWellFormed, LabelsWellFormed, ItemsWellFormed}
@@ -236,7 +236,7 @@ module _ (bases : Bases) where
       (formed_label keeps true (place_of e) (whole_label e m))
 
   formed_called : (keeps : Test) (e : Expr) (m : Labels e) (parts : List Note) → AllByRecursion (IsFormed bases) parts
-      → AllByRecursion (IsFormed bases) (called keeps e m parts)
+      → AllByRecursion (IsFormed bases) (callee_notes keeps e m parts)
   formed_called keeps e m parts h = formed_then parts (label_at keeps (shows e) (place_of e) (whole_label e m)) h
       (formed_label keeps (shows e) (place_of e) (whole_label e m))
 

@@ -9,7 +9,7 @@ ghost use Rattle.pc_types.specs.Shape.{members};
 ghost use Rattle.pc_types.specs.Store.{KeepsTypes};
 ghost use Rattle.pc_class.specs.Tables.{classes_with, HasEntries};
 ghost use Rattle.pc_flow.specs.Environment.{join_or_object};
-ghost use Rattle.pc_rules.specs.Computed.Checkers.{Finds, CheckerKept, IsLabel};
+ghost use Rattle.pc_rules.specs.Computed.Checkers.{AddsNotes, CheckerKept, IsLabel};
 ghost use Rattle.pc_rules.specs.Operations.{Label as LabelOf, clean, offers_label, operand_types, negative_member};
 ghost use Rattle.pc_rules.specs.Operations.{attribute_member};
 ghost use Rattle.pc_rules.specs.Operations.{index_member};
@@ -141,7 +141,7 @@ pub fn label_index<S: TypeStore>(
         (map (index_member setting.now.globals.now.outline.now.parents.now (int_literal (expr_of key.now)))
         (members (S.tree object.now))))) }
     ensures found { (m : LabelOf) → label_with S.tree label.now ≡ brief m
-        → OnOk result (Finds checker.old checker.new (flows_at (place_of (expr_of key.now))
+        → OnOk result (AddsNotes checker.old checker.new (flows_at (place_of (expr_of key.now))
         (flows_of setting.now.globals.now.outline.now.parents.now m
         (operand_types (map (index_member setting.now.globals.now.outline.now.parents.now
         (int_literal (expr_of key.now)))

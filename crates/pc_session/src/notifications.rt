@@ -5,7 +5,7 @@ ghost use Rattle.serde_json.specs.View.{view};
 ghost use Rattle.pc_documents.specs.Documents.{opened_of};
 ghost use Rattle.pc_session.specs.Answers.{after};
 ghost use Rattle.pc_session.specs.Replies.{log_data};
-ghost use Rattle.pc_session.specs.Sessions.{IsLetBe, IsAnswered, IsKept, OnOpen, OnChange, OnClose, OnNotice, OnStage};
+ghost use Rattle.pc_session.specs.Sessions.{IsLetBe, RepliesAlone, IsKept, OnOpen, OnChange, OnClose, OnNotice, OnStage};
 ghost use Rattle.pc_session.specs.Sessions.{OnNotification, changed_in, cleared, exit_status, named_document};
 ghost use Rattle.pc_session.specs.States.{state_of};
 
@@ -44,7 +44,7 @@ pub(crate) fn one(alloc: Global, reply: Value, change: SessionChange) -> Result<
 
 /// Returns an answer that writes a line to the client's log and changes nothing.
 fn told(session: &Session, alloc: Global, text: &str) -> Result<Answer, OutOfMemory>
-    ensures { IfOk result (λ a. IsAnswered (log_data text.now) (state_of session.now) (map view a.replies.items)
+    ensures { IfOk result (λ a. RepliesAlone (log_data text.now) (state_of session.now) (map view a.replies.items)
         (after a.change (state_of session.now))) }
 {
     let _ = session;

@@ -23,7 +23,7 @@ use Rattle.pc_rules.proofs.ComputedLawful.{labels_are_lawful}
 use Rattle.pc_rules.specs.declared.expr_context.Signature.{Signature as RustSignature}
 use Rattle.pc_rules.specs.declared.label.Label.{Label as RustLabel}
 use Rattle.pc_walk.specs.declared.context.BodyContext.{BodyContext as RustBodyContext}
-use Rattle.pc_module_rules.specs.Computed.Statements.{Table, type_table}
+use Rattle.pc_module_rules.specs.Computed.Statements.{DeclaredTypes, type_table}
 use Rattle.pc_walk.specs.StatementsHeld.{HoldsType, HoldsTypeIfAny, HoldsTypes, HoldsTypesIfAny, HoldsContext}
 use Rattle.pc_walk.specs.StatementsHeld.{GivesLabel, GivesTypes}
 
@@ -38,7 +38,7 @@ one_well_formed : (bases : Bases) (t : Option Tree) → IsWellFormedIfAny bases 
 one_well_formed bases None h = (tt, tt, omega arith)
 one_well_formed bases (Some t) h = h
 
-pub table_well_formed : (bases : Bases) (table : Table) → IsWellFormedEnv bases table
+pub table_well_formed : (bases : Bases) (table : DeclaredTypes) → IsWellFormedEnv bases table
     → AreWellFormed bases (type_table table)
 table_well_formed bases [] h = tt
 table_well_formed bases (t ∷ ts) h = (one_well_formed bases t h.0, table_well_formed bases ts h.1)

@@ -10,7 +10,7 @@ use Rattle.pc_notes.specs.Notes.{Note, notes_of}
 use Rattle.pc_rules.specs.Operations.{Label}
 use Rattle.pc_rules.specs.Computed.Standing.{Standing}
 use Rattle.pc_rules.specs.declared.label.Label.{Label as RustLabel}
-use Rattle.pc_module_rules.specs.Computed.Statements.{BodyContext, BindingResult, Table, at}
+use Rattle.pc_module_rules.specs.Computed.Statements.{BodyContext, BindingResult, DeclaredTypes, standing_here}
 use Rattle.pc_walk.specs.StatementsHeld.{body_context_with, HoldsContext, HoldsType, HoldsTypeIfAny, HoldsTypes}
 use Rattle.pc_walk.specs.StatementsHeld.{HoldsTypesIfAny, GivesLabel, GivesTypes, GivesTypesIfAny, bound_with}
 use Rattle.pc_walk.specs.declared.walk.Walk.{Walk}
@@ -68,7 +68,7 @@ module _ {Store Ty : Type 0} (S : StoreOf Store Ty) where
 
   -- the standing of an expression in this environment of the walk
   abbrev pub standing_in : Walk Store Ty → List (Option Ty) → Standing
-  standing_in w env = at (body_context_in w) (env_of S.tree w.declared.now) (env_of S.tree env)
+  standing_in w env = standing_here (body_context_in w) (env_of S.tree w.declared.now) (env_of S.tree env)
 
   -- the walk is valid in this environment: the store gave all types, all are well-formed, and names mean what the
   -- scopes say
@@ -85,8 +85,8 @@ module _ {Store Ty : Type 0} (S : StoreOf Store Ty) where
     pub stands : Stands new env
 
   -- in this environment a step of the walk bound a name, with this result
-  pub record Bound (old : Walk Store Ty) (env : List (Option Ty)) (new : Walk Store Ty)
-      (behind : List (Option Ty)) (binds : BodyContext → Table → Env → List Note → BindingResult) : Type 0 where
+  pub record BindsName (old : Walk Store Ty) (env : List (Option Ty)) (new : Walk Store Ty)
+      (behind : List (Option Ty)) (binds : BodyContext → DeclaredTypes → Env → List Note → BindingResult) : Type 0 where
     pub is : bound_with S.tree new.declared.now behind (notes_of new.found.now)
         ≡ binds (body_context_in old) (env_of S.tree old.declared.now) (env_of S.tree env) (notes_of old.found.now)
     pub stands : Stands new behind

@@ -21,7 +21,7 @@ ghost use Rattle.pc_module_rules.specs.Computed.Statements.{local_note};
 ghost use Rattle.pc_flow.specs.Environment.{current};
 ghost use Rattle.pc_walk.specs.AnnotatedNames.{annotation_unless, declared_by};
 ghost use Rattle.pc_walk.specs.StatementsHeld.{HoldsContext};
-ghost use Rattle.pc_walk.specs.Walks.{Stands, HoldsOne, HoldsWant, WalkKept, Bound, body_context_in};
+ghost use Rattle.pc_walk.specs.Walks.{Stands, HoldsOne, HoldsWant, WalkKept, BindsName, body_context_in};
 
 use crate::flows::find_flow_in;
 use crate::walk::Walk;
@@ -97,7 +97,7 @@ pub fn bind_label<S: TypeStore>(
     requires want { HoldsWant S.TypeStore walk.old want }
     requires label { HoldsOne S.TypeStore walk.old label.now.ty }
     ensures bound { (m : LabelOf) → label_with S.tree label.now ≡ brief m
-        → IfOk result (λ b. Bound S.TypeStore walk.old env walk.new b
+        → IfOk result (λ b. BindsName S.TypeStore walk.old env walk.new b
         (λ f t k. bind_label f t k local (option_map S.tree want) place m)) }
     ensures goes_on { WalkKept S.TypeStore walk.old walk.new }
 {

@@ -35,8 +35,8 @@ module _ {Store Ty : Type 0} (S : StoreOf Store Ty) where
 
   -- the exit environment of the enclosing loop, if there is one, subsumes the environment at each local that is not
   -- unsettled
-  abbrev pub Settles : Walk Store Ty → (unsettled : List ℕ) → (env way : Option (List (Option Ty))) → Type 0
-  Settles w unsettled env way = WayTakesIn w.context.globals.now.outline.now.parents.now unsettled
+  abbrev pub ExitSubsumes : Walk Store Ty → (unsettled : List ℕ) → (env way : Option (List (Option Ty))) → Type 0
+  ExitSubsumes w unsettled env way = WayTakesIn w.context.globals.now.outline.now.parents.now unsettled
       (option_map (env_of S.tree) way) (option_map (env_of S.tree) env)
 
   -- the exit environment of the loop subsumes after statements that touch these locals whatever it subsumed before them

@@ -17,7 +17,7 @@ use Rattle.pc_tree.specs.Tree.{Expr, no_anns, Stmt, conditional, Stmts, no_stmts
 use Rattle.pc_tree.specs.Tree.{stmt_of_kind, stmts_of_list}
 use Rattle.pc_tree.specs.Depth.{whole_expr, wholes_of_stmt, wholes_of_stmts, wholes_of_branches}
 use Rattle.pc_tree.specs.Lists.{branches_of_list}
-use Rattle.pc_grammar.specs.Machine.{at, turn, stop_at, short}
+use Rattle.pc_grammar.specs.Machine.{at, transition, stop_at, short}
 use Rattle.pc_grammar.specs.Machine.Kinds.{Lead as Joint, leads_pass, leads_break, leads_continue, leads_return}
 use Rattle.pc_grammar.specs.Machine.Kinds.{leads_assert, leads_while, leads_for, leads_if, leads_out, leads_other}
 use Rattle.pc_grammar.specs.Machine.Kinds.{lead_of}
@@ -82,7 +82,7 @@ module _ {X I : Type 0} (text : X → List ℕ) where
   pub record LineEnds (a : Parser X I) (st next : State) : Type 0 where
     pub unfinished : stop_at st ≡ short
     pub turns : (t : Token X) → a.reader.ahead ≡ Some t
-        → turn st (lexeme text t) t.kind ≡ on (same_kind t.kind kind.Newline) next stuck
+        → transition st (lexeme text t) t.kind ≡ on (same_kind t.kind kind.Newline) next stuck
 
 module _ {X I : Type 0} (text : X → List ℕ) (steps : I → Option (Result (Token X) Fault) → I → Type 0)
     (can : I → Type 0) (left : I → Count) where

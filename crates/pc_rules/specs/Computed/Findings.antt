@@ -112,8 +112,8 @@ module _ (keeps : Test) where
   whole e m parts = parts ++ label_at keeps true (place_of e) (whole_label e m)
 
   -- the notes in the parts of a callee, followed by those of its own label
-  abbrev pub called : (e : Expr) → Labels e → List Note → List Note
-  called e m parts = parts ++ label_at keeps (shows e) (place_of e) (whole_label e m)
+  abbrev pub callee_notes : (e : Expr) → Labels e → List Note → List Note
+  callee_notes e m parts = parts ++ label_at keeps (shows e) (place_of e) (whole_label e m)
 
   -- the notes in the parts of an expression, of items, of arguments, and of the entries of a dict
   abbrev mutual
@@ -143,7 +143,7 @@ module _ (keeps : Test) where
     found_in_parts (index p e i) m = whole e m.object (found_in_parts e m.object)
         ++ (whole i m.key (found_in_parts i m.key) ++ flows_at (place_of i) m.flows)
     found_in_parts (call p callee arguments keywords) m =
-        called callee m.callee (found_in_parts callee m.callee)
+        callee_notes callee m.callee (found_in_parts callee m.callee)
         ++ (found_in_arguments (is_instance_test callee arguments keywords) arguments m.arguments
         ++ (found_in_keywords keywords m.keywords ++ notes_of_code (second_place arguments p) m.second))
 
@@ -181,7 +181,7 @@ module _ (keeps : Test) where
 
   -- the notes under the labels of a callee
   abbrev pub callee_notes_under : (e : Expr) → Labels e → List Note
-  callee_notes_under e m = called e m (found_in_parts e m)
+  callee_notes_under e m = callee_notes e m (found_in_parts e m)
 
 -- a finding under labels that scope analysis does not report
 pub record IsOwn (e : Expr) (m : Labels e) (f : Finding) : Type 0 where

@@ -91,8 +91,8 @@ arguments_find k is_test seat es = found_in_arguments k.keeps is_test es (items_
 unfoldable pub keys_in : Standing → (key value : Seat) → Entries → List Tree
 keys_in k key value es = key_types es (entries_in k key value es)
 
-unfoldable pub values_in : Standing → (key value : Seat) → Entries → List Tree
-values_in k key value es = value_types es (entries_in k key value es)
+unfoldable pub value_types_in : Standing → (key value : Seat) → Entries → List Tree
+value_types_in k key value es = value_types es (entries_in k key value es)
 
 unfoldable pub entries_find : Standing → (key value : Seat) → Entries → List Note
 entries_find k key value es = found_in_entries k.keeps es (entries_in k key value es)

@@ -11,7 +11,7 @@ use Rattle.pc_class.proofs.WellFormed.{params_well_formed}
 use Rattle.pc_flow.specs.Environment.{Env, none_assigned}
 use Rattle.pc_flow.specs.Stored.{env_of}
 use Rattle.pc_notes.specs.Notes.{Note, notes_of}
-use Rattle.pc_module_rules.specs.Computed.Statements.{BindingResult, BodyContext, Table, end_finds, enter_parameters}
+use Rattle.pc_module_rules.specs.Computed.Statements.{BindingResult, BodyContext, DeclaredTypes, end_finds, enter_parameters}
 use Rattle.pc_module_rules.specs.Computed.Statements.{walk_suite}
 use Rattle.pc_module_rules.specs.Modules.{receiver_parameter}
 use Rattle.pc_walk.specs.declared.context.BodyContext.{BodyContext as RustBodyContext}
@@ -66,7 +66,7 @@ check_suite-requires-clause-long g c =
     let tree = g.S.TypeStore.tree in
     let old = c.args.walk.now in
     let mid = c.enter_receiver.new.walk in
-    let none : Table = none_assigned c.args.count in
+    let none : DeclaredTypes = none_assigned c.args.count in
     let receiver = receiver_parameter c.args.owner in
     let declared = ap (env_of tree) c.requires.declared ∙ none_is tree c.args.count in
     let env = ap (env_of tree) c.in_ok-env.ensures ∙ none_is tree c.args.count in
@@ -76,12 +76,12 @@ check_suite-requires-clause-long g c =
     let received : (table, first) ≡ enter_parameters resolve none none receiver =
     ap (λ (b : BindingResult). (b.table, b.env)) c.in_ok-enter_receiver.ensures.bound.is
     ∙ (λ i. enter_parameters resolve (declared i) (env i) receiver) in
-    let between = subst (λ (r : Table × Env). length r.1 ≡ length r.0) (sym received)
+    let between = subst (λ (r : DeclaredTypes × Env). length r.1 ≡ length r.0) (sym received)
     (entered_long resolve none none receiver refl) in
     let behind = entered_long (meanings mid.context.names.now) table first (parameters_with tree c.args.params.now)
     between in
     record {
-      env_long = subst (λ (r : Table × Env). length r.1 ≡ length r.0)
+      env_long = subst (λ (r : DeclaredTypes × Env). length r.1 ≡ length r.0)
           (sym (ap (λ (b : BindingResult). (b.table, b.env)) c.in_ok-enter.ensures.bound.is)) behind;
       broken_long = tt;
     }
@@ -108,8 +108,8 @@ returns-clause-pushed g c =
     let found = notes_of old.found.now in
     let declared_is = ap (env_of tree) c.requires.declared ∙ none_is tree n in
     let env_is = ap (env_of tree) c.in_ok-env.ensures ∙ none_is tree n in
-    let middle : Table × Env = (env_of tree first.declared.now, env_of tree c.enter_receiver.new.env) in
-    let start : Table × Env = (env_of tree mid.declared.now, env_of tree env) in
+    let middle : DeclaredTypes × Env = (env_of tree first.declared.now, env_of tree c.enter_receiver.new.env) in
+    let start : DeclaredTypes × Env = (env_of tree mid.declared.now, env_of tree env) in
     let body = reached S later out c.check_suite.new.exit.env in
     let g1 = c.enter_receiver.ensures.goes_on in
     let g2 = goes_further g1 c.enter.ensures.goes_on in

@@ -21,7 +21,7 @@ use Rattle.pc_notes.specs.Notes.{notes_of}
 use Rattle.pc_rules.specs.Computed.Findings.{codes_at}
 use Rattle.pc_rules.specs.Computed.Standing.{finds_in, narrowed_standing}
 use Rattle.pc_rules.proofs.Along.{on_ok}
-use Rattle.pc_module_rules.specs.Computed.Statements.{Walk as Reached, BranchesResult, BindingResult, at, narrowed_at}
+use Rattle.pc_module_rules.specs.Computed.Statements.{Walk as Reached, BranchesResult, BindingResult, standing_here, narrowed_at}
 use Rattle.pc_module_rules.specs.Computed.Statements.{head_at}
 use Rattle.pc_module_rules.specs.Computed.Statements.{option_finds, bind_item, with_note, item_label_of, iterable_finds}
 use Rattle.pc_module_rules.specs.Computed.Statements.{step}
@@ -40,7 +40,7 @@ use Rattle.pc_walk.proofs.Settled.{agreed_taken_in, suite_taken_in, next_taken_i
 use Rattle.pc_walk.proofs.Untouched.{narrowed_long, head_at_long, item_long}
 use Rattle.pc_walk.proofs.Walks.{same_walk, goes_further, in_body_context, env_kept, way_kept, one_kept, context_on}
 use Rattle.pc_walk.proofs.Walks.{stands_on}
-use Rattle.pc_check.specs.Internal.StatementWalk.{IsLong, IsAsLongIfAny, BreaksSettle, BreaksStaySettled}
+use Rattle.pc_check.specs.Internal.StatementWalk.{HasAllLocals, IsAsLongIfAny, BreaksSettle, BreaksStaySettled}
 use Rattle.pc_check.specs.Internal.Walked.{StandsIn, Walked, reached, forked}
 use Rattle.pc_check.proofs.Agreed.{step_long, among_same, first_touched, later_touched, well_formed_if_any}
 use Rattle.pc_check.proofs.Breaking.{self_among, self_agrees, way_more, way_before, starts_settled, noted_more}
@@ -110,7 +110,7 @@ check_suite-loop-statement-preserved g t c =
     record {
       goes_on = goes_further v.goes_on on;
       stands = w.stands;
-      long = subst IsLong (sym w.is) (step_long context before.table before.env before.broken before.found s v.long);
+      long = subst HasAllLocals (sym w.is) (step_long context before.table before.env before.broken before.found s v.long);
       breaks = c.in_ok-env.ensures.settled;
       settled = in_body_context S here.walk new (λ (f : RustBodyContext _). (locals : List ℕ) (base : Option Env)
           → BreaksSettle f.globals.now.outline.now.parents.now locals (touched_by (meanings f.names.now) all) unsettled
@@ -216,7 +216,7 @@ check_next-returns-in_ok-note_touched-in-Some-clause-settled g t c =
     let w = c.in_ok-out-in-Some.ensures.walked in
     let on = c.check_stmt.ensures.goes_on in
     let stands = subst (λ (o : _). StandsIn S old o c.args.exit.now.env) c.in-Some.is c.requires.stands in
-    let long = subst (λ (o : _). IsLong (reached S old o c.args.exit.now.env)) c.in-Some.is c.requires.long in
+    let long = subst (λ (o : _). HasAllLocals (reached S old o c.args.exit.now.env)) c.in-Some.is c.requires.long in
     let breaks = subst (λ (o : _). WayTakesIn bases c.args.exit.now.unsettled.items before.broken
     (option_map (env_of S.tree) o)) c.in-Some.is c.requires.breaks in
     let noted = subst (λ (f : RustBodyContext _). AreNoted c.check_stmt.new.exit.env
@@ -313,8 +313,8 @@ check_stmt-returns-in_ok-env-in-Assert-clause-walked g t c =
     let K = standing_in S old c.args.env in
     let condition = expr_of c.in-Assert.condition.value in
     let message = option_expr_of c.in-Assert.text in
-    let behind = rw c.deref.ensures at a.behind.is in
-    let pushed = rw c.deref.ensures at a.finds.pushed in
+    let behind = rw c.deref.ensures standing_here a.behind.is in
+    let pushed = rw c.deref.ensures standing_here a.finds.pushed in
     rw c.in-Assert.is (record {
       is = λ i. record {
         table = env_of S.tree (a.finds.declared i);
@@ -337,7 +337,7 @@ check_stmt-returns-in_ok-env-in-Annotated-clause-walked g t c =
     let S = g.S.TypeStore in
     let old = c.args.walk.now in
     let new = c.bind_annotated.new.walk in
-    let b = rw c.deref-in-Annotated.ensures at c.in_ok-env-in-Annotated.ensures.bound in
+    let b = rw c.deref-in-Annotated.ensures standing_here c.in_ok-env-in-Annotated.ensures.bound in
     let way = c.args.exit.now.env in
     rw c.in-Annotated.is (record {
       is = ap (behind_binding (body_context_in S old) (option_map (env_of S.tree) way)) b.is;
@@ -357,7 +357,7 @@ check_stmt-returns-in_ok-env-in-Assign-clause-walked g t c =
     let S = g.S.TypeStore in
     let old = c.args.walk.now in
     let new = c.assign_target.new.walk in
-    let b = rw c.deref-in-Assign.ensures at c.in_ok-env-in-Assign.ensures.bound in
+    let b = rw c.deref-in-Assign.ensures standing_here c.in_ok-env-in-Assign.ensures.bound in
     let way = c.args.exit.now.env in
     rw c.in-Assign.is (record {
       is = ap (behind_binding (body_context_in S old) (option_map (env_of S.tree) way)) b.is;
@@ -592,7 +592,7 @@ check_while-returns-clause-walked g t c = λ p way held.
       table = table;
       env = Some (narrowed_at context table true condition first);
       broken = Some (narrowed_at context table false condition first);
-      found = notes_of old.found.now ++ finds_in (at context table first) None condition;
+      found = notes_of old.found.now ++ finds_in (standing_here context table first) None condition;
     } = λ i. record {
       table = env_of S.tree ((a.finds.declared ∙ q.declared) i);
       env = Some ((a.where_true.is ∙ narrowed_from S old mid on q head first start.is true condition) i);
@@ -992,7 +992,7 @@ check_branch-check_suite-requires g t c κs within =
                 (Some ways.where_true) c.args.exit.now.env a.where_true.holds
                 c.requires.stands.out,
             (
-              subst (λ (t : _). IsLong (record {
+              subst (λ (t : _). HasAllLocals (record {
                 table = t;
                 env = Some (env_of S.tree ways.where_true);
                 broken = broken;
@@ -1193,7 +1193,7 @@ check_branch-returns-clause-walked g t c =
       table = fork.table;
       env = Some (narrowed_at context fork.table true condition fork.last);
       broken = fork.broken;
-      found = fork.found ++ finds_in (at context fork.table fork.last) None condition;
+      found = fork.found ++ finds_in (standing_here context fork.table fork.last) None condition;
     } = λ i. record {
       table = env_of S.tree (a.finds.declared i);
       env = Some (a.where_true.is i);

@@ -7,8 +7,8 @@ use Rattle.pc_flow.specs.Naming.{meanings}
 use Rattle.pc_module_rules.specs.Computed.Statements.{walk_suite, walk_branches}
 use Rattle.pc_walk.specs.Touched.{touched_by, touched_by_branches}
 use Rattle.pc_walk.specs.Walks.{WalkKept, HoldsWay, body_context_in}
-use Rattle.pc_check.specs.Internal.StatementWalk.{IsLong, ForkSettles, BreaksSettle}
-use Rattle.pc_check.specs.Internal.Walked.{StandsIn, Settles, reached, forked}
+use Rattle.pc_check.specs.Internal.StatementWalk.{HasAllLocals, ForkSettles, BreaksSettle}
+use Rattle.pc_check.specs.Internal.Walked.{StandsIn, ExitSubsumes, reached, forked}
 use Rattle.pc_check.proofs.statements.+statements.Given as goal
 
 abbrev pub invariant-check_suite-loop-statement : goal.invariant-check_suite-loop-statement
@@ -22,8 +22,8 @@ invariant-check_suite-loop-statement g l =
     record {
       goes_on : WalkKept S l.fn.walk l.walk;
       stands : StandsIn S l.walk l.env l.exit.env;
-      long : IsLong (reached S l.walk l.env l.exit.env);
-      breaks : Settles S l.walk l.exit.unsettled.items l.env l.exit.env;
+      long : HasAllLocals (reached S l.walk l.env l.exit.env);
+      breaks : ExitSubsumes S l.walk l.exit.unsettled.items l.env l.exit.env;
       settled : (locals : List ℕ) (base : Option Env)
           → BreaksSettle bases locals (touched_by resolve (stmts_of_list l.body)) l.fn.exit.unsettled.items
           before.broken base
@@ -46,7 +46,7 @@ invariant-check_branches-loop-branch g l =
       stands : StandsIn S l.walk (Some l.fork.last) l.exit.env;
       ways : HoldsWay S l.walk l.fork.ways.met;
       settled : ForkSettles l.walk.context.globals.now.outline.now.parents.now l.fork.ways.unsettled.items here;
-      breaks : Settles S l.walk l.exit.unsettled.items (Some l.fork.last) l.exit.env;
+      breaks : ExitSubsumes S l.walk l.exit.unsettled.items (Some l.fork.last) l.exit.env;
       kept : (locals : List ℕ) (base : Option Env)
           → BreaksSettle bases locals (touched_by_branches resolve (branches_of_list l.branches))
           l.fn.exit.unsettled.items
