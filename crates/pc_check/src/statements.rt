@@ -258,8 +258,8 @@ fn check_otherwise<S: TypeStore>(
 {
     let IfState { last, ways } = fork;
     let out = check_suite(walk, Some(last), exit, otherwise)?;
-    let touched = touched_by(walk.alloc, walk.context.names, &[], otherwise)?;
-    let joined = meet(walk, ways, touched, out)?;
+    let touched = touched_by_if(walk.alloc, walk.context.names, &[], otherwise)?;
+    let joined = join_exit(walk, ways, touched, out)?;
     Ok(joined.met)
 }
 
@@ -337,7 +337,7 @@ fn check_branch<S: TypeStore>(
     let out = check_suite(walk, Some(where_true), exit, &branch.body)?;
     // A `break` in the suite may have removed these, but the next condition starts from before the suite.
     note_locals(&exit.env, &touched, &mut exit.unsettled)?;
-    let ways = meet(walk, ways, touched, out)?;
+    let ways = join_exit(walk, ways, touched, out)?;
     Ok(IfState {
         last: where_false,
         ways,

@@ -27,7 +27,7 @@ fn first_of(documents: &[Document], uri: &str) -> Option<usize>
 
 /// Returns the index of the document with this URI, if it is open.
 #[tactic(auto, using(crate::proofs::Keeping::place_of_map))]
-pub fn place_of(documents: &[Document], uri: &str) -> Option<usize>
+pub fn index_of_document(documents: &[Document], uri: &str) -> Option<usize>
     ensures { result ≡ index_of_document uri.now (map opened_of documents.now) }
 {
     first_of(documents, uri)
@@ -38,7 +38,7 @@ pub fn place_of(documents: &[Document], uri: &str) -> Option<usize>
 pub fn document_of<'a>(documents: &'a [Document], uri: &str) -> Option<&'a Document>
     ensures { option_map (λ d. opened_of d.now) result ≡ document_at uri.now (map opened_of documents.now) }
 {
-    let place = place_of(documents, uri)?;
+    let place = index_of_document(documents, uri)?;
     let document = documents.get(place)?;
     Some(document)
 }
@@ -50,7 +50,7 @@ pub fn put(documents: &mut Vec<Document>, document: Document) -> Result<(), Allo
         (map opened_of documents.new.items ≡ with_document (opened_of document) (map opened_of documents.old.items)) }
     ensures unchanged { OnErr result (documents.new.items ≡ documents.old.items) }
 {
-    match place_of(documents, document.uri.as_str()) {
+    match index_of_document(documents, document.uri.as_str()) {
         None => documents.push(document),
         Some(place) => {
             documents[place] = document;

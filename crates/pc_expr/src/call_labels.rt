@@ -21,7 +21,7 @@ ghost use Rattle.pc_rules.specs.Computed.Checkers.{AddsNotes, CheckerKept, IsLab
 ghost use Rattle.pc_flow.specs.Naming.{meanings};
 
 use crate::items::Typed;
-use crate::whole::call_label;
+use crate::whole::whole_call_label;
 use pc_calls::{TypedCallee, callee_in_error, callee_of_value, second_code};
 use pc_flow::Env;
 use pc_notes::Notes;
@@ -99,7 +99,7 @@ pub(crate) fn judge_call<S: TypeStore>(
 {
     let code = second_code(setting.names, callee.rule, arguments, typed.early);
     find_code(second_place(arguments, place), code, checker.found)?;
-    call_label(checker, setting, env, callee, arguments, &typed.types)
+    whole_call_label(checker, setting, env, callee, arguments, &typed.types)
 }
 
 /// Returns whether a call is an instance test: `isinstance` with two positional arguments and no other.

@@ -14,7 +14,7 @@ ghost use Rattle.pc_expr.specs.Internal.Forms.{IsCall};
 ghost use Rattle.pc_rules.specs.Computed.Checkers.{AddsNotes, CheckerKept, IsLabel, Stands};
 
 use crate::call_labels::{callee_of_other, is_test, judge_call, shows};
-use crate::items::{Typed, early_at};
+use crate::items::{Typed, is_second_early};
 use crate::typing::{check_expr, label_expr, type_seated};
 use indexmap::IndexSet;
 use pc_calls::given::given;
@@ -197,7 +197,7 @@ pub(crate) fn type_arguments<S: TypeStore>(
     for argument in arguments {
         let seat = positional_seat(checker.store, checker.alloc, offers, types.len())?;
         let label = type_seated(checker, setting, env, &seat, argument)?;
-        early = early_at(types.len(), &label.codes, early);
+        early = is_second_early(types.len(), &label.codes, early);
         types.push(label.ty)?;
     }
     Ok(Typed { types, early })

@@ -65,7 +65,7 @@ fn length_label<S: TypeStore>(
 /// Returns the label of a whole call, given its callee, its arguments and their types: for `len` and an instance test
 /// the label of that operation, for any other callee the label of its offers. Appends nothing. Language Reference 6.3.4
 /// "Calls".
-pub(crate) fn call_label<S: TypeStore>(
+pub(crate) fn whole_call_label<S: TypeStore>(
     checker: &mut TypingState<'_, S>,
     setting: &ExprContext<'_, S::Ty>,
     env: &Env<S::Ty>,

@@ -13,7 +13,7 @@ ghost use Rattle.pc_session.specs.Spelled.{AreSpelled};
 ghost use Rattle.pc_session.specs.States.{state_of};
 
 use crate::messages::{LspMethod, is_identifier, is_reply, method_in};
-use crate::notifications::{kept, nothing, notified};
+use crate::notifications::{keep_document, nothing, notified};
 use crate::replies::{ErrorCode, error_reply, log, publish};
 use crate::requests::{refused, request};
 use crate::session::{Answer, Session, SessionChange};
@@ -183,7 +183,7 @@ fn unread<C: Checker>(
             Ok(answer)
         }
         Some(document) => {
-            let answer = kept(session, checker, alloc, document)?;
+            let answer = keep_document(session, checker, alloc, document)?;
             Ok(answer)
         }
     }

@@ -12,7 +12,7 @@ ghost use Rattle.pc_walk.specs.Walks.{Stands, HoldsOne, HoldsEnv, IsEnv, IsQuiet
 ghost use Rattle.pc_flow.specs.Naming.{meanings};
 
 use crate::binding::{bind_label, known_type, note_binding};
-use crate::locals::locals_of;
+use crate::locals::numbers_of_locals;
 use crate::standing::head_in;
 use crate::walk::Walk;
 use pc_flow::Env;
@@ -57,7 +57,7 @@ pub fn while_start<S: TypeStore>(
 {
     let mut bound = Vec::new(walk.alloc);
     add_bound(&mut bound, body)?;
-    let locals = locals_of(walk.alloc, walk.context.names, &bound)?;
+    let locals = numbers_of_locals(walk.alloc, walk.context.names, &bound)?;
     let head = loop_start(walk, env, &locals)?;
     Ok(head)
 }
@@ -81,7 +81,7 @@ pub fn for_start<S: TypeStore>(
     let mut bound = Vec::new(walk.alloc);
     bound.push(target)?;
     add_bound(&mut bound, body)?;
-    let locals = locals_of(walk.alloc, walk.context.names, &bound)?;
+    let locals = numbers_of_locals(walk.alloc, walk.context.names, &bound)?;
     let head = loop_start(walk, env, &locals)?;
     Ok(head)
 }

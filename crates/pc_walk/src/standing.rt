@@ -16,7 +16,7 @@ use pc_types::TypeStore;
 
 /// Joins `b` into `a` at `locals`; elsewhere `a` must already subsume `b`. Also returns the locals where a second join
 /// could still change something.
-pub(crate) fn join_onto<S: TypeStore>(
+pub(crate) fn join_at_locals<S: TypeStore>(
     walk: &mut Walk<'_, S>,
     locals: &[usize],
     a: Env<S::Ty>,

@@ -15,7 +15,7 @@ ghost use Rattle.pc_source.specs.declared.place.Place.{Place as PlaceOf};
 ghost use Rattle.pc_tree.specs.Tree.{stmt_of_kind};
 ghost use Rattle.pc_walk.specs.Walks.{HoldsEnv, HoldsWay, IsWay, IsQuiet, WalkKept};
 
-use crate::standing::join_onto;
+use crate::standing::join_at_locals;
 use crate::touched::{add_touched, each_once};
 use crate::walk::Walk;
 use pc_flow::Env;
@@ -49,7 +49,7 @@ pub fn break_out<S: TypeStore>(
         None => Ok(()),
         Some(way) => {
             each_once(unsettled);
-            let joined = join_onto(walk, unsettled, way, env)?;
+            let joined = join_at_locals(walk, unsettled, way, env)?;
             *broken = Some(joined.env);
             *unsettled = joined.unsettled;
             Ok(())
@@ -104,7 +104,7 @@ pub struct IfExits<Ty: Drop> {
 /// Joins `out`, the environment at the end of a suite that touches these locals, into `ways`, the joined ends of the
 /// suites before it, and returns the join; `out` is `None` if the suite cannot complete. Only the touched and the
 /// unsettled locals are joined; elsewhere the suites before must already subsume `out`. Touched locals stay unsettled.
-pub fn meet<S: TypeStore>(
+pub fn join_exit<S: TypeStore>(
     walk: &mut Walk<'_, S>,
     ways: IfExits<S::Ty>,
     touched: Vec<usize>,
@@ -149,7 +149,7 @@ pub fn meet<S: TypeStore>(
                 let mut locals = unsettled;
                 locals.extend_from_slice(&touched)?;
                 each_once(&mut locals);
-                let joined = join_onto(walk, &locals, way, &out)?;
+                let joined = join_at_locals(walk, &locals, way, &out)?;
                 let mut all = touched;
                 all.extend_from_slice(&joined.unsettled)?;
                 Ok(IfExits {

@@ -657,7 +657,7 @@ calls::type_arguments-loop-argument-preserved g t c =
           (label_in (standing_of g.S.TypeStore.tree c.args.setting.now c.args.env.now) _
           (expr_of c.argument-item.result)) c.in_ok-label.ensures.labelled.is
           ∙ ap (λ w. once (label_in (standing_of g.S.TypeStore.tree c.args.setting.now c.args.env.now) w
-          (expr_of c.argument-item.result)).codes) wants) (rw (late, c.deref.ensures.value) at c.early_at-early.ensures)
+          (expr_of c.argument-item.result)).codes) wants) (rw (late, c.deref.ensures.value) at c.is_second_early-early.ensures)
           v.early;
       found = seated_finds (standing_of g.S.TypeStore.tree c.args.setting.now c.args.env.now)
           (positional_seat (map (offer_called g.S.TypeStore.tree) c.args.offers.now)) c.args.arguments.now

@@ -31,8 +31,8 @@ use Rattle.pc_reader.specs.Reading.{Blames, Came, Onward, IsReady, IsAhead, lexe
 use Rattle.pc_parse.specs.declared.parser.Parser.{Parser}
 use Rattle.pc_parse.specs.declared.statement.Lead.{Lead}
 use Rattle.pc_parse.specs.declared.statement.Lead.TheVariants as rust
-use Rattle.pc_parse.specs.declared.statement.Word.{Word}
-use Rattle.pc_parse.specs.declared.statement.Word.TheVariants as alone
+use Rattle.pc_parse.specs.declared.statement.OneWordStatement.{OneWordStatement}
+use Rattle.pc_parse.specs.declared.statement.OneWordStatement.TheVariants as alone
 use Rattle.pc_parse.specs.Internal.WholeTrees.{KeepsTree, deep_after}
 
 -- the beginning of a statement, as the machine names it
@@ -58,7 +58,7 @@ Heads begun nest = (p : Part) (site : Site) (e : Ending)
     → finish_stmt begun p site e ≡ at_colon (suite_of (nested_in site (nest p.tree))) e
 
 -- the statement that is this word
-abbrev pub kind_of_word : Word → StmtKind
+abbrev pub kind_of_word : OneWordStatement → StmtKind
 kind_of_word alone.Pass = statement.Pass
 kind_of_word alone.Break = statement.Break
 kind_of_word alone.Continue = statement.Continue

@@ -818,7 +818,7 @@ pub check_otherwise-returns-clause-walked : goal.check_otherwise-returns-clause-
 check_otherwise-returns-clause-walked g t c =
     let S = g.S.TypeStore in
     let mid = c.check_suite.new.walk in
-    let new = c.meet.new.walk in
+    let new = c.join_exit.new.walk in
     let context = body_context_in S c.args.walk.now in
     let s = c.in_ok-out.ensures.walked in
     let j = c.in_ok-joined.ensures in
@@ -829,10 +829,10 @@ check_otherwise-returns-clause-walked g t c =
     let met : option_map (env_of S.tree) joined ≡ with_way context.context.bases out.table ways out.env =
     j.joined.is ∙ (λ i. with_way (c.check_suite.ensures.goes_on.context i).globals.now.outline.now.parents.now out.table
     ways out.env) in
-    let stood = quiet_stands S mid new c.meet.ensures.goes_on j.quiet None broken
+    let stood = quiet_stands S mid new c.join_exit.ensures.goes_on j.quiet None broken
     (record { context = s.stands.context; declared = s.stands.declared; current = tt; out = s.stands.out }) in
     record {
-      is = quiet_reached S mid new c.meet.ensures.goes_on j.quiet joined broken
+      is = quiet_reached S mid new c.join_exit.ensures.goes_on j.quiet joined broken
           ∙ otherwise_walked context ways out _ (option_map (env_of S.tree) joined) s.is met;
       stands = record { context = stood.context; declared = stood.declared; current = j.joined.holds; out = stood.out };
     }
@@ -1113,13 +1113,13 @@ check_branch-returns-clause-breaks_settle g t c =
     let S = g.S.TypeStore in
     let old = c.args.walk.now in
     let mid = c.type_condition.new.walk in
-    let new = c.meet.new.walk in
+    let new = c.join_exit.new.walk in
     let a = c.in_ok-where_true.ensures in
     let ways = c.in_ok-where_true.field-0 in
     let context = body_context_in S old in
     let bases = context.context.bases in
     let g1 = c.type_condition.ensures.goes_on in
-    let g3 = goes_further (goes_further g1 c.check_suite.ensures.goes_on) c.meet.ensures.goes_on in
+    let g3 = goes_further (goes_further g1 c.check_suite.ensures.goes_on) c.join_exit.ensures.goes_on in
     let condition = expr_of (out-Branch c.args.branch.now).condition in
     let body = stmts_of_list (out-Branch c.args.branch.now).body.items in
     let touched = c.in_ok-touched.touched.items in
@@ -1167,7 +1167,7 @@ check_branch-returns-clause-walked g t c =
     let old = c.args.walk.now in
     let mid = c.type_condition.new.walk in
     let later = c.check_suite.new.walk in
-    let new = c.meet.new.walk in
+    let new = c.join_exit.new.walk in
     let a = c.in_ok-where_true.ensures in
     let ways = c.in_ok-where_true.field-0 in
     let s = c.in_ok-out.ensures.walked in
@@ -1213,7 +1213,7 @@ check_branch-returns-clause-walked g t c =
       broken = out.broken;
       found = j.quiet.found i;
     } in
-    let stood = quiet_stands S later new c.meet.ensures.goes_on j.quiet None broken
+    let stood = quiet_stands S later new c.join_exit.ensures.goes_on j.quiet None broken
     (record { context = s.stands.context; declared = s.stands.declared; current = tt; out = s.stands.out }) in
     record {
       is = quiet
@@ -1224,7 +1224,7 @@ check_branch-returns-clause-walked g t c =
         context = stood.context;
         declared = stood.declared;
         current = env_kept S mid new ways.where_false
-            (goes_further c.check_suite.ensures.goes_on c.meet.ensures.goes_on) a.where_false.holds;
+            (goes_further c.check_suite.ensures.goes_on c.join_exit.ensures.goes_on) a.where_false.holds;
         out = stood.out;
       };
       met = j.joined.holds;
@@ -1273,7 +1273,7 @@ check_branch-returns-clause-settled g t c =
     let branched = branch_out context touched fork.table fork.last fork.broken found condition body
     (reached S mid (Some where_true) c.args.exit.now.env) out c.requires.stands.current.well_formed
     c.requires.settled.last_long c.requires.settled.broken_long among start walked in
-    let new = c.meet.new.walk in
+    let new = c.join_exit.new.walk in
     let next = env_of S.tree c.in_ok-where_true.field-0.where_false in
     let left = c.in_ok-ways.ways.unsettled.items in
     let met = option_map (env_of S.tree) c.in_ok-ways.ways.met in
@@ -1285,7 +1285,7 @@ check_branch-returns-clause-settled g t c =
     c.requires.settled.taken_in in
     let settled = c.in_ok-ways.ensures.settled fork.last branched.agrees before in
     let onwards = in_body_context S later new (λ (f : RustBodyContext _).
-    TakesInIfAny f.globals.now.outline.now.parents.now left met fork.last) c.meet.ensures.goes_on settled in
+    TakesInIfAny f.globals.now.outline.now.parents.now left met fork.last) c.join_exit.ensures.goes_on settled in
     let agree = subst (λ (e : Env). AgreeOutside touched e fork.last) (sym next_is) branched.next_agrees in
     record {
       last_long = ap length next_is ∙ branched.last_long ∙ ap length (sym table_is);

@@ -5,7 +5,7 @@ use Rattle.pc_flow.specs.Stored.{env_of, declared_of}
 use Rattle.pc_flow.proofs.Conditions.{joins_well_formed}
 use Rattle.pc_walk.specs.StatementsHeld.{GivesTypes}
 use Rattle.pc_walk.proofs.Held.{declared_is, declared_well_formed, gives_types}
-use Rattle.pc_walk.proofs.standing.join_onto.Goals as goal
+use Rattle.pc_walk.proofs.standing.join_at_locals.Goals as goal
 
 pub returns-clause-joined : goal.returns-clause-joined
 returns-clause-joined g c =

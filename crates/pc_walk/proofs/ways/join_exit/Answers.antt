@@ -5,7 +5,7 @@ use Rattle.pc_flow.specs.Stored.{env_of}
 use Rattle.pc_walk.specs.StatementsHeld.{HoldsTypesIfAny}
 use Rattle.pc_walk.specs.Untouched.{AgreesIfAny, TakesInIfAny}
 use Rattle.pc_walk.proofs.Settled.{agreed_taken_in, more_taken_in, before_taken_in}
-use Rattle.pc_walk.proofs.ways.meet.Goals as goal
+use Rattle.pc_walk.proofs.ways.join_exit.Goals as goal
 
 pub returns-in_ok-extend_from_slice-in-None-clause-settled :
     goal.returns-in_ok-extend_from_slice-in-None-clause-settled
